@@ -1,0 +1,10 @@
+pub mod NameLemmas
+pub mod Positions
+pub mod NetworkLemmas
+pub mod StoredLemmas
+pub mod TextLemmas
+pub mod LineLemmas
+pub mod PrintingLemmas
+pub mod SpellingLemmas
+pub mod PartsLemmas
+pub mod NumberLemmas

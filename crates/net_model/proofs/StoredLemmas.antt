@@ -1,0 +1,100 @@
+-- What is stored after one more point, bound or link is stored as it should be.
+use Rattle.std.proofs.Common.{◌≡◌, ℕ, zero, suc, ◌<◌, ◌==◌, Bool, true, false, List, [], ◌∷◌, ◌++◌, length, get_or, set, ◌≢◌, get_or-set_same, get_or-set_other, Option, Some, None, position, IsTrue, refl, ap, sym, subst, ⊎_elim, ◌∙◌, arith}
+use Rattle.std.specs.Option.{option_map}
+use Rattle.std.specs.Str.{bytes_eq}
+use Rattle.std.proofs.lemmas.Grind.{common_steps}
+use Rattle.std.proofs.lemmas.Bool.Decides.{nat_tests}
+use Rattle.std.proofs.lemmas.Bool.{cases_lt}
+use Rattle.std.proofs.lemmas.List.{get_or_past}
+use Rattle.indexmap.specs.IndexSet.{insert_key}
+use Rattle.net_model.proofs.Positions.{None_from_option_map, list_any_from_None, position-push_fails, position-push_passes}
+use Rattle.net_model.proofs.NetworkLemmas.{names_of, more_points, more_bounds, more_links, IsPlan-more_points, IsPlan-more_bounds, IsPlan-more_links, activation-past, names_of-push, free_name}
+use Rattle.net_model.specs.Names.{is_name}
+use Rattle.net_model.specs.Network.{IsPlan, IsBound, IsLink, point_named, bound_named, activation}
+use Rattle.net_model.specs.Stored.{plan_of, IsStored}
+use Rattle.net_model.specs.declared.ids.LinkId.{LinkId}
+use Rattle.net_model.specs.declared.part.Bound.{Bound}
+use Rattle.net_model.specs.declared.part.Link.{Link}
+use Rattle.net_model.specs.declared.network.Network.TheInside.{Inside}
+
+-- a new key goes last
+insert_key-new : (keys : List (List ℕ)) (key : List ℕ) → position (bytes_eq key) keys ≡ None → insert_key bytes_eq keys key ≡ keys ++ key ∷ []
+insert_key-new keys key none = rw (list_any_from_None (bytes_eq key) keys none)
+
+-- the links that end in the points, before and after one more link
+ending-more_links : (links : List Link) (link : Link) (ending : List (Option LinkId)) (p : ℕ) → link.to.0 < length ending
+    → position (λ (l : Link). l.to.0 == link.to.0) links ≡ None
+    → get_or ending p None ≡ option_map (λ k. record { 0 = k }) (position (λ (l : Link). l.to.0 == p) links)
+    → get_or (set ending link.to.0 (Some (record { 0 = length links }))) p None ≡ option_map (λ k. record { 0 = k }) (position (λ (l : Link). l.to.0 == p) (links ++ link ∷ []))
+ending-more_links links link ending p inside none before = by (p == link.to.0) refl
+  where
+    by : (b : Bool) → p == link.to.0 ≡ b
+        → get_or (set ending link.to.0 (Some (record { 0 = length links }))) p None ≡ option_map (λ k. record { 0 = k }) (position (λ (l : Link). l.to.0 == p) (links ++ link ∷ []))
+    by true same =
+        let at : p ≡ link.to.0 = grind (arith, nat_tests) in
+        let here = position-push_passes (λ (l : Link). l.to.0 == link.to.0) links link none (grind (arith, nat_tests)) in
+        rw at (rw here (get_or-set_same ending link.to.0 (Some (record { 0 = length links })) None inside))
+    by false other =
+        let apart : p ≢ link.to.0 = grind (arith, nat_tests) in
+        let gone = position-push_fails (λ (l : Link). l.to.0 == p) links link (grind (arith, nat_tests)) in
+        rw (gone, get_or-set_other) before
+
+-- a pushed default changes no reading
+get_or-push_default : {X : Type 0} (xs : List X) (d : X) (k : ℕ) → get_or (xs ++ d ∷ []) k d ≡ get_or xs k d
+get_or-push_default [] d zero = refl
+get_or-push_default [] d (suc k) = refl
+get_or-push_default (x ∷ xs) d zero = refl
+get_or-push_default (x ∷ xs) d (suc k) = get_or-push_default xs d k
+
+module _ (old new : Inside) (stored : IsStored old) where
+  pub stored-more_points : (name : List ℕ) → IsTrue (is_name name) → point_named (plan_of old) name ≡ None → length old.points.items < 1000
+      → new.bounds ≡ old.bounds → new.links ≡ old.links → new.bound_names ≡ old.bound_names
+      → new.points.items ≡ old.points.items ++ name ∷ [] → new.point_names.keys ≡ insert_key bytes_eq old.point_names.keys name → new.ending.items ≡ old.ending.items ++ None ∷ []
+      → IsStored new
+  stored-more_points name named fresh room bounds links bound_names points point_names ending =
+      let same : plan_of new ≡ more_points (plan_of old) name = cc in
+      let none = None_from_option_map _ (position (bytes_eq name) old.points.items) fresh in
+      let last = insert_key-new old.points.items name none in
+      record {
+        plan = subst IsPlan (sym same) (IsPlan-more_points (plan_of old) name stored.plan named fresh room);
+        point_names = grind (arith, common_steps);
+        bound_names = grind (arith, common_steps);
+        ending_count = grind (arith, common_steps);
+        ending = λ p inside. rw (ending, links) (no_link p);
+      }
+    where
+      no_link : (p : ℕ) → get_or (old.ending.items ++ None ∷ []) p None ≡ activation (plan_of old) (record { 0 = p })
+      no_link p = get_or-push_default old.ending.items None p ∙ ⊎_elim
+          (stored.ending p)
+          (λ past. get_or_past old.ending.items p None (omega (arith, stored.ending_count)) ∙ sym (activation-past (plan_of old) stored.plan p past))
+          (cases_lt p (length old.points.items))
+
+  pub stored-more_bounds : (bound : Bound) → IsBound (plan_of old) bound → bound_named (plan_of old) bound.name ≡ None → length old.bounds.items < 20000
+      → new.points ≡ old.points → new.links ≡ old.links → new.point_names ≡ old.point_names → new.ending ≡ old.ending
+      → new.bounds.items ≡ old.bounds.items ++ bound ∷ [] → new.bound_names.keys ≡ insert_key bytes_eq old.bound_names.keys bound.name
+      → IsStored new
+  stored-more_bounds bound sound fresh room points links point_names ending bounds bound_names =
+      let same : plan_of new ≡ more_bounds (plan_of old) bound = cc in
+      let last = insert_key-new (names_of old.bounds.items) bound.name (free_name (plan_of old) bound.name fresh) in
+      record {
+        plan = subst IsPlan (sym same) (IsPlan-more_bounds (plan_of old) bound stored.plan sound fresh room);
+        point_names = cc;
+        bound_names = bound_names ∙ ap (λ keys. insert_key bytes_eq keys bound.name) stored.bound_names ∙ last ∙ sym (names_of-push old.bounds.items bound) ∙ ap names_of (sym bounds);
+        ending_count = grind (arith, common_steps);
+        ending = λ p inside. rw (ending, links) (stored.ending p (rw points at inside));
+      }
+
+  pub stored-more_links : (link : Link) → IsLink (plan_of old) link → activation (plan_of old) link.to ≡ None → length old.links.items < 400
+      → new.points ≡ old.points → new.bounds ≡ old.bounds → new.point_names ≡ old.point_names → new.bound_names ≡ old.bound_names
+      → new.links.items ≡ old.links.items ++ link ∷ [] → new.ending.items ≡ set old.ending.items link.to.0 (Some (record { 0 = length old.links.items }))
+      → IsStored new
+  stored-more_links link sound fresh room points bounds point_names bound_names links ending =
+      let same : plan_of new ≡ more_links (plan_of old) link = cc in
+      let none = None_from_option_map _ (position (λ (l : Link). l.to.0 == link.to.0) old.links.items) fresh in
+      record {
+        plan = subst IsPlan (sym same) (IsPlan-more_links (plan_of old) link stored.plan sound fresh room);
+        point_names = cc;
+        bound_names = cc;
+        ending_count = grind (arith, common_steps);
+        ending = λ p inside. rw (links, ending) (ending-more_links old.links.items link old.ending.items p (omega (arith, sound.to_point, stored.ending_count)) none (stored.ending p (rw points at inside)));
+      }

@@ -1,0 +1,13 @@
+use Rattle.std.proofs.Common.{◌≡◌, ℕ, ◌++◌, ◌∷◌, [], set, Some, length, ◌∙◌, ap, sym, refl, subst, None}
+use Rattle.net_model.specs.Network.{Plan, activation}
+use Rattle.net_model.proofs.StoredLemmas.{stored-more_links}
+use Rattle.net_model.proofs.network.Network.push_link.Goals as goal
+
+pub invariant_of-self-2 : goal.invariant_of-self-2
+invariant_of-self-2 c =
+    let count : c.len.result ≡ length c.self.inside.links.items = c.len.ensures ∙ c.in_ok-reserve.ensures.len ∙ c.self.inside.links.ok.0 in
+    stored-more_links c.self.inside _ c.self.invariant c.args.link
+    (rw c.self.view_is c.requires.sound) (subst (λ net. activation net c.args.link.to ≡ None) (sym c.self.view_is) c.requires.fresh) (rw (ap (λ (net : Plan). net.links) c.self.view_is) c.requires.room)
+    refl refl refl refl
+    (c.push_reserved.ensures.items ∙ ap (λ links. links ++ c.args.link ∷ []) c.in_ok-reserve.ensures.items)
+    (ap (λ (id : ℕ). set c.self.inside.ending.items c.args.link.to.0 (Some (record { 0 = id }))) count)

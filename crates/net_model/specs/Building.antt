@@ -1,0 +1,103 @@
+-- What a list of parts builds, or the first part that is refused and why. This project's own choice.
+use Rattle.std.specs.Prelude.{◌≡◌, ℕ, ℤ, ◌+◌, ◌==◌, ◌||◌, Bool, true, false, List, [], ◌∷◌, ◌++◌, length, Result, Ok, Err, Some, None, is_some, nat_le, pos, int_lt, not, codes}
+use Rattle.net_model.specs.Network.{Plan, point_named, bound_named, activation, within_limit, empty}
+use Rattle.net_model.specs.declared.ids.PointId.{PointId}
+use Rattle.net_model.specs.declared.part.Part.{Part}
+use Rattle.net_model.specs.declared.part.Part.TheVariants.{Point, Bound, Link}
+use Rattle.net_model.specs.declared.part.Which.TheVariants.{Points, Links, Bounds, Number}
+use Rattle.net_model.specs.declared.part.TheConstants.{MOST_POINTS, MOST_LINKS, MOST_BOUNDS}
+use Rattle.net_model.specs.declared.fault.PartFault.{PartFault}
+use Rattle.net_model.specs.declared.fault.PartFault.TheVariants.{DuplicateName, UnknownName, TwoLinksOnPoint, LinkToItself, BadInterval, Limit, OutOfMemory}
+use Rattle.net_model.specs.declared.fault.BuildFault.{BuildFault}
+use Rattle.net_model.specs.declared.fault.BuildFault.TheVariants as build
+
+infixl 10 ◌>>=◌
+abbrev pub ◌>>=◌ : {A B : Type 0} → Result A PartFault → (A → Result B PartFault) → Result B PartFault
+(Ok x) >>= next = next x
+(Err fault) >>= next = Err fault
+
+-- refused for this cause where the test holds
+abbrev pub refuse_if : {A : Type 0} → Bool → PartFault → Result A PartFault → Result A PartFault
+refuse_if true fault otherwise = Err fault
+refuse_if false fault otherwise = otherwise
+
+-- the point of a name
+abbrev pub named : Plan → List ℕ → Result PointId PartFault
+named net name = elim (point_named net name) [ Some point ↦ Ok point | None ↦ Err UnknownName ]
+
+-- the network with one more point
+unfoldable pub with_point : Plan → List ℕ → Result Plan PartFault
+with_point net name =
+    refuse_if (is_some (point_named net name)) DuplicateName
+    (refuse_if (nat_le MOST_POINTS (length net.points)) (Limit Points)
+    (Ok (record net { points = net.points ++ name ∷ [] })))
+
+-- the network with one more bound `to - from <= most`
+unfoldable pub with_bound : Plan → (name from to : List ℕ) → ℤ → Result Plan PartFault
+with_bound net name from to most =
+    refuse_if (is_some (bound_named net name)) DuplicateName do
+      x ← named net from
+      y ← named net to
+      refuse_if (not (within_limit most)) (Limit Number)
+          (refuse_if (nat_le MOST_BOUNDS (length net.bounds)) (Limit Bounds)
+          (Ok (record net { bounds = net.bounds ++ record { name = name; from = x; to = y; most = most } ∷ [] })))
+
+-- the network with one more link, whose durations go from low to high
+unfoldable pub with_link : Plan → (from : List ℕ) → (low high : ℤ) → (to : List ℕ) → Result Plan PartFault
+with_link net from low high to = do
+  a ← named net from
+  c ← named net to
+  refuse_if (a.0 == c.0) LinkToItself
+      (refuse_if (is_some (activation net c)) TwoLinksOnPoint
+      (refuse_if (int_lt low (pos 1) || int_lt high low) BadInterval
+      (refuse_if (not (within_limit high)) (Limit Number)
+      (refuse_if (nat_le MOST_LINKS (length net.links)) (Limit Links)
+      (Ok (record net { links = net.links ++ record { from = a; low = low; high = high; to = c } ∷ [] }))))))
+
+-- the network with one more part
+abbrev pub with_part : Plan → Part → Result Plan PartFault
+with_part net (Point name) = with_point net name
+with_part net (Bound name from to most) = with_bound net name from to most
+with_part net (Link from low high to) = with_link net from low high to
+
+-- a refused part is told by its place, from 1
+abbrev pub at_place : ℕ → PartFault → BuildFault
+at_place place DuplicateName = build.DuplicateName place
+at_place place UnknownName = build.UnknownName place
+at_place place TwoLinksOnPoint = build.TwoLinksOnPoint place
+at_place place LinkToItself = build.LinkToItself place
+at_place place BadInterval = build.BadInterval place
+at_place place (Limit which) = build.Limit which place
+at_place place OutOfMemory = build.OutOfMemory
+
+-- the word by which a fault is printed
+abbrev pub word_of : BuildFault → List ℕ
+word_of (build.DuplicateName place) = codes "duplicate-name"
+word_of (build.UnknownName place) = codes "unknown-name"
+word_of (build.TwoLinksOnPoint place) = codes "two-links-on-point"
+word_of (build.LinkToItself place) = codes "link-to-itself"
+word_of (build.BadInterval place) = codes "bad-interval"
+word_of (build.Limit which place) = codes "limit"
+word_of build.OutOfMemory = codes "out of memory"
+
+-- a network with more parts, of which `place` came before
+abbrev pub with_parts : ℕ → Plan → List Part → Result Plan BuildFault
+with_parts place net [] = Ok net
+with_parts place net (part ∷ parts) =
+    elim (with_part net part) [ Ok more ↦ with_parts (place + 1) more parts | Err fault ↦ Err (at_place (place + 1) fault) ]
+
+-- what a list of parts builds, or the first refusal with its place
+abbrev pub built : List Part → Result Plan BuildFault
+built parts = with_parts 0 empty parts
+
+-- The answer is what the parts build, unless memory ran out.
+abbrev pub Builds : Result Plan BuildFault → Result Plan BuildFault → Type 0
+Builds (Ok net) answer = answer ≡ Ok net
+Builds (Err build.OutOfMemory) answer = Unit {0}
+Builds (Err fault) answer = answer ≡ Err fault
+
+-- A part is taken in, or refused with no change, as the answer says, unless memory ran out, which changes nothing either.
+abbrev pub Adds : Plan → Plan → Result (Unit {0}) PartFault → Result Plan PartFault → Type 0
+Adds old new (Ok done) answer = answer ≡ Ok new
+Adds old new (Err OutOfMemory) answer = new ≡ old
+Adds old new (Err fault) answer = (answer ≡ Err fault) × (new ≡ old)

@@ -1,0 +1,12 @@
+pub mod Names
+pub mod Network
+pub mod Rules
+pub mod Building
+pub mod NetworkParts
+pub mod Stored
+pub mod Text
+pub mod Lines
+pub mod Printing
+pub mod Numbers
+pub mod Reading
+pub mod formers

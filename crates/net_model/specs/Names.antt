@@ -1,0 +1,24 @@
+-- The names of points and bounds. This project's own choice.
+use Rattle.std.specs.Prelude.{ℕ, ◌-◌, ◌==◌, ◌&&◌, ◌||◌, Bool, false, List, [], ◌∷◌, ◌++◌, length, nat_le, nat_lt, replicate}
+use Rattle.std.specs.List.{list_all}
+
+-- a letter of ASCII, large or small
+abbrev pub is_letter : ℕ → Bool
+is_letter b = (nat_le 65 b && nat_le b 90) || (nat_le 97 b && nat_le b 122)
+
+-- a digit of ASCII
+abbrev pub is_digit : ℕ → Bool
+is_digit b = nat_le 48 b && nat_le b 57
+
+-- a byte that may stand in a name: a letter, a digit, `_`, `-` or `.`
+abbrev pub is_name_byte : ℕ → Bool
+is_name_byte b = is_letter b || is_digit b || b == 95 || b == 45 || b == 46
+
+-- a name: 1 to 32 such bytes, of which the first is a letter
+unfoldable pub is_name : List ℕ → Bool
+is_name [] = false
+is_name (b ∷ bs) = is_letter b && list_all is_name_byte bs && nat_lt (length bs) 32
+
+-- the bytes of a name, and then zeros up to 32 bytes
+abbrev pub padded : List ℕ → List ℕ
+padded bytes = bytes ++ replicate (32 - length bytes) 0

@@ -1,0 +1,18 @@
+-- How a network is stored: its three lists, an index of names for each list of names, and for each point the link that
+-- ends in it.
+use Rattle.std.specs.Prelude.{◌≡◌, ℕ, ◌<◌, length, map, None}
+use Rattle.std.specs.List.{slice_index_or}
+use Rattle.net_model.specs.Network.{Plan, IsPlan, activation}
+use Rattle.net_model.specs.declared.part.Bound.{Bound}
+use Rattle.net_model.specs.declared.network.Network.TheInside.{Inside}
+
+-- the network that is stored
+abbrev pub plan_of : Inside → Plan
+plan_of net = record { points = net.points.items; bounds = net.bounds.items; links = net.links.items }
+
+pub record IsStored (net : Inside) : Type 0 where
+  pub plan : IsPlan (plan_of net)
+  pub point_names : net.point_names.keys ≡ net.points.items
+  pub bound_names : net.bound_names.keys ≡ map (λ (b : Bound). b.name) net.bounds.items
+  pub ending_count : length net.ending.items ≡ length net.points.items
+  pub ending : (p : ℕ) → p < length net.points.items → slice_index_or net.ending.items p None ≡ activation (plan_of net) (record { 0 = p })

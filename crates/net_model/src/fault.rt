@@ -1,0 +1,84 @@
+use crate::part::Which;
+use std::alloc::AllocError;
+use std::fmt;
+
+/// Why a part is refused.
+#[derive(Clone, Copy, Debug, PartialEq, Eq, Hash)]
+pub(crate) enum PartFault {
+    DuplicateName,
+    UnknownName,
+    TwoLinksOnPoint,
+    LinkToItself,
+    BadInterval,
+    Limit(Which),
+    OutOfMemory,
+}
+
+/// Why a list of parts builds no network. Each fault but want of memory has the place of the first bad part, from 1.
+#[derive(Clone, Copy, Debug, PartialEq, Eq, Hash)]
+pub enum BuildFault {
+    /// The name of a point is a point already, or that of a bound a bound.
+    DuplicateName(u32),
+    /// The part names a point that no earlier part declares.
+    UnknownName(u32),
+    /// A link ends already in the point in which this one ends.
+    TwoLinksOnPoint(u32),
+    /// A link from a point to itself.
+    LinkToItself(u32),
+    /// A link whose shortest duration is below 1 or above its longest.
+    BadInterval(u32),
+    /// The part passes a limit.
+    Limit(Which, u32),
+    /// There was no memory.
+    OutOfMemory,
+}
+
+impl fmt::Display for BuildFault {
+    ghost use Rattle.std.specs.Prelude.{Some};
+    ghost use Rattle.net_model.specs.Building.{word_of};
+
+    ghost output = { λ fault. Some (word_of fault) };
+
+    fn fmt<W: fmt::Write>(&self, f: &mut fmt::Formatter<W>) -> fmt::Result {
+        f.write_str(match self {
+            BuildFault::DuplicateName(_) => "duplicate-name",
+            BuildFault::UnknownName(_) => "unknown-name",
+            BuildFault::TwoLinksOnPoint(_) => "two-links-on-point",
+            BuildFault::LinkToItself(_) => "link-to-itself",
+            BuildFault::BadInterval(_) => "bad-interval",
+            BuildFault::Limit(..) => "limit",
+            BuildFault::OutOfMemory => "out of memory",
+        })
+    }
+}
+
+impl From<AllocError> for PartFault {
+    ghost use Rattle.std.specs.Prelude.{◌≡◌};
+    ghost use Rattle.net_model.specs.declared.fault.PartFault.TheVariants.{OutOfMemory};
+
+    ghost from_gives = { λ _ fault. fault ≡ OutOfMemory };
+
+    fn from(_error: AllocError) -> PartFault {
+        PartFault::OutOfMemory
+    }
+}
+
+impl PartFault {
+    ghost use Rattle.std.specs.Prelude.{◌≡◌};
+    ghost use Rattle.net_model.specs.Building.{at_place};
+
+    /// The fault of the part at a place.
+    pub(crate) fn at(self, place: u32) -> BuildFault
+        ensures { result ≡ at_place place self }
+    {
+        match self {
+            PartFault::DuplicateName => BuildFault::DuplicateName(place),
+            PartFault::UnknownName => BuildFault::UnknownName(place),
+            PartFault::TwoLinksOnPoint => BuildFault::TwoLinksOnPoint(place),
+            PartFault::LinkToItself => BuildFault::LinkToItself(place),
+            PartFault::BadInterval => BuildFault::BadInterval(place),
+            PartFault::Limit(which) => BuildFault::Limit(which, place),
+            PartFault::OutOfMemory => BuildFault::OutOfMemory,
+        }
+    }
+}

@@ -1,0 +1,21 @@
+//! Temporal networks with uncertainty: names, points, bounds, links, and what a list of parts builds.
+#![tactic(auto)]
+
+mod fault;
+mod format;
+mod ids;
+mod items;
+mod name;
+mod network;
+mod part;
+#[cfg(test)]
+mod tests;
+pub mod text;
+
+pub use fault::BuildFault;
+pub use format::{FormatFault, FormatKind, TextFault, WordFault};
+pub use ids::{BoundId, LinkId, PointId, Weight};
+pub use items::Items;
+pub use name::{Name, NameFault};
+pub use network::Network;
+pub use part::{Bound, Edge, Link, MOST_BOUNDS, MOST_LINKS, MOST_NUMBER, MOST_POINTS, Part, Which};

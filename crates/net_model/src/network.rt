@@ -1,0 +1,339 @@
+ghost use Rattle.std.specs.Prelude.{◌≡◌, ◌<◌, ◌^◌, ◌↔◌, ◌==◌, ◌≤◌, [], ◌∷◌, ◌++◌, length, fold, map, filter, max, unsigned_abs, pos, IfOk, IsTrue};
+ghost use Rattle.std.specs.List.{enumerate_from};
+ghost use Rattle.net_model.specs.Network.{IsPlan, IsPoint, IsContingent, IsBound, IsLink, point_named, bound_named, activation, links_from, greatest, within_limit, empty};
+ghost use Rattle.net_model.specs.Building.{Builds, Adds, built, with_part, with_point, with_bound, with_link, named};
+
+use crate::fault::{BuildFault, PartFault};
+use crate::ids::{BoundId, LinkId, PointId, Weight};
+use crate::name::Name;
+use crate::part::{Bound, Link, MOST_BOUNDS, MOST_LINKS, MOST_NUMBER, MOST_POINTS, Part, Which};
+use indexmap::IndexSet;
+use std::alloc::{AllocError, Global};
+use std::marker::Model;
+
+/// A temporal network with uncertainty (Morris, Muscettola and Vidal 2001): points, bounds `to - from <= most`, and
+/// contingent links, each list in the order of declaration. Contracts see it as its three lists.
+#[derive(Debug, Drop)]
+pub struct Network {
+    points: Vec<Name>,
+    bounds: Vec<Bound>,
+    links: Vec<Link>,
+    point_names: IndexSet<Name>,
+    bound_names: IndexSet<Name>,
+    ending: Vec<Option<LinkId>>,
+}
+
+impl Model for Network {
+    ghost use Rattle.net_model.specs.Network.{Plan};
+
+    ghost Value = { Plan };
+
+    ghost use Rattle.net_model.specs.Stored.{plan_of, IsStored};
+
+    ghost view = { plan_of };
+
+    ghost invariant = { IsStored };
+}
+
+impl Network {
+    /// The network that a list of parts declares, in their order, or the first part that is refused. The refusals of
+    /// a part are tried in this order. A point: `DuplicateName`, `Limit(Points)`. A bound: `DuplicateName`,
+    /// `UnknownName` of its from and then of its to, `Limit(Number)`, `Limit(Bounds)`. A link: `UnknownName` of its
+    /// from and then of its to, `LinkToItself`, `TwoLinksOnPoint`, `BadInterval`, `Limit(Number)` of its longest
+    /// duration, `Limit(Links)`. A limit on a count comes exactly where the list already has its greatest length.
+    pub fn build(alloc: Global, parts: &[Part]) -> Result<Network, BuildFault>
+        requires { length parts.now < 2 ^ 32 }
+        ensures built { Builds result (built parts.now) }
+        ensures sound { IfOk result IsPlan }
+    {
+        let mut net = Network::empty(alloc);
+        let mut place = 0;
+        for part in parts {
+            place += 1;
+            if let Err(fault) = net.add(part) {
+                return Err(fault.at(place));
+            }
+        }
+        // The proof reads here that the network is sound.
+        let _ = &net.points;
+        Ok(net)
+    }
+
+    /// The points by their names; the number of a point is its place.
+    pub fn points(&self) -> &[Name]
+        ensures points { result.now ≡ self.now.points }
+        ensures sound { IsPlan self.now }
+    {
+        self.points.as_slice()
+    }
+
+    /// The bounds; the number of a bound is its place.
+    pub fn bounds(&self) -> &[Bound]
+        ensures bounds { result.now ≡ self.now.bounds }
+        ensures sound { IsPlan self.now }
+    {
+        self.bounds.as_slice()
+    }
+
+    /// The links; the number of a link is its place.
+    pub fn links(&self) -> &[Link]
+        ensures links { result.now ≡ self.now.links }
+        ensures sound { IsPlan self.now }
+    {
+        self.links.as_slice()
+    }
+
+    /// The point of a name, or `None` exactly where no point has it.
+    pub fn point(&self, name: &[u8]) -> Option<PointId>
+        ensures { result ≡ point_named self.now name.now }
+    {
+        // The proof reads here that each point has a name.
+        let _ = &self.points;
+        let name = Name::from_text(name)?;
+        self.named_point(&name)
+    }
+
+    /// The bound of a name, or `None` exactly where no bound has it.
+    pub fn bound(&self, name: &[u8]) -> Option<BoundId>
+        ensures { result ≡ bound_named self.now name.now }
+    {
+        // The proof reads here that each bound has a name.
+        let _ = &self.bounds;
+        let name = Name::from_text(name)?;
+        self.named_bound(&name)
+    }
+
+    /// The link that ends in a point, or `None` exactly where none does.
+    pub fn activation(&self, point: PointId) -> Option<LinkId>
+        requires { IsPoint self.now point }
+        ensures { result ≡ activation self.now point }
+    {
+        self.ending[point.0 as usize]
+    }
+
+    /// Whether a link ends in a point.
+    pub fn is_contingent(&self, point: PointId) -> bool
+        requires { IsPoint self.now point }
+        ensures { IsTrue result ↔ IsContingent self.now point }
+    {
+        self.activation(point).is_some()
+    }
+
+    /// The greatest size of a number of the network, or 0 where it has none.
+    pub fn greatest(&self) -> Weight
+        ensures { result ≡ pos (greatest self.now) }
+    {
+        let bounds = greatest_bound(self.bounds.as_slice());
+        let links = greatest_link(self.links.as_slice());
+        bounds.max(links) as i64
+    }
+
+    /// The links that begin in a point, in order.
+    pub fn links_from(&self, alloc: Global, point: PointId) -> Result<Vec<LinkId>, AllocError>
+        requires { IsPoint self.now point }
+        ensures { IfOk result (λ links. links.items ≡ links_from self.now point) }
+    {
+        links_from(alloc, self.links.as_slice(), point)
+    }
+
+    fn empty(alloc: Global) -> Network
+        ensures { result ≡ empty }
+    {
+        Network {
+            points: Vec::new(alloc),
+            bounds: Vec::new(alloc),
+            links: Vec::new(alloc),
+            point_names: IndexSet::new(alloc),
+            bound_names: IndexSet::new(alloc),
+            ending: Vec::new(alloc),
+        }
+    }
+
+    fn named_point(&self, name: &Name) -> Option<PointId>
+        ensures { result ≡ point_named self.now name.now }
+    {
+        let place = self.point_names.get_index_of(name)?;
+        Some(PointId(place as u32))
+    }
+
+    fn named_bound(&self, name: &Name) -> Option<BoundId>
+        ensures { result ≡ bound_named self.now name.now }
+    {
+        let place = self.bound_names.get_index_of(name)?;
+        Some(BoundId(place as u32))
+    }
+
+    fn known_point(&self, name: &Name) -> Result<PointId, PartFault>
+        ensures { result ≡ named self.now name.now }
+    {
+        self.named_point(name).ok_or(PartFault::UnknownName)
+    }
+
+    /// Takes one more part in. A refusal and want of memory change nothing.
+    fn add(&mut self, part: &Part) -> Result<(), PartFault>
+        ensures { Adds self.old self.new result (with_part self.old part.now) }
+    {
+        match part {
+            Part::Point(name) => self.add_point(name),
+            Part::Bound(name, from, to, most) => self.add_bound(name, from, to, *most),
+            Part::Link(from, low, high, to) => self.add_link(from, *low, *high, to),
+        }
+    }
+
+    #[tactic(auto, unfolding(crate::specs::Building::with_point))]
+    fn add_point(&mut self, name: &Name) -> Result<(), PartFault>
+        ensures { Adds self.old self.new result (with_point self.old name.now) }
+    {
+        if self.named_point(name).is_some() {
+            return Err(PartFault::DuplicateName);
+        }
+        if self.points.len() >= MOST_POINTS {
+            return Err(PartFault::Limit(Which::Points));
+        }
+        self.push_point(name)
+    }
+
+    #[tactic(auto, unfolding(crate::specs::Building::with_bound))]
+    fn add_bound(
+        &mut self,
+        name: &Name,
+        from: &Name,
+        to: &Name,
+        most: Weight,
+    ) -> Result<(), PartFault>
+        ensures { Adds self.old self.new result (with_bound self.old name.now from.now to.now most) }
+    {
+        if self.named_bound(name).is_some() {
+            return Err(PartFault::DuplicateName);
+        }
+        let from = self.known_point(from)?;
+        let to = self.known_point(to)?;
+        if !is_within_limit(most) {
+            return Err(PartFault::Limit(Which::Number));
+        }
+        if self.bounds.len() >= MOST_BOUNDS {
+            return Err(PartFault::Limit(Which::Bounds));
+        }
+        // The proof reads here that these bytes are a name.
+        let _ = name.bytes();
+        self.push_bound(Bound {
+            name: *name,
+            from,
+            to,
+            most,
+        })
+    }
+
+    #[tactic(auto, unfolding(crate::specs::Building::with_link))]
+    fn add_link(
+        &mut self,
+        from: &Name,
+        low: Weight,
+        high: Weight,
+        to: &Name,
+    ) -> Result<(), PartFault>
+        ensures { Adds self.old self.new result (with_link self.old from.now low high to.now) }
+    {
+        let from = self.known_point(from)?;
+        let to = self.known_point(to)?;
+        if from == to {
+            return Err(PartFault::LinkToItself);
+        }
+        if self.is_contingent(to) {
+            return Err(PartFault::TwoLinksOnPoint);
+        }
+        if low < 1 || high < low {
+            return Err(PartFault::BadInterval);
+        }
+        if !is_within_limit(high) {
+            return Err(PartFault::Limit(Which::Number));
+        }
+        if self.links.len() >= MOST_LINKS {
+            return Err(PartFault::Limit(Which::Links));
+        }
+        self.push_link(Link {
+            from,
+            low,
+            high,
+            to,
+        })
+    }
+
+    /// Room is made first, so that want of memory changes nothing.
+    fn push_point(&mut self, name: &Name) -> Result<(), PartFault>
+        requires fresh { point_named self.old name.now ≡ None }
+        requires room { length self.old.points < MOST_POINTS }
+        ensures { Adds self.old self.new result (Ok (record self.old { points = self.old.points ++ name.now ∷ [] })) }
+    {
+        // The proof reads here that these bytes are a name.
+        let _ = name.bytes();
+        self.points.reserve(1)?;
+        self.ending.reserve(1)?;
+        self.point_names.reserve(1)?;
+        self.points.push_reserved(*name);
+        self.ending.push_reserved(None);
+        self.point_names.insert(*name).unwrap();
+        Ok(())
+    }
+
+    fn push_bound(&mut self, bound: Bound) -> Result<(), PartFault>
+        requires fresh { bound_named self.old bound.name ≡ None }
+        requires room { length self.old.bounds < MOST_BOUNDS }
+        requires sound { IsBound self.old bound }
+        ensures { Adds self.old self.new result (Ok (record self.old { bounds = self.old.bounds ++ bound ∷ [] })) }
+    {
+        self.bounds.reserve(1)?;
+        self.bound_names.reserve(1)?;
+        self.bound_names.insert(bound.name).unwrap();
+        self.bounds.push_reserved(bound);
+        Ok(())
+    }
+
+    fn push_link(&mut self, link: Link) -> Result<(), PartFault>
+        requires fresh { activation self.old link.to ≡ None }
+        requires room { length self.old.links < MOST_LINKS }
+        requires sound { IsLink self.old link }
+        ensures { Adds self.old self.new result (Ok (record self.old { links = self.old.links ++ link ∷ [] })) }
+    {
+        self.links.reserve(1)?;
+        let id = LinkId(self.links.len() as u32);
+        self.links.push_reserved(link);
+        self.ending[link.to.0 as usize] = Some(id);
+        Ok(())
+    }
+}
+
+fn is_within_limit(number: Weight) -> bool
+    ensures { result ≡ within_limit number }
+{
+    number.unsigned_abs() <= MOST_NUMBER
+}
+
+fn greatest_bound(bounds: &[Bound]) -> u64
+    ensures { result ≡ fold (λ most b. max most (unsigned_abs b.most)) 0 bounds.now }
+{
+    bounds
+        .iter()
+        .fold(0, |most, bound| most.max(bound.most.unsigned_abs()))
+}
+
+fn greatest_link(links: &[Link]) -> u64
+    ensures { result ≡ fold (λ most l. max most (unsigned_abs l.high)) 0 links.now }
+{
+    links
+        .iter()
+        .fold(0, |most, link| most.max(link.high.unsigned_abs()))
+}
+
+fn links_from(alloc: Global, links: &[Link], point: PointId) -> Result<Vec<LinkId>, AllocError>
+    requires { length links.now ≤ MOST_LINKS }
+    ensures { IfOk result (λ found. found.items ≡ map (λ l. record { 0 = l.0 }) (filter (λ l. l.1.from.0 == point.0) (enumerate_from 0 links.now))) }
+{
+    let mut found = Vec::new(alloc);
+    for (place, link) in links.iter().enumerate() {
+        if link.from == point {
+            found.push(LinkId(place as u32))?;
+        }
+    }
+    Ok(found)
+}

@@ -1,0 +1,67 @@
+use crate::ids::{LinkId, PointId, Weight};
+use crate::name::Name;
+
+/// A bound `to - from <= most`, in whole moments.
+#[derive(Clone, Copy, Debug)]
+pub struct Bound {
+    pub name: Name,
+    pub from: PointId,
+    pub to: PointId,
+    pub most: Weight,
+}
+
+/// A contingent link: nature picks `to - from`, a whole number from `low` to `high`. `from` is the activation point
+/// and `to` the contingent point.
+#[derive(Clone, Copy, Debug, PartialEq, Eq)]
+pub struct Link {
+    pub from: PointId,
+    pub low: Weight,
+    pub high: Weight,
+    pub to: PointId,
+}
+
+/// An edge of the labelled distance graph (Morris and Muscettola 2005): `to - from <= weight`, where it has a label
+/// only as long as that link takes its longest duration.
+#[derive(Clone, Copy, Debug, PartialEq, Eq)]
+pub struct Edge {
+    pub from: PointId,
+    pub to: PointId,
+    pub label: Option<LinkId>,
+    pub weight: Weight,
+}
+
+/// A declaration of a plan.
+#[derive(Clone, Copy, Debug)]
+pub enum Part {
+    /// A point of this name.
+    Point(Name),
+    /// A bound: its name, from, to, and the most that `to - from` may be.
+    Bound(Name, Name, Name, Weight),
+    /// A link: from, its shortest and its longest duration, to.
+    Link(Name, Weight, Weight, Name),
+}
+
+/// A quantity that has a limit.
+#[derive(Clone, Copy, Debug, PartialEq, Eq, Hash)]
+pub enum Which {
+    /// The number of points.
+    Points,
+    /// The number of links.
+    Links,
+    /// The number of bounds.
+    Bounds,
+    /// The size of a number.
+    Number,
+}
+
+/// The greatest number of points of a network.
+pub const MOST_POINTS: usize = 1_000;
+
+/// The greatest number of links of a network.
+pub const MOST_LINKS: usize = 400;
+
+/// The greatest number of bounds of a network.
+pub const MOST_BOUNDS: usize = 20_000;
+
+/// The greatest size of a number of a network, in whole moments.
+pub const MOST_NUMBER: u64 = 1_000_000_000;
