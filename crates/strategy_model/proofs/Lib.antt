@@ -1,0 +1,11 @@
+pub mod WalkLemmas
+pub mod LongestLemmas
+pub mod BoundLemmas
+pub mod MomentLemmas
+pub mod PlayLemmas
+pub mod AgreeLemmas
+pub mod CompareLemmas
+pub mod RuleLemmas
+pub mod LoopLemmas
+pub mod StepLemmas
+pub mod TreeLemmas

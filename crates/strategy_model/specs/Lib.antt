@@ -1,0 +1,6 @@
+pub mod Situations
+pub mod Plays
+pub mod Control
+pub mod Edges
+pub mod Laws
+pub use Rattle.net_model.specs.Network

@@ -1,0 +1,168 @@
+ghost use Rattle.std.specs.Prelude.{◌≡◌, ◌+◌, ◌++◌, ◌&&◌, length, is_none, nat_lt, IfOk, IfSome, OnOk};
+ghost use Rattle.std.specs.Option.{option_map, option_copied};
+ghost use Rattle.net_model.specs.Network.{activation};
+ghost use Rattle.strategy_model.specs.Plays.{play, moment_of, at_moment, completes, is_completed, completed, may_act, case_for, schedule_made};
+
+use crate::tree::{Case, Tree};
+use crate::{Schedule, Situation};
+use net_model::{Link, Network, PointId};
+use std::alloc::{AllocError, Global};
+
+/// The schedule that a strategy makes of a network in a situation, which has one duration for each link, each in its
+/// interval. It is `None` exactly where the strategy has no play there: where at some moment no case has just the points
+/// that are completed, or an act is no executable point or was executed before, or where a point has no moment at the
+/// leaf.
+pub fn play(
+    alloc: Global,
+    tree: &Tree,
+    net: &Network,
+    situation: &Situation,
+) -> Result<Option<Schedule>, AllocError>
+    ensures played { IfOk result (λ schedule. option_map (λ s. s.items) schedule ≡ play tree.now net.now situation.now.items) }
+    ensures complete { IfOk result (λ schedule. IfSome schedule (λ s. length s.items ≡ length net.now.points)) }
+{
+    let mut moments = Vec::new(alloc);
+    let mut node = tree;
+    let mut t: u64 = 0;
+    while let Tree::Node(cases) = node {
+        let seen = completed(alloc, net, situation.as_slice(), moments.as_slice(), t)?;
+        let Some(case) = case_for(cases.as_slice(), seen.as_slice()) else {
+            return Ok(None);
+        };
+        if !may_act(net, moments.as_slice(), case.acts.as_slice()) {
+            return Ok(None);
+        }
+        push_at(&mut moments, seen.as_slice(), t)?;
+        push_at(&mut moments, case.acts.as_slice(), t)?;
+        node = &case.next;
+        t = next_moment(t)?;
+    }
+    schedule_made(alloc, net, moments.as_slice())
+}
+
+/// No tree that memory can hold is so deep that the moments run out.
+fn next_moment(t: u64) -> Result<u64, AllocError>
+    ensures { IfOk result (λ next. next ≡ t + 1) }
+{
+    t.checked_add(1).ok_or(AllocError)
+}
+
+/// The moment that a point has so far.
+fn moment_of(so_far: &[(PointId, u64)], point: PointId) -> Option<u64>
+    ensures { result ≡ moment_of so_far.now point }
+{
+    for (known, moment) in so_far {
+        if *known == point {
+            return Some(*moment);
+        }
+    }
+    None
+}
+
+fn completes(so_far: &[(PointId, u64)], t: u64, link: &Link, duration: u64) -> bool
+    ensures { result ≡ completes so_far.now t link.now duration }
+{
+    match moment_of(so_far, link.from) {
+        Some(activation) => activation.checked_add(duration) == Some(t),
+        None => false,
+    }
+}
+
+fn is_completed(
+    so_far: &[(PointId, u64)],
+    t: u64,
+    links: &[Link],
+    durations: &[u64],
+    point: PointId,
+) -> bool
+    ensures { result ≡ is_completed so_far.now t links.now durations.now point }
+{
+    for (link, duration) in links.iter().zip(durations) {
+        if link.to == point && completes(so_far, t, link, *duration) {
+            return true;
+        }
+    }
+    false
+}
+
+/// The points that are completed at a moment, in order of number.
+fn completed(
+    alloc: Global,
+    net: &Network,
+    situation: &[u64],
+    so_far: &[(PointId, u64)],
+    t: u64,
+) -> Result<Vec<PointId>, AllocError>
+    ensures { IfOk result (λ points. points.items ≡ completed net.now situation.now so_far.now t) }
+{
+    let mut points = Vec::new(alloc);
+    for k in 0..net.points().len() {
+        let point = PointId(k as u32);
+        if is_completed(so_far, t, net.links(), situation, point) {
+            points.push(point)?;
+        }
+    }
+    Ok(points)
+}
+
+/// The first case that has just these points as seen.
+fn case_for<'a>(cases: &'a [Case], points: &[PointId]) -> Option<&'a Case>
+    ensures { option_copied result ≡ case_for cases.now points.now }
+{
+    for case in cases {
+        if case.seen.as_slice() == points {
+            return Some(case);
+        }
+    }
+    None
+}
+
+/// Whether these points may be executed now.
+fn may_act(net: &Network, so_far: &[(PointId, u64)], acts: &[PointId]) -> bool
+    ensures { result ≡ may_act net.now so_far.now acts.now }
+{
+    for (place, act) in acts.iter().enumerate() {
+        if !may_execute(net, so_far, *act) || acts[place + 1..].contains(act) {
+            return false;
+        }
+    }
+    true
+}
+
+/// Whether a point is executable and was not executed before.
+fn may_execute(net: &Network, so_far: &[(PointId, u64)], point: PointId) -> bool
+    ensures { result ≡ (nat_lt point.0 (length net.now.points) && is_none (activation net.now point) && is_none (moment_of so_far.now point)) }
+{
+    (point.0 as usize) < net.points().len()
+        && !net.is_contingent(point)
+        && moment_of(so_far, point).is_none()
+}
+
+/// Gives points a moment.
+fn push_at(moments: &mut Vec<(PointId, u64)>, points: &[PointId], t: u64) -> Result<(), AllocError>
+    ensures { OnOk result (moments.new.items ≡ moments.old.items ++ at_moment t points.now) }
+{
+    for point in points {
+        moments.push((*point, t))?;
+    }
+    Ok(())
+}
+
+/// The schedule that was made, where each point has a moment.
+fn schedule_made(
+    alloc: Global,
+    net: &Network,
+    so_far: &[(PointId, u64)],
+) -> Result<Option<Schedule>, AllocError>
+    ensures made { IfOk result (λ schedule. option_map (λ s. s.items) schedule ≡ schedule_made net.now so_far.now) }
+    ensures complete { IfOk result (λ schedule. IfSome schedule (λ s. length s.items ≡ length net.now.points)) }
+{
+    let mut schedule = Vec::new(alloc);
+    for k in 0..net.points().len() {
+        let Some(moment) = moment_of(so_far, PointId(k as u32)) else {
+            return Ok(None);
+        };
+        schedule.push(moment)?;
+    }
+    Ok(Some(schedule))
+}
