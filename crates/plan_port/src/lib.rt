@@ -1,0 +1,17 @@
+//! The outside of the program: a port that gives and takes bytes, a reader of lines over it, and writing to it.
+#![tactic(auto)]
+
+mod lines;
+mod memory;
+mod ports;
+mod standard;
+#[cfg(test)]
+mod tests;
+mod window;
+mod writing;
+
+pub use lines::{Line, LineReader};
+pub use memory::MemoryPort;
+pub use ports::{Port, Sent, Took};
+pub use standard::StdPort;
+pub use writing::{Written, write_all};

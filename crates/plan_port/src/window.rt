@@ -1,0 +1,182 @@
+// The bytes that a reader holds: the last line given, and those taken and not given out.
+ghost use Rattle.std.specs.Prelude.{◌≡◌, ℕ, ◌+◌, ◌<◌, ◌≤◌, List, [], ◌++◌, length, take, drop, IfOk, IfSome};
+ghost use Rattle.std.specs.List.{position, concat};
+ghost use Rattle.plan_port.specs.Talk.{Rose};
+ghost use Rattle.plan_port.specs.Lines.{ends_line};
+ghost use Rattle.plan_port.specs.Reading.{TakesOnce};
+
+use crate::ports::{Port, Took};
+use std::alloc::{AllocError, Global};
+use std::marker::Model;
+
+// A line of the greatest length, and one byte that shows that it is longer.
+const CAPACITY: usize = 65_537;
+
+#[derive(Drop)]
+pub(crate) struct Window {
+    bytes: Vec<u8>,
+    text_start: usize,
+    text_end: usize,
+    start: usize,
+    end: usize,
+    // No line end stands in the kept bytes before this one.
+    searched: usize,
+}
+
+impl Model for Window {
+    ghost use Rattle.std.specs.Prelude.{◌≡◌, ◌≤◌, ◌-◌, slice_range, vec_len};
+    ghost use Rattle.std.specs.List.{position_or_len};
+    ghost use Rattle.plan_port.specs.Held.{Held};
+    ghost use Rattle.plan_port.specs.Lines.{ends_line};
+
+    ghost Value = { Held };
+
+    ghost view = { λ w. record {
+      text = slice_range w.bytes.items w.text_start w.text_end;
+      kept = slice_range w.bytes.items w.start w.end;
+      free = 65537 - w.end;
+    } };
+
+    ghost invariant = { λ w. (vec_len w.bytes ≡ 65537)
+        × (w.text_start ≤ w.text_end) × (w.text_end ≤ 65537)
+        × (w.start ≤ w.searched) × (w.searched ≤ w.end) × (w.end ≤ 65537)
+        × (position_or_len ends_line (slice_range w.bytes.items w.start w.searched) ≡ w.searched - w.start) };
+}
+
+impl Window {
+    pub(crate) fn new(alloc: Global) -> Result<Window, AllocError>
+        ensures text { IfOk result (λ window. window.text ≡ []) }
+        ensures kept { IfOk result (λ window. window.kept ≡ []) }
+    {
+        Ok(Window {
+            bytes: vec![in alloc; 0; CAPACITY]?,
+            text_start: 0,
+            text_end: 0,
+            start: 0,
+            end: 0,
+            searched: 0,
+        })
+    }
+
+    pub(crate) fn text(&self) -> &[u8]
+        ensures { result.now ≡ self.now.text }
+    {
+        &self.bytes[self.text_start..self.text_end]
+    }
+
+    // How many bytes are kept.
+    pub(crate) fn size(&self) -> usize
+        ensures value { result ≡ length self.now.kept }
+        ensures small { result ≤ 65537 }
+    {
+        self.end - self.start
+    }
+
+    // Where the first line of the kept bytes ends, if its end has come.
+    pub(crate) fn find_line_end(&mut self) -> Option<usize>
+        ensures place { result ≡ position ends_line self.old.kept }
+        ensures small { IfSome result (λ place. place < 65537) }
+        ensures same { self.new ≡ self.old }
+    {
+        let unsearched = &self.bytes[self.searched..self.end];
+        match position_of_line_end(unsearched) {
+            Some(place) => Some(self.searched - self.start + place),
+            None => {
+                self.searched = self.end;
+                None
+            }
+        }
+    }
+
+    // Gives out the first bytes as a line, and passes over the byte behind them.
+    pub(crate) fn give_line(&mut self, size: usize)
+        requires { size < length self.old.kept }
+        ensures text { self.new.text ≡ take size self.old.kept }
+        ensures kept { self.new.kept ≡ drop (size + 1) self.old.kept }
+    {
+        self.text_start = self.start;
+        self.text_end = self.start + size;
+        self.start = self.start + size + 1;
+        self.searched = self.start;
+    }
+
+    // Gives out all kept bytes as a line.
+    pub(crate) fn give_all(&mut self)
+        ensures text { self.new.text ≡ self.old.kept }
+        ensures kept { self.new.kept ≡ [] }
+    {
+        self.text_start = self.start;
+        self.text_end = self.end;
+        self.start = self.end;
+        self.searched = self.end;
+    }
+
+    // Forgets the last line.
+    pub(crate) fn forget_text(&mut self)
+        ensures text { self.new.text ≡ [] }
+        ensures kept { self.new.kept ≡ self.old.kept }
+    {
+        self.text_start = 0;
+        self.text_end = 0;
+    }
+
+    // Moves the kept bytes to the front.
+    fn move_to_front(&mut self)
+        requires { self.old.text ≡ [] }
+        ensures text { self.new.text ≡ [] }
+        ensures kept { self.new.kept ≡ self.old.kept }
+        ensures free { self.new.free + length self.new.kept ≡ 65537 }
+    {
+        let (start, end) = (self.start, self.end);
+        self.bytes.copy_within(start..end, 0);
+        self.text_start = 0;
+        self.text_end = 0;
+        self.searched -= start;
+        self.start = 0;
+        self.end = end - start;
+    }
+
+    // Takes once from the port, behind the kept bytes. The last line is forgotten, since its place may be needed.
+    pub(crate) fn take_from<P: Port>(&mut self, port: &mut P) -> Took
+        requires { length self.old.kept < 65537 }
+        ensures took { (pieces : List (List ℕ))
+            × TakesOnce result pieces (P.talk port.old) (P.talk port.new) (P.left port.old) (P.left port.new)
+            × (self.new.kept ≡ self.old.kept ++ concat pieces) }
+        ensures text { self.new.text ≡ [] }
+        ensures failed { result ≡ Took.Failed → Rose (P.read_faults port.old) (P.read_faults port.new) }
+        ensures read_faults { P.read_faults port.old ≤ P.read_faults port.new }
+        ensures write_faults { P.write_faults port.old ≤ P.write_faults port.new }
+    {
+        self.forget_text();
+        if self.start == self.end || self.end == CAPACITY {
+            self.move_to_front();
+        }
+        self.fill(port)
+    }
+
+    // The same where there is place.
+    fn fill<P: Port>(&mut self, port: &mut P) -> Took
+        requires { 0 < self.old.free }
+        ensures took { (pieces : List (List ℕ))
+            × TakesOnce result pieces (P.talk port.old) (P.talk port.new) (P.left port.old) (P.left port.new)
+            × (self.new.kept ≡ self.old.kept ++ concat pieces) }
+        ensures text { self.old.text ≡ [] → self.new.text ≡ [] }
+        ensures failed { result ≡ Took.Failed → Rose (P.read_faults port.old) (P.read_faults port.new) }
+        ensures read_faults { P.read_faults port.old ≤ P.read_faults port.new }
+        ensures write_faults { P.write_faults port.old ≤ P.write_faults port.new }
+    {
+        let end = self.end;
+        let took = port.take(&mut self.bytes[end..]);
+        if let Took::Bytes(count) = took {
+            self.end = end + count;
+        }
+        took
+    }
+}
+
+fn position_of_line_end(bytes: &[u8]) -> Option<usize>
+    ensures place { result ≡ position ends_line bytes.now }
+    ensures within { IfSome result (λ place. place < length bytes.now) }
+{
+    bytes.iter().position(|byte| *byte == b'\n')
+}
