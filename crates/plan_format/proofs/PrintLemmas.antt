@@ -1,0 +1,46 @@
+-- The printed text of a network, piece by piece.
+use Rattle.std.proofs.Common.{◌≡◌, ℕ, List, [], ◌∷◌, ◌++◌, map, sym, ap, ◌∙◌, append_assoc}
+use Rattle.std.proofs.lemmas.List.{append-nil, map-append}
+use Rattle.std.proofs.lemmas.List.Concat.{flat_map-append}
+use Rattle.std.specs.List.{flat_map}
+use Rattle.net_model.specs.Network.{Plan}
+use Rattle.net_model.specs.Printing.{printed_line, printed}
+use Rattle.net_model.proofs.PrintingLemmas.{flat_map-map}
+use Rattle.net_model.specs.declared.part.Part.{Part}
+use Rattle.net_model.specs.declared.part.Part.TheVariants.{Point}
+use Rattle.net_model.specs.NetworkParts.{bound_part, link_part, parts_of}
+use Rattle.plan_format.specs.PlanParts.{part_words, header_words, end_words}
+use Rattle.plan_format.specs.PlanPrinting.{printed_plan}
+
+-- the printed lines of parts
+abbrev printed_parts : List Part → List ℕ
+printed_parts parts = printed (map part_words parts)
+
+printed_parts-append : (front back : List Part) → printed_parts (front ++ back) ≡ printed_parts front ++ printed_parts back
+printed_parts-append front back =
+    ap printed (map-append part_words front back) ∙ flat_map-append printed_line (map part_words front) (map part_words back)
+
+printed_parts-map : {X : Type 0} (part : X → Part) (xs : List X) → printed_parts (map part xs) ≡ flat_map (λ x. printed_line (part_words (part x))) xs
+printed_parts-map part xs =
+    flat_map-map printed_line part_words (map part xs) ∙ flat_map-map (λ p. printed_line (part_words p)) part xs
+
+regrouped : (h a b c e : List ℕ) → (((h ++ a) ++ b) ++ c) ++ e ≡ h ++ ((a ++ (b ++ c)) ++ (e ++ []))
+regrouped h a b c e = simp (append_assoc, append-nil)
+
+-- the pieces in the order in which they are written
+pub printed_pieces : (net : Plan) → (((([] ++ printed_line header_words) ++ flat_map (λ name. printed_line (part_words (Point name))) net.points) ++ flat_map (λ bound. printed_line (part_words (bound_part net.points bound))) net.bounds) ++ flat_map (λ link. printed_line (part_words (link_part net.points link))) net.links) ++ printed_line end_words ≡ printed_plan net
+unfolding printed_plan
+printed_pieces net =
+    let header : List ℕ = printed_line header_words in
+    let end : List ℕ = printed_line end_words in
+    let points : List Part = map Point net.points in
+    let bounds : List Part = map (bound_part net.points) net.bounds in
+    let links : List Part = map (link_part net.points) net.links in
+    let a = printed_parts-map Point net.points in
+    let b = printed_parts-map (bound_part net.points) net.bounds in
+    let c = printed_parts-map (link_part net.points) net.links in
+    let parts : printed_parts (parts_of net) ≡ printed_parts points ++ (printed_parts bounds ++ printed_parts links) = printed_parts-append points (bounds ++ links) ∙ ap (λ (rest : List ℕ). printed_parts points ++ rest) (printed_parts-append bounds links) in
+    rw (← a, ← b, ← c)
+    (regrouped header (printed_parts points) (printed_parts bounds) (printed_parts links) end
+    ∙ (ap (λ (text : List ℕ). header ++ (text ++ (end ++ []))) (sym parts)
+    ∙ ap (λ (text : List ℕ). header ++ text) (sym (flat_map-append printed_line (map part_words (parts_of net)) (end_words ∷ [])))))

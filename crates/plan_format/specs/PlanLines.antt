@@ -1,0 +1,71 @@
+-- The lines of a plan text, version 1, each by its words. This project's own choice.
+use Rattle.std.specs.Prelude.{ℕ, List, [], ◌∷◌, Result, Ok, Err, codes, if◌then◌else◌}
+use Rattle.std.specs.Str.{bytes_eq}
+use Rattle.net_model.specs.Text.{is_remark}
+use Rattle.net_model.specs.Numbers.{name_of, integer_of}
+use Rattle.net_model.specs.Reading.{◌>>=◌}
+use Rattle.net_model.specs.declared.format.FormatKind.{FormatKind}
+use Rattle.net_model.specs.declared.format.FormatKind.TheVariants.{UnknownWord, WordCount}
+use Rattle.net_model.specs.declared.part.Part.{Part}
+use Rattle.net_model.specs.declared.part.Part.TheVariants as part
+use Rattle.net_model.specs.declared.part.TheConstants.{MOST_NUMBER}
+use Rattle.plan_format.specs.declared.plan_line.PlanLine.{PlanLine}
+use Rattle.plan_format.specs.declared.plan_line.PlanLine.TheVariants as line
+
+-- NAME: a point
+abbrev pub point_line : List (List ℕ) → Result Part FormatKind
+point_line (name ∷ []) = do
+  n ← name_of name
+  Ok (part.Point n)
+point_line others = Err WordCount
+
+-- NAME FROM TO MOST: a bound
+abbrev pub bound_line : List (List ℕ) → Result Part FormatKind
+bound_line (name ∷ from ∷ to ∷ most ∷ []) = do
+  n ← name_of name
+  x ← name_of from
+  y ← name_of to
+  w ← integer_of MOST_NUMBER most
+  Ok (part.Bound n x y w)
+bound_line others = Err WordCount
+
+-- FROM LOW HIGH TO: a link
+abbrev pub link_line : List (List ℕ) → Result Part FormatKind
+link_line (from ∷ low ∷ high ∷ to ∷ []) = do
+  a ← name_of from
+  x ← integer_of MOST_NUMBER low
+  y ← integer_of MOST_NUMBER high
+  c ← name_of to
+  Ok (part.Link a x y c)
+link_line others = Err WordCount
+
+-- a line that declares a part
+abbrev pub declares : Result Part FormatKind → Result PlanLine FormatKind
+declares read = do
+  declared ← read
+  Ok (line.Part declared)
+
+-- the line behind `stnu`: the version of the text
+abbrev pub header_line : List (List ℕ) → Result PlanLine FormatKind
+header_line (version ∷ []) = if bytes_eq version (codes "1") then Ok line.Header else Err UnknownWord
+header_line others = Err UnknownWord
+
+-- the line behind `end`: nothing
+abbrev pub end_line : List (List ℕ) → Result PlanLine FormatKind
+end_line [] = Ok line.End
+end_line others = Err WordCount
+
+-- a line by its first word
+abbrev pub line_of : List ℕ → List (List ℕ) → Result PlanLine FormatKind
+line_of first others =
+    if bytes_eq first (codes "stnu") then header_line others
+    else (if bytes_eq first (codes "point") then declares (point_line others)
+    else (if bytes_eq first (codes "bound") then declares (bound_line others)
+    else (if bytes_eq first (codes "link") then declares (link_line others)
+    else (if bytes_eq first (codes "end") then end_line others
+    else Err UnknownWord))))
+
+-- a line of a plan text, read alone
+unfoldable pub plan_line : List (List ℕ) → Result PlanLine FormatKind
+plan_line [] = Ok line.Blank
+plan_line (first ∷ others) = if is_remark first then Ok line.Blank else line_of first others

@@ -1,0 +1,25 @@
+-- The plan text of a network. This project's own choice.
+use Rattle.std.specs.Prelude.{◌≡◌, ℕ, List, [], ◌∷◌, ◌++◌, map, length, Ok}
+use Rattle.net_model.specs.Network.{Plan}
+use Rattle.net_model.specs.Printing.{printed}
+use Rattle.net_model.specs.declared.part.Part.{Part}
+use Rattle.net_model.specs.NetworkParts.{parts_of}
+use Rattle.net_model.specs.Building.{built}
+use Rattle.plan_format.specs.declared.read.Parts.{Parts}
+use Rattle.plan_format.specs.PlanText.{plan_text}
+use Rattle.plan_format.specs.PlanParts.{part_words, header_words, end_words}
+
+-- the lines of a plan text that declares parts: the header, a line for each part, and `end`
+abbrev pub plan_words : List Part → List (List (List ℕ))
+plan_words parts = header_words ∷ (map part_words parts ++ end_words ∷ [])
+
+-- the plan text of a network
+unfoldable pub printed_plan : Plan → List ℕ
+printed_plan net = printed (plan_words (parts_of net))
+
+-- a text that is read back, whole, to parts that build the network
+pub record ReadsBack (text : List ℕ) (net : Plan) : Type 0 where
+  pub read : Parts
+  pub said : plan_text text ≡ Ok read
+  pub whole : read.used ≡ length text
+  pub same : built read.parts ≡ Ok net

@@ -1,0 +1,164 @@
+//! One line of a plan text.
+
+ghost use Rattle.std.specs.Prelude.{◌≡◌, ℕ, List, ◌∷◌, [], IfOk, MatchResult};
+ghost use Rattle.std.specs.Result.{result_map_both};
+ghost use Rattle.net_model.specs.Numbers.{name_of, integer_of};
+ghost use Rattle.net_model.specs.Text.{words};
+ghost use Rattle.plan_format.specs.declared.plan_line.PlanLine.{PlanLine};
+ghost use Rattle.plan_format.specs.PlanGrammar.{IsLine};
+ghost use Rattle.plan_format.specs.PlanLines.{plan_line, line_of, header_line, point_line, bound_line, link_line, end_line};
+
+use net_model::{FormatKind, MOST_NUMBER, Name, Part, Weight, WordFault, text};
+
+/// A line of a plan text.
+#[derive(Clone, Copy, Debug)]
+pub enum PlanLine {
+    /// A line without words, or whose first word begins with `#`.
+    Blank,
+    /// The header `stnu 1`.
+    Header,
+    /// The declaration of a point, a bound or a link.
+    Part(Part),
+    /// The last line, `end`.
+    End,
+}
+
+/// Reads one line of a plan text, alone. The fault is the first one: of the first word, of the count of words, and then
+/// of the words from left to right. A line whose first word is `stnu` is the header `stnu 1` or `UnknownWord`. It takes
+/// no memory, so `OutOfMemory` never comes.
+pub fn read_plan_line(line: &[u8]) -> Result<PlanLine, WordFault>
+    ensures reads { result ≡ result_map_both (λ read. read) (λ kind. WordFault.Kind kind) (plan_line (words line.now)) }
+    ensures grammar { IfOk result (λ read. IsLine read line.now) }
+    ensures every { (read : PlanLine) → IsLine read line.now → result ≡ Ok read }
+{
+    match plan_line(line) {
+        Ok(read) => Ok(read),
+        Err(kind) => Err(WordFault::Kind(kind)),
+    }
+}
+
+/// Reads one line of a plan text by its words.
+#[tactic(auto, unfolding(crate::specs::PlanLines::plan_line))]
+pub(crate) fn plan_line(line: &[u8]) -> Result<PlanLine, FormatKind>
+    ensures { result ≡ plan_line (words line.now) }
+{
+    let Some((first, rest)) = text::next_word(line) else {
+        return Ok(PlanLine::Blank);
+    };
+    if text::is_remark(first) {
+        return Ok(PlanLine::Blank);
+    }
+    line_of(first, rest)
+}
+
+fn line_of(first: &[u8], rest: &[u8]) -> Result<PlanLine, FormatKind>
+    ensures { result ≡ line_of first.now (words rest.now) }
+{
+    if first == b"stnu".as_slice() {
+        return header_line(rest);
+    }
+    if first == b"point".as_slice() {
+        return Ok(PlanLine::Part(point_line(rest)?));
+    }
+    if first == b"bound".as_slice() {
+        return Ok(PlanLine::Part(bound_line(rest)?));
+    }
+    if first == b"link".as_slice() {
+        return Ok(PlanLine::Part(link_line(rest)?));
+    }
+    if first == b"end".as_slice() {
+        return end_line(rest);
+    }
+    Err(FormatKind::UnknownWord)
+}
+
+/// What stands behind `stnu`.
+fn header_line(rest: &[u8]) -> Result<PlanLine, FormatKind>
+    ensures { result ≡ header_line (words rest.now) }
+{
+    let Some((version, rest)) = text::next_word(rest) else {
+        return Err(FormatKind::UnknownWord);
+    };
+    if text::next_word(rest).is_some() {
+        return Err(FormatKind::UnknownWord);
+    }
+    if version == b"1".as_slice() {
+        return Ok(PlanLine::Header);
+    }
+    Err(FormatKind::UnknownWord)
+}
+
+/// What stands behind `point`.
+fn point_line(rest: &[u8]) -> Result<Part, FormatKind>
+    ensures { result ≡ point_line (words rest.now) }
+{
+    let (name, rest) = word(rest)?;
+    no_more(rest)?;
+    Ok(Part::Point(text::name(name)?))
+}
+
+/// What stands behind `bound`.
+fn bound_line(rest: &[u8]) -> Result<Part, FormatKind>
+    ensures { result ≡ bound_line (words rest.now) }
+{
+    let (name, rest) = word(rest)?;
+    let (from, rest) = word(rest)?;
+    let (to, rest) = word(rest)?;
+    let (most, rest) = word(rest)?;
+    no_more(rest)?;
+    Ok(Part::Bound(
+        text::name(name)?,
+        text::name(from)?,
+        text::name(to)?,
+        number(most)?,
+    ))
+}
+
+/// What stands behind `link`.
+fn link_line(rest: &[u8]) -> Result<Part, FormatKind>
+    ensures { result ≡ link_line (words rest.now) }
+{
+    let (from, rest) = word(rest)?;
+    let (low, rest) = word(rest)?;
+    let (high, rest) = word(rest)?;
+    let (to, rest) = word(rest)?;
+    no_more(rest)?;
+    Ok(Part::Link(
+        text::name(from)?,
+        number(low)?,
+        number(high)?,
+        text::name(to)?,
+    ))
+}
+
+/// What stands behind `end`.
+fn end_line(rest: &[u8]) -> Result<PlanLine, FormatKind>
+    ensures { result ≡ end_line (words rest.now) }
+{
+    no_more(rest)?;
+    Ok(PlanLine::End)
+}
+
+/// The next word of a line, which must have one more.
+fn word(rest: &[u8]) -> Result<(&[u8], &[u8]), FormatKind>
+    ensures { MatchResult result (λ found. words rest.now ≡ found.0.now ∷ words found.1.now) (λ kind. (kind ≡ FormatKind.WordCount) × (words rest.now ≡ [])) }
+{
+    text::next_word(rest).ok_or(FormatKind::WordCount)
+}
+
+/// Nothing more stands in a line.
+fn no_more(rest: &[u8]) -> Result<(), FormatKind>
+    ensures { MatchResult result (λ _. words rest.now ≡ []) (λ kind. (kind ≡ FormatKind.WordCount) × ((word : List ℕ) × (others : List (List ℕ)) × (words rest.now ≡ word ∷ others))) }
+{
+    match text::next_word(rest) {
+        None => Ok(()),
+        Some(_) => Err(FormatKind::WordCount),
+    }
+}
+
+/// A number of a plan.
+fn number(word: &[u8]) -> Result<Weight, FormatKind>
+    ensures { result ≡ integer_of MOST_NUMBER word.now }
+{
+    text::integer(word, MOST_NUMBER)
+}
