@@ -1,0 +1,148 @@
+-- The line that spells a text is read as that text, and no other line is.
+use Rattle.std.proofs.Common.{◌≡◌, ℕ, ℤ, ◌≤◌, true, false, List, [], ◌∷◌, ◌++◌, Option, None, Some, Result, Ok, refl, ap, ◌∙◌, arith, unsigned_abs, IsTrue}
+use Rattle.std.specs.Option.{is_some, IfSome}
+use Rattle.std.specs.Fmt.{decimal, signed_decimal}
+use Rattle.net_model.specs.Names.{is_name}
+use Rattle.net_model.specs.Numbers.{name_of}
+use Rattle.net_model.specs.Text.{are_passed_over}
+use Rattle.net_model.specs.declared.format.FormatKind.{FormatKind}
+use Rattle.net_model.proofs.SpellingLemmas.{natural_spelled, integer_spelled}
+use Rattle.cert_format.specs.Kind.{has_label}
+use Rattle.cert_format.specs.Keywords.{spelled, keyword_of}
+use Rattle.cert_format.specs.CertificateLines.{number_of, weight_of, unlabelled, labelled, rule, line_of}
+use Rattle.cert_format.specs.CertificateWords.{rule_word, operand_words, label_words, line_words, walk_words, header_words, refutation_words, end_words, AreOperands, IsSpelledLine}
+use Rattle.cert_format.specs.CertificateText.{admits, line_in}
+use Rattle.cert_format.specs.declared.keyword.Keyword.{Keyword}
+use Rattle.cert_format.specs.declared.keyword.Keyword.TheVariants as keyword
+use Rattle.cert_format.specs.declared.kind.LineKind.{LineKind}
+use Rattle.cert_format.specs.declared.kind.LineKind.TheVariants as kind
+use Rattle.cert_format.specs.declared.line.CertLine.{CertLine}
+use Rattle.cert_format.specs.declared.read.CertText.{CertText}
+use Rattle.cert_format.specs.declared.read.CertText.TheVariants as text
+use Rattle.cert_format.specs.declared.read.TheConstants.{MOST_WEIGHT, MOST_NUMBER}
+use Rattle.cert_format.specs.declared.section.Section.{Section}
+use Rattle.cert_format.proofs.EdgeLemmas.{same_line}
+
+-- the words of a line, by what it says
+abbrev pub text_words : CertText → List (List ℕ)
+text_words text.Blank = []
+text_words text.Header = header_words
+text_words text.Refutation = refutation_words
+text_words (text.Line line) = line_words line
+text_words (text.Walk i) = walk_words i
+text_words text.End = end_words
+
+-- its first word
+abbrev pub text_word : CertText → Keyword
+text_word text.Blank = keyword.End
+text_word text.Header = keyword.Certificate
+text_word text.Refutation = keyword.Refutation
+text_word (text.Line line) = rule_word line.kind
+text_word (text.Walk i) = keyword.Walk
+text_word text.End = keyword.End
+
+-- what it says can be spelled
+abbrev pub IsSpelledText : CertText → Type 0
+IsSpelledText text.Blank = ⊥
+IsSpelledText text.Header = Unit {0}
+IsSpelledText text.Refutation = Unit {0}
+IsSpelledText (text.Line line) = IsSpelledLine line
+IsSpelledText (text.Walk i) = i ≤ MOST_NUMBER
+IsSpelledText text.End = Unit {0}
+
+name_read : (name : List ℕ) → IsTrue (is_name name) → name_of name ≡ Ok name
+name_read name named = rw named refl
+
+number_read : (n : ℕ) → n ≤ MOST_NUMBER → number_of (decimal n) ≡ Ok n
+number_read n within = natural_spelled MOST_NUMBER n within (omega arith)
+
+weight_read : (w : ℤ) → unsigned_abs w ≤ MOST_WEIGHT → weight_of (signed_decimal w) ≡ Ok w
+weight_read w within = integer_spelled MOST_WEIGHT w within (omega arith)
+
+unlabelled_read : (kind : LineKind) (none : false ≡ has_label kind) (from to : List ℕ) (weight : ℤ) → IsTrue (is_name from) → IsTrue (is_name to) → unsigned_abs weight ≤ MOST_WEIGHT → unlabelled kind none from to (signed_decimal weight) ≡ Ok (record { kind = kind; from = from; to = to; label = None; weight = weight; labelled = none })
+unlabelled_read kind none from to weight f t w = rw (name_read from f, name_read to t, weight_read weight w) refl
+
+labelled_read : (kind : LineKind) (one : true ≡ has_label kind) (from to label : List ℕ) (weight : ℤ) → IsTrue (is_name from) → IsTrue (is_name to) → IsTrue (is_name label) → unsigned_abs weight ≤ MOST_WEIGHT → labelled kind one from to label (signed_decimal weight) ≡ Ok (record { kind = kind; from = from; to = to; label = Some label; weight = weight; labelled = one })
+labelled_read kind one from to label weight f t l w = rw (name_read from f, name_read to t, name_read label l, weight_read weight w) refl
+
+-- a rule line, however its label is known to be there
+abbrev pub edge : (kind : LineKind) (from to : List ℕ) (label : Option (List ℕ)) (weight : ℤ) → is_some label ≡ has_label kind → CertLine
+edge kind from to label weight fits = record { kind = kind; from = from; to = to; label = label; weight = weight; labelled = fits }
+
+relabelled : (kind : LineKind) (from to : List ℕ) (label : Option (List ℕ)) (weight : ℤ) (p q : is_some label ≡ has_label kind) (read : Result CertLine FormatKind) → read ≡ Ok (edge kind from to label weight p) → rule read ≡ Ok (text.Line (edge kind from to label weight q))
+relabelled kind from to label weight p q read said =
+    ap rule said ∙ ap (λ (line : CertLine). Ok (text.Line line)) (same_line kind from to label weight p q)
+
+-- what stands behind the first word of a rule line
+abbrev rule_tail : (kind : LineKind) (from to : List ℕ) (label : Option (List ℕ)) (weight : ℤ) → List (List ℕ)
+rule_tail kind from to label weight = operand_words kind ++ (from ∷ to ∷ (label_words label ++ signed_decimal weight ∷ []))
+
+edge_read : (kind : LineKind) (from to : List ℕ) (label : Option (List ℕ)) (weight : ℤ) (fits : is_some label ≡ has_label kind) → AreOperands kind → IsTrue (is_name from) → IsTrue (is_name to) → IfSome label (λ l. IsTrue (is_name l)) → unsigned_abs weight ≤ MOST_WEIGHT → line_of (rule_word kind) (rule_tail kind from to label weight) ≡ Ok (text.Line (edge kind from to label weight fits))
+edge_read (kind.Bound name) from to None weight fits ops f t l w =
+    rw (name_read name ops) (relabelled (kind.Bound name) from to None weight refl fits (unlabelled (kind.Bound name) refl from to (signed_decimal weight)) (unlabelled_read (kind.Bound name) refl from to weight f t w))
+edge_read (kind.Bound name) from to (Some label) weight fits ops f t l w = absurd (cc)
+edge_read (kind.Link name) from to None weight fits ops f t l w =
+    rw (name_read name ops) (relabelled (kind.Link name) from to None weight refl fits (unlabelled (kind.Link name) refl from to (signed_decimal weight)) (unlabelled_read (kind.Link name) refl from to weight f t w))
+edge_read (kind.Link name) from to (Some label) weight fits ops f t l w = absurd (cc)
+edge_read (kind.No i j) from to None weight fits ops f t l w =
+    rw (number_read i ops.0, number_read j ops.1) (relabelled (kind.No i j) from to None weight refl fits (unlabelled (kind.No i j) refl from to (signed_decimal weight)) (unlabelled_read (kind.No i j) refl from to weight f t w))
+edge_read (kind.No i j) from to (Some label) weight fits ops f t l w = absurd (cc)
+edge_read (kind.Up i j) from to None weight fits ops f t l w = absurd (cc)
+edge_read (kind.Up i j) from to (Some label) weight fits ops f t l w =
+    rw (number_read i ops.0, number_read j ops.1) (relabelled (kind.Up i j) from to (Some label) weight refl fits (labelled (kind.Up i j) refl from to label (signed_decimal weight)) (labelled_read (kind.Up i j) refl from to label weight f t l w))
+edge_read (kind.Low name j) from to None weight fits ops f t l w =
+    rw (name_read name ops.0, number_read j ops.1) (relabelled (kind.Low name j) from to None weight refl fits (unlabelled (kind.Low name j) refl from to (signed_decimal weight)) (unlabelled_read (kind.Low name j) refl from to weight f t w))
+edge_read (kind.Low name j) from to (Some label) weight fits ops f t l w = absurd (cc)
+edge_read (kind.Cross name j) from to None weight fits ops f t l w = absurd (cc)
+edge_read (kind.Cross name j) from to (Some label) weight fits ops f t l w =
+    rw (name_read name ops.0, number_read j ops.1) (relabelled (kind.Cross name j) from to (Some label) weight refl fits (labelled (kind.Cross name j) refl from to label (signed_decimal weight)) (labelled_read (kind.Cross name j) refl from to label weight f t l w))
+edge_read (kind.Drop j) from to None weight fits ops f t l w =
+    rw (number_read j ops) (relabelled (kind.Drop j) from to None weight refl fits (unlabelled (kind.Drop j) refl from to (signed_decimal weight)) (unlabelled_read (kind.Drop j) refl from to weight f t w))
+edge_read (kind.Drop j) from to (Some label) weight fits ops f t l w = absurd (cc)
+
+keyword_spelled : (k : Keyword) → keyword_of (spelled k) ≡ Some k
+keyword_spelled keyword.Certificate = refl
+keyword_spelled keyword.Refutation = refl
+keyword_spelled keyword.Bound = refl
+keyword_spelled keyword.Link = refl
+keyword_spelled keyword.No = refl
+keyword_spelled keyword.Up = refl
+keyword_spelled keyword.Low = refl
+keyword_spelled keyword.Cross = refl
+keyword_spelled keyword.Drop = refl
+keyword_spelled keyword.Walk = refl
+keyword_spelled keyword.End = refl
+
+pub no_remark : (k : Keyword) (others : List (List ℕ)) → are_passed_over (spelled k ∷ others) ≡ false
+no_remark keyword.Certificate others = refl
+no_remark keyword.Refutation others = refl
+no_remark keyword.Bound others = refl
+no_remark keyword.Link others = refl
+no_remark keyword.No others = refl
+no_remark keyword.Up others = refl
+no_remark keyword.Low others = refl
+no_remark keyword.Cross others = refl
+no_remark keyword.Drop others = refl
+no_remark keyword.Walk others = refl
+no_remark keyword.End others = refl
+
+-- a line that begins with a word that may come is read
+admitted_read : (s : Section) (k : Keyword) (others : List (List ℕ)) (said : CertText) → admits s k ≡ true → line_of k others ≡ Ok said → line_in s (spelled k ∷ others) ≡ Ok said
+unfolding line_in
+admitted_read s k others said may read =
+    rw (no_remark k others, keyword_spelled k, may, read) refl
+
+-- the line that spells a text is read as that text
+pub text_read : (s : Section) (said : CertText) → admits s (text_word said) ≡ true → IsSpelledText said → line_in s (text_words said) ≡ Ok said
+text_read s text.Blank may spelled = absurd spelled
+text_read s text.Header may spelled = admitted_read s keyword.Certificate _ text.Header may refl
+text_read s text.Refutation may spelled = admitted_read s keyword.Refutation _ text.Refutation may refl
+text_read s (text.Line line) may spelled =
+    admitted_read s (rule_word line.kind) (rule_tail line.kind line.from line.to line.label line.weight) (text.Line line) may (edge_read line.kind line.from line.to line.label line.weight line.labelled spelled.operands spelled.from spelled.to spelled.label spelled.weight)
+text_read s (text.Walk i) may spelled = admitted_read s keyword.Walk _ (text.Walk i) may (rw (number_read i spelled) refl)
+text_read s text.End may spelled = admitted_read s keyword.End _ text.End may refl
+
+pub blank_read : (s : Section) (words : List (List ℕ)) → are_passed_over words ≡ true → line_in s words ≡ Ok text.Blank
+unfolding line_in
+blank_read s [] blank = refl
+blank_read s (first ∷ others) blank = rw blank refl

@@ -1,0 +1,5 @@
+use Rattle.std.proofs.Common.{rules, refl, ◌∙◌}
+use Rattle.cert_format.proofs.read.link_line.Goals as goal
+
+pub returns : goal.returns
+returns c = c.unlabelled.ensures refl ∙ search rules

@@ -1,0 +1,98 @@
+-- How the lines of a certificate are spelled. This project's own choice.
+use Rattle.std.specs.Prelude.{◌≤◌, ℕ, List, [], ◌∷◌, ◌++◌, map, Option, None, Some, IsTrue, IfSome, codes, unsigned_abs}
+use Rattle.std.specs.List.{All}
+use Rattle.std.specs.Fmt.{decimal, signed_decimal}
+use Rattle.net_model.specs.Names.{is_name}
+use Rattle.net_model.specs.Printing.{printed}
+use Rattle.cert_format.specs.Keywords.{spelled}
+use Rattle.cert_format.specs.declared.keyword.Keyword.{Keyword}
+use Rattle.cert_format.specs.declared.keyword.Keyword.TheVariants as keyword
+use Rattle.cert_format.specs.declared.kind.LineKind.{LineKind}
+use Rattle.cert_format.specs.declared.kind.LineKind.TheVariants as kind
+use Rattle.cert_format.specs.declared.line.CertLine.{CertLine}
+use Rattle.cert_format.specs.declared.read.TheConstants.{MOST_WEIGHT, MOST_NUMBER}
+use Rattle.cert_format.specs.declared.certificate.Certificate.{Certificate}
+use Rattle.cert_format.specs.declared.certificate.Certificate.TheVariants.{Refutation}
+
+-- the first word of a rule line
+abbrev pub rule_word : LineKind → Keyword
+rule_word (kind.Bound name) = keyword.Bound
+rule_word (kind.Link name) = keyword.Link
+rule_word (kind.No i j) = keyword.No
+rule_word (kind.Up i j) = keyword.Up
+rule_word (kind.Low name j) = keyword.Low
+rule_word (kind.Cross name j) = keyword.Cross
+rule_word (kind.Drop j) = keyword.Drop
+
+-- the words behind it that name an item of the network and earlier lines
+abbrev pub operand_words : LineKind → List (List ℕ)
+operand_words (kind.Bound name) = name ∷ []
+operand_words (kind.Link name) = name ∷ []
+operand_words (kind.No i j) = decimal i ∷ decimal j ∷ []
+operand_words (kind.Up i j) = decimal i ∷ decimal j ∷ []
+operand_words (kind.Low name j) = name ∷ decimal j ∷ []
+operand_words (kind.Cross name j) = name ∷ decimal j ∷ []
+operand_words (kind.Drop j) = decimal j ∷ []
+
+-- the word of a label, where there is one
+abbrev pub label_words : Option (List ℕ) → List (List ℕ)
+label_words None = []
+label_words (Some label) = label ∷ []
+
+-- the words of a rule line: its first word, what it names, FROM, TO, LABEL where there is one, and W
+abbrev pub line_words : CertLine → List (List ℕ)
+line_words line =
+    spelled (rule_word line.kind)
+    ∷ (operand_words line.kind ++ (line.from ∷ line.to ∷ (label_words line.label ++ signed_decimal line.weight ∷ [])))
+
+-- the words of a walk line
+abbrev pub walk_words : ℕ → List (List ℕ)
+walk_words i = codes "walk" ∷ decimal i ∷ []
+
+-- the words of the header, of the second line and of the last one
+abbrev pub header_words : List (List ℕ)
+header_words = codes "certificate" ∷ codes "1" ∷ []
+
+abbrev pub refutation_words : List (List ℕ)
+refutation_words = codes "refutation" ∷ []
+
+abbrev pub end_words : List (List ℕ)
+end_words = codes "end" ∷ []
+
+-- the lines of a certificate: the header, `refutation`, its rule lines, its walk and `end`
+abbrev pub certificate_words : Certificate → List (List (List ℕ))
+certificate_words (Refutation lines walk) = header_words ∷ refutation_words ∷ (map line_words lines ++ (map walk_words walk ++ end_words ∷ []))
+
+-- the printed text of a certificate
+unfoldable pub printed_certificate : Certificate → List ℕ
+printed_certificate certificate = printed (certificate_words certificate)
+
+-- what a rule line names can be spelled: names are names, and numbers of lines are within their limit
+abbrev pub AreOperands : LineKind → Type 0
+AreOperands (kind.Bound name) = IsTrue (is_name name)
+AreOperands (kind.Link name) = IsTrue (is_name name)
+AreOperands (kind.No i j) = (i ≤ MOST_NUMBER) × (j ≤ MOST_NUMBER)
+AreOperands (kind.Up i j) = (i ≤ MOST_NUMBER) × (j ≤ MOST_NUMBER)
+AreOperands (kind.Low name j) = IsTrue (is_name name) × (j ≤ MOST_NUMBER)
+AreOperands (kind.Cross name j) = IsTrue (is_name name) × (j ≤ MOST_NUMBER)
+AreOperands (kind.Drop j) = j ≤ MOST_NUMBER
+
+-- a weight within its limit
+abbrev pub IsWeight : CertLine → Type 0
+IsWeight line = unsigned_abs line.weight ≤ MOST_WEIGHT
+
+-- a rule line that can be spelled
+pub record IsSpelledLine (line : CertLine) : Type 0 where
+  pub operands : AreOperands line.kind
+  pub from : IsTrue (is_name line.from)
+  pub to : IsTrue (is_name line.to)
+  pub label : IfSome line.label (λ label. IsTrue (is_name label))
+  pub weight : IsWeight line
+
+-- a certificate whose weights are within their limit
+abbrev pub HasWeights : Certificate → Type 0
+HasWeights (Refutation lines walk) = All IsWeight lines
+
+-- a certificate that can be spelled
+abbrev pub IsSpelled : Certificate → Type 0
+IsSpelled (Refutation lines walk) = All IsSpelledLine lines × All (λ i. i ≤ MOST_NUMBER) walk

@@ -1,0 +1,13 @@
+use crate::line::CertLine;
+use net_model::Items;
+
+/// A proof that what it says of a network is so.
+#[derive(Debug, Drop)]
+pub enum Certificate {
+    /// No strategy controls the network: `lines` derive edges, and `walk` names, by the numbers of their lines from 1,
+    /// the edges of a closed walk of negative length.
+    Refutation {
+        lines: Items<CertLine>,
+        walk: Items<u64>,
+    },
+}

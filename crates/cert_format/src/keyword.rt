@@ -1,0 +1,64 @@
+ghost use Rattle.std.specs.Prelude.{◌≡◌};
+
+/// The first word of a line of a certificate.
+#[derive(Clone, Copy, Debug, PartialEq, Eq)]
+pub(crate) enum Keyword {
+    Certificate,
+    Refutation,
+    Bound,
+    Link,
+    No,
+    Up,
+    Low,
+    Cross,
+    Drop,
+    Walk,
+    End,
+}
+
+impl Keyword {
+    ghost use Rattle.cert_format.specs.Keywords.{spelled, keyword_of};
+
+    const ALL: [Keyword; 11] = [
+        Keyword::Certificate,
+        Keyword::Refutation,
+        Keyword::Bound,
+        Keyword::Link,
+        Keyword::No,
+        Keyword::Up,
+        Keyword::Low,
+        Keyword::Cross,
+        Keyword::Drop,
+        Keyword::Walk,
+        Keyword::End,
+    ];
+
+    /// How the word is written.
+    pub(crate) fn spelled(self) -> &'static [u8]
+        ensures { result.now ≡ spelled self }
+    {
+        match self {
+            Keyword::Certificate => b"certificate",
+            Keyword::Refutation => b"refutation",
+            Keyword::Bound => b"bound",
+            Keyword::Link => b"link",
+            Keyword::No => b"no",
+            Keyword::Up => b"up",
+            Keyword::Low => b"low",
+            Keyword::Cross => b"cross",
+            Keyword::Drop => b"drop",
+            Keyword::Walk => b"walk",
+            Keyword::End => b"end",
+        }
+    }
+
+    /// The first word that a word is, or `None` where it is none of them.
+    pub(crate) fn of(word: &[u8]) -> Option<Keyword>
+        ensures { result ≡ keyword_of word.now }
+    {
+        Keyword::ALL
+            .iter()
+            .copied()
+            .find(|keyword| word == keyword.spelled())
+    }
+}

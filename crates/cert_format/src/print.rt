@@ -1,0 +1,140 @@
+//! Printing a certificate.
+
+ghost use Rattle.std.specs.Prelude.{◌≡◌, ◌++◌, ◌∷◌, [], ◌≤◌, OnOk, IfOk, IfSome, IsTrue, All};
+ghost use Rattle.std.specs.List.{flat_map};
+ghost use Rattle.std.specs.Fmt.{decimal};
+ghost use Rattle.net_model.specs.Names.{is_name};
+ghost use Rattle.net_model.specs.Printing.{behind_blank, printed_line};
+ghost use Rattle.cert_format.specs.declared.read.TheConstants.{MOST_NUMBER};
+ghost use Rattle.cert_format.specs.CertificateText.{certificate_text};
+ghost use Rattle.cert_format.specs.CertificateWords.{rule_word, operand_words, label_words, line_words, walk_words, printed_certificate, AreOperands, IsWeight, IsSpelledLine, HasWeights};
+
+use crate::certificate::Certificate;
+use crate::keyword::Keyword;
+use crate::kind::LineKind;
+use crate::line::CertLine;
+use net_model::Name;
+use net_model::text::push_line;
+use std::alloc::{AllocError, Global};
+
+/// The text of a certificate: the header, `refutation`, the rule lines and the walk in their order, and `end`, with one
+/// blank between words and a line end after each line.
+pub fn print_certificate(alloc: Global, certificate: &Certificate) -> Result<Vec<u8>, AllocError>
+    requires { HasWeights certificate.now }
+    ensures text { IfOk result (λ text. text.items ≡ printed_certificate certificate.now) }
+    ensures back { IfOk result (λ text. certificate_text text.items ≡ Ok certificate.now) }
+{
+    match certificate {
+        Certificate::Refutation { lines, walk } => {
+            print_refutation(alloc, lines.as_slice(), walk.as_slice())
+        }
+    }
+}
+
+fn print_refutation(alloc: Global, lines: &[CertLine], walk: &[u64]) -> Result<Vec<u8>, AllocError>
+    requires { All IsWeight lines.now }
+    ensures text { IfOk result (λ text. text.items ≡ printed_certificate (Certificate.Refutation lines.now walk.now)) }
+    ensures back { IfOk result (λ text. certificate_text text.items ≡ Ok (Certificate.Refutation lines.now walk.now)) }
+{
+    let mut out = Vec::new(alloc);
+    push_line(&mut out, b"certificate", &[b"1".as_slice()])?;
+    push_line(&mut out, b"refutation", &[])?;
+    push_rules(alloc, &mut out, lines)?;
+    push_walk(alloc, &mut out, walk)?;
+    push_line(&mut out, b"end", &[])?;
+    Ok(out)
+}
+
+fn push_rules(alloc: Global, out: &mut Vec<u8>, lines: &[CertLine]) -> Result<(), AllocError>
+    requires { All IsWeight lines.now }
+    ensures text { OnOk result (out.new.items ≡ out.old.items ++ flat_map (λ line. printed_line (line_words line)) lines.now) }
+    ensures spelled { OnOk result (All IsSpelledLine lines.now) }
+{
+    for line in lines {
+        push_rule(alloc, out, line)?;
+    }
+    Ok(())
+}
+
+fn push_rule(alloc: Global, out: &mut Vec<u8>, line: &CertLine) -> Result<(), AllocError>
+    requires { IsWeight line.now }
+    ensures text { OnOk result (out.new.items ≡ out.old.items ++ printed_line (line_words line.now)) }
+    ensures spelled { OnOk result (IsSpelledLine line.now) }
+{
+    out.extend_from_slice(rule_word(&line.kind).spelled())?;
+    push_operands(alloc, out, &line.kind)?;
+    push_word(out, line.from.bytes())?;
+    push_word(out, line.to.bytes())?;
+    push_label(out, &line.label)?;
+    push_word(out, line.weight.to_string(alloc)?.as_bytes())?;
+    out.push(b'\n')?;
+    Ok(())
+}
+
+/// The first word of a rule line.
+fn rule_word(kind: &LineKind) -> Keyword
+    ensures { result ≡ rule_word kind.now }
+{
+    match kind {
+        LineKind::Bound(_) => Keyword::Bound,
+        LineKind::Link(_) => Keyword::Link,
+        LineKind::No(..) => Keyword::No,
+        LineKind::Up(..) => Keyword::Up,
+        LineKind::Low(..) => Keyword::Low,
+        LineKind::Cross(..) => Keyword::Cross,
+        LineKind::Drop(_) => Keyword::Drop,
+    }
+}
+
+fn push_operands(alloc: Global, out: &mut Vec<u8>, kind: &LineKind) -> Result<(), AllocError>
+    ensures text { OnOk result (out.new.items ≡ out.old.items ++ flat_map behind_blank (operand_words kind.now)) }
+    ensures spelled { OnOk result (AreOperands kind.now) }
+{
+    match kind {
+        LineKind::Bound(name) | LineKind::Link(name) => push_word(out, name.bytes()),
+        LineKind::No(first, second) | LineKind::Up(first, second) => {
+            push_number(alloc, out, *first)?;
+            push_number(alloc, out, *second)
+        }
+        LineKind::Low(name, second) | LineKind::Cross(name, second) => {
+            push_word(out, name.bytes())?;
+            push_number(alloc, out, *second)
+        }
+        LineKind::Drop(second) => push_number(alloc, out, *second),
+    }
+}
+
+fn push_label(out: &mut Vec<u8>, label: &Option<Name>) -> Result<(), AllocError>
+    ensures text { OnOk result (out.new.items ≡ out.old.items ++ flat_map behind_blank (label_words label.now)) }
+    ensures spelled { OnOk result (IfSome label.now (λ label. IsTrue (is_name label))) }
+{
+    match label {
+        None => Ok(()),
+        Some(label) => push_word(out, label.bytes()),
+    }
+}
+
+fn push_walk(alloc: Global, out: &mut Vec<u8>, walk: &[u64]) -> Result<(), AllocError>
+    ensures text { OnOk result (out.new.items ≡ out.old.items ++ flat_map (λ i. printed_line (walk_words i)) walk.now) }
+    ensures spelled { OnOk result (All (λ i. i ≤ MOST_NUMBER) walk.now) }
+{
+    for number in walk {
+        push_line(out, b"walk", &[number.to_string(alloc)?.as_bytes()])?;
+    }
+    Ok(())
+}
+
+fn push_number(alloc: Global, out: &mut Vec<u8>, number: u64) -> Result<(), AllocError>
+    ensures { OnOk result (out.new.items ≡ out.old.items ++ behind_blank (decimal number)) }
+{
+    push_word(out, number.to_string(alloc)?.as_bytes())
+}
+
+/// One blank and a word.
+fn push_word(out: &mut Vec<u8>, word: &[u8]) -> Result<(), AllocError>
+    ensures { OnOk result (out.new.items ≡ out.old.items ++ behind_blank word.now) }
+{
+    out.push(b' ')?;
+    out.extend_from_slice(word)?;
+    Ok(())
+}

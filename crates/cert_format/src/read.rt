@@ -1,0 +1,278 @@
+//! One line of a certificate.
+
+ghost use Rattle.std.specs.Prelude.{◌≡◌, ℕ, List, ◌∷◌, [], true, false, MatchResult};
+ghost use Rattle.std.specs.Result.{result_map_both};
+ghost use Rattle.net_model.specs.Text.{words};
+ghost use Rattle.cert_format.specs.Kind.{has_label};
+ghost use Rattle.cert_format.specs.CertificateLines.{cert_text, begun_by, line_of, header_line, lone_word, walk_line, bound_line, link_line, no_line, up_line, low_line, cross_line, drop_line, unlabelled, labelled, number_of, weight_of};
+
+use crate::keyword::Keyword;
+use crate::kind::LineKind;
+use crate::line::CertLine;
+use net_model::{FormatKind, Name, Weight, WordFault, text};
+
+/// The greatest size of a weight in the text of a certificate, in whole moments.
+pub const MOST_WEIGHT: u64 = 999_999_999_999_999_999;
+
+/// The greatest number of a line in the text of a certificate.
+pub const MOST_NUMBER: u64 = u64::MAX;
+
+/// A line of a certificate.
+#[derive(Clone, Copy, Debug, PartialEq, Eq)]
+pub enum CertText {
+    /// A line without words, or whose first word begins with `#`.
+    Blank,
+    /// The header `certificate 1`.
+    Header,
+    /// The second line, `refutation`.
+    Refutation,
+    /// A rule line.
+    Line(CertLine),
+    /// An edge of the walk: the number of its rule line.
+    Walk(u64),
+    /// The last line, `end`.
+    End,
+}
+
+/// Reads one line of a certificate, alone. The fault is the first one: `UnknownWord` of the first word, `WordCount`,
+/// and then `BadName`, `BadNumber` or `NumberLimit` of the words from left to right. A line whose first word is
+/// `certificate` is the header `certificate 1` or `UnknownWord`. It takes no memory, so `OutOfMemory` never comes.
+pub fn read_cert_line(line: &[u8]) -> Result<CertText, WordFault>
+    ensures { result ≡ result_map_both (λ read. read) (λ kind. WordFault.Kind kind) (cert_text (words line.now)) }
+{
+    match cert_text(line) {
+        Ok(read) => Ok(read),
+        Err(kind) => Err(WordFault::Kind(kind)),
+    }
+}
+
+/// Reads one line of a certificate by its words.
+#[tactic(auto, unfolding(crate::specs::CertificateLines::cert_text))]
+pub(crate) fn cert_text(line: &[u8]) -> Result<CertText, FormatKind>
+    ensures { result ≡ cert_text (words line.now) }
+{
+    let Some((first, rest)) = text::next_word(line) else {
+        return Ok(CertText::Blank);
+    };
+    if text::is_remark(first) {
+        return Ok(CertText::Blank);
+    }
+    match Keyword::of(first) {
+        None => Err(FormatKind::UnknownWord),
+        Some(keyword) => line_of(keyword, rest),
+    }
+}
+
+/// What stands behind the first word of a line.
+pub(crate) fn line_of(keyword: Keyword, rest: &[u8]) -> Result<CertText, FormatKind>
+    ensures { result ≡ line_of keyword (words rest.now) }
+{
+    match keyword {
+        Keyword::Certificate => header_line(rest),
+        Keyword::Refutation => lone_word(CertText::Refutation, rest),
+        Keyword::Bound => Ok(CertText::Line(bound_line(rest)?)),
+        Keyword::Link => Ok(CertText::Line(link_line(rest)?)),
+        Keyword::No => Ok(CertText::Line(no_line(rest)?)),
+        Keyword::Up => Ok(CertText::Line(up_line(rest)?)),
+        Keyword::Low => Ok(CertText::Line(low_line(rest)?)),
+        Keyword::Cross => Ok(CertText::Line(cross_line(rest)?)),
+        Keyword::Drop => Ok(CertText::Line(drop_line(rest)?)),
+        Keyword::Walk => walk_line(rest),
+        Keyword::End => lone_word(CertText::End, rest),
+    }
+}
+
+/// What stands behind `certificate`.
+fn header_line(rest: &[u8]) -> Result<CertText, FormatKind>
+    ensures { result ≡ header_line (words rest.now) }
+{
+    let Some((version, rest)) = text::next_word(rest) else {
+        return Err(FormatKind::UnknownWord);
+    };
+    if text::next_word(rest).is_some() {
+        return Err(FormatKind::UnknownWord);
+    }
+    if version == b"1".as_slice() {
+        return Ok(CertText::Header);
+    }
+    Err(FormatKind::UnknownWord)
+}
+
+/// What stands behind a word that is a line by itself.
+fn lone_word(said: CertText, rest: &[u8]) -> Result<CertText, FormatKind>
+    ensures { result ≡ lone_word said (words rest.now) }
+{
+    no_more(rest)?;
+    Ok(said)
+}
+
+/// What stands behind `walk`.
+fn walk_line(rest: &[u8]) -> Result<CertText, FormatKind>
+    ensures { result ≡ walk_line (words rest.now) }
+{
+    let (first, rest) = word(rest)?;
+    no_more(rest)?;
+    Ok(CertText::Walk(number(first)?))
+}
+
+/// What stands behind `bound`.
+fn bound_line(rest: &[u8]) -> Result<CertLine, FormatKind>
+    ensures { result ≡ bound_line (words rest.now) }
+{
+    let (name, rest) = word(rest)?;
+    let (from, rest) = word(rest)?;
+    let (to, rest) = word(rest)?;
+    let (weight, rest) = word(rest)?;
+    no_more(rest)?;
+    let kind = LineKind::Bound(text::name(name)?);
+    unlabelled(kind, from, to, weight)
+}
+
+/// What stands behind `link`.
+fn link_line(rest: &[u8]) -> Result<CertLine, FormatKind>
+    ensures { result ≡ link_line (words rest.now) }
+{
+    let (name, rest) = word(rest)?;
+    let (from, rest) = word(rest)?;
+    let (to, rest) = word(rest)?;
+    let (weight, rest) = word(rest)?;
+    no_more(rest)?;
+    let kind = LineKind::Link(text::name(name)?);
+    unlabelled(kind, from, to, weight)
+}
+
+/// What stands behind `no`.
+fn no_line(rest: &[u8]) -> Result<CertLine, FormatKind>
+    ensures { result ≡ no_line (words rest.now) }
+{
+    let (first, rest) = word(rest)?;
+    let (second, rest) = word(rest)?;
+    let (from, rest) = word(rest)?;
+    let (to, rest) = word(rest)?;
+    let (weight, rest) = word(rest)?;
+    no_more(rest)?;
+    let kind = LineKind::No(number(first)?, number(second)?);
+    unlabelled(kind, from, to, weight)
+}
+
+/// What stands behind `up`.
+fn up_line(rest: &[u8]) -> Result<CertLine, FormatKind>
+    ensures { result ≡ up_line (words rest.now) }
+{
+    let (first, rest) = word(rest)?;
+    let (second, rest) = word(rest)?;
+    let (from, rest) = word(rest)?;
+    let (to, rest) = word(rest)?;
+    let (label, rest) = word(rest)?;
+    let (weight, rest) = word(rest)?;
+    no_more(rest)?;
+    let kind = LineKind::Up(number(first)?, number(second)?);
+    labelled(kind, from, to, label, weight)
+}
+
+/// What stands behind `low`.
+fn low_line(rest: &[u8]) -> Result<CertLine, FormatKind>
+    ensures { result ≡ low_line (words rest.now) }
+{
+    let (name, rest) = word(rest)?;
+    let (second, rest) = word(rest)?;
+    let (from, rest) = word(rest)?;
+    let (to, rest) = word(rest)?;
+    let (weight, rest) = word(rest)?;
+    no_more(rest)?;
+    let kind = LineKind::Low(text::name(name)?, number(second)?);
+    unlabelled(kind, from, to, weight)
+}
+
+/// What stands behind `cross`.
+fn cross_line(rest: &[u8]) -> Result<CertLine, FormatKind>
+    ensures { result ≡ cross_line (words rest.now) }
+{
+    let (name, rest) = word(rest)?;
+    let (second, rest) = word(rest)?;
+    let (from, rest) = word(rest)?;
+    let (to, rest) = word(rest)?;
+    let (label, rest) = word(rest)?;
+    let (weight, rest) = word(rest)?;
+    no_more(rest)?;
+    let kind = LineKind::Cross(text::name(name)?, number(second)?);
+    labelled(kind, from, to, label, weight)
+}
+
+/// What stands behind `drop`.
+fn drop_line(rest: &[u8]) -> Result<CertLine, FormatKind>
+    ensures { result ≡ drop_line (words rest.now) }
+{
+    let (second, rest) = word(rest)?;
+    let (from, rest) = word(rest)?;
+    let (to, rest) = word(rest)?;
+    let (weight, rest) = word(rest)?;
+    no_more(rest)?;
+    let kind = LineKind::Drop(number(second)?);
+    unlabelled(kind, from, to, weight)
+}
+
+/// The end of a rule line whose edge has no label.
+fn unlabelled(kind: LineKind, from: &[u8], to: &[u8], weight: &[u8]) -> Result<CertLine, FormatKind>
+    requires { false ≡ has_label kind }
+    ensures { (none : false ≡ has_label kind) → result ≡ unlabelled kind none from.now to.now weight.now }
+{
+    Ok(CertLine {
+        kind,
+        from: text::name(from)?,
+        to: text::name(to)?,
+        label: None,
+        weight: weight_of(weight)?,
+    })
+}
+
+/// The end of a rule line whose edge has a label.
+fn labelled(
+    kind: LineKind,
+    from: &[u8],
+    to: &[u8],
+    label: &[u8],
+    weight: &[u8],
+) -> Result<CertLine, FormatKind>
+    requires { true ≡ has_label kind }
+    ensures { (one : true ≡ has_label kind) → result ≡ labelled kind one from.now to.now label.now weight.now }
+{
+    Ok(CertLine {
+        kind,
+        from: text::name(from)?,
+        to: text::name(to)?,
+        label: Some(text::name(label)?),
+        weight: weight_of(weight)?,
+    })
+}
+
+/// The next word of a line, which must have one more.
+fn word(rest: &[u8]) -> Result<(&[u8], &[u8]), FormatKind>
+    ensures { MatchResult result (λ found. words rest.now ≡ found.0.now ∷ words found.1.now) (λ kind. (kind ≡ FormatKind.WordCount) × (words rest.now ≡ [])) }
+{
+    text::next_word(rest).ok_or(FormatKind::WordCount)
+}
+
+/// Nothing more stands in a line.
+fn no_more(rest: &[u8]) -> Result<(), FormatKind>
+    ensures { MatchResult result (λ _. words rest.now ≡ []) (λ kind. (kind ≡ FormatKind.WordCount) × ((word : List ℕ) × (others : List (List ℕ)) × (words rest.now ≡ word ∷ others))) }
+{
+    match text::next_word(rest) {
+        None => Ok(()),
+        Some(_) => Err(FormatKind::WordCount),
+    }
+}
+
+/// The number of a line.
+fn number(word: &[u8]) -> Result<u64, FormatKind>
+    ensures { result ≡ number_of word.now }
+{
+    text::natural(word, MOST_NUMBER)
+}
+
+/// The weight of an edge.
+fn weight_of(word: &[u8]) -> Result<Weight, FormatKind>
+    ensures { result ≡ weight_of word.now }
+{
+    text::integer(word, MOST_WEIGHT)
+}

@@ -1,0 +1,125 @@
+//! The lines of a certificate, one after another.
+
+ghost use Rattle.std.specs.Prelude.{◌≡◌, ◌++◌, ◌∷◌, [], OnOk, OnErr};
+
+use crate::certificate::Certificate;
+use crate::line::CertLine;
+use crate::placed::line_in;
+use crate::read::CertText;
+use crate::section::Section;
+use net_model::{Items, WordFault};
+use std::alloc::{AllocError, Global};
+use std::marker::Model;
+
+/// A certificate of which lines are read one after another. Contracts see it as what was read: the section that is
+/// reached, the rule lines and the walk lines.
+#[derive(Debug, Drop)]
+pub struct CertReader {
+    section: Section,
+    lines: Vec<CertLine>,
+    walk: Vec<u64>,
+}
+
+impl Model for CertReader {
+    ghost use Rattle.cert_format.specs.CertificateText.{Progress};
+
+    ghost Value = { Progress };
+
+    ghost view = { λ r. record { section = r.section; lines = r.lines.items; walk = r.walk.items } };
+}
+
+impl CertReader {
+    ghost use Rattle.std.specs.Prelude.{◌≡◌, IfOk, OnOk, OnErr};
+    ghost use Rattle.net_model.specs.Text.{words};
+    ghost use Rattle.cert_format.specs.CertificateText.{SaysLine, begun, advanced, line_in, certificate_of};
+
+    /// Before the first line.
+    pub fn new(alloc: Global) -> CertReader
+        ensures { result ≡ begun }
+    {
+        CertReader {
+            section: Section::Header,
+            lines: Vec::new(alloc),
+            walk: Vec::new(alloc),
+        }
+    }
+
+    /// The section that is reached.
+    pub fn section(&self) -> Section
+        ensures { result ≡ self.now.section }
+    {
+        self.section
+    }
+
+    /// Reads the next line in its place and keeps what it says. A line that is refused changes nothing, and want of
+    /// memory neither. The caller reads nothing more behind `End`.
+    pub fn read_line(&mut self, line: &[u8]) -> Result<CertText, WordFault>
+        ensures said { SaysLine result (line_in self.old.section (words line.now)) }
+        ensures kept { IfOk result (λ said. self.new ≡ advanced self.old said) }
+        ensures refused { OnErr result (self.new ≡ self.old) }
+    {
+        let said = match line_in(self.section, line) {
+            Ok(said) => said,
+            Err(kind) => return Err(WordFault::Kind(kind)),
+        };
+        match self.keep(&said) {
+            Ok(()) => Ok(said),
+            Err(_) => Err(WordFault::OutOfMemory),
+        }
+    }
+
+    /// Keeps what a line says.
+    fn keep(&mut self, said: &CertText) -> Result<(), AllocError>
+        ensures kept { OnOk result (self.new ≡ advanced self.old said.now) }
+        ensures refused { OnErr result (self.new ≡ self.old) }
+    {
+        match said {
+            CertText::Blank | CertText::End => {}
+            CertText::Header => self.section = Section::Kind,
+            CertText::Refutation => self.section = Section::Rules,
+            CertText::Line(line) => push(&mut self.lines, *line)?,
+            CertText::Walk(number) => {
+                self.walk.push(*number)?;
+                self.section = Section::Walk;
+            }
+        }
+        Ok(())
+    }
+
+    /// The certificate of all lines that were read.
+    pub fn into_certificate(self) -> Certificate
+        ensures { result ≡ certificate_of self }
+    {
+        let CertReader {
+            section: _,
+            lines,
+            walk,
+        } = self;
+        Certificate::Refutation {
+            lines: Items::new(lines),
+            walk: Items::new(walk),
+        }
+    }
+}
+
+/// One rule line more. It is put together from its fields, so that their types are named here.
+fn push(lines: &mut Vec<CertLine>, line: CertLine) -> Result<(), AllocError>
+    ensures kept { OnOk result (lines.new.items ≡ lines.old.items ++ line ∷ []) }
+    ensures refused { OnErr result (lines.new.items ≡ lines.old.items) }
+{
+    let CertLine {
+        kind,
+        from,
+        to,
+        label,
+        weight,
+    } = line;
+    lines.push(CertLine {
+        kind,
+        from,
+        to,
+        label,
+        weight,
+    })?;
+    Ok(())
+}

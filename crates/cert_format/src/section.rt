@@ -1,0 +1,42 @@
+use crate::keyword::Keyword;
+use net_model::FormatKind;
+
+/// What may come next in the text of a certificate.
+#[derive(Clone, Copy, Debug, PartialEq, Eq)]
+pub enum Section {
+    /// The header, `certificate 1`.
+    Header,
+    /// What the certificate is: `refutation`.
+    Kind,
+    /// Rule lines, then walk lines, then the end.
+    Rules,
+    /// Walk lines, then the end.
+    Walk,
+}
+
+impl Section {
+    ghost use Rattle.std.specs.Prelude.{◌≡◌};
+    ghost use Rattle.cert_format.specs.CertificateText.{admits, missing};
+
+    /// Whether a line that begins with this word may come next.
+    pub(crate) fn admits(self, first: Keyword) -> bool
+        ensures { result ≡ admits self first }
+    {
+        match self {
+            Section::Header => first == Keyword::Certificate,
+            Section::Kind => first == Keyword::Refutation,
+            Section::Rules => !matches!(first, Keyword::Certificate | Keyword::Refutation),
+            Section::Walk => matches!(first, Keyword::Walk | Keyword::End),
+        }
+    }
+
+    /// The fault of a text that ends here: `NoHeader` before the header, else `NoEnd`.
+    pub fn missing(self) -> FormatKind
+        ensures { result ≡ missing self }
+    {
+        match self {
+            Section::Header => FormatKind::NoHeader,
+            _ => FormatKind::NoEnd,
+        }
+    }
+}

@@ -1,0 +1,63 @@
+//! The whole text of a certificate.
+
+ghost use Rattle.std.specs.Prelude.{◌≡◌, ◌<◌, ◌^◌, length, IfOk, Ok};
+ghost use Rattle.cert_format.specs.CertificateText.{certificate_text, SaysText, at_line};
+ghost use Rattle.cert_format.specs.CertificateWords.{HasWeights};
+ghost use Rattle.cert_format.specs.CertificateGrammar.{IsCertificateText, FaultIsFirst};
+ghost use Rattle.cert_format.specs.declared.certificate.Certificate.{Certificate};
+
+use crate::certificate::Certificate;
+use crate::read::CertText;
+use crate::reader::CertReader;
+use net_model::{FormatFault, TextFault, WordFault, text};
+use std::alloc::Global;
+
+/// Reads the text of a certificate: the header `certificate 1`, the line `refutation`, rule lines, walk lines and the
+/// line `end`, with blank lines between. Nothing behind the `end` line is looked at. The fault is that of the first
+/// bad line: `NoHeader` where the first line that is not blank is not the header, `UnknownWord` also where a line of
+/// another place begins with its word, and else that of `read_cert_line`. Where the text ends before its `end` line,
+/// the fault is `NoEnd`, or `NoHeader` before the header, at the number behind the last line.
+pub fn read_certificate(alloc: Global, bytes: &[u8]) -> Result<Certificate, TextFault>
+    requires { length bytes.now < 2 ^ 31 }
+    ensures text { SaysText result (certificate_text bytes.now) }
+    ensures in_grammar { IfOk result (λ certificate. IsCertificateText bytes.now certificate) }
+    ensures first_fault { FaultIsFirst bytes.now result }
+    ensures weights { IfOk result (λ certificate. HasWeights certificate) }
+    ensures every_text { (certificate : Certificate) → IsCertificateText bytes.now certificate → SaysText result (Ok certificate) }
+{
+    read_lines(alloc, bytes)
+}
+
+/// Reads the lines of a text, one after another.
+#[tactic(auto, unfolding(crate::specs::CertificateText::certificate_text))]
+fn read_lines(alloc: Global, bytes: &[u8]) -> Result<Certificate, TextFault>
+    requires { length bytes.now < 2 ^ 31 }
+    ensures { SaysText result (certificate_text bytes.now) }
+{
+    let mut reader = CertReader::new(alloc);
+    let mut rest = bytes;
+    let mut number: u32 = 1;
+    while let Some((line, others)) = text::next_line(rest) {
+        match reader.read_line(line) {
+            Ok(CertText::End) => return Ok(reader.into_certificate()),
+            Ok(_) => {}
+            Err(fault) => return Err(at_line(number, fault)),
+        }
+        number += 1;
+        rest = others;
+    }
+    Err(TextFault::Format(FormatFault {
+        line: number,
+        kind: reader.section().missing(),
+    }))
+}
+
+/// The fault of a text at a line.
+fn at_line(number: u32, fault: WordFault) -> TextFault
+    ensures { result ≡ at_line number fault }
+{
+    match fault {
+        WordFault::Kind(kind) => TextFault::Format(FormatFault { line: number, kind }),
+        WordFault::OutOfMemory => TextFault::OutOfMemory,
+    }
+}
