@@ -1,0 +1,69 @@
+-- The lines before the one at which a refutation is refused pass.
+use Rattle.std.proofs.Common.{◌≡◌, ℕ, ◌+◌, ◌-◌, zero, suc, List, [], ◌∷◌, ◌++◌, length, take, Ok, Err, Result, refl, ap, sym, ◌∙◌, subst, arith}
+use Rattle.std.proofs.lemmas.List.{length_push}
+use Rattle.std.specs.Result.{result_err}
+use Rattle.net_model.specs.Network.{Plan}
+use Rattle.cert_format.specs.declared.certificate.Certificate.{Certificate}
+use Rattle.cert_format.specs.declared.certificate.Certificate.TheVariants.{Refutation}
+use Rattle.cert_format.specs.declared.line.CertLine.{CertLine}
+use Rattle.cert_checker.specs.Lines.{Passes, ◌>>=◌, line_passes}
+use Rattle.cert_checker.specs.Walk.{WalkPasses, refusal, walk_passes}
+use Rattle.cert_checker.specs.Judgement.{at_number, lines_pass, refutation_passes, judgement_of}
+use Rattle.cert_checker.specs.Truth.{passed_lines}
+use Rattle.cert_checker.specs.declared.judgement.Refusal.{Refusal}
+use Rattle.cert_checker.specs.declared.judgement.Judgement.TheVariants.{Accepted, Refused}
+use Rattle.cert_checker.specs.declared.judgement.Claim.TheVariants.{NotControllable}
+use Rattle.cert_checker.proofs.Passing.{goes_on}
+use Rattle.cert_checker.proofs.Deriving.{first_passes}
+
+-- all lines pass, and so do those in front
+front_passes : (net : Plan) (earlier lines : List CertLine) (count : ℕ) → lines_pass net earlier lines ≡ Ok tt → lines_pass net earlier (take count lines) ≡ Ok tt
+front_passes net earlier [] zero pass = refl
+front_passes net earlier [] (suc count) pass = refl
+front_passes net earlier (line ∷ lines) zero pass = refl
+front_passes net earlier (line ∷ lines) (suc count) pass =
+    let (passes, others) = first_passes net earlier line lines pass in
+    goes_on net earlier line (take count lines) passes ∙ front_passes net (earlier ++ line ∷ []) lines count others
+
+-- the place of a refused line, and the lines before it
+abbrev StopsAt : Plan → List CertLine → List CertLine → Refusal → Type 0
+StopsAt net earlier lines refused = (count : ℕ) × (refused.line ≡ length earlier + suc count) × (lines_pass net earlier (take count lines) ≡ Ok tt)
+
+later_stop : (net : Plan) (earlier : List CertLine) (line : CertLine) (lines : List CertLine) (refused : Refusal) → line_passes net earlier line ≡ Ok tt → StopsAt net (earlier ++ line ∷ []) lines refused → StopsAt net earlier (line ∷ lines) refused
+later_stop net earlier line lines refused passes stop =
+    let (count, place, front) = stop in
+    let one_more = length_push earlier line in
+    (suc count, omega (arith, one_more), goes_on net earlier line (take count lines) passes ∙ front)
+
+first_or_later : (net : Plan) (earlier : List CertLine) (line : CertLine) (lines : List CertLine) (refused : Refusal) (passes : Passes) → line_passes net earlier line ≡ passes → (lines_pass net (earlier ++ line ∷ []) lines ≡ Err refused → StopsAt net (earlier ++ line ∷ []) lines refused) → (at_number (length earlier + 1) passes >>= (λ _. lines_pass net (earlier ++ line ∷ []) lines)) ≡ Err refused → StopsAt net earlier (line ∷ lines) refused
+first_or_later net earlier line lines refused (Ok passed) is later stops = later_stop net earlier line lines refused is (later stops)
+first_or_later net earlier line lines refused (Err why) is later stops =
+    let same : refusal (length earlier + 1) why ≡ refused = cc in
+    let place : length earlier + 1 ≡ refused.line = ap (λ (r : Refusal). r.line) same in
+    (0, omega (arith, place), refl)
+
+line_stops : (net : Plan) (earlier lines : List CertLine) (refused : Refusal) → lines_pass net earlier lines ≡ Err refused → StopsAt net earlier lines refused
+line_stops net earlier [] refused stops = absurd (cc)
+line_stops net earlier (line ∷ lines) refused stops =
+    first_or_later net earlier line lines refused (line_passes net earlier line) refl (line_stops net (earlier ++ line ∷ []) lines refused) stops
+
+-- the lines before a refused one pass, or all of them where the walk is refused
+before_refused : (net : Plan) (lines : List CertLine) (walk : WalkPasses) (rules : WalkPasses) → lines_pass net [] lines ≡ rules → (refused : Refusal) → (rules >>= (λ _. walk)) ≡ Err refused → lines_pass net [] (take (refused.line - 1) lines) ≡ Ok tt
+before_refused net lines walk (Ok passed) is refused stops = front_passes net [] lines (refused.line - 1) is
+before_refused net lines walk (Err first) is refused stops =
+    let (count, place, front) = line_stops net [] lines refused (is ∙ stops) in
+    let before : refused.line - 1 ≡ count = omega arith in
+    ap (λ k. lines_pass net [] (take k lines)) before ∙ front
+
+all_pass : (net : Plan) (lines : List CertLine) (walk : WalkPasses) (rules : WalkPasses) → lines_pass net [] lines ≡ rules → (rules >>= (λ _. walk)) ≡ Ok tt → lines_pass net [] lines ≡ Ok tt
+all_pass net lines walk (Ok passed) is passes = is
+all_pass net lines walk (Err first) is passes = absurd (cc)
+
+passed_of : (net : Plan) (lines : List CertLine) (walk : List ℕ) (passes : WalkPasses) → refutation_passes net lines walk ≡ passes → lines_pass net [] (passed_lines (Refutation lines walk) (elim passes [ Ok passed ↦ Accepted NotControllable | Err refused ↦ Refused refused.line refused.why ])) ≡ Ok tt
+unfolding refutation_passes
+passed_of net lines walk (Ok passed) is = all_pass net lines (walk_passes lines walk) (lines_pass net [] lines) refl is
+passed_of net lines walk (Err refused) is = before_refused net lines (walk_passes lines walk) (lines_pass net [] lines) refl refused is
+
+-- the lines that a judgement passes
+pub passed_lines_pass : (net : Plan) (lines : List CertLine) (walk : List ℕ) → lines_pass net [] (passed_lines (Refutation lines walk) (judgement_of net (Refutation lines walk))) ≡ Ok tt
+passed_lines_pass net lines walk = passed_of net lines walk (refutation_passes net lines walk) refl

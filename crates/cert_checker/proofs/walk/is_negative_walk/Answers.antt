@@ -1,0 +1,20 @@
+use Rattle.std.proofs.Common.{rules, ◌≡◌, Some, Ok, ◌+◌, length, ◌∙◌, sym}
+use Rattle.std.specs.List.{IsFirstAndRest}
+use Rattle.cert_checker.specs.Lines.{line_at}
+use Rattle.cert_checker.specs.Walk.{WalkPasses, walked, returns_to, is_negative_total, total_weight}
+use Rattle.cert_checker.proofs.Steps.{closed_walk}
+use Rattle.cert_checker.proofs.walk.is_negative_walk.Goals as goal
+
+pub returns : goal.returns
+returns c =
+    let lines = c.args.lines.now in
+    let walk = c.args.walk.now in
+    let step = c.in_ok-first.first.now in
+    let rest = c.in_ok-first.rest.now in
+    let line = c.in_ok-first-2.first.now in
+    let place = length lines + 1 in
+    let here : line_at lines step ≡ Some line = search rules in
+    let is : IsFirstAndRest walk step rest = search rules in
+    let back : returns_to line.from place line (walked lines rest) ≡ Ok tt = sym c.in_ok-returns_to.ensures in
+    let left : c.is_negative.result ≡ is_negative_total (place + length rest) (total_weight (walked lines walk)) = search rules in
+    left ∙ sym (closed_walk place place lines walk step rest line is.0 here back c.requires)

@@ -1,0 +1,5 @@
+pub mod Lines
+pub mod Walk
+pub mod Judgement
+pub mod Truth
+pub mod FaultText

@@ -1,0 +1,73 @@
+use net_model::Weight;
+use std::fmt;
+
+/// What a certificate proves of a network.
+#[derive(Clone, Copy, Debug, PartialEq, Eq)]
+pub enum Claim {
+    /// No strategy controls the network.
+    NotControllable,
+    /// Some strategy controls the network.
+    Controllable,
+}
+
+/// Why a line of a certificate is refused.
+#[derive(Clone, Copy, Debug, PartialEq, Eq)]
+pub enum CertFault {
+    /// The line names a bound, a point or a link that is not in the network.
+    UnknownItem,
+    /// A premise is not the number of an earlier rule line, or a step of the walk not that of a rule line.
+    Premise,
+    /// The premise of the lower-case or the cross-case rule has a weight of 0 or more, or the label of a cross-case line
+    /// is its own link.
+    RuleCondition,
+    /// The ends of the line are not those that its rule gives, or its premises do not meet.
+    Ends,
+    /// A premise has a label where it may have none, none where it must have one, or another than the line.
+    Label,
+    /// The weight is below the least that the rule gives.
+    TooLow { given: Weight, least: Weight },
+    /// The walk is empty or not closed, or a step does not begin where the one before ended.
+    WalkBroken,
+    /// The total weight of the walk is 0 or more.
+    WalkNotNegative { total: i128 },
+    /// The weight is beyond 10^12 in size.
+    WeightRange,
+}
+
+impl fmt::Display for CertFault {
+    ghost use Rattle.std.specs.Prelude.{Some};
+    ghost use Rattle.cert_checker.specs.FaultText.{fault_text};
+
+    ghost output = { λ fault. Some (fault_text fault) };
+
+    fn fmt<W: fmt::Write>(&self, f: &mut fmt::Formatter<W>) -> fmt::Result {
+        match self {
+            CertFault::UnknownItem => f.write_str("unknown-item"),
+            CertFault::Premise => f.write_str("premise"),
+            CertFault::RuleCondition => f.write_str("rule-condition"),
+            CertFault::Ends => f.write_str("ends"),
+            CertFault::Label => f.write_str("label"),
+            CertFault::TooLow { given, least } => write!(f, "too-low {given} {least}"),
+            CertFault::WalkBroken => f.write_str("walk-broken"),
+            CertFault::WalkNotNegative { total } => write!(f, "walk-not-negative {total}"),
+            CertFault::WeightRange => f.write_str("weight-range"),
+        }
+    }
+}
+
+/// What is said of a certificate. Lines are counted from 1 as its rules count them: those that are not blank, behind
+/// its second line.
+#[derive(Clone, Copy, Debug, PartialEq, Eq)]
+pub enum Judgement {
+    /// The certificate proves its claim.
+    Accepted(Claim),
+    /// The first line that does not pass, and why.
+    Refused { line: u64, why: CertFault },
+}
+
+/// The first line that does not pass, and why.
+#[derive(Clone, Copy, Debug, PartialEq, Eq)]
+pub(crate) struct Refusal {
+    pub(crate) line: u64,
+    pub(crate) why: CertFault,
+}

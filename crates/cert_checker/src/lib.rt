@@ -1,0 +1,13 @@
+//! The judgement of certificates. It goes over the text of a certificate alone, and derives no edge.
+#![tactic(auto)]
+
+mod checking;
+mod judgement;
+mod lookup;
+mod rules;
+#[cfg(test)]
+mod tests;
+mod walk;
+
+pub use checking::judge;
+pub use judgement::{CertFault, Claim, Judgement};

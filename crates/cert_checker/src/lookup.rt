@@ -1,0 +1,95 @@
+ghost use Rattle.std.specs.Prelude.{◌≡◌, option_copied, IfSome};
+ghost use Rattle.net_model.specs.Network.{IsLink};
+ghost use Rattle.cert_checker.specs.Lines.{link_named, bound_of, names_point, label_of, same_label, item_known, label_known, names_known, line_at};
+
+use cert_format::{CertLine, LineKind};
+use net_model::{Bound, Link, Name, Network, PointId};
+
+/// The link that ends in the point of a name.
+pub(crate) fn link_named(net: &Network, name: &Name) -> Option<Link>
+    ensures link { result ≡ link_named net.now name.now }
+    ensures sound { IfSome result (IsLink net.now) }
+{
+    let point = net.point(name.bytes())?;
+    let link = net.activation(point)?;
+    net.links().get(link.0 as usize).copied()
+}
+
+/// The bound of a name.
+pub(crate) fn bound_of(net: &Network, name: &Name) -> Option<Bound>
+    ensures { result ≡ bound_of net.now name.now }
+{
+    let bound = net.bound(name.bytes())?;
+    net.bounds().get(bound.0 as usize).copied()
+}
+
+/// Whether a point has a name.
+pub(crate) fn names_point(net: &Network, name: &Name, point: PointId) -> bool
+    ensures { result ≡ names_point net.now name.now point }
+{
+    match net.point(name.bytes()) {
+        Some(named) => named == point,
+        None => false,
+    }
+}
+
+/// The label of the edge that a line states.
+pub(crate) fn label_of(line: &CertLine) -> Option<Name>
+    ensures { result ≡ label_of line.now }
+{
+    match line.kind {
+        LineKind::Link(name) => Some(name),
+        LineKind::Up(..) | LineKind::Cross(..) => line.label,
+        LineKind::Bound(_) | LineKind::No(..) | LineKind::Low(..) | LineKind::Drop(_) => None,
+    }
+}
+
+/// Whether two labels are the same.
+pub(crate) fn same_label(label: Option<Name>, other: Option<Name>) -> bool
+    ensures { result ≡ same_label label other }
+{
+    match (label, other) {
+        (Some(label), Some(other)) => label == other,
+        (None, None) => true,
+        _ => false,
+    }
+}
+
+/// The line of a number from 1.
+pub(crate) fn line_at(lines: &[CertLine], number: u64) -> Option<&CertLine>
+    ensures { option_copied result ≡ line_at lines.now number }
+{
+    lines.get(number.checked_sub(1)? as usize)
+}
+
+/// Whether each name of a line is in the network.
+#[tactic(auto, unfolding(crate::specs::Lines::names_known))]
+pub(crate) fn names_known(net: &Network, line: &CertLine) -> bool
+    ensures { result ≡ names_known net.now line.now }
+{
+    net.point(line.from.bytes()).is_some()
+        && net.point(line.to.bytes()).is_some()
+        && is_item_known(net, &line.kind)
+        && is_label_known(net, &line.label)
+}
+
+fn is_item_known(net: &Network, kind: &LineKind) -> bool
+    ensures { result ≡ item_known net.now kind.now }
+{
+    match kind {
+        LineKind::Bound(name) => net.bound(name.bytes()).is_some(),
+        LineKind::Link(name) | LineKind::Low(name, _) | LineKind::Cross(name, _) => {
+            link_named(net, name).is_some()
+        }
+        LineKind::No(..) | LineKind::Up(..) | LineKind::Drop(_) => true,
+    }
+}
+
+fn is_label_known(net: &Network, label: &Option<Name>) -> bool
+    ensures { result ≡ label_known net.now label.now }
+{
+    match label {
+        Some(name) => link_named(net, name).is_some(),
+        None => true,
+    }
+}
