@@ -1,0 +1,6 @@
+use Rattle.stnu_run.proofs.PromptLemmas.{turn_says}
+use Rattle.stnu_run.proofs.serve.turn.Goals as goal
+
+pub returns-in-Ok-clause-talks : goal.returns-in-Ok-clause-talks
+returns-in-Ok-clause-talks g c =
+    turn_says g.C.Command.longest g.C.Command.takes g.C.Command.stops c.longest.result c.args.command c.args.reader.now c.next_line-line.new.self c.next_line-line.result (g.P.Port.talk c.args.port.now) (g.P.Port.talk c.next_line-line.new.port) (g.P.Port.talk c.put.new.port) (g.P.Port.left c.args.port.now) (g.P.Port.left c.next_line-line.new.port) c.in-Ok.reply.answer.items c.in-Ok.reply.onward c.put.result c.longest.ensures.value c.next_line-line.ensures.reads c.requires.running c.in-Ok.ensures.replies c.put.ensures.said

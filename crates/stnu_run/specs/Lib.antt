@@ -1,0 +1,10 @@
+pub mod Faults
+pub mod Runs
+pub mod Prompt
+pub mod TurnTalk
+pub mod Turns
+pub mod PlanReading
+pub mod Judging
+pub mod Words
+pub mod ToJudge
+pub mod DefinedRun

@@ -1,0 +1,10 @@
+-- The words of the commands. This project's own choice.
+use Rattle.std.specs.Prelude.{ℕ, List, [], ◌∷◌, Option, Some, None, codes, if◌then◌else◌}
+use Rattle.std.specs.Str.{bytes_eq}
+use Rattle.stnu_run.specs.declared.words.Task.{Task}
+use Rattle.stnu_run.specs.declared.words.Task.TheVariants.{Judge}
+
+-- the task of the words, of which the first is the program's name
+abbrev pub command_of : List (List ℕ) → Option Task
+command_of (program ∷ command ∷ []) = if bytes_eq command (codes "judge") then Some Judge else None
+command_of others = None

@@ -1,0 +1,30 @@
+ghost use Rattle.std.specs.Prelude.{◌≡◌, ◌≤◌, map, string_bytes, is_some};
+ghost use Rattle.plan_port.specs.Talk.{Rose};
+ghost use Rattle.stnu_run.specs.DefinedRun.{RunsAsDefined, RunsPromptly, AcceptedExcludes, Completes};
+
+use crate::judging::Judging;
+use crate::plan_reading::PlanReading;
+use crate::serve::{refuse_words, serve};
+use crate::status::Status;
+use crate::words::{Task, task_of};
+use plan_port::Port;
+use std::alloc::Global;
+
+/// Does all that the program does: reads the input of the command that the words name over a port, and puts its answers.
+pub fn run<P: Port>(alloc: Global, words: &Vec<String>, port: &mut P) -> Status
+    ensures defined { RunsAsDefined (map string_bytes words.now.items) result
+        (P.talk port.old) (P.talk port.new) (P.left port.old) (P.left port.new) }
+    ensures accepted { AcceptedExcludes result (P.talk port.old) (P.talk port.new) (P.left port.old) (P.left port.new) }
+    ensures complete { Completes (map string_bytes words.now.items) result (P.talk port.old) (P.talk port.new) (P.left port.old) (P.left port.new) }
+    ensures prompt { RunsPromptly (map string_bytes words.now.items) result (P.talk port.old) (P.talk port.new) }
+    ensures read_fault { result.0 ≡ 5 → Rose (P.read_faults port.old) (P.read_faults port.new) }
+    ensures write_fault { result.0 ≡ 6 → Rose (P.write_faults port.old) (P.write_faults port.new) }
+    ensures told { is_some (P.left port.new) ≡ is_some (P.left port.old) }
+    ensures read_faults { P.read_faults port.old ≤ P.read_faults port.new }
+    ensures write_faults { P.write_faults port.old ≤ P.write_faults port.new }
+{
+    match task_of(words) {
+        None => refuse_words(port),
+        Some(Task::Judge) => serve(alloc, Judging::Plan(PlanReading::BeforeHeader), port),
+    }
+}
