@@ -1,17 +1,16 @@
 -- The walk of a refutation that passes is a closed walk of negative total over the edges of its lines.
-use Rattle.std.proofs.Common.{◌≡◌, ℕ, ℤ, pos, ◌+ℤ◌, ◌<ℤ◌, ◌+◌, List, [], ◌∷◌, length, Option, Some, None, Ok, Err, map, refl, ap, sym, ◌∙◌, subst, arith}
+use Rattle.std.proofs.Common.{◌≡◌, ℕ, ℤ, pos, ◌+ℤ◌, ◌<ℤ◌, ◌+◌, List, [], ◌∷◌, length, Option, Some, None, Ok, refl, ap, sym, subst}
 use Rattle.std.specs.Prelude.{int_lt}
-use Rattle.std.specs.List.{AllByRecursion, All, Contains, cons_option}
+use Rattle.std.specs.List.{AllByRecursion, Contains, cons_option}
 use Rattle.std.specs.Str.{bytes_eq}
 use Rattle.std.proofs.lemmas.List.Elements.{All-from_recursion}
 use Rattle.net_model.specs.Network.{Plan, IsPlan}
-use Rattle.net_model.specs.declared.part.Edge.{Edge}
 use Rattle.strategy_model.specs.Control.{IsControllable}
 use Rattle.strategy_model.specs.Edges.{IsWalk, IsNegativeLoop, total}
 use Rattle.strategy_model.specs.Laws.{RulesKeepEdges, RefutationsExcludeStrategies}
 use Rattle.cert_format.specs.declared.line.CertLine.{CertLine}
-use Rattle.cert_checker.specs.Lines.{unless, line_at, is_negative}
-use Rattle.cert_checker.specs.Walk.{refusal, steps_known, returns_to, is_negative_total, is_negative_walk, total_weight, walked, walk_passes}
+use Rattle.cert_checker.specs.Lines.{unless, line_at}
+use Rattle.cert_checker.specs.Walk.{refusal, steps_known, returns_to, is_negative_walk, total_weight, walked, walk_passes}
 use Rattle.cert_checker.specs.Judgement.{lines_pass, refutation_passes}
 use Rattle.cert_checker.specs.declared.judgement.CertFault.TheVariants.{WalkBroken, WalkNotNegative}
 use Rattle.cert_checker.proofs.Inversion.{bind_ok, unless_ok, negative_ok, contains_line}

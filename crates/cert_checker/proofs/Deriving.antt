@@ -1,16 +1,15 @@
 -- The lines of a refutation that pass are a derivation, and state true edges.
-use Rattle.std.proofs.Common.{◌≡◌, ℕ, Bool, true, ◌+◌, ◌<◌, zero, suc, List, [], ◌∷◌, ◌++◌, length, get_or, Option, Some, None, is_some, ◌&&◌, Ok, Err, map, take, refl, ap, sym, ◌∙◌, subst, arith}
+use Rattle.std.proofs.Common.{◌≡◌, ℕ, true, ◌+◌, zero, suc, List, [], ◌∷◌, ◌++◌, length, Option, Some, None, is_some, ◌&&◌, Ok, Err, take, refl, ap, sym, ◌∙◌, subst}
 use Rattle.std.specs.Prelude.{slice_get}
-use Rattle.std.specs.List.{AllByRecursion, All, Contains}
-use Rattle.std.specs.Option.{option_map, option_and_then}
+use Rattle.std.specs.List.{AllByRecursion}
+use Rattle.std.specs.Option.{option_and_then}
 use Rattle.std.proofs.lemmas.Bool.{and_parts}
-use Rattle.std.proofs.lemmas.List.{append-nil, map-append, append_assoc, take-map}
+use Rattle.std.proofs.lemmas.List.{append-nil, map-append, append_assoc}
 use Rattle.std.proofs.lemmas.List.Elements.{All-from_recursion, recursion_from_All, All-push}
-use Rattle.std.proofs.lemmas.Option.{same_Some, slice_get-map, slice_get-get_or}
+use Rattle.std.proofs.lemmas.Option.{same_Some}
 use Rattle.net_model.specs.Network.{Plan, IsPlan, point_named}
 use Rattle.net_model.specs.Rules.{Follows, IsEdge, IsDerivation}
 use Rattle.net_model.specs.declared.part.Edge.{Edge}
-use Rattle.strategy_model.specs.Control.{Controls}
 use Rattle.strategy_model.specs.Edges.{HoldsOf}
 use Rattle.strategy_model.specs.declared.tree.Tree.{Tree}
 use Rattle.strategy_model.specs.Laws.{RulesKeepEdges, DerivationsAreTrue}
@@ -20,7 +19,7 @@ use Rattle.cert_format.specs.declared.kind.LineKind.TheVariants as kind
 use Rattle.cert_checker.specs.Lines.{Passes, line_passes, names_known, item_known, label_known, label_of, label_by, link_named}
 use Rattle.cert_checker.specs.Truth.{link_id, IsLabel, States, IsTrueOf, AreTrue}
 use Rattle.cert_checker.specs.Judgement.{at_number, lines_pass}
-use Rattle.cert_checker.proofs.Inversion.{bind_ok, contains_at}
+use Rattle.cert_checker.proofs.Inversion.{bind_ok}
 use Rattle.cert_checker.proofs.Naming.{edge_of, point_of, point_of_known, some_is, link_known}
 use Rattle.cert_checker.proofs.Following.{edges_of, line_follows, names_ok}
 

@@ -1,8 +1,8 @@
 -- The edge of a line that passes follows from those of earlier lines.
-use Rattle.std.proofs.Common.{◌≡◌, ◌≢◌, ℕ, ℤ, pos, ◌+ℤ◌, ◌-ℤ◌, ◌≤ℤ◌, ◌<ℤ◌, ◌&&◌, not, Bool, true, false, List, Option, Some, None, is_some, is_none, Ok, Err, map, refl, ap, sym, ◌∙◌, subst, arith}
-use Rattle.std.specs.Prelude.{slice_get, int_le, int_lt, neg_ℤ}
+use Rattle.std.proofs.Common.{◌≡◌, ◌≢◌, ℕ, pos, ◌+ℤ◌, ◌-ℤ◌, ◌≤ℤ◌, ◌&&◌, not, true, List, Some, None, is_some, is_none, Ok, map, refl, ap, sym, ◌∙◌, subst, arith}
+use Rattle.std.specs.Prelude.{slice_get}
 use Rattle.std.specs.Int.{int_max}
-use Rattle.std.specs.List.{AllByRecursion, All, Contains}
+use Rattle.std.specs.List.{AllByRecursion}
 use Rattle.std.specs.Str.{bytes_eq}
 use Rattle.std.proofs.lemmas.Int.{ints, clamps}
 use Rattle.std.proofs.lemmas.Bool.{and_parts}
@@ -12,18 +12,16 @@ use Rattle.net_model.specs.Network.{Plan, point_named, bound_named}
 use Rattle.net_model.specs.Rules.{Follows, by_bound, by_link, by_no_case, by_upper_case, by_lower_case, by_cross_case, by_removal, IsEdge, IsLabelled}
 use Rattle.net_model.specs.declared.ids.BoundId.{BoundId}
 use Rattle.net_model.specs.declared.ids.LinkId.{LinkId}
-use Rattle.net_model.specs.declared.part.Bound.{Bound}
 use Rattle.net_model.specs.declared.part.Edge.{Edge}
 use Rattle.net_model.specs.declared.part.Link.{Link}
 use Rattle.cert_format.specs.declared.line.CertLine.{CertLine}
 use Rattle.cert_format.specs.declared.kind.LineKind.{LineKind}
 use Rattle.cert_format.specs.declared.kind.LineKind.TheVariants as kind
-use Rattle.cert_checker.specs.Lines.{◌>>=◌, unless, there, line_at, link_named, bound_of, names_point, label_of, label_by, same_label, label_known, item_known, names_known, at_least, has_label_of, has_ends_of, are_ordinary, takes_label, is_negative, may_cross, goes, joins, reaches_back, bound_passes, link_passes, sum_passes, back_passes, no_passes, up_passes, low_passes, cross_passes, drop_passes, rule_passes, line_passes, in_range}
+use Rattle.cert_checker.specs.Lines.{unless, there, line_at, link_named, bound_of, names_point, label_of, label_by, same_label, label_known, item_known, names_known, has_label_of, has_ends_of, are_ordinary, takes_label, is_negative, may_cross, goes, joins, reaches_back, bound_passes, link_passes, sum_passes, back_passes, no_passes, up_passes, low_passes, cross_passes, drop_passes, rule_passes, line_passes, in_range}
 use Rattle.cert_checker.specs.Truth.{link_id}
-use Rattle.cert_checker.specs.declared.judgement.CertFault.{CertFault}
-use Rattle.cert_checker.specs.declared.judgement.CertFault.TheVariants.{UnknownItem, Premise, RuleCondition, Ends, Label, TooLow, WeightRange}
+use Rattle.cert_checker.specs.declared.judgement.CertFault.TheVariants.{UnknownItem, Premise, RuleCondition, Ends, Label, WeightRange}
 use Rattle.cert_checker.proofs.Inversion.{bind_ok, there_ok, unless_ok, at_least_ok, negative_ok, contains_line}
-use Rattle.cert_checker.proofs.Naming.{same_bytes, bytes_same, none_is, some_is, point_of, edge_of, point_of_named, point_of_same, link_known, one_name, ordinary, labelled, both_labelled, label_is_link, two_steps}
+use Rattle.cert_checker.proofs.Naming.{bytes_same, none_is, edge_of, point_of_named, point_of_same, link_known, one_name, ordinary, labelled, both_labelled, label_is_link, two_steps}
 
 -- the edges of lines
 abbrev pub edges_of : Plan → List CertLine → List Edge

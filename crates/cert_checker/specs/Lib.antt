@@ -2,4 +2,4 @@ pub mod Lines
 pub mod Walk
 pub mod Judgement
 pub mod Truth
-pub mod FaultText
+pub mod JudgementText

@@ -1,4 +1,5 @@
 use net_model::Weight;
+use std::error::Error;
 use std::fmt;
 
 /// What a certificate proves of a network.
@@ -8,6 +9,20 @@ pub enum Claim {
     NotControllable,
     /// Some strategy controls the network.
     Controllable,
+}
+
+impl fmt::Display for Claim {
+    ghost use Rattle.std.specs.Prelude.{Some};
+    ghost use Rattle.cert_checker.specs.JudgementText.{claim_text};
+
+    ghost output = { λ claim. Some (claim_text claim) };
+
+    fn fmt<W: fmt::Write>(&self, f: &mut fmt::Formatter<W>) -> fmt::Result {
+        f.write_str(match self {
+            Claim::NotControllable => "not controllable",
+            Claim::Controllable => "controllable",
+        })
+    }
 }
 
 /// Why a line of a certificate is refused.
@@ -36,7 +51,7 @@ pub enum CertFault {
 
 impl fmt::Display for CertFault {
     ghost use Rattle.std.specs.Prelude.{Some};
-    ghost use Rattle.cert_checker.specs.FaultText.{fault_text};
+    ghost use Rattle.cert_checker.specs.JudgementText.{fault_text};
 
     ghost output = { λ fault. Some (fault_text fault) };
 
@@ -55,6 +70,8 @@ impl fmt::Display for CertFault {
     }
 }
 
+impl Error for CertFault {}
+
 /// What is said of a certificate. Lines are counted from 1 as its rules count them: those that are not blank, behind
 /// its second line.
 #[derive(Clone, Copy, Debug, PartialEq, Eq)]
@@ -63,6 +80,20 @@ pub enum Judgement {
     Accepted(Claim),
     /// The first line that does not pass, and why.
     Refused { line: u64, why: CertFault },
+}
+
+impl fmt::Display for Judgement {
+    ghost use Rattle.std.specs.Prelude.{Some};
+    ghost use Rattle.cert_checker.specs.JudgementText.{judgement_text};
+
+    ghost output = { λ judgement. Some (judgement_text judgement) };
+
+    fn fmt<W: fmt::Write>(&self, f: &mut fmt::Formatter<W>) -> fmt::Result {
+        match self {
+            Judgement::Accepted(claim) => write!(f, "accepted {claim}"),
+            Judgement::Refused { line, why } => write!(f, "refused {line} {why}"),
+        }
+    }
 }
 
 /// The first line that does not pass, and why.

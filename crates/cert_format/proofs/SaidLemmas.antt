@@ -1,16 +1,15 @@
 -- What is read of a line is what it spells.
-use Rattle.std.proofs.Common.{◌≡◌, ℕ, ℤ, ◌≤◌, ◌⊎◌, Bool, true, false, cond, List, [], ◌∷◌, ◌++◌, Option, None, Some, Result, Ok, Err, refl, sym, ap, ◌∙◌, subst, arith, rules, inl, inr, unsigned_abs, codes, IsTrue, find}
+use Rattle.std.proofs.Common.{◌≡◌, ℕ, ℤ, ◌≤◌, ◌⊎◌, Bool, true, false, List, [], ◌∷◌, ◌++◌, Option, None, Some, Result, Ok, Err, refl, sym, ap, ◌∙◌, subst, arith, inl, inr, unsigned_abs, codes, IsTrue, find}
 use Rattle.std.specs.Option.{IfSome}
 use Rattle.std.specs.Str.{bytes_eq}
 use Rattle.std.specs.Fmt.{decimal, signed_decimal}
-use Rattle.std.proofs.lemmas.Slice.Eq.{bytes_eq-Decides}
 use Rattle.net_model.specs.Names.{is_name}
 use Rattle.net_model.specs.Numbers.{name_of}
-use Rattle.net_model.specs.Reading.{◌>>=◌}
 use Rattle.net_model.specs.Text.{is_remark, are_passed_over}
 use Rattle.net_model.specs.declared.format.FormatKind.{FormatKind}
-use Rattle.net_model.specs.declared.format.FormatKind.TheVariants.{UnknownWord, BadName}
+use Rattle.net_model.specs.declared.format.FormatKind.TheVariants.{UnknownWord}
 use Rattle.net_model.proofs.SpellingLemmas.{spelled_natural, spelled_integer}
+use Rattle.net_model.proofs.ReadingLemmas.{choice, bind_ok, name_ok, word_is}
 use Rattle.cert_format.specs.Kind.{has_label}
 use Rattle.cert_format.specs.Keywords.{spelled, keywords, keyword_of}
 use Rattle.cert_format.specs.CertificateLines.{number_of, weight_of, unlabelled, labelled, bound_line, link_line, no_line, up_line, low_line, cross_line, drop_line, rule, walk_line, header_line, lone_word, line_of}
@@ -27,22 +26,6 @@ use Rattle.cert_format.specs.declared.read.TheConstants.{MOST_WEIGHT, MOST_NUMBE
 use Rattle.cert_format.specs.declared.section.Section.{Section}
 use Rattle.cert_format.specs.declared.section.Section.TheVariants as section
 use Rattle.cert_format.proofs.WordLemmas.{text_words, text_word, IsSpelledText, no_remark}
-
--- a choice by a test
-choice : {A : Type 0} (test : Bool) (x y z : A) → cond test x y ≡ z → ((test ≡ true) × (x ≡ z)) ⊎ ((test ≡ false) × (y ≡ z))
-choice true x y z chosen = inl (refl, chosen)
-choice false x y z chosen = inr (refl, chosen)
-
-bind_ok : {A B : Type 0} (read : Result A FormatKind) (next : A → Result B FormatKind) (y : B) → (read >>= next) ≡ Ok y → (x : A) × (read ≡ Ok x) × (next x ≡ Ok y)
-bind_ok (Ok x) next y said = (x, refl, said)
-bind_ok (Err kind) next y said = absurd (cc)
-
-name_ok : (word name : List ℕ) → name_of word ≡ Ok name → (word ≡ name) × IsTrue (is_name name)
-name_ok word name read =
-    elim (choice (is_name word) (Ok word) (Err BadName) (Ok name) read) [
-      | inl named ↦ let same : word ≡ name = cc in (same, subst (λ (w : List ℕ). IsTrue (is_name w)) same named.0)
-      | inr other ↦ absurd (cc)
-    ]
 
 number_ok : (word : List ℕ) (n : ℕ) → number_of word ≡ Ok n → (word ≡ decimal n) × (n ≤ MOST_NUMBER)
 number_ok word n read = spelled_natural MOST_NUMBER n word read (omega arith)
@@ -220,9 +203,6 @@ rule_said first others (Ok line) said is read =
     let r = is line refl in
     subst (λ (t : CertText). IsSaid first others t) same (record { words = r.words; spelling = r.spelling; first_word = r.first_word })
 rule_said first others (Err kind) said is read = absurd (cc)
-
-word_is : (word spelling : List ℕ) → bytes_eq word spelling ≡ true → word ≡ spelling
-word_is word spelling same = search (rules, same, bytes_eq-Decides)
 
 header_is : (others : List (List ℕ)) (said : CertText) → header_line others ≡ Ok said → IsSaid keyword.Certificate others said
 header_is [] said read = absurd (cc)

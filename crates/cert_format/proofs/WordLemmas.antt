@@ -3,10 +3,10 @@ use Rattle.std.proofs.Common.{◌≡◌, ℕ, ℤ, ◌≤◌, true, false, List,
 use Rattle.std.specs.Option.{is_some, IfSome}
 use Rattle.std.specs.Fmt.{decimal, signed_decimal}
 use Rattle.net_model.specs.Names.{is_name}
-use Rattle.net_model.specs.Numbers.{name_of}
 use Rattle.net_model.specs.Text.{are_passed_over}
 use Rattle.net_model.specs.declared.format.FormatKind.{FormatKind}
 use Rattle.net_model.proofs.SpellingLemmas.{natural_spelled, integer_spelled}
+use Rattle.net_model.proofs.ReadingLemmas.{name_read}
 use Rattle.cert_format.specs.Kind.{has_label}
 use Rattle.cert_format.specs.Keywords.{spelled, keyword_of}
 use Rattle.cert_format.specs.CertificateLines.{number_of, weight_of, unlabelled, labelled, rule, line_of}
@@ -49,9 +49,6 @@ IsSpelledText text.Refutation = Unit {0}
 IsSpelledText (text.Line line) = IsSpelledLine line
 IsSpelledText (text.Walk i) = i ≤ MOST_NUMBER
 IsSpelledText text.End = Unit {0}
-
-name_read : (name : List ℕ) → IsTrue (is_name name) → name_of name ≡ Ok name
-name_read name named = rw named refl
 
 number_read : (n : ℕ) → n ≤ MOST_NUMBER → number_of (decimal n) ≡ Ok n
 number_read n within = natural_spelled MOST_NUMBER n within (omega arith)

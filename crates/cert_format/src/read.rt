@@ -1,6 +1,6 @@
 //! One line of a certificate.
 
-ghost use Rattle.std.specs.Prelude.{◌≡◌, ℕ, List, ◌∷◌, [], true, false, MatchResult};
+ghost use Rattle.std.specs.Prelude.{◌≡◌, true, false};
 ghost use Rattle.std.specs.Result.{result_map_both};
 ghost use Rattle.net_model.specs.Text.{words};
 ghost use Rattle.cert_format.specs.Kind.{has_label};
@@ -40,10 +40,7 @@ pub enum CertText {
 pub fn read_cert_line(line: &[u8]) -> Result<CertText, WordFault>
     ensures { result ≡ result_map_both (λ read. read) (λ kind. WordFault.Kind kind) (cert_text (words line.now)) }
 {
-    match cert_text(line) {
-        Ok(read) => Ok(read),
-        Err(kind) => Err(WordFault::Kind(kind)),
-    }
+    Ok(cert_text(line)?)
 }
 
 /// Reads one line of a certificate by its words.
@@ -102,7 +99,7 @@ fn header_line(rest: &[u8]) -> Result<CertText, FormatKind>
 fn lone_word(said: CertText, rest: &[u8]) -> Result<CertText, FormatKind>
     ensures { result ≡ lone_word said (words rest.now) }
 {
-    no_more(rest)?;
+    text::no_more(rest)?;
     Ok(said)
 }
 
@@ -110,8 +107,8 @@ fn lone_word(said: CertText, rest: &[u8]) -> Result<CertText, FormatKind>
 fn walk_line(rest: &[u8]) -> Result<CertText, FormatKind>
     ensures { result ≡ walk_line (words rest.now) }
 {
-    let (first, rest) = word(rest)?;
-    no_more(rest)?;
+    let (first, rest) = text::word(rest)?;
+    text::no_more(rest)?;
     Ok(CertText::Walk(number(first)?))
 }
 
@@ -119,11 +116,11 @@ fn walk_line(rest: &[u8]) -> Result<CertText, FormatKind>
 fn bound_line(rest: &[u8]) -> Result<CertLine, FormatKind>
     ensures { result ≡ bound_line (words rest.now) }
 {
-    let (name, rest) = word(rest)?;
-    let (from, rest) = word(rest)?;
-    let (to, rest) = word(rest)?;
-    let (weight, rest) = word(rest)?;
-    no_more(rest)?;
+    let (name, rest) = text::word(rest)?;
+    let (from, rest) = text::word(rest)?;
+    let (to, rest) = text::word(rest)?;
+    let (weight, rest) = text::word(rest)?;
+    text::no_more(rest)?;
     let kind = LineKind::Bound(text::name(name)?);
     unlabelled(kind, from, to, weight)
 }
@@ -132,11 +129,11 @@ fn bound_line(rest: &[u8]) -> Result<CertLine, FormatKind>
 fn link_line(rest: &[u8]) -> Result<CertLine, FormatKind>
     ensures { result ≡ link_line (words rest.now) }
 {
-    let (name, rest) = word(rest)?;
-    let (from, rest) = word(rest)?;
-    let (to, rest) = word(rest)?;
-    let (weight, rest) = word(rest)?;
-    no_more(rest)?;
+    let (name, rest) = text::word(rest)?;
+    let (from, rest) = text::word(rest)?;
+    let (to, rest) = text::word(rest)?;
+    let (weight, rest) = text::word(rest)?;
+    text::no_more(rest)?;
     let kind = LineKind::Link(text::name(name)?);
     unlabelled(kind, from, to, weight)
 }
@@ -145,12 +142,12 @@ fn link_line(rest: &[u8]) -> Result<CertLine, FormatKind>
 fn no_line(rest: &[u8]) -> Result<CertLine, FormatKind>
     ensures { result ≡ no_line (words rest.now) }
 {
-    let (first, rest) = word(rest)?;
-    let (second, rest) = word(rest)?;
-    let (from, rest) = word(rest)?;
-    let (to, rest) = word(rest)?;
-    let (weight, rest) = word(rest)?;
-    no_more(rest)?;
+    let (first, rest) = text::word(rest)?;
+    let (second, rest) = text::word(rest)?;
+    let (from, rest) = text::word(rest)?;
+    let (to, rest) = text::word(rest)?;
+    let (weight, rest) = text::word(rest)?;
+    text::no_more(rest)?;
     let kind = LineKind::No(number(first)?, number(second)?);
     unlabelled(kind, from, to, weight)
 }
@@ -159,13 +156,13 @@ fn no_line(rest: &[u8]) -> Result<CertLine, FormatKind>
 fn up_line(rest: &[u8]) -> Result<CertLine, FormatKind>
     ensures { result ≡ up_line (words rest.now) }
 {
-    let (first, rest) = word(rest)?;
-    let (second, rest) = word(rest)?;
-    let (from, rest) = word(rest)?;
-    let (to, rest) = word(rest)?;
-    let (label, rest) = word(rest)?;
-    let (weight, rest) = word(rest)?;
-    no_more(rest)?;
+    let (first, rest) = text::word(rest)?;
+    let (second, rest) = text::word(rest)?;
+    let (from, rest) = text::word(rest)?;
+    let (to, rest) = text::word(rest)?;
+    let (label, rest) = text::word(rest)?;
+    let (weight, rest) = text::word(rest)?;
+    text::no_more(rest)?;
     let kind = LineKind::Up(number(first)?, number(second)?);
     labelled(kind, from, to, label, weight)
 }
@@ -174,12 +171,12 @@ fn up_line(rest: &[u8]) -> Result<CertLine, FormatKind>
 fn low_line(rest: &[u8]) -> Result<CertLine, FormatKind>
     ensures { result ≡ low_line (words rest.now) }
 {
-    let (name, rest) = word(rest)?;
-    let (second, rest) = word(rest)?;
-    let (from, rest) = word(rest)?;
-    let (to, rest) = word(rest)?;
-    let (weight, rest) = word(rest)?;
-    no_more(rest)?;
+    let (name, rest) = text::word(rest)?;
+    let (second, rest) = text::word(rest)?;
+    let (from, rest) = text::word(rest)?;
+    let (to, rest) = text::word(rest)?;
+    let (weight, rest) = text::word(rest)?;
+    text::no_more(rest)?;
     let kind = LineKind::Low(text::name(name)?, number(second)?);
     unlabelled(kind, from, to, weight)
 }
@@ -188,13 +185,13 @@ fn low_line(rest: &[u8]) -> Result<CertLine, FormatKind>
 fn cross_line(rest: &[u8]) -> Result<CertLine, FormatKind>
     ensures { result ≡ cross_line (words rest.now) }
 {
-    let (name, rest) = word(rest)?;
-    let (second, rest) = word(rest)?;
-    let (from, rest) = word(rest)?;
-    let (to, rest) = word(rest)?;
-    let (label, rest) = word(rest)?;
-    let (weight, rest) = word(rest)?;
-    no_more(rest)?;
+    let (name, rest) = text::word(rest)?;
+    let (second, rest) = text::word(rest)?;
+    let (from, rest) = text::word(rest)?;
+    let (to, rest) = text::word(rest)?;
+    let (label, rest) = text::word(rest)?;
+    let (weight, rest) = text::word(rest)?;
+    text::no_more(rest)?;
     let kind = LineKind::Cross(text::name(name)?, number(second)?);
     labelled(kind, from, to, label, weight)
 }
@@ -203,11 +200,11 @@ fn cross_line(rest: &[u8]) -> Result<CertLine, FormatKind>
 fn drop_line(rest: &[u8]) -> Result<CertLine, FormatKind>
     ensures { result ≡ drop_line (words rest.now) }
 {
-    let (second, rest) = word(rest)?;
-    let (from, rest) = word(rest)?;
-    let (to, rest) = word(rest)?;
-    let (weight, rest) = word(rest)?;
-    no_more(rest)?;
+    let (second, rest) = text::word(rest)?;
+    let (from, rest) = text::word(rest)?;
+    let (to, rest) = text::word(rest)?;
+    let (weight, rest) = text::word(rest)?;
+    text::no_more(rest)?;
     let kind = LineKind::Drop(number(second)?);
     unlabelled(kind, from, to, weight)
 }
@@ -244,23 +241,6 @@ fn labelled(
         label: Some(text::name(label)?),
         weight: weight_of(weight)?,
     })
-}
-
-/// The next word of a line, which must have one more.
-fn word(rest: &[u8]) -> Result<(&[u8], &[u8]), FormatKind>
-    ensures { MatchResult result (λ found. words rest.now ≡ found.0.now ∷ words found.1.now) (λ kind. (kind ≡ FormatKind.WordCount) × (words rest.now ≡ [])) }
-{
-    text::next_word(rest).ok_or(FormatKind::WordCount)
-}
-
-/// Nothing more stands in a line.
-fn no_more(rest: &[u8]) -> Result<(), FormatKind>
-    ensures { MatchResult result (λ _. words rest.now ≡ []) (λ kind. (kind ≡ FormatKind.WordCount) × ((word : List ℕ) × (others : List (List ℕ)) × (words rest.now ≡ word ∷ others))) }
-{
-    match text::next_word(rest) {
-        None => Ok(()),
-        Some(_) => Err(FormatKind::WordCount),
-    }
 }
 
 /// The number of a line.

@@ -58,14 +58,9 @@ impl CertReader {
         ensures kept { IfOk result (λ said. self.new ≡ advanced self.old said) }
         ensures refused { OnErr result (self.new ≡ self.old) }
     {
-        let said = match line_in(self.section, line) {
-            Ok(said) => said,
-            Err(kind) => return Err(WordFault::Kind(kind)),
-        };
-        match self.keep(&said) {
-            Ok(()) => Ok(said),
-            Err(_) => Err(WordFault::OutOfMemory),
-        }
+        let said = line_in(self.section, line)?;
+        self.keep(&said)?;
+        Ok(said)
     }
 
     /// Keeps what a line says.

@@ -46,10 +46,8 @@ fn read_lines(alloc: Global, bytes: &[u8]) -> Result<Certificate, TextFault>
         number += 1;
         rest = others;
     }
-    Err(TextFault::Format(FormatFault {
-        line: number,
-        kind: reader.section().missing(),
-    }))
+    let kind = reader.section().missing();
+    Err(FormatFault { line: number, kind }.into())
 }
 
 /// The fault of a text at a line.

@@ -6,5 +6,6 @@ pub mod TextLemmas
 pub mod LineLemmas
 pub mod PrintingLemmas
 pub mod SpellingLemmas
+pub mod ReadingLemmas
 pub mod PartsLemmas
 pub mod NumberLemmas

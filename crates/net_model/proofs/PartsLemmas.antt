@@ -1,16 +1,15 @@
 -- The parts of a network build that network.
-use Rattle.std.proofs.Common.{◌≡◌, ◌≢◌, ℕ, ℤ, pos, ◌<◌, ◌≤◌, ◌≤ℤ◌, ◌+◌, ◌==◌, ◌||◌, Bool, true, false, cond, not, List, [], ◌∷◌, ◌++◌, length, map, get_or, Result, Ok, Err, Option, Some, None, is_some, refl, sym, ap, ◌∙◌, subst, arith, rules, append_assoc, nat_le, int_lt, position, length-append}
+use Rattle.std.proofs.Common.{◌≡◌, ◌≢◌, ℕ, ℤ, pos, ◌<◌, ◌≤◌, ◌≤ℤ◌, ◌+◌, ◌==◌, ◌||◌, true, false, List, [], ◌∷◌, ◌++◌, length, map, get_or, Result, Ok, Some, None, refl, sym, ◌∙◌, subst, arith, rules, append_assoc, nat_le, int_lt, position, length-append}
 use Rattle.std.specs.List.{All, AllPairs, IsDistinct, position_or_len}
-use Rattle.std.specs.Option.{option_map}
 use Rattle.std.specs.Str.{bytes_eq}
-use Rattle.std.proofs.lemmas.Bool.{lt-leb, ne_eqb, false_from_ne_true, cond-true}
+use Rattle.std.proofs.lemmas.Bool.{lt-leb, ne_eqb, false_from_ne_true}
 use Rattle.std.proofs.lemmas.Slice.Eq.{bytes_eq-Decides}
-use Rattle.std.proofs.lemmas.List.{append-nil, map-append, length-map, get_or-append-add, get_or_append_left}
+use Rattle.std.proofs.lemmas.List.{append-nil, map-append, get_or_append_left}
 use Rattle.std.proofs.Math.Seq.{get_or-append_seam}
 use Rattle.std.proofs.lemmas.List.Sums.{position_or_len_is}
 use Rattle.std.proofs.lemmas.Map.Made.{AllPairs-from_IsDistinct}
-use Rattle.net_model.specs.Network.{Plan, IsPlan, IsBound, IsLink, point_named, bound_named, activation, within_limit, empty}
-use Rattle.net_model.specs.Building.{refuse_if, named, with_point, with_bound, with_link, with_part, with_parts, built}
+use Rattle.net_model.specs.Network.{Plan, IsPlan, within_limit}
+use Rattle.net_model.specs.Building.{named, with_point, with_bound, with_link, with_part, with_parts, built}
 use Rattle.net_model.specs.NetworkParts.{point_name, bound_part, link_part, parts_of}
 use Rattle.net_model.specs.declared.ids.PointId.{PointId}
 use Rattle.net_model.specs.declared.part.Bound.{Bound}

@@ -2,6 +2,7 @@ pub mod Names
 pub mod Network
 pub mod Rules
 pub mod Building
+pub mod Formats
 pub mod NetworkParts
 pub mod Stored
 pub mod Text

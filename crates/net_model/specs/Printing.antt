@@ -1,6 +1,6 @@
 -- Printed lines. This project's own choice.
-use Rattle.std.specs.Prelude.{ℕ, Bool, false, ◌&&◌, List, [], ◌∷◌, ◌++◌, nat_lt}
-use Rattle.std.specs.List.{flat_map, list_all}
+use Rattle.std.specs.Prelude.{ℕ, List, [], ◌∷◌, ◌++◌}
+use Rattle.std.specs.List.{flat_map}
 
 -- a word behind a blank
 abbrev pub behind_blank : List ℕ → List ℕ

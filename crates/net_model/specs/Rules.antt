@@ -1,7 +1,7 @@
 -- The reductions of the labelled distance graph (Morris and Muscettola 2005, in this project's form). Each is a relation
 -- between its premises and its conclusion, whose weight may lie above what the premises give. The edges of bounds and
 -- links are the ones to begin with.
-use Rattle.std.specs.Prelude.{◌≡◌, ◌≢◌, ℕ, ℤ, pos, ◌+ℤ◌, ◌-ℤ◌, ◌≤ℤ◌, ◌<ℤ◌, List, Option, Some, None, slice_get, take}
+use Rattle.std.specs.Prelude.{◌≡◌, ◌≢◌, ℕ, pos, ◌+ℤ◌, ◌-ℤ◌, ◌≤ℤ◌, ◌<ℤ◌, List, Option, Some, None, slice_get, take}
 use Rattle.std.specs.List.{Contains}
 use Rattle.net_model.specs.Network.{Plan, IsPoint}
 use Rattle.net_model.specs.declared.ids.LinkId.{LinkId}

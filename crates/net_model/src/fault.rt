@@ -1,5 +1,6 @@
 use crate::part::Which;
 use std::alloc::AllocError;
+use std::error::Error;
 use std::fmt;
 
 /// Why a part is refused.
@@ -51,6 +52,8 @@ impl fmt::Display for BuildFault {
         })
     }
 }
+
+impl Error for BuildFault {}
 
 impl From<AllocError> for PartFault {
     ghost use Rattle.std.specs.Prelude.{◌≡◌};

@@ -1,3 +1,5 @@
+use std::alloc::AllocError;
+use std::error::Error;
 use std::fmt;
 
 /// Why a line is no line of its text, in the order in which the causes are tried.
@@ -22,6 +24,11 @@ pub enum FormatKind {
 }
 
 impl fmt::Display for FormatKind {
+    ghost use Rattle.std.specs.Prelude.{Some};
+    ghost use Rattle.net_model.specs.Formats.{format_word};
+
+    ghost output = { λ kind. Some (format_word kind) };
+
     fn fmt<W: fmt::Write>(&self, f: &mut fmt::Formatter<W>) -> fmt::Result {
         f.write_str(match self {
             FormatKind::UnknownWord => "unknown-word",
@@ -36,12 +43,27 @@ impl fmt::Display for FormatKind {
     }
 }
 
+impl Error for FormatKind {}
+
 /// The first fault of a text: the number of its line, from 1, and why.
 #[derive(Clone, Copy, Debug, PartialEq, Eq, Hash)]
 pub struct FormatFault {
     pub line: u32,
     pub kind: FormatKind,
 }
+
+impl fmt::Display for FormatFault {
+    ghost use Rattle.std.specs.Prelude.{Some};
+    ghost use Rattle.net_model.specs.Formats.{format_fault_text};
+
+    ghost output = { λ fault. Some (format_fault_text fault) };
+
+    fn fmt<W: fmt::Write>(&self, f: &mut fmt::Formatter<W>) -> fmt::Result {
+        write!(f, "{} in line {}", self.kind, self.line)
+    }
+}
+
+impl Error for FormatFault {}
 
 /// Why a text was not read.
 #[derive(Clone, Copy, Debug, PartialEq, Eq, Hash)]
@@ -52,6 +74,44 @@ pub enum TextFault {
     OutOfMemory,
 }
 
+impl fmt::Display for TextFault {
+    ghost use Rattle.std.specs.Prelude.{Some};
+    ghost use Rattle.net_model.specs.Formats.{text_fault_text};
+
+    ghost output = { λ fault. Some (text_fault_text fault) };
+
+    fn fmt<W: fmt::Write>(&self, f: &mut fmt::Formatter<W>) -> fmt::Result {
+        match self {
+            TextFault::Format(fault) => write!(f, "{fault}"),
+            TextFault::OutOfMemory => f.write_str("out of memory"),
+        }
+    }
+}
+
+impl Error for TextFault {}
+
+impl From<FormatFault> for TextFault {
+    ghost use Rattle.std.specs.Prelude.{◌≡◌};
+    ghost use Rattle.net_model.specs.declared.format.TextFault.TheVariants.{Format};
+
+    ghost from_gives = { λ cause fault. fault ≡ Format cause };
+
+    fn from(fault: FormatFault) -> TextFault {
+        TextFault::Format(fault)
+    }
+}
+
+impl From<AllocError> for TextFault {
+    ghost use Rattle.std.specs.Prelude.{◌≡◌};
+    ghost use Rattle.net_model.specs.declared.format.TextFault.TheVariants.{OutOfMemory};
+
+    ghost from_gives = { λ _ fault. fault ≡ OutOfMemory };
+
+    fn from(_error: AllocError) -> TextFault {
+        TextFault::OutOfMemory
+    }
+}
+
 /// Why a line was not read.
 #[derive(Clone, Copy, Debug, PartialEq, Eq, Hash)]
 pub enum WordFault {
@@ -59,4 +119,42 @@ pub enum WordFault {
     Kind(FormatKind),
     /// There was no memory.
     OutOfMemory,
+}
+
+impl fmt::Display for WordFault {
+    ghost use Rattle.std.specs.Prelude.{Some};
+    ghost use Rattle.net_model.specs.Formats.{word_fault_text};
+
+    ghost output = { λ fault. Some (word_fault_text fault) };
+
+    fn fmt<W: fmt::Write>(&self, f: &mut fmt::Formatter<W>) -> fmt::Result {
+        match self {
+            WordFault::Kind(kind) => write!(f, "{kind}"),
+            WordFault::OutOfMemory => f.write_str("out of memory"),
+        }
+    }
+}
+
+impl Error for WordFault {}
+
+impl From<FormatKind> for WordFault {
+    ghost use Rattle.std.specs.Prelude.{◌≡◌};
+    ghost use Rattle.net_model.specs.declared.format.WordFault.TheVariants.{Kind};
+
+    ghost from_gives = { λ kind fault. fault ≡ Kind kind };
+
+    fn from(kind: FormatKind) -> WordFault {
+        WordFault::Kind(kind)
+    }
+}
+
+impl From<AllocError> for WordFault {
+    ghost use Rattle.std.specs.Prelude.{◌≡◌};
+    ghost use Rattle.net_model.specs.declared.format.WordFault.TheVariants.{OutOfMemory};
+
+    ghost from_gives = { λ _ fault. fault ≡ OutOfMemory };
+
+    fn from(_error: AllocError) -> WordFault {
+        WordFault::OutOfMemory
+    }
 }

@@ -6,6 +6,7 @@ ghost use Rattle.std.proofs.Common.{rules};
 ghost use Rattle.std.specs.List.{list_all};
 ghost use Rattle.net_model.specs.Names.{is_name, is_name_byte, padded};
 
+use std::error::Error;
 use std::fmt;
 use std::hash::{Hash, Hasher};
 use std::marker::Model;
@@ -42,6 +43,21 @@ pub enum NameFault {
     /// There was no memory for it.
     OutOfMemory,
 }
+
+impl fmt::Display for NameFault {
+    ghost use Rattle.net_model.specs.Formats.{name_fault_text};
+
+    ghost output = { λ fault. Some (name_fault_text fault) };
+
+    fn fmt<W: fmt::Write>(&self, f: &mut fmt::Formatter<W>) -> fmt::Result {
+        f.write_str(match self {
+            NameFault::Bad => "bad-name",
+            NameFault::OutOfMemory => "out of memory",
+        })
+    }
+}
+
+impl Error for NameFault {}
 
 fn is_name_byte(byte: u8) -> bool
     ensures { result ≡ is_name_byte byte }

@@ -1,5 +1,6 @@
 use crate::{
-    BoundId, BuildFault, Items, LinkId, Name, NameFault, Network, Part, PointId, Weight, Which,
+    BoundId, BuildFault, FormatFault, FormatKind, Items, LinkId, Name, NameFault, Network, Part,
+    PointId, TextFault, Weight, Which, WordFault,
 };
 use std::alloc::Global;
 use std::test::Fail;
@@ -216,6 +217,29 @@ fn words_of_faults(rt: HostRuntime) -> Result<(), Fail> {
     for (fault, word) in cases {
         let shown = fault.to_string(rt.alloc())?;
         assert_eq!(rt; shown.as_str(), word);
+    }
+    Ok(())
+}
+
+#[test]
+fn words_of_format_faults(rt: HostRuntime) -> Result<(), Fail> {
+    let cases = [
+        (FormatKind::UnknownWord, "unknown-word"),
+        (FormatKind::WordCount, "word-count"),
+        (FormatKind::BadName, "bad-name"),
+        (FormatKind::BadNumber, "bad-number"),
+        (FormatKind::NumberLimit, "number-limit"),
+        (FormatKind::NoHeader, "no-header"),
+        (FormatKind::NoEnd, "no-end"),
+        (FormatKind::UnknownName, "unknown-name"),
+    ];
+    for (kind, word) in cases {
+        let shown = WordFault::from(kind).to_string(rt.alloc())?;
+        assert_eq!(rt; shown.as_str(), word);
+        let fault = FormatFault { line: 12, kind };
+        let shown = TextFault::from(fault).to_string(rt.alloc())?;
+        let expected = format!(in rt.alloc(); "{word} in line 12")?;
+        assert_eq!(rt; shown.as_str(), expected.as_str());
     }
     Ok(())
 }

@@ -1,6 +1,6 @@
 //! What all texts share: the words of a line, numbers and names.
 
-ghost use Rattle.std.specs.Prelude.{◌≡◌, ℕ, ◌+◌, ◌-◌, ◌∷◌, ◌++◌, [], ◌<◌, ◌≤◌, ◌^◌, false, true, length, take, drop, slice_get, slice_index, map, MatchOption, IfSome, IfOk, OnOk, SomeIff};
+ghost use Rattle.std.specs.Prelude.{◌≡◌, ℕ, ◌+◌, ◌-◌, ◌∷◌, ◌++◌, [], ◌<◌, ◌≤◌, ◌^◌, false, true, length, take, drop, slice_get, slice_index, List, map, MatchOption, MatchResult, IfSome, IfOk, OnOk, SomeIff};
 ghost use Rattle.std.specs.List.{list_all};
 ghost use Rattle.net_model.specs.Names.{is_digit};
 ghost use Rattle.net_model.specs.Text.{is_blank, is_remark, if_filled, words, lines, lines_after};
@@ -30,6 +30,23 @@ pub fn next_word(line: &[u8]) -> Option<(&[u8], &[u8])>
     }
     let end = end_of_word(line);
     Some((&line[..end], &line[end..]))
+}
+
+/// The next word of a line that must have one more, and what stands behind it, or `WordCount`.
+pub fn word(rest: &[u8]) -> Result<(&[u8], &[u8]), FormatKind>
+    ensures { MatchResult result (λ found. words rest.now ≡ found.0.now ∷ words found.1.now) (λ kind. (kind ≡ FormatKind.WordCount) × (words rest.now ≡ [])) }
+{
+    next_word(rest).ok_or(FormatKind::WordCount)
+}
+
+/// `WordCount` where a line has one more word.
+pub fn no_more(rest: &[u8]) -> Result<(), FormatKind>
+    ensures { MatchResult result (λ _. words rest.now ≡ []) (λ kind. (kind ≡ FormatKind.WordCount) × ((word : List ℕ) × (others : List (List ℕ)) × (words rest.now ≡ word ∷ others))) }
+{
+    match next_word(rest) {
+        None => Ok(()),
+        Some(_) => Err(FormatKind::WordCount),
+    }
 }
 
 /// Whether a word begins with `#`.

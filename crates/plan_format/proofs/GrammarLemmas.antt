@@ -1,7 +1,7 @@
 -- What is read of a text is in the grammar, and every text of the grammar is read.
 use Rattle.std.proofs.Common.{◌≡◌, ℕ, ◌<◌, ◌≤◌, ◌+◌, ◌⊎◌, List, [], ◌∷◌, ◌++◌, length, Result, Ok, Err, suc, refl, sym, ap, ◌∙◌, subst, arith, inl, inr, append_assoc, length-append}
 use Rattle.std.specs.List.{All}
-use Rattle.std.specs.Result.{IfOk, IfErr}
+use Rattle.std.specs.Result.{IfOk, IfErr, IsErr, IsErrAnd}
 use Rattle.std.proofs.lemmas.List.Elements.{All-nil, All-cons, All-head, All-tail}
 use Rattle.net_model.specs.Text.{words, lines}
 use Rattle.net_model.specs.Lines.{size_of_lines}
@@ -438,6 +438,12 @@ unfolding plan_text
 text_faults bytes fault said = fault_said bytes (headed 1 (lines bytes)) fault refl said
 
 -- the answer to a text, from what its lines declare
+-- an error that is this fault refuses the text with it
+pub refused_with : (answer : Result Parts TextFault) (why : FormatFault) → IsErr answer → IsErrAnd answer (λ (fault : TextFault). fault ≡ text.Format why) → Reads answer (Err why)
+refused_with (Ok read) why err is = absurd (cc)
+refused_with (Err (text.Format fault)) why err is = cc
+refused_with (Err text.OutOfMemory) why err is = tt
+
 pub reads_from : (bytes : List ℕ) (answer : Result Parts TextFault) (said : Result Declared FormatFault) → headed 1 (lines bytes) ≡ said → Reads answer (read_of bytes said) → Reads answer (plan_text bytes)
 unfolding plan_text
 reads_from bytes answer said here reads = subst (λ (s : Result Declared FormatFault). Reads answer (read_of bytes s)) (sym here) reads

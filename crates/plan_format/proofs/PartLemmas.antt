@@ -1,28 +1,23 @@
 -- The line of a part is read as that part, and no other line is.
-use Rattle.std.proofs.Common.{◌≡◌, ℕ, ℤ, ◌⊎◌, Bool, true, false, cond, List, [], ◌∷◌, Result, Ok, Err, refl, sym, ap, ◌∙◌, subst, arith, rules, inl, inr, unsigned_abs, codes, IsTrue}
+use Rattle.std.proofs.Common.{◌≡◌, ℕ, ℤ, true, List, [], ◌∷◌, Result, Ok, Err, refl, sym, ap, ◌∙◌, subst, arith, inl, inr, unsigned_abs, codes}
 use Rattle.std.specs.Str.{bytes_eq}
 use Rattle.std.specs.Fmt.{signed_decimal}
 use Rattle.std.proofs.lemmas.Bool.{leb-true, le-leb}
-use Rattle.std.proofs.lemmas.Slice.Eq.{bytes_eq-Decides}
-use Rattle.net_model.specs.Names.{is_name}
 use Rattle.net_model.specs.Numbers.{name_of, integer_of}
 use Rattle.net_model.specs.Network.{within_limit}
-use Rattle.net_model.specs.Reading.{◌>>=◌}
 use Rattle.net_model.specs.Text.{is_remark, are_passed_over}
 use Rattle.net_model.specs.declared.format.FormatKind.{FormatKind}
-use Rattle.net_model.specs.declared.format.FormatKind.TheVariants.{UnknownWord, BadName}
+use Rattle.net_model.specs.declared.format.FormatKind.TheVariants.{UnknownWord}
 use Rattle.net_model.specs.declared.part.Part.{Part}
 use Rattle.net_model.specs.declared.part.Part.TheVariants as part
 use Rattle.net_model.specs.declared.part.TheConstants.{MOST_NUMBER}
 use Rattle.net_model.proofs.SpellingLemmas.{integer_spelled, spelled_integer}
+use Rattle.net_model.proofs.ReadingLemmas.{choice, bind_ok, name_ok, name_read, word_is}
 use Rattle.plan_format.specs.declared.plan_line.PlanLine.{PlanLine}
 use Rattle.plan_format.specs.declared.plan_line.PlanLine.TheVariants as line
 use Rattle.plan_format.specs.PlanLines.{plan_line, line_of, header_line, end_line, declares, point_line, bound_line, link_line}
 use Rattle.plan_format.specs.PlanGrammar.{AreWordsOf}
 use Rattle.plan_format.specs.PlanParts.{part_words, IsSpelled, header_words, end_words}
-
-name_read : (name : List ℕ) → IsTrue (is_name name) → name_of name ≡ Ok name
-name_read name named = rw named refl
 
 number_read : (n : ℤ) → within_limit n ≡ true → integer_of MOST_NUMBER (signed_decimal n) ≡ Ok n
 number_read n within = integer_spelled MOST_NUMBER n (leb-true (unsigned_abs n) MOST_NUMBER within) (omega arith)
@@ -48,22 +43,6 @@ pub blank_read : (words : List (List ℕ)) → are_passed_over words ≡ true �
 unfolding plan_line
 blank_read [] blank = refl
 blank_read (first ∷ others) blank = rw blank refl
-
--- a choice by a test
-choice : {A : Type 0} (test : Bool) (x y z : A) → cond test x y ≡ z → ((test ≡ true) × (x ≡ z)) ⊎ ((test ≡ false) × (y ≡ z))
-choice true x y z chosen = inl (refl, chosen)
-choice false x y z chosen = inr (refl, chosen)
-
-bind_ok : {A B : Type 0} (read : Result A FormatKind) (next : A → Result B FormatKind) (y : B) → (read >>= next) ≡ Ok y → (x : A) × (read ≡ Ok x) × (next x ≡ Ok y)
-bind_ok (Ok x) next y said = (x, refl, said)
-bind_ok (Err kind) next y said = absurd (cc)
-
-name_ok : (word name : List ℕ) → name_of word ≡ Ok name → (word ≡ name) × IsTrue (is_name name)
-name_ok word name read =
-    elim (choice (is_name word) (Ok word) (Err BadName) (Ok name) read) [
-      | inl named ↦ let same : word ≡ name = cc in (same, subst (λ (w : List ℕ). IsTrue (is_name w)) same named.0)
-      | inr other ↦ absurd (cc)
-    ]
 
 number_ok : (word : List ℕ) (n : ℤ) → integer_of MOST_NUMBER word ≡ Ok n → (word ≡ signed_decimal n) × (within_limit n ≡ true)
 number_ok word n read =
@@ -128,16 +107,13 @@ declared_ok first others (Ok p) l spelled said =
     subst (λ (k : PlanLine). AreWordsOf k (first ∷ others)) same (spelled p refl)
 declared_ok first others (Err kind) l spelled said = absurd (cc)
 
-first_is : (word spelling : List ℕ) → bytes_eq word spelling ≡ true → word ≡ spelling
-first_is word spelling same = search (rules, same, bytes_eq-Decides)
-
 header_ok : (others : List (List ℕ)) (l : PlanLine) → header_line others ≡ Ok l → AreWordsOf l (codes "stnu" ∷ others)
 header_ok [] l read = absurd (cc)
 header_ok (version ∷ []) l read =
     elim (choice (bytes_eq version (codes "1")) (Ok line.Header) (Err UnknownWord) (Ok l) read) [
       | inl one ↦
           let same : line.Header ≡ l = cc in
-          subst (λ (k : PlanLine). AreWordsOf k (codes "stnu" ∷ version ∷ [])) same (ap (λ (w : List ℕ). codes "stnu" ∷ w ∷ []) (first_is version (codes "1") one.0))
+          subst (λ (k : PlanLine). AreWordsOf k (codes "stnu" ∷ version ∷ [])) same (ap (λ (w : List ℕ). codes "stnu" ∷ w ∷ []) (word_is version (codes "1") one.0))
       | inr other ↦ absurd (cc)
     ]
 header_ok (version ∷ next ∷ others) l read = absurd (cc)
@@ -151,7 +127,7 @@ end_ok (next ∷ others) l read = absurd (cc)
 -- a line that begins with a word of the grammar
 line_ok : (first : List ℕ) (others : List (List ℕ)) (l : PlanLine) → line_of first others ≡ Ok l → AreWordsOf l (first ∷ others)
 line_ok first others l read =
-    let begins : (spelling : List ℕ) → bytes_eq first spelling ≡ true → AreWordsOf l (spelling ∷ others) → AreWordsOf l (first ∷ others) = λ spelling same is. subst (λ (w : List ℕ). AreWordsOf l (w ∷ others)) (sym (first_is first spelling same)) is in
+    let begins : (spelling : List ℕ) → bytes_eq first spelling ≡ true → AreWordsOf l (spelling ∷ others) → AreWordsOf l (first ∷ others) = λ spelling same is. subst (λ (w : List ℕ). AreWordsOf l (w ∷ others)) (sym (word_is first spelling same)) is in
     elim (choice (bytes_eq first (codes "stnu")) _ _ (Ok l) read) [
       | inl stnu ↦ begins (codes "stnu") stnu.0 (header_ok others l stnu.1)
       | inr not_stnu ↦ elim (choice (bytes_eq first (codes "point")) _ _ (Ok l) not_stnu.1) [

@@ -1,6 +1,6 @@
 //! One line of a plan text.
 
-ghost use Rattle.std.specs.Prelude.{◌≡◌, ℕ, List, ◌∷◌, [], IfOk, MatchResult};
+ghost use Rattle.std.specs.Prelude.{◌≡◌, IfOk};
 ghost use Rattle.std.specs.Result.{result_map_both};
 ghost use Rattle.net_model.specs.Numbers.{name_of, integer_of};
 ghost use Rattle.net_model.specs.Text.{words};
@@ -31,10 +31,7 @@ pub fn read_plan_line(line: &[u8]) -> Result<PlanLine, WordFault>
     ensures grammar { IfOk result (λ read. IsLine read line.now) }
     ensures every { (read : PlanLine) → IsLine read line.now → result ≡ Ok read }
 {
-    match plan_line(line) {
-        Ok(read) => Ok(read),
-        Err(kind) => Err(WordFault::Kind(kind)),
-    }
+    Ok(plan_line(line)?)
 }
 
 /// Reads one line of a plan text by its words.
@@ -92,8 +89,8 @@ fn header_line(rest: &[u8]) -> Result<PlanLine, FormatKind>
 fn point_line(rest: &[u8]) -> Result<Part, FormatKind>
     ensures { result ≡ point_line (words rest.now) }
 {
-    let (name, rest) = word(rest)?;
-    no_more(rest)?;
+    let (name, rest) = text::word(rest)?;
+    text::no_more(rest)?;
     Ok(Part::Point(text::name(name)?))
 }
 
@@ -101,11 +98,11 @@ fn point_line(rest: &[u8]) -> Result<Part, FormatKind>
 fn bound_line(rest: &[u8]) -> Result<Part, FormatKind>
     ensures { result ≡ bound_line (words rest.now) }
 {
-    let (name, rest) = word(rest)?;
-    let (from, rest) = word(rest)?;
-    let (to, rest) = word(rest)?;
-    let (most, rest) = word(rest)?;
-    no_more(rest)?;
+    let (name, rest) = text::word(rest)?;
+    let (from, rest) = text::word(rest)?;
+    let (to, rest) = text::word(rest)?;
+    let (most, rest) = text::word(rest)?;
+    text::no_more(rest)?;
     Ok(Part::Bound(
         text::name(name)?,
         text::name(from)?,
@@ -118,11 +115,11 @@ fn bound_line(rest: &[u8]) -> Result<Part, FormatKind>
 fn link_line(rest: &[u8]) -> Result<Part, FormatKind>
     ensures { result ≡ link_line (words rest.now) }
 {
-    let (from, rest) = word(rest)?;
-    let (low, rest) = word(rest)?;
-    let (high, rest) = word(rest)?;
-    let (to, rest) = word(rest)?;
-    no_more(rest)?;
+    let (from, rest) = text::word(rest)?;
+    let (low, rest) = text::word(rest)?;
+    let (high, rest) = text::word(rest)?;
+    let (to, rest) = text::word(rest)?;
+    text::no_more(rest)?;
     Ok(Part::Link(
         text::name(from)?,
         number(low)?,
@@ -135,25 +132,8 @@ fn link_line(rest: &[u8]) -> Result<Part, FormatKind>
 fn end_line(rest: &[u8]) -> Result<PlanLine, FormatKind>
     ensures { result ≡ end_line (words rest.now) }
 {
-    no_more(rest)?;
+    text::no_more(rest)?;
     Ok(PlanLine::End)
-}
-
-/// The next word of a line, which must have one more.
-fn word(rest: &[u8]) -> Result<(&[u8], &[u8]), FormatKind>
-    ensures { MatchResult result (λ found. words rest.now ≡ found.0.now ∷ words found.1.now) (λ kind. (kind ≡ FormatKind.WordCount) × (words rest.now ≡ [])) }
-{
-    text::next_word(rest).ok_or(FormatKind::WordCount)
-}
-
-/// Nothing more stands in a line.
-fn no_more(rest: &[u8]) -> Result<(), FormatKind>
-    ensures { MatchResult result (λ _. words rest.now ≡ []) (λ kind. (kind ≡ FormatKind.WordCount) × ((word : List ℕ) × (others : List (List ℕ)) × (words rest.now ≡ word ∷ others))) }
-{
-    match text::next_word(rest) {
-        None => Ok(()),
-        Some(_) => Err(FormatKind::WordCount),
-    }
 }
 
 /// A number of a plan.

@@ -1,6 +1,6 @@
 //! Reading a whole plan text.
 
-ghost use Rattle.std.specs.Prelude.{◌≡◌, ℕ, ◌+◌, ◌-◌, ◌<◌, ◌≤◌, ◌^◌, ◌∷◌, ◌++◌, [], length, IfErr, IfOk, MatchResult};
+ghost use Rattle.std.specs.Prelude.{◌≡◌, ℕ, ◌+◌, ◌-◌, ◌<◌, ◌≤◌, ◌^◌, ◌∷◌, ◌++◌, [], length, IfErr, IfOk, OnOk, MatchResult};
 ghost use Rattle.net_model.specs.Text.{lines};
 ghost use Rattle.plan_format.specs.declared.read.Parts.{Parts};
 ghost use Rattle.plan_format.specs.PlanGrammar.{IsFaultOf, Says};
@@ -8,7 +8,7 @@ ghost use Rattle.plan_format.specs.PlanText.{IsBehind, Reads, declarations, head
 
 use crate::plan_line::{PlanLine, plan_line};
 use net_model::{FormatFault, FormatKind, Items, Part, TextFault, text};
-use std::alloc::Global;
+use std::alloc::{AllocError, Global};
 
 /// What a plan text declares.
 #[derive(Debug, Drop)]
@@ -36,10 +36,16 @@ pub fn read_plan(alloc: Global, bytes: &[u8]) -> Result<Parts, TextFault>
     ensures few { IfOk result (λ read. length read.parts < length bytes.now) }
     ensures within { IfOk result (λ read. read.used ≤ length bytes.now) }
 {
-    match behind_header(bytes) {
-        Ok((count, rest)) => read_declarations(alloc, bytes, count, rest),
-        Err(fault) => Err(TextFault::Format(fault)),
-    }
+    read_text(alloc, bytes)
+}
+
+/// Reads the lines of a plan text, one after another.
+fn read_text(alloc: Global, bytes: &[u8]) -> Result<Parts, TextFault>
+    requires { length bytes.now < 2 ^ 31 }
+    ensures { Reads result (plan_text bytes.now) }
+{
+    let (count, rest) = behind_header(bytes)?;
+    read_declarations(alloc, bytes, count, rest)
 }
 
 /// The number of lines up to the header, and what stands behind them.
@@ -93,27 +99,22 @@ fn read_declarations(
                     used: bytes.len() - rest.len(),
                 });
             }
-            Ok(PlanLine::Header) => return Err(refusal(number, FormatKind::UnknownWord)),
-            Err(kind) => return Err(refusal(number, kind)),
+            Ok(PlanLine::Header) => return Err(fault(number, FormatKind::UnknownWord).into()),
+            Err(kind) => return Err(fault(number, kind).into()),
         }
     }
-    Err(refusal(number + 1, FormatKind::NoEnd))
+    Err(fault(number + 1, FormatKind::NoEnd).into())
 }
 
-fn push<T: Drop>(items: &mut Vec<T>, item: T) -> Result<(), TextFault>
-    ensures { MatchResult result (λ _. items.new.items ≡ items.old.items ++ item ∷ []) (λ fault. fault ≡ TextFault.OutOfMemory) }
+fn push<T: Drop>(items: &mut Vec<T>, item: T) -> Result<(), AllocError>
+    ensures { OnOk result (items.new.items ≡ items.old.items ++ item ∷ []) }
 {
-    items.push(item).map_err(|_| TextFault::OutOfMemory)
+    items.push(item)?;
+    Ok(())
 }
 
 fn fault(line: u32, kind: FormatKind) -> FormatFault
     ensures { result ≡ record { line = line; kind = kind } }
 {
     FormatFault { line, kind }
-}
-
-fn refusal(line: u32, kind: FormatKind) -> TextFault
-    ensures { result ≡ TextFault.Format (record { line = line; kind = kind }) }
-{
-    TextFault::Format(fault(line, kind))
 }

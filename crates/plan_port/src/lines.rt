@@ -1,4 +1,4 @@
-// The lines of an input that comes over a port.
+//! The lines of an input that comes over a port.
 ghost use Rattle.std.specs.Prelude.{◌≡◌, ◌≢◌, ℕ, ◌+◌, ◌<◌, ◌≤◌, ◌^◌, Bool, true, false, List, [], length, take, drop, Some, None, IfOk, IfSome, IfNone, is_some};
 ghost use Rattle.std.specs.List.{position};
 ghost use Rattle.plan_port.specs.Talk.{Rose};
@@ -58,7 +58,7 @@ pub(crate) enum Outcome {
     Fault,
 }
 
-// The verdict on a line that has this many bytes so far and whose end has come or not.
+/// The verdict on a line that has this many bytes so far and whose end has come or not.
 fn judge(size: u64, is_closed: bool, longest: u64, room: u64) -> Verdict
     requires { size < 2 ^ 63 }
     ensures { result ≡ verdict size is_closed longest room }
@@ -163,9 +163,10 @@ impl LineReader {
             (λ after. self.new.before + length (remaining self.new after) ≡ self.old.before + length (remaining self.old before)))) }
         ensures fault { IfNone self.old.stopped (result ≡ Line.ReadFault
             → Rose (P.read_faults port.old) (P.read_faults port.new)) }
+        ensures counted { P.read_faults port.old < P.read_faults port.new → result ≡ Line.ReadFault }
         ensures told { is_some (P.left port.new) ≡ is_some (P.left port.old) }
         ensures read_faults { P.read_faults port.old ≤ P.read_faults port.new }
-        ensures write_faults { P.write_faults port.old ≤ P.write_faults port.new }
+        ensures write_faults { P.write_faults port.new ≡ P.write_faults port.old }
         ensures valid { IsReader self.new }
         ensures most { self.new.most ≡ self.old.most }
         ensures number { IfNone self.old.stopped (self.new.number ≡ self.old.number + lines_begun result) }
@@ -200,7 +201,7 @@ impl LineReader {
         self.window.forget_text();
     }
 
-    // What the kept bytes decide.
+    /// What the kept bytes decide.
     fn decide(&mut self, longest: u32) -> Verdict
         ensures value { result ≡ verdict_of (decision longest (room self.old) self.old.kept) }
         ensures same { self.new ≡ self.old }
@@ -212,15 +213,16 @@ impl LineReader {
         }
     }
 
-    // Takes once from the port.
+    /// Takes once from the port.
     fn fill<P: Port>(&mut self, port: &mut P) -> Took
         requires { length self.old.kept < 65537 }
         ensures took { (pieces : List (List ℕ))
             × TakesOnce result pieces (P.talk port.old) (P.talk port.new) (P.left port.old) (P.left port.new)
             × (self.new ≡ with_pieces_kept self.old pieces (ended_after result self.old.ended)) }
         ensures failed { result ≡ Took.Failed → Rose (P.read_faults port.old) (P.read_faults port.new) }
+        ensures counted { P.read_faults port.old < P.read_faults port.new → result ≡ Took.Failed }
         ensures read_faults { P.read_faults port.old ≤ P.read_faults port.new }
-        ensures write_faults { P.write_faults port.old ≤ P.write_faults port.new }
+        ensures write_faults { P.write_faults port.new ≡ P.write_faults port.old }
     {
         let took = self.window.take_from(port);
         if took == Took::End {
@@ -229,15 +231,16 @@ impl LineReader {
         took
     }
 
-    // Takes from the port until the kept bytes decide the next line, the input ends or a take fails.
+    /// Takes from the port until the kept bytes decide the next line, the input ends or a take fails.
     fn take_until_decided<P: Port>(&mut self, port: &mut P, longest: u32) -> Outcome
         requires { longest ≤ 65536 }
         ensures takes { (pieces : List (List ℕ))
             × Takes longest self.old self.new pieces (P.talk port.old) (P.talk port.new) (P.left port.old) (P.left port.new) }
         ensures outcome { result ≡ outcome_of longest self.new }
         ensures fault { result ≡ Outcome.Fault → Rose (P.read_faults port.old) (P.read_faults port.new) }
+        ensures counted { P.read_faults port.old < P.read_faults port.new → result ≡ Outcome.Fault }
         ensures read_faults { P.read_faults port.old ≤ P.read_faults port.new }
-        ensures write_faults { P.write_faults port.old ≤ P.write_faults port.new }
+        ensures write_faults { P.write_faults port.new ≡ P.write_faults port.old }
     {
         self.forget_text();
         loop {
@@ -252,7 +255,7 @@ impl LineReader {
         }
     }
 
-    // The answer after the taking.
+    /// The answer after the taking.
     fn give(&mut self, outcome: Outcome, longest: u32) -> Line
         requires running { self.old.stopped ≡ None }
         requires outcome { outcome ≡ outcome_of longest self.old }
@@ -270,7 +273,7 @@ impl LineReader {
         }
     }
 
-    // Gives out a line of this many bytes, whose end is kept.
+    /// Gives out a line of this many bytes, whose end is kept.
     fn give_line(&mut self, size: usize) -> Line
         requires running { self.old.stopped ≡ None }
         requires whole { size < length self.old.kept }
@@ -285,7 +288,7 @@ impl LineReader {
         Line::Text
     }
 
-    // Gives out what is kept at the end of the input, if that is anything.
+    /// Gives out what is kept at the end of the input, if that is anything.
     fn give_last(&mut self) -> Line
         requires running { self.old.stopped ≡ None }
         requires within { self.old.before + length self.old.kept ≤ self.old.most }
@@ -303,7 +306,7 @@ impl LineReader {
         Line::Text
     }
 
-    // Begins the next line, and stops there with this answer.
+    /// Begins the next line, and stops there with this answer.
     fn refuse(&mut self, line: Line) -> Line
         requires running { self.old.stopped ≡ None }
         requires stops { stop_of line ≡ Some line }
@@ -316,7 +319,7 @@ impl LineReader {
         line
     }
 
-    // Stops since a take failed.
+    /// Stops since a take failed.
     fn fail(&mut self) -> Line
         requires running { self.old.stopped ≡ None }
         ensures answer { result ≡ Line.ReadFault }

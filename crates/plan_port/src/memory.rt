@@ -1,4 +1,4 @@
-// A port in memory, whose takes can be cut short and whose calls can be made to fail.
+//! A port in memory, whose takes can be cut short and whose calls can be made to fail.
 ghost use Rattle.std.specs.Prelude.{◌≡◌, ℕ, ◌+◌, ◌<◌, ◌≤◌, Bool, List, [], length, min, take, drop, Some, IfOk, IfSome, OnOk, OnErr};
 ghost use Rattle.std.specs.List.{concat};
 ghost use Rattle.plan_port.specs.Talk.{Talk, AddsPieces, AddsPut, LosesFront, Rose, TakesWithin, WritesWithin, pieces_given, bytes_written, with_put};
@@ -93,7 +93,7 @@ impl MemoryPort {
         &self.output
     }
 
-    // Counts a take. Whether it is one that fails.
+    /// Counts a take. Whether it is one that fails.
     fn begin_take(&mut self) -> bool
         ensures listed { result ≡ is_listed self.old.failing_takes (raised self.old.takes) }
         ensures counted { self.new ≡ record self.old { takes = raised self.old.takes } }
@@ -111,7 +111,7 @@ impl MemoryPort {
         Took::Failed
     }
 
-    // How many bytes the take that was counted gives.
+    /// How many bytes the take that was counted gives.
     fn size_of_take(&self, place: usize) -> usize
         requires { 0 < self.now.takes }
         ensures { result ≡ min (limit self.now.cuts self.now.takes place) (length self.now.left) }
@@ -120,7 +120,7 @@ impl MemoryPort {
         most.min(self.input.len() - self.position)
     }
 
-    // Gives bytes from the front of what is left.
+    /// Gives bytes from the front of what is left.
     fn give(&mut self, into: &mut [u8], size: usize) -> Result<(), AllocError>
         requires place { size ≤ length into.old }
         requires left { size ≤ length self.old.left }
@@ -140,7 +140,7 @@ impl MemoryPort {
         Ok(())
     }
 
-    // Counts a put. Whether it is one that fails.
+    /// Counts a put. Whether it is one that fails.
     fn begin_put(&mut self) -> bool
         ensures listed { result ≡ is_listed self.old.failing_puts (raised self.old.puts) }
         ensures counted { self.new ≡ record self.old { puts = raised self.old.puts } }
@@ -158,7 +158,7 @@ impl MemoryPort {
         Sent::Failed
     }
 
-    // Keeps bytes that are put.
+    /// Keeps bytes that are put.
     fn keep(&mut self, piece: &[u8]) -> Result<(), AllocError>
         ensures ok { OnOk result (self.new ≡ record self.old { talk = with_put self.old.talk piece.now }) }
         ensures err { OnErr result (self.new ≡ self.old) }
@@ -215,8 +215,9 @@ impl Port for MemoryPort {
         ensures left { LosesFront (Some self.old.left) (Some self.new.left) (concat (pieces_given result into.new)) }
         ensures at_end { result ≡ Took.End → IfSome (Some self.new.left) (λ bytes. bytes ≡ []) }
         ensures failed { result ≡ Took.Failed → Rose self.old.read_faults self.new.read_faults }
+        ensures counted { self.old.read_faults < self.new.read_faults → result ≡ Took.Failed }
         ensures read_faults { self.old.read_faults ≤ self.new.read_faults }
-        ensures write_faults { self.old.write_faults ≤ self.new.write_faults }
+        ensures write_faults { self.new.write_faults ≡ self.old.write_faults }
     {
         self.take_next(into)
     }
@@ -228,7 +229,8 @@ impl Port for MemoryPort {
         ensures talk { AddsPut (Some self.old.talk) (Some self.new.talk) (bytes_written result piece.now) }
         ensures left { Some self.new.left ≡ Some self.old.left }
         ensures failed { result ≡ Sent.Failed → Rose self.old.write_faults self.new.write_faults }
-        ensures read_faults { self.old.read_faults ≤ self.new.read_faults }
+        ensures counted { self.old.write_faults < self.new.write_faults → result ≡ Sent.Failed }
+        ensures read_faults { self.new.read_faults ≡ self.old.read_faults }
         ensures write_faults { self.old.write_faults ≤ self.new.write_faults }
     {
         self.put_next(piece)

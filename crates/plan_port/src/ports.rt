@@ -1,4 +1,4 @@
-// The one trait of the outside.
+//! The one trait of the outside.
 ghost use Rattle.std.specs.Prelude.{◌≡◌, ℕ, ◌<◌, ◌≤◌, List, [], length, Option, IfSome};
 ghost use Rattle.std.specs.List.{concat};
 ghost use Rattle.plan_port.specs.Talk.{Talk, AddsPieces, AddsPut, LosesFront, Rose, pieces_given, bytes_written, TakesWithin, WritesWithin};
@@ -42,8 +42,9 @@ pub trait Port {
         ensures left { LosesFront (left self.old) (left self.new) (concat (pieces_given result into.new)) }
         ensures at_end { result ≡ Took.End → IfSome (left self.new) (λ bytes. bytes ≡ []) }
         ensures failed { result ≡ Took.Failed → Rose (read_faults self.old) (read_faults self.new) }
+        ensures counted { read_faults self.old < read_faults self.new → result ≡ Took.Failed }
         ensures read_faults { read_faults self.old ≤ read_faults self.new }
-        ensures write_faults { write_faults self.old ≤ write_faults self.new };
+        ensures write_faults { write_faults self.new ≡ write_faults self.old };
 
     /// Puts some of a piece that isn't empty: at least one byte from its front. `Failed` comes only where the
     /// device failed or took nothing; then no byte was put.
@@ -53,6 +54,7 @@ pub trait Port {
         ensures talk { AddsPut (talk self.old) (talk self.new) (bytes_written result piece.now) }
         ensures left { left self.new ≡ left self.old }
         ensures failed { result ≡ Sent.Failed → Rose (write_faults self.old) (write_faults self.new) }
-        ensures read_faults { read_faults self.old ≤ read_faults self.new }
+        ensures counted { write_faults self.old < write_faults self.new → result ≡ Sent.Failed }
+        ensures read_faults { read_faults self.new ≡ read_faults self.old }
         ensures write_faults { write_faults self.old ≤ write_faults self.new };
 }

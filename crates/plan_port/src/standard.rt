@@ -1,4 +1,4 @@
-// The port over standard input and output.
+//! The port over standard input and output.
 ghost use Rattle.std.specs.Prelude.{◌≡◌};
 
 use crate::ports::{Port, Sent, Took};

@@ -11,7 +11,7 @@ const LONGEST: u32 = 65_536;
 
 const MOST: u64 = 1_073_741_824;
 
-// A port over these bytes, each take of which gives at most `cut` bytes where that is above 0.
+/// A port over these bytes, each take of which gives at most `cut` bytes where that is above 0.
 fn port_over(
     alloc: Global,
     input: &[u8],
@@ -24,7 +24,7 @@ fn port_over(
     Ok(MemoryPort::new(alloc, input, cuts, failing_takes, Vec::new(alloc)))
 }
 
-// The reader answers this line, with this text and number.
+/// The reader answers this line, with this text and number.
 fn expect_line<P: Port>(
     rt: &impl Abort,
     reader: &mut LineReader,
@@ -60,7 +60,7 @@ fn a_line_end_may_be_too_much(rt: HostRuntime) -> Result<(), Fail> {
     Ok(())
 }
 
-// A line of so many bytes, alone in its input and cut so, has this answer.
+/// A line of so many bytes, alone in its input and cut so, has this answer.
 fn expect_size(
     rt: &(impl Abort + AllocGlobal),
     size: usize,

@@ -1,4 +1,4 @@
-// The bytes that a reader holds: the last line given, and those taken and not given out.
+//! The bytes that a reader holds: the last line given, and those taken and not given out.
 ghost use Rattle.std.specs.Prelude.{◌≡◌, ℕ, ◌+◌, ◌<◌, ◌≤◌, List, [], ◌++◌, length, take, drop, IfOk, IfSome};
 ghost use Rattle.std.specs.List.{position, concat};
 ghost use Rattle.plan_port.specs.Talk.{Rose};
@@ -9,7 +9,7 @@ use crate::ports::{Port, Took};
 use std::alloc::{AllocError, Global};
 use std::marker::Model;
 
-// A line of the greatest length, and one byte that shows that it is longer.
+/// A line of the greatest length, and one byte that shows that it is longer.
 const CAPACITY: usize = 65_537;
 
 #[derive(Drop)]
@@ -19,7 +19,7 @@ pub(crate) struct Window {
     text_end: usize,
     start: usize,
     end: usize,
-    // No line end stands in the kept bytes before this one.
+    /// No line end stands in the kept bytes before this one.
     searched: usize,
 }
 
@@ -64,7 +64,7 @@ impl Window {
         &self.bytes[self.text_start..self.text_end]
     }
 
-    // How many bytes are kept.
+    /// How many bytes are kept.
     pub(crate) fn size(&self) -> usize
         ensures value { result ≡ length self.now.kept }
         ensures small { result ≤ 65537 }
@@ -72,7 +72,7 @@ impl Window {
         self.end - self.start
     }
 
-    // Where the first line of the kept bytes ends, if its end has come.
+    /// Where the first line of the kept bytes ends, if its end has come.
     pub(crate) fn find_line_end(&mut self) -> Option<usize>
         ensures place { result ≡ position ends_line self.old.kept }
         ensures small { IfSome result (λ place. place < 65537) }
@@ -88,7 +88,7 @@ impl Window {
         }
     }
 
-    // Gives out the first bytes as a line, and passes over the byte behind them.
+    /// Gives out the first bytes as a line, and passes over the byte behind them.
     pub(crate) fn give_line(&mut self, size: usize)
         requires { size < length self.old.kept }
         ensures text { self.new.text ≡ take size self.old.kept }
@@ -100,7 +100,7 @@ impl Window {
         self.searched = self.start;
     }
 
-    // Gives out all kept bytes as a line.
+    /// Gives out all kept bytes as a line.
     pub(crate) fn give_all(&mut self)
         ensures text { self.new.text ≡ self.old.kept }
         ensures kept { self.new.kept ≡ [] }
@@ -111,7 +111,7 @@ impl Window {
         self.searched = self.end;
     }
 
-    // Forgets the last line.
+    /// Forgets the last line.
     pub(crate) fn forget_text(&mut self)
         ensures text { self.new.text ≡ [] }
         ensures kept { self.new.kept ≡ self.old.kept }
@@ -120,7 +120,7 @@ impl Window {
         self.text_end = 0;
     }
 
-    // Moves the kept bytes to the front.
+    /// Moves the kept bytes to the front.
     fn move_to_front(&mut self)
         requires { self.old.text ≡ [] }
         ensures text { self.new.text ≡ [] }
@@ -136,7 +136,7 @@ impl Window {
         self.end = end - start;
     }
 
-    // Takes once from the port, behind the kept bytes. The last line is forgotten, since its place may be needed.
+    /// Takes once from the port, behind the kept bytes. The last line is forgotten, since its place may be needed.
     pub(crate) fn take_from<P: Port>(&mut self, port: &mut P) -> Took
         requires { length self.old.kept < 65537 }
         ensures took { (pieces : List (List ℕ))
@@ -144,8 +144,9 @@ impl Window {
             × (self.new.kept ≡ self.old.kept ++ concat pieces) }
         ensures text { self.new.text ≡ [] }
         ensures failed { result ≡ Took.Failed → Rose (P.read_faults port.old) (P.read_faults port.new) }
+        ensures counted { P.read_faults port.old < P.read_faults port.new → result ≡ Took.Failed }
         ensures read_faults { P.read_faults port.old ≤ P.read_faults port.new }
-        ensures write_faults { P.write_faults port.old ≤ P.write_faults port.new }
+        ensures write_faults { P.write_faults port.new ≡ P.write_faults port.old }
     {
         self.forget_text();
         if self.start == self.end || self.end == CAPACITY {
@@ -154,7 +155,7 @@ impl Window {
         self.fill(port)
     }
 
-    // The same where there is place.
+    /// The same where there is place.
     fn fill<P: Port>(&mut self, port: &mut P) -> Took
         requires { 0 < self.old.free }
         ensures took { (pieces : List (List ℕ))
@@ -162,8 +163,9 @@ impl Window {
             × (self.new.kept ≡ self.old.kept ++ concat pieces) }
         ensures text { self.old.text ≡ [] → self.new.text ≡ [] }
         ensures failed { result ≡ Took.Failed → Rose (P.read_faults port.old) (P.read_faults port.new) }
+        ensures counted { P.read_faults port.old < P.read_faults port.new → result ≡ Took.Failed }
         ensures read_faults { P.read_faults port.old ≤ P.read_faults port.new }
-        ensures write_faults { P.write_faults port.old ≤ P.write_faults port.new }
+        ensures write_faults { P.write_faults port.new ≡ P.write_faults port.old }
     {
         let end = self.end;
         let took = port.take(&mut self.bytes[end..]);

@@ -1,4 +1,4 @@
-// Writing all of some bytes over a port.
+//! Writing all of some bytes over a port.
 ghost use Rattle.std.specs.Prelude.{◌≡◌, ℕ, ◌<◌, ◌≤◌, length};
 ghost use Rattle.plan_port.specs.Talk.{AddsPut, Rose};
 ghost use Rattle.plan_port.specs.Writing.{bytes_put, IsPart};
@@ -16,9 +16,10 @@ pub enum Written {
 /// exactly the first `n` bytes were put, which are not all.
 pub fn write_all<P: Port>(port: &mut P, bytes: &[u8]) -> Written
     ensures part { IsPart result (length bytes.now) (Rose (P.write_faults port.old) (P.write_faults port.new)) }
+    ensures all { result ≡ Written.All → P.write_faults port.new ≡ P.write_faults port.old }
     ensures talk { AddsPut (P.talk port.old) (P.talk port.new) (bytes_put result bytes.now) }
     ensures left { P.left port.new ≡ P.left port.old }
-    ensures read_faults { P.read_faults port.old ≤ P.read_faults port.new }
+    ensures read_faults { P.read_faults port.new ≡ P.read_faults port.old }
     ensures write_faults { P.write_faults port.old ≤ P.write_faults port.new }
 {
     let mut sent = 0;

@@ -1,5 +1,5 @@
 -- The defined run: what words and an input are answered by. This project's own choice.
-use Rattle.std.specs.Prelude.{◌≡◌, ℕ, List, [], ◌∷◌, ◌++◌, codes, Option, Some, None, Ok, IfSome, IsSomeAnd}
+use Rattle.std.specs.Prelude.{◌≡◌, ◌⊎◌, ℕ, List, [], ◌∷◌, ◌++◌, codes, Option, Some, None, Ok, IfSome, IsSomeAnd}
 use Rattle.net_model.specs.Text.{lines}
 use Rattle.net_model.specs.Network.{Plan}
 use Rattle.net_model.specs.Building.{built}
@@ -69,3 +69,12 @@ TaskCompletes None status talk_before talk_after left_before left_after = Unit {
 -- the answers are complete: words of a task, with an input that it takes, are answered as the task means
 abbrev pub Completes : List (List ℕ) → Status → (talk_before talk_after : Option Talk) → (left_before left_after : Option (List ℕ)) → Type 0
 Completes words status talk_before talk_after left_before left_after = TaskCompletes (command_of words) status talk_before talk_after left_before left_after
+
+-- words of no task are refused, unless the refusal could not be written, and those of a task are not
+abbrev pub TaskRefuses : Option Task → Status → Type 0
+TaskRefuses None status = (status.0 ≡ 2) ⊎ (status.0 ≡ 6)
+TaskRefuses (Some task) status = ¬ (status.0 ≡ 2)
+
+-- the status of refused words comes exactly where the words are those of no task, unless the refusal could not be written
+abbrev pub RefusesWords : List (List ℕ) → Status → Type 0
+RefusesWords words status = TaskRefuses (command_of words) status

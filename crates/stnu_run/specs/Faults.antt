@@ -1,7 +1,7 @@
 -- The line that is printed for the first refusal of an input, and the status. This project's own choice.
 use Rattle.std.specs.Prelude.{ℕ, List, [], ◌∷◌, ◌++◌, codes}
 use Rattle.std.specs.Fmt.{decimal}
-use Rattle.net_model.specs.declared.format.FormatKind.{FormatKind}
+use Rattle.net_model.specs.Formats.{format_word}
 use Rattle.net_model.specs.declared.format.FormatKind.TheVariants as kind
 use Rattle.stnu_run.specs.declared.status.Status.{Status}
 use Rattle.stnu_run.specs.declared.fault.Fault.{Fault}
@@ -10,16 +10,6 @@ use Rattle.stnu_run.specs.declared.fault.PlanFault.{PlanFault}
 use Rattle.stnu_run.specs.declared.fault.PlanFault.TheVariants.{DuplicateName, UnknownName, TwoLinksOnPoint, LinkToItself, BadInterval}
 use Rattle.stnu_run.specs.declared.fault.Quantity.{Quantity}
 use Rattle.stnu_run.specs.declared.fault.Quantity.TheVariants.{Points, Links, Bounds, Number, Line, Total}
-
-abbrev pub format_word : FormatKind → List ℕ
-format_word kind.UnknownWord = codes "unknown-word"
-format_word kind.WordCount = codes "word-count"
-format_word kind.BadName = codes "bad-name"
-format_word kind.BadNumber = codes "bad-number"
-format_word kind.NumberLimit = codes "number-limit"
-format_word kind.NoHeader = codes "no-header"
-format_word kind.NoEnd = codes "no-end"
-format_word kind.UnknownName = codes "unknown-name"
 
 abbrev pub plan_word : PlanFault → List ℕ
 plan_word DuplicateName = codes "duplicate-name"
@@ -36,15 +26,15 @@ quantity_word Number = codes "number"
 quantity_word Line = codes "line"
 quantity_word Total = codes "total"
 
--- `error`, the class of the fault, the number of the line, and a word, with a line end
-abbrev pub error_line : List ℕ → ℕ → List ℕ → List ℕ
-error_line class line word = codes "error " ++ class ++ codes " " ++ decimal line ++ codes " " ++ word ++ 10 ∷ []
+-- the class of the fault, the number of the line, and a word
+abbrev pub fault_text : Fault → List ℕ
+fault_text (Format line kind.NumberLimit) = codes "limit " ++ decimal line ++ codes " number"
+fault_text (Format line kind) = codes "format " ++ decimal line ++ codes " " ++ format_word kind
+fault_text (Plan line fault) = codes "plan " ++ decimal line ++ codes " " ++ plan_word fault
+fault_text (Limit line quantity) = codes "limit " ++ decimal line ++ codes " " ++ quantity_word quantity
 
 abbrev pub fault_line : Fault → List ℕ
-fault_line (Format line kind.NumberLimit) = error_line (codes "limit") line (codes "number")
-fault_line (Format line kind) = error_line (codes "format") line (format_word kind)
-fault_line (Plan line fault) = error_line (codes "plan") line (plan_word fault)
-fault_line (Limit line quantity) = error_line (codes "limit") line (quantity_word quantity)
+fault_line fault = codes "error " ++ fault_text fault ++ 10 ∷ []
 
 abbrev pub fault_status : Fault → Status
 fault_status (Format line kind.NumberLimit) = record { 0 = 4 }

@@ -1,6 +1,5 @@
 -- The command `judge`: what it answers to each line of a plan and of a certificate. This project's own choice.
-use Rattle.std.specs.Prelude.{◌≡◌, ℕ, List, [], ◌∷◌, ◌++◌, codes, Result, Ok, Err}
-use Rattle.std.specs.Fmt.{decimal}
+use Rattle.std.specs.Prelude.{◌≡◌, ℕ, List, [], ◌∷◌, ◌++◌, Result, Ok, Err}
 use Rattle.net_model.specs.Text.{words}
 use Rattle.net_model.specs.Network.{Plan}
 use Rattle.net_model.specs.declared.format.FormatKind.{FormatKind}
@@ -9,8 +8,7 @@ use Rattle.cert_format.specs.CertificateText.{Progress, begun, advanced, line_in
 use Rattle.cert_format.specs.declared.read.CertText.{CertText}
 use Rattle.cert_format.specs.declared.read.CertText.TheVariants as text
 use Rattle.cert_checker.specs.Judgement.{judgement_of}
-use Rattle.cert_checker.specs.FaultText.{fault_text}
-use Rattle.cert_checker.specs.declared.judgement.CertFault.{CertFault}
+use Rattle.cert_checker.specs.JudgementText.{judgement_text}
 use Rattle.cert_checker.specs.declared.judgement.Judgement.{Judgement}
 use Rattle.cert_checker.specs.declared.judgement.Judgement.TheVariants.{Accepted, Refused}
 use Rattle.cert_checker.specs.declared.judgement.Claim.TheVariants.{NotControllable, Controllable}
@@ -29,14 +27,9 @@ use Rattle.stnu_run.specs.declared.command.Stop.TheVariants.{LineTooLong, InputT
 use Rattle.stnu_run.specs.declared.judging.Judging.{Judging}
 use Rattle.stnu_run.specs.declared.judging.Judging.TheVariants as judging
 
-abbrev pub refused_line : ℕ → CertFault → List ℕ
-refused_line line why = codes "refused " ++ decimal line ++ codes " " ++ fault_text why ++ 10 ∷ []
-
 -- the line that is printed of a judgement
 abbrev pub judgement_line : Judgement → List ℕ
-judgement_line (Accepted NotControllable) = codes "accepted not controllable" ++ 10 ∷ []
-judgement_line (Accepted Controllable) = codes "accepted controllable" ++ 10 ∷ []
-judgement_line (Refused line why) = refused_line line why
+judgement_line judgement = judgement_text judgement ++ 10 ∷ []
 
 abbrev pub judgement_status : Judgement → Status
 judgement_status (Accepted claim) = record { 0 = 0 }

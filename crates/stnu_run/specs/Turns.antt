@@ -22,6 +22,16 @@ abbrev pub IsUnbroken : {C : Type 0} → Onward C → Type 0
 IsUnbroken (Goes command) = Unit {0}
 IsUnbroken (Ends status) = ¬ IsBrokenOff status
 
+-- the run is broken off
+abbrev pub IsCutOff : {C : Type 0} → Onward C → Type 0
+IsCutOff (Goes command) = ⊥
+IsCutOff (Ends status) = IsBrokenOff status
+
+-- the run goes on, or ends with another status than that of refused words
+abbrev pub IsNotOfWords : {C : Type 0} → Onward C → Type 0
+IsNotOfWords (Goes command) = Unit {0}
+IsNotOfWords (Ends status) = ¬ (status.0 ≡ 2)
+
 -- what holds where the run goes on
 abbrev pub IfGoes : {C : Type 0} → Onward C → Type 0 → Type 0
 IfGoes (Goes command) P = P

@@ -2,7 +2,7 @@ ghost use Rattle.std.specs.Prelude.{◌≡◌, ℕ, ◌≤◌, List, IfOk};
 ghost use Rattle.stnu_run.specs.declared.command.Onward.{Onward};
 ghost use Rattle.stnu_run.specs.declared.command.Stop.{Stop};
 ghost use Rattle.stnu_run.specs.declared.fault.Fault.{Fault};
-ghost use Rattle.stnu_run.specs.Turns.{IsUnbroken};
+ghost use Rattle.stnu_run.specs.Turns.{IsUnbroken, IsNotOfWords};
 
 use crate::fault::Fault;
 use crate::status::Status;
@@ -53,7 +53,8 @@ pub trait Command: Drop {
     /// Answers a line. Only want of memory fails.
     fn take_line(self, alloc: Global, number: u32, text: &[u8]) -> Result<Reply<Self>, AllocError>
         ensures takes { IfOk result (λ reply. takes self number text.now reply.answer.items reply.onward) }
-        ensures unbroken { IfOk result (λ reply. IsUnbroken reply.onward) };
+        ensures unbroken { IfOk result (λ reply. IsUnbroken reply.onward) }
+        ensures words { IfOk result (λ reply. IsNotOfWords reply.onward) };
 
     fn stop(&self, number: u32, stop: Stop) -> Fault
         ensures { result ≡ stops self.now number stop };

@@ -1,6 +1,7 @@
 use crate::status::Status;
-use net_model::{BuildFault, FormatKind};
+use net_model::FormatKind;
 use std::alloc::{AllocError, Global};
+use std::fmt;
 
 /// A quantity that has a limit, by the word that is printed of it.
 #[derive(Clone, Copy, Debug, PartialEq, Eq)]
@@ -34,6 +35,57 @@ pub enum PlanFault {
     BadInterval,
 }
 
+impl fmt::Display for Quantity {
+    ghost use Rattle.std.specs.Prelude.{Some};
+    ghost use Rattle.stnu_run.specs.Faults.{quantity_word};
+
+    ghost output = { λ quantity. Some (quantity_word quantity) };
+
+    fn fmt<W: fmt::Write>(&self, f: &mut fmt::Formatter<W>) -> fmt::Result {
+        f.write_str(match self {
+            Quantity::Points => "points",
+            Quantity::Links => "links",
+            Quantity::Bounds => "bounds",
+            Quantity::Number => "number",
+            Quantity::Line => "line",
+            Quantity::Total => "total",
+        })
+    }
+}
+
+impl fmt::Display for PlanFault {
+    ghost use Rattle.std.specs.Prelude.{Some};
+    ghost use Rattle.stnu_run.specs.Faults.{plan_word};
+
+    ghost output = { λ fault. Some (plan_word fault) };
+
+    fn fmt<W: fmt::Write>(&self, f: &mut fmt::Formatter<W>) -> fmt::Result {
+        f.write_str(match self {
+            PlanFault::DuplicateName => "duplicate-name",
+            PlanFault::UnknownName => "unknown-name",
+            PlanFault::TwoLinksOnPoint => "two-links-on-point",
+            PlanFault::LinkToItself => "link-to-itself",
+            PlanFault::BadInterval => "bad-interval",
+        })
+    }
+}
+
+impl fmt::Display for Fault {
+    ghost use Rattle.std.specs.Prelude.{Some};
+    ghost use Rattle.stnu_run.specs.Faults.{fault_text};
+
+    ghost output = { λ fault. Some (fault_text fault) };
+
+    fn fmt<W: fmt::Write>(&self, f: &mut fmt::Formatter<W>) -> fmt::Result {
+        match self {
+            Fault::Format(line, FormatKind::NumberLimit) => write!(f, "limit {line} number"),
+            Fault::Format(line, kind) => write!(f, "format {line} {kind}"),
+            Fault::Plan(line, fault) => write!(f, "plan {line} {fault}"),
+            Fault::Limit(line, quantity) => write!(f, "limit {line} {quantity}"),
+        }
+    }
+}
+
 impl Fault {
     ghost use Rattle.std.specs.Prelude.{◌≡◌, IfOk};
     ghost use Rattle.stnu_run.specs.Faults.{fault_line, fault_status};
@@ -53,66 +105,7 @@ impl Fault {
     pub fn line(self, alloc: Global) -> Result<Vec<u8>, AllocError>
         ensures { IfOk result (λ line. line.items ≡ fault_line self) }
     {
-        match self {
-            Fault::Format(line, FormatKind::NumberLimit) => {
-                error_line(alloc, "limit", line, "number")
-            }
-            Fault::Format(line, kind) => error_line(alloc, "format", line, format_word(kind)),
-            Fault::Plan(line, fault) => error_line(alloc, "plan", line, plan_word(fault)),
-            Fault::Limit(line, quantity) => {
-                error_line(alloc, "limit", line, quantity_word(quantity))
-            }
-        }
-    }
-}
-
-ghost use Rattle.std.specs.Prelude.{◌≡◌, IfOk};
-ghost use Rattle.stnu_run.specs.Faults.{error_line, format_word, plan_word, quantity_word};
-
-/// `error`, the class of a fault, the number of the line, and a word, with a line end.
-fn error_line(alloc: Global, class: &str, line: u32, word: &str) -> Result<Vec<u8>, AllocError>
-    ensures { IfOk result (λ text. text.items ≡ error_line class.now line word.now) }
-{
-    let text = format!(in alloc; "error {class} {line} {word}\n")?;
-    Ok(text.into_bytes())
-}
-
-fn format_word(kind: FormatKind) -> &'static str
-    ensures { result.now ≡ format_word kind }
-{
-    match kind {
-        FormatKind::UnknownWord => "unknown-word",
-        FormatKind::WordCount => "word-count",
-        FormatKind::BadName => "bad-name",
-        FormatKind::BadNumber => "bad-number",
-        FormatKind::NumberLimit => "number-limit",
-        FormatKind::NoHeader => "no-header",
-        FormatKind::NoEnd => "no-end",
-        FormatKind::UnknownName => "unknown-name",
-    }
-}
-
-fn plan_word(fault: PlanFault) -> &'static str
-    ensures { result.now ≡ plan_word fault }
-{
-    match fault {
-        PlanFault::DuplicateName => "duplicate-name",
-        PlanFault::UnknownName => "unknown-name",
-        PlanFault::TwoLinksOnPoint => "two-links-on-point",
-        PlanFault::LinkToItself => "link-to-itself",
-        PlanFault::BadInterval => "bad-interval",
-    }
-}
-
-fn quantity_word(quantity: Quantity) -> &'static str
-    ensures { result.now ≡ quantity_word quantity }
-{
-    match quantity {
-        Quantity::Points => "points",
-        Quantity::Links => "links",
-        Quantity::Bounds => "bounds",
-        Quantity::Number => "number",
-        Quantity::Line => "line",
-        Quantity::Total => "total",
+        let line = format!(in alloc; "error {self}\n")?;
+        Ok(line.into_bytes())
     }
 }

@@ -3,8 +3,8 @@
 ghost use Rattle.std.specs.Prelude.{◌≡◌, IfOk};
 ghost use Rattle.cert_format.specs.CertificateText.{line_in};
 ghost use Rattle.net_model.specs.Text.{words};
-ghost use Rattle.stnu_run.specs.Turns.{IsUnbroken};
-ghost use Rattle.stnu_run.specs.Judging.{judge_takes, judge_stops, end_of, after_plan, after_line, GoesOn, ClaimHolds, judgement_line, judgement_status, refused_line};
+ghost use Rattle.stnu_run.specs.Turns.{IsUnbroken, IsNotOfWords};
+ghost use Rattle.stnu_run.specs.Judging.{judge_takes, judge_stops, end_of, after_plan, after_line, GoesOn, ClaimHolds, judgement_line, judgement_status};
 ghost use Rattle.cert_checker.specs.Judgement.{judgement_of};
 ghost use Rattle.cert_format.specs.CertificateText.{certificate_of};
 
@@ -13,7 +13,7 @@ use crate::fault::{Fault, Quantity};
 use crate::plan_reading::{PlanProgress, PlanReading};
 use crate::serve::refuse;
 use crate::status::Status;
-use cert_checker::{CertFault, Claim, Judgement, judge};
+use cert_checker::{Judgement, judge};
 use cert_format::{CertReader, CertText};
 use net_model::{Network, WordFault};
 use std::alloc::{AllocError, Global};
@@ -88,6 +88,7 @@ fn take_plan_line(
 ) -> Result<Reply<Judging>, AllocError>
     ensures takes { IfOk result (λ reply. judge_takes (Judging.Plan reading) number text.now reply.answer.items reply.onward) }
     ensures unbroken { IfOk result (λ reply. IsUnbroken reply.onward) }
+    ensures words { IfOk result (λ reply. IsNotOfWords reply.onward) }
 {
     match reading.take_line(alloc, number, text)? {
         PlanProgress::Reads(reading) => Ok(goes_on(alloc, Judging::Plan(reading))),
@@ -108,6 +109,7 @@ fn take_certificate_line(
 ) -> Result<Reply<Judging>, AllocError>
     ensures takes { IfOk result (λ reply. judge_takes (Judging.Certificate net reader) number text.now reply.answer.items reply.onward) }
     ensures unbroken { IfOk result (λ reply. IsUnbroken reply.onward) }
+    ensures words { IfOk result (λ reply. IsNotOfWords reply.onward) }
 {
     match reader.read_line(text) {
         Ok(CertText::End) => answer(alloc, &net, reader),
@@ -123,6 +125,7 @@ fn answer(alloc: Global, net: &Network, reader: CertReader) -> Result<Reply<Judg
     ensures ends { IfOk result (λ reply. reply.onward ≡ Onward.Ends (judgement_status (judgement_of net.now (certificate_of reader)))) }
     ensures claim { IfOk result (λ _. ClaimHolds net.now (judgement_of net.now (certificate_of reader))) }
     ensures unbroken { IfOk result (λ reply. IsUnbroken reply.onward) }
+    ensures words { IfOk result (λ reply. IsNotOfWords reply.onward) }
 {
     let judgement = judge(net, &reader.into_certificate())?;
     let answer = judgement_line(alloc, judgement)?;
@@ -145,20 +148,6 @@ fn judgement_status(judgement: Judgement) -> Status
 fn judgement_line(alloc: Global, judgement: Judgement) -> Result<Vec<u8>, AllocError>
     ensures { IfOk result (λ text. text.items ≡ judgement_line judgement) }
 {
-    match judgement {
-        Judgement::Accepted(Claim::NotControllable) => {
-            Vec::from_slice(alloc, b"accepted not controllable\n".as_slice())
-        }
-        Judgement::Accepted(Claim::Controllable) => {
-            Vec::from_slice(alloc, b"accepted controllable\n".as_slice())
-        }
-        Judgement::Refused { line, why } => refused_line(alloc, line, why),
-    }
-}
-
-fn refused_line(alloc: Global, line: u64, why: CertFault) -> Result<Vec<u8>, AllocError>
-    ensures { IfOk result (λ text. text.items ≡ refused_line line why) }
-{
-    let text = format!(in alloc; "refused {line} {why}\n")?;
-    Ok(text.into_bytes())
+    let line = format!(in alloc; "{judgement}\n")?;
+    Ok(line.into_bytes())
 }

@@ -1,6 +1,7 @@
-ghost use Rattle.std.specs.Prelude.{◌≡◌, ◌≤◌, map, string_bytes, is_some};
+ghost use Rattle.std.specs.Prelude.{◌≡◌, ◌<◌, ◌≤◌, map, string_bytes, is_some};
 ghost use Rattle.plan_port.specs.Talk.{Rose};
-ghost use Rattle.stnu_run.specs.DefinedRun.{RunsAsDefined, RunsPromptly, AcceptedExcludes, Completes};
+ghost use Rattle.stnu_run.specs.DefinedRun.{RunsAsDefined, RunsPromptly, AcceptedExcludes, Completes, RefusesWords};
+ghost use Rattle.stnu_run.specs.Turns.{IsBrokenOff};
 
 use crate::judging::Judging;
 use crate::plan_reading::PlanReading;
@@ -17,8 +18,12 @@ pub fn run<P: Port>(alloc: Global, words: &Vec<String>, port: &mut P) -> Status
     ensures accepted { AcceptedExcludes result (P.talk port.old) (P.talk port.new) (P.left port.old) (P.left port.new) }
     ensures complete { Completes (map string_bytes words.now.items) result (P.talk port.old) (P.talk port.new) (P.left port.old) (P.left port.new) }
     ensures prompt { RunsPromptly (map string_bytes words.now.items) result (P.talk port.old) (P.talk port.new) }
+    ensures words { RefusesWords (map string_bytes words.now.items) result }
     ensures read_fault { result.0 ≡ 5 → Rose (P.read_faults port.old) (P.read_faults port.new) }
     ensures write_fault { result.0 ≡ 6 → Rose (P.write_faults port.old) (P.write_faults port.new) }
+    // No failed call is passed over.
+    ensures unread { P.read_faults port.old < P.read_faults port.new → IsBrokenOff result }
+    ensures unwritten { P.write_faults port.old < P.write_faults port.new → result.0 ≡ 6 }
     ensures told { is_some (P.left port.new) ≡ is_some (P.left port.old) }
     ensures read_faults { P.read_faults port.old ≤ P.read_faults port.new }
     ensures write_faults { P.write_faults port.old ≤ P.write_faults port.new }

@@ -3,7 +3,7 @@ ghost use Rattle.plan_port.specs.Talk.{Rose, AddsPut};
 ghost use Rattle.plan_port.specs.Reader.{room, remaining};
 ghost use Rattle.stnu_run.specs.Faults.{fault_line, fault_status};
 ghost use Rattle.stnu_run.specs.Runs.{Refuses};
-ghost use Rattle.stnu_run.specs.Turns.{Replies, Turns, Serves, IsUnbroken, IfGoes};
+ghost use Rattle.stnu_run.specs.Turns.{Replies, Turns, Serves, IsBrokenOff, IsUnbroken, IsCutOff, IsNotOfWords, IfGoes};
 ghost use Rattle.stnu_run.specs.Prompt.{IsSaid, ServesPromptly};
 ghost use Rattle.stnu_run.specs.TurnTalk.{Talks};
 
@@ -49,6 +49,7 @@ fn reply_to<C: Command>(
     requires { reader.now.number < 4294967295 }
     ensures replies { IfOk result (λ reply. Replies C.longest C.takes C.stops command line reader.now reply.answer.items reply.onward) }
     ensures broken { IfOk result (λ reply. IsUnbroken reply.onward ⊎ ((line ≡ Line.ReadFault) × (reply.onward ≡ Onward.Ends (record { 0 = 5 })))) }
+    ensures words { IfOk result (λ reply. IsNotOfWords reply.onward) }
 {
     let number = reader.number();
     match line {
@@ -67,7 +68,8 @@ fn put<C: Drop, P: Port>(port: &mut P, reply: Reply<C>) -> Onward<C>
     ensures said { IsSaid result → AddsPut (P.talk port.old) (P.talk port.new) reply.answer.items × (result ≡ reply.onward) }
     ensures left { P.left port.new ≡ P.left port.old }
     ensures broken { (result ≡ reply.onward) ⊎ ((result ≡ Onward.Ends (record { 0 = 6 })) × Rose (P.write_faults port.old) (P.write_faults port.new)) }
-    ensures read_faults { P.read_faults port.old ≤ P.read_faults port.new }
+    ensures unwritten { P.write_faults port.old < P.write_faults port.new → result ≡ Onward.Ends (record { 0 = 6 }) }
+    ensures read_faults { P.read_faults port.new ≡ P.read_faults port.old }
     ensures write_faults { P.write_faults port.old ≤ P.write_faults port.new }
 {
     let Reply { answer, onward } = reply;
@@ -96,6 +98,9 @@ fn turn<C: Command, P: Port>(
     ensures told { is_some (P.left port.new) ≡ is_some (P.left port.old) }
     ensures read_fault { result ≡ Onward.Ends (record { 0 = 5 }) → Rose (P.read_faults port.old) (P.read_faults port.new) }
     ensures write_fault { result ≡ Onward.Ends (record { 0 = 6 }) → Rose (P.write_faults port.old) (P.write_faults port.new) }
+    ensures unread { P.read_faults port.old < P.read_faults port.new → IsCutOff result }
+    ensures unwritten { P.write_faults port.old < P.write_faults port.new → result ≡ Onward.Ends (record { 0 = 6 }) }
+    ensures words { IsNotOfWords result }
     ensures read_faults { P.read_faults port.old ≤ P.read_faults port.new }
     ensures write_faults { P.write_faults port.old ≤ P.write_faults port.new }
 {
@@ -113,6 +118,9 @@ pub fn serve<C: Command, P: Port>(alloc: Global, command: C, port: &mut P) -> St
     ensures prompt { ServesPromptly C.longest C.takes command result (P.talk port.old) (P.talk port.new) }
     ensures read_fault { result.0 ≡ 5 → Rose (P.read_faults port.old) (P.read_faults port.new) }
     ensures write_fault { result.0 ≡ 6 → Rose (P.write_faults port.old) (P.write_faults port.new) }
+    ensures unread { P.read_faults port.old < P.read_faults port.new → IsBrokenOff result }
+    ensures unwritten { P.write_faults port.old < P.write_faults port.new → result.0 ≡ 6 }
+    ensures words { ¬ (result.0 ≡ 2) }
     ensures told { is_some (P.left port.new) ≡ is_some (P.left port.old) }
     ensures read_faults { P.read_faults port.old ≤ P.read_faults port.new }
     ensures write_faults { P.write_faults port.old ≤ P.write_faults port.new }
@@ -134,7 +142,8 @@ pub fn refuse_words<P: Port>(port: &mut P) -> Status
     ensures status { (result ≡ record { 0 = 2 }) ⊎ ((result ≡ record { 0 = 6 }) × Rose (P.write_faults port.old) (P.write_faults port.new)) }
     ensures put { result ≡ record { 0 = 2 } → AddsPut (P.talk port.old) (P.talk port.new) (codes "error words" ++ 10 ∷ []) }
     ensures left { P.left port.new ≡ P.left port.old }
-    ensures read_faults { P.read_faults port.old ≤ P.read_faults port.new }
+    ensures unwritten { P.write_faults port.old < P.write_faults port.new → result.0 ≡ 6 }
+    ensures read_faults { P.read_faults port.new ≡ P.read_faults port.old }
     ensures write_faults { P.write_faults port.old ≤ P.write_faults port.new }
 {
     match write_all(port, b"error words\n".as_slice()) {

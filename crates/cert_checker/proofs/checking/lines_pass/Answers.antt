@@ -1,4 +1,4 @@
-use Rattle.std.proofs.Common.{rules, ◌≡◌, true, Ok, ◌∙◌, sym, take, subst}
+use Rattle.std.proofs.Common.{rules, ◌≡◌, true, Ok, ◌∙◌, take, subst}
 use Rattle.std.proofs.lemmas.List.Elements.{All-more}
 use Rattle.cert_format.specs.declared.line.CertLine.{CertLine}
 use Rattle.cert_checker.specs.Lines.{in_range, line_passes}

@@ -1,7 +1,7 @@
 use Rattle.std.proofs.Common.{rules, ◌≡◌, Some, Ok, ◌+◌, length, ◌∙◌, sym}
 use Rattle.std.specs.List.{IsFirstAndRest}
 use Rattle.cert_checker.specs.Lines.{line_at}
-use Rattle.cert_checker.specs.Walk.{WalkPasses, walked, returns_to, is_negative_total, total_weight}
+use Rattle.cert_checker.specs.Walk.{walked, returns_to, is_negative_total, total_weight}
 use Rattle.cert_checker.proofs.Steps.{closed_walk}
 use Rattle.cert_checker.proofs.walk.is_negative_walk.Goals as goal
 

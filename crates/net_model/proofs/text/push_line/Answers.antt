@@ -1,4 +1,4 @@
-use Rattle.std.proofs.Common.{◌≡◌, ◌∙◌, ap, ◌++◌, ◌∷◌, [], List, ℕ, take, arith}
+use Rattle.std.proofs.Common.{◌≡◌, ◌∙◌, ap, ◌++◌, ◌∷◌, [], List, ℕ, take}
 use Rattle.std.proofs.lemmas.List.{take_all}
 use Rattle.net_model.proofs.PrintingLemmas.{line_pushed}
 use Rattle.net_model.proofs.text.push_line.Goals as goal

@@ -1,19 +1,21 @@
-use Rattle.std.proofs.Common.{◌≡◌, Ok, sym, ◌∙◌}
+use Rattle.std.proofs.Common.{◌≡◌, Ok, Err, sym, ◌∙◌}
 use Rattle.net_model.specs.Text.{words}
 use Rattle.plan_format.specs.PlanLines.{plan_line}
 use Rattle.plan_format.proofs.PartLemmas.{read_is, is_read}
 use Rattle.plan_format.proofs.plan_line.read_plan_line.Goals as goal
 
-pub returns-in-Ok-clause-grammar : goal.returns-in-Ok-clause-grammar
-returns-in-Ok-clause-grammar c =
-    read_is (words c.args.line.now) c.in-Ok.read (sym c.plan_line.ensures ∙ c.in-Ok.is)
-
-pub returns-in-Ok-clause-every : goal.returns-in-Ok-clause-every
-returns-in-Ok-clause-every c = λ read is.
+pub returns-in_err-plan_line-clause-every : goal.returns-in_err-plan_line-clause-every
+returns-in_err-plan_line-clause-every c = λ read is.
     let here : plan_line (words c.args.line.now) ≡ Ok read = is_read (words c.args.line.now) read is in
-    cc
-
-pub returns-in-Err-clause-every : goal.returns-in-Err-clause-every
-returns-in-Err-clause-every c = λ read is.
-    let here : plan_line (words c.args.line.now) ≡ Ok read = is_read (words c.args.line.now) read is in
+    let was : c.plan_line.result ≡ Err c.in_err-plan_line.field-0.0 = c.in_err-plan_line.was in
     absurd (cc)
+
+pub returns-clause-grammar : goal.returns-clause-grammar
+returns-clause-grammar c =
+    read_is (words c.args.line.now) c.in_ok-plan_line.field-0 (sym c.plan_line.ensures ∙ c.in_ok-plan_line.was)
+
+pub returns-clause-every : goal.returns-clause-every
+returns-clause-every c = λ read is.
+    let here : plan_line (words c.args.line.now) ≡ Ok read = is_read (words c.args.line.now) read is in
+    let was : c.plan_line.result ≡ Ok c.in_ok-plan_line.field-0 = c.in_ok-plan_line.was in
+    cc

@@ -28,8 +28,9 @@ loop-self-preserved g c =
     let took = c.fill.ensures.took in
     let before = subst (λ (r : Reader). Takes c.args.longest c.args.self.now r inv.takes.0 (g.P.Port.talk c.args.port.now) (g.P.Port.talk c.loop-self.port) (g.P.Port.left c.args.port.now) (g.P.Port.left c.loop-self.port)) (sym same) inv.takes.1 in
     let more = Takes-more c.args.longest c.args.self.now mid c.fill.new.self c.fill.result inv.takes.0 took.0 (g.P.Port.talk c.args.port.now) (g.P.Port.talk c.loop-self.port) (g.P.Port.talk c.fill.new.port) (g.P.Port.left c.args.port.now) (g.P.Port.left c.loop-self.port) (g.P.Port.left c.fill.new.port) before took.1 (sym c.if-has_ended.ensures) undecided took.2 in
+    let same_reads : ¬ (g.P.Port.read_faults c.loop-self.port < g.P.Port.read_faults c.fill.new.port) = λ risen. not_failed c.fill.result c.in-Bytes.is (c.fill.ensures.counted risen) in
     record {
       takes = (_, more);
-      reads = omega (arith, c.fill.ensures.read_faults);
-      writes = omega (arith, c.fill.ensures.write_faults);
+      reads = omega (arith, c.fill.ensures.read_faults, same_reads, inv.reads);
+      writes = c.fill.ensures.write_faults ∙ inv.writes;
     }

@@ -1,0 +1,34 @@
+-- What words that are read are.
+use Rattle.std.proofs.Common.{◌≡◌, ◌⊎◌, ℕ, Bool, true, false, cond, List, Result, Ok, Err, refl, subst, rules, inl, inr, IsTrue}
+use Rattle.std.specs.Str.{bytes_eq}
+use Rattle.std.proofs.lemmas.Slice.Eq.{bytes_eq-Decides}
+use Rattle.net_model.specs.Names.{is_name}
+use Rattle.net_model.specs.Numbers.{name_of}
+use Rattle.net_model.specs.Reading.{◌>>=◌}
+use Rattle.net_model.specs.declared.format.FormatKind.{FormatKind}
+use Rattle.net_model.specs.declared.format.FormatKind.TheVariants.{BadName}
+
+-- a choice by a test
+pub choice : {A : Type 0} (test : Bool) (x y z : A) → cond test x y ≡ z → ((test ≡ true) × (x ≡ z)) ⊎ ((test ≡ false) × (y ≡ z))
+choice true x y z chosen = inl (refl, chosen)
+choice false x y z chosen = inr (refl, chosen)
+
+-- where all words are read, the first one is
+pub bind_ok : {A B : Type 0} (read : Result A FormatKind) (next : A → Result B FormatKind) (y : B) → (read >>= next) ≡ Ok y → (x : A) × (read ≡ Ok x) × (next x ≡ Ok y)
+bind_ok (Ok x) next y said = (x, refl, said)
+bind_ok (Err kind) next y said = absurd (cc)
+
+-- a name is read as it stands
+pub name_ok : (word name : List ℕ) → name_of word ≡ Ok name → (word ≡ name) × IsTrue (is_name name)
+name_ok word name read =
+    elim (choice (is_name word) (Ok word) (Err BadName) (Ok name) read) [
+      | inl named ↦ let same : word ≡ name = cc in (same, subst (λ (w : List ℕ). IsTrue (is_name w)) same named.0)
+      | inr other ↦ absurd (cc)
+    ]
+
+pub name_read : (name : List ℕ) → IsTrue (is_name name) → name_of name ≡ Ok name
+name_read name named = rw named refl
+
+-- a word that is spelled so
+pub word_is : (word spelling : List ℕ) → bytes_eq word spelling ≡ true → word ≡ spelling
+word_is word spelling same = search (rules, same, bytes_eq-Decides)
