@@ -17,7 +17,7 @@ use Rattle.cert_format.specs.declared.certificate.Certificate.{Certificate}
 use Rattle.cert_format.specs.declared.certificate.Certificate.TheVariants.{Refutation}
 use Rattle.cert_format.specs.declared.read.CertText.{CertText}
 use Rattle.cert_format.specs.declared.read.CertText.TheVariants as text
-use Rattle.cert_format.specs.declared.read.TheConstants.{MOST_NUMBER}
+use Rattle.cert_format.specs.declared.read.TheConstants.{MOST_LINE_NUMBER}
 use Rattle.cert_format.specs.declared.section.Section.TheVariants as section
 use Rattle.cert_format.proofs.WordLemmas.{text_words, text_word, text_read, blank_read}
 
@@ -28,7 +28,7 @@ Completes p (text.Blank ∷ others) c = ⊥
 Completes p (text.Header ∷ others) c = (admits p.section keyword.Certificate ≡ true) × Completes (advanced p text.Header) others c
 Completes p (text.Refutation ∷ others) c = (admits p.section keyword.Refutation ≡ true) × Completes (advanced p text.Refutation) others c
 Completes p (text.Line line ∷ others) c = (admits p.section (text_word (text.Line line)) ≡ true) × IsSpelledLine line × Completes (advanced p (text.Line line)) others c
-Completes p (text.Walk i ∷ others) c = (admits p.section keyword.Walk ≡ true) × (i ≤ MOST_NUMBER) × Completes (advanced p (text.Walk i)) others c
+Completes p (text.Walk i ∷ others) c = (admits p.section keyword.Walk ≡ true) × (i ≤ MOST_LINE_NUMBER) × Completes (advanced p (text.Walk i)) others c
 Completes p (text.End ∷ others) c = (admits p.section keyword.End ≡ true) × (certificate_of p ≡ c) × (others ≡ [])
 
 head_is : {A : Type 0} (x y : A) (xs ys : List A) → x ∷ xs ≡ y ∷ ys → x ≡ y
@@ -82,14 +82,14 @@ complete_end : (p : Progress) (c : Certificate) → admits p.section keyword.End
 complete_end p c may same = (may, same, refl)
 
 -- the rest of a walk completes what was read
-complete_walk : (lines : List CertLine) (before walk : List ℕ) → AllByRecursion (λ i. i ≤ MOST_NUMBER) walk → Completes (record { section = section.Walk; lines = lines; walk = before }) (map text.Walk walk ++ text.End ∷ []) (Refutation lines (before ++ walk))
+complete_walk : (lines : List CertLine) (before walk : List ℕ) → AllByRecursion (λ i. i ≤ MOST_LINE_NUMBER) walk → Completes (record { section = section.Walk; lines = lines; walk = before }) (map text.Walk walk ++ text.End ∷ []) (Refutation lines (before ++ walk))
 complete_walk lines before [] within = (refl, ap (Refutation lines) (sym (append-nil before)), refl)
 complete_walk lines before (i ∷ walk) within =
     let all : before ++ i ∷ [] ++ walk ≡ before ++ i ∷ walk = append_assoc before (i ∷ []) walk in
     (refl, within.0, subst (λ (ws : List ℕ). Completes (record { section = section.Walk; lines = lines; walk = before ++ i ∷ [] }) (map text.Walk walk ++ text.End ∷ []) (Refutation lines ws)) all (complete_walk lines (before ++ i ∷ []) walk within.1))
 
 -- the walk completes the rule lines that were read
-complete_rules : (lines : List CertLine) (walk : List ℕ) → AllByRecursion (λ i. i ≤ MOST_NUMBER) walk → Completes (record { section = section.Rules; lines = lines; walk = [] }) (map text.Walk walk ++ text.End ∷ []) (Refutation lines walk)
+complete_rules : (lines : List CertLine) (walk : List ℕ) → AllByRecursion (λ i. i ≤ MOST_LINE_NUMBER) walk → Completes (record { section = section.Rules; lines = lines; walk = [] }) (map text.Walk walk ++ text.End ∷ []) (Refutation lines walk)
 complete_rules lines [] within = (refl, refl, refl)
 complete_rules lines (i ∷ walk) within = (refl, within.0, complete_walk lines (i ∷ []) walk within.1)
 
@@ -103,13 +103,13 @@ kind_may_come (kind.Cross name j) = refl
 kind_may_come (kind.Drop j) = refl
 
 -- the rest of the rule lines and the walk complete what was read
-complete_lines : (before lines : List CertLine) (walk : List ℕ) → AllByRecursion IsSpelledLine lines → AllByRecursion (λ i. i ≤ MOST_NUMBER) walk → Completes (record { section = section.Rules; lines = before; walk = [] }) (map text.Line lines ++ (map text.Walk walk ++ text.End ∷ [])) (Refutation (before ++ lines) walk)
+complete_lines : (before lines : List CertLine) (walk : List ℕ) → AllByRecursion IsSpelledLine lines → AllByRecursion (λ i. i ≤ MOST_LINE_NUMBER) walk → Completes (record { section = section.Rules; lines = before; walk = [] }) (map text.Line lines ++ (map text.Walk walk ++ text.End ∷ [])) (Refutation (before ++ lines) walk)
 complete_lines before [] walk spelled within = subst (λ (ls : List CertLine). Completes (record { section = section.Rules; lines = before; walk = [] }) (map text.Walk walk ++ text.End ∷ []) (Refutation ls walk)) (sym (append-nil before)) (complete_rules before walk within)
 complete_lines before (line ∷ lines) walk spelled within =
     let all : before ++ line ∷ [] ++ lines ≡ before ++ line ∷ lines = append_assoc before (line ∷ []) lines in
     (kind_may_come line.kind, spelled.0, subst (λ (ls : List CertLine). Completes (record { section = section.Rules; lines = before ++ line ∷ []; walk = [] }) (map text.Line lines ++ (map text.Walk walk ++ text.End ∷ [])) (Refutation ls walk)) all (complete_lines (before ++ line ∷ []) lines walk spelled.1 within))
 
-complete_certificate : (lines : List CertLine) (walk : List ℕ) → AllByRecursion IsSpelledLine lines → AllByRecursion (λ i. i ≤ MOST_NUMBER) walk → Completes begun (certificate_texts lines walk) (Refutation lines walk)
+complete_certificate : (lines : List CertLine) (walk : List ℕ) → AllByRecursion IsSpelledLine lines → AllByRecursion (λ i. i ≤ MOST_LINE_NUMBER) walk → Completes begun (certificate_texts lines walk) (Refutation lines walk)
 complete_certificate lines walk spelled within = (refl, (refl, complete_lines [] lines walk spelled within))
 
 -- the words of what the lines of a certificate say are its words
@@ -128,7 +128,7 @@ words_of_texts lines walk = ap (λ (ws : List (List (List ℕ))). header_words �
 spelled_from : (c : Certificate) (used ignored : List (List ℕ)) → IsSpelled c → filled_words used ≡ certificate_words c → read_from begun 1 (used ++ ignored) ≡ Ok c
 spelled_from (Refutation lines walk) used ignored spelled said =
     completes used ignored begun 1 (certificate_texts lines walk) (Refutation lines walk)
-    (complete_certificate lines walk (recursion_from_All IsSpelledLine lines spelled.0) (recursion_from_All (λ i. i ≤ MOST_NUMBER) walk spelled.1))
+    (complete_certificate lines walk (recursion_from_All IsSpelledLine lines spelled.0) (recursion_from_All (λ i. i ≤ MOST_LINE_NUMBER) walk spelled.1))
     (said ∙ sym (words_of_texts lines walk))
 
 -- the lines of a certificate are read as it

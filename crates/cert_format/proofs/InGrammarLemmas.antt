@@ -18,7 +18,7 @@ use Rattle.cert_format.specs.declared.certificate.Certificate.{Certificate}
 use Rattle.cert_format.specs.declared.certificate.Certificate.TheVariants.{Refutation}
 use Rattle.cert_format.specs.declared.read.CertText.{CertText}
 use Rattle.cert_format.specs.declared.read.CertText.TheVariants as text
-use Rattle.cert_format.specs.declared.read.TheConstants.{MOST_NUMBER}
+use Rattle.cert_format.specs.declared.read.TheConstants.{MOST_LINE_NUMBER}
 use Rattle.cert_format.specs.declared.section.Section.TheVariants as section
 use Rattle.cert_format.proofs.WordLemmas.{text_words}
 use Rattle.cert_format.proofs.SaidLemmas.{IsPlaced, line_is}
@@ -115,7 +115,7 @@ record SayCertificate (said : List CertText) (c : Certificate) : Type 0 where
   texts : said ≡ certificate_texts lines walk
   certificate : c ≡ Refutation lines walk
   spelled_lines : AllByRecursion IsSpelledLine lines
-  spelled_walk : AllByRecursion (λ i. i ≤ MOST_NUMBER) walk
+  spelled_walk : AllByRecursion (λ i. i ≤ MOST_LINE_NUMBER) walk
 
 abbrev walk_texts : List ℕ → List CertText
 walk_texts walk = map text.Walk walk ++ text.End ∷ []
@@ -125,7 +125,7 @@ record IsRestOfWalk (lines : List CertLine) (before : List ℕ) (said : List Cer
   walk : List ℕ
   texts : said ≡ walk_texts walk
   certificate : c ≡ Refutation lines (before ++ walk)
-  spelled_walk : AllByRecursion (λ i. i ≤ MOST_NUMBER) walk
+  spelled_walk : AllByRecursion (λ i. i ≤ MOST_LINE_NUMBER) walk
 
 no_rule : (k : LineKind) → admits section.Walk (rule_word k) ≡ false
 no_rule (kind.Bound name) = refl
@@ -177,7 +177,7 @@ record IsRestOfLines (before : List CertLine) (said : List CertText) (c : Certif
   texts : said ≡ map text.Line lines ++ walk_texts walk
   certificate : c ≡ Refutation (before ++ lines) walk
   spelled_lines : AllByRecursion IsSpelledLine lines
-  spelled_walk : AllByRecursion (λ i. i ≤ MOST_NUMBER) walk
+  spelled_walk : AllByRecursion (λ i. i ≤ MOST_LINE_NUMBER) walk
 
 lines_rest : (before : List CertLine) (said : List CertText) (c : Certificate) → Completes (record { section = section.Rules; lines = before; walk = [] }) said c → IsRestOfLines before said c
 lines_rest before [] c complete = absurd complete
@@ -248,7 +248,7 @@ spells said c s =
     let same : Refutation s.lines s.walk ≡ c = sym s.certificate in
     subst (λ (d : Certificate). (map text_words said ≡ certificate_words d) × IsSpelled d) same (
       ap (λ (ts : List CertText). map text_words ts) s.texts ∙ words_of_texts s.lines s.walk,
-      (All-from_recursion IsSpelledLine s.lines s.spelled_lines, All-from_recursion (λ i. i ≤ MOST_NUMBER) s.walk s.spelled_walk),
+      (All-from_recursion IsSpelledLine s.lines s.spelled_lines, All-from_recursion (λ i. i ≤ MOST_LINE_NUMBER) s.walk s.spelled_walk),
     )
 
 -- lines that are read as a certificate are its lines

@@ -21,7 +21,7 @@ use Rattle.cert_format.specs.declared.kind.LineKind.TheVariants as kind
 use Rattle.cert_format.specs.declared.line.CertLine.{CertLine}
 use Rattle.cert_format.specs.declared.certificate.Certificate.{Certificate}
 use Rattle.cert_format.specs.declared.certificate.Certificate.TheVariants.{Refutation}
-use Rattle.cert_format.specs.declared.read.TheConstants.{MOST_WEIGHT, MOST_NUMBER}
+use Rattle.cert_format.specs.declared.read.TheConstants.{MOST_WEIGHT, MOST_LINE_NUMBER}
 use Rattle.cert_format.proofs.WordLemmas.{no_remark}
 use Rattle.cert_format.proofs.GrammarLemmas.{grammar_read}
 
@@ -41,7 +41,7 @@ printable_keyword keyword.End = record { filled = omega arith; plain = (omega ar
 printable_one : IsPrintable (codes "1")
 printable_one = record { filled = omega arith; plain = (omega arith, tt) }
 
-printable_number : (n : ℕ) → n ≤ MOST_NUMBER → IsPrintable (decimal n)
+printable_number : (n : ℕ) → n ≤ MOST_LINE_NUMBER → IsPrintable (decimal n)
 printable_number n within = printable_natural n (omega arith)
 
 printable_weight : (w : ℤ) → unsigned_abs w ≤ MOST_WEIGHT → IsPrintable (signed_decimal w)
@@ -75,7 +75,7 @@ written_line line spelled = record {
   filled = no_remark (rule_word line.kind) (operand_words line.kind ++ (line.from ∷ line.to ∷ (label_words line.label ++ signed_decimal line.weight ∷ [])));
 }
 
-written_walk : (i : ℕ) → i ≤ MOST_NUMBER → IsWritten (walk_words i)
+written_walk : (i : ℕ) → i ≤ MOST_LINE_NUMBER → IsWritten (walk_words i)
 written_walk i within = record { printable = (printable_keyword keyword.Walk, (printable_number i within, tt)); filled = refl }
 
 pub written_header : IsWritten header_words
@@ -87,17 +87,17 @@ written_refutation = record { printable = (printable_keyword keyword.Refutation,
 pub written_end : IsWritten end_words
 written_end = record { printable = (printable_keyword keyword.End, tt); filled = refl }
 
-all_walk : (walk : List ℕ) → AllByRecursion (λ i. i ≤ MOST_NUMBER) walk → AllByRecursion IsWritten (map walk_words walk ++ end_words ∷ [])
+all_walk : (walk : List ℕ) → AllByRecursion (λ i. i ≤ MOST_LINE_NUMBER) walk → AllByRecursion IsWritten (map walk_words walk ++ end_words ∷ [])
 all_walk [] within = (written_end, tt)
 all_walk (i ∷ walk) within = (written_walk i within.0, all_walk walk within.1)
 
-all_lines : (lines : List CertLine) (walk : List ℕ) → AllByRecursion IsSpelledLine lines → AllByRecursion (λ i. i ≤ MOST_NUMBER) walk → AllByRecursion IsWritten (map line_words lines ++ (map walk_words walk ++ end_words ∷ []))
+all_lines : (lines : List CertLine) (walk : List ℕ) → AllByRecursion IsSpelledLine lines → AllByRecursion (λ i. i ≤ MOST_LINE_NUMBER) walk → AllByRecursion IsWritten (map line_words lines ++ (map walk_words walk ++ end_words ∷ []))
 all_lines [] walk spelled within = all_walk walk within
 all_lines (line ∷ lines) walk spelled within = (written_line line spelled.0, all_lines lines walk spelled.1 within)
 
 all_written : (c : Certificate) → IsSpelled c → AllByRecursion IsWritten (certificate_words c)
 all_written (Refutation lines walk) spelled =
-    (written_header, (written_refutation, all_lines lines walk (recursion_from_All IsSpelledLine lines spelled.0) (recursion_from_All (λ i. i ≤ MOST_NUMBER) walk spelled.1)))
+    (written_header, (written_refutation, all_lines lines walk (recursion_from_All IsSpelledLine lines spelled.0) (recursion_from_All (λ i. i ≤ MOST_LINE_NUMBER) walk spelled.1)))
 
 all_printable : (text : List (List (List ℕ))) → AllByRecursion IsWritten text → AllByRecursion IsPrintableLine text
 all_printable [] written = tt

@@ -22,13 +22,13 @@ use Rattle.cert_format.specs.declared.kind.LineKind.TheVariants as kind
 use Rattle.cert_format.specs.declared.line.CertLine.{CertLine}
 use Rattle.cert_format.specs.declared.read.CertText.{CertText}
 use Rattle.cert_format.specs.declared.read.CertText.TheVariants as text
-use Rattle.cert_format.specs.declared.read.TheConstants.{MOST_WEIGHT, MOST_NUMBER}
+use Rattle.cert_format.specs.declared.read.TheConstants.{MOST_WEIGHT, MOST_LINE_NUMBER}
 use Rattle.cert_format.specs.declared.section.Section.{Section}
 use Rattle.cert_format.specs.declared.section.Section.TheVariants as section
 use Rattle.cert_format.proofs.WordLemmas.{text_words, text_word, IsSpelledText, no_remark}
 
-number_ok : (word : List ℕ) (n : ℕ) → number_of word ≡ Ok n → (word ≡ decimal n) × (n ≤ MOST_NUMBER)
-number_ok word n read = spelled_natural MOST_NUMBER n word read (omega arith)
+number_ok : (word : List ℕ) (n : ℕ) → number_of word ≡ Ok n → (word ≡ decimal n) × (n ≤ MOST_LINE_NUMBER)
+number_ok word n read = spelled_natural MOST_LINE_NUMBER n word read (omega arith)
 
 weight_ok : (word : List ℕ) (w : ℤ) → weight_of word ≡ Ok w → (word ≡ signed_decimal w) × (unsigned_abs w ≤ MOST_WEIGHT)
 weight_ok word w read = spelled_integer MOST_WEIGHT w word read (omega arith)

@@ -19,7 +19,7 @@ use Rattle.cert_format.specs.declared.kind.LineKind.TheVariants as kind
 use Rattle.cert_format.specs.declared.line.CertLine.{CertLine}
 use Rattle.cert_format.specs.declared.read.CertText.{CertText}
 use Rattle.cert_format.specs.declared.read.CertText.TheVariants as text
-use Rattle.cert_format.specs.declared.read.TheConstants.{MOST_WEIGHT, MOST_NUMBER}
+use Rattle.cert_format.specs.declared.read.TheConstants.{MOST_WEIGHT, MOST_LINE_NUMBER}
 use Rattle.cert_format.specs.declared.section.Section.{Section}
 use Rattle.cert_format.proofs.EdgeLemmas.{same_line}
 
@@ -47,11 +47,11 @@ IsSpelledText text.Blank = ⊥
 IsSpelledText text.Header = Unit {0}
 IsSpelledText text.Refutation = Unit {0}
 IsSpelledText (text.Line line) = IsSpelledLine line
-IsSpelledText (text.Walk i) = i ≤ MOST_NUMBER
+IsSpelledText (text.Walk i) = i ≤ MOST_LINE_NUMBER
 IsSpelledText text.End = Unit {0}
 
-number_read : (n : ℕ) → n ≤ MOST_NUMBER → number_of (decimal n) ≡ Ok n
-number_read n within = natural_spelled MOST_NUMBER n within (omega arith)
+number_read : (n : ℕ) → n ≤ MOST_LINE_NUMBER → number_of (decimal n) ≡ Ok n
+number_read n within = natural_spelled MOST_LINE_NUMBER n within (omega arith)
 
 weight_read : (w : ℤ) → unsigned_abs w ≤ MOST_WEIGHT → weight_of (signed_decimal w) ≡ Ok w
 weight_read w within = integer_spelled MOST_WEIGHT w within (omega arith)

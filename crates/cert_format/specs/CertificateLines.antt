@@ -15,11 +15,11 @@ use Rattle.cert_format.specs.declared.kind.LineKind.TheVariants as kind
 use Rattle.cert_format.specs.declared.line.CertLine.{CertLine}
 use Rattle.cert_format.specs.declared.read.CertText.{CertText}
 use Rattle.cert_format.specs.declared.read.CertText.TheVariants as text
-use Rattle.cert_format.specs.declared.read.TheConstants.{MOST_WEIGHT, MOST_NUMBER}
+use Rattle.cert_format.specs.declared.read.TheConstants.{MOST_WEIGHT, MOST_LINE_NUMBER}
 
 -- the number of a line
 abbrev pub number_of : List ℕ → Result ℕ FormatKind
-number_of word = natural_of MOST_NUMBER word
+number_of word = natural_of MOST_LINE_NUMBER word
 
 -- the weight of an edge
 abbrev pub weight_of : List ℕ → Result ℤ FormatKind

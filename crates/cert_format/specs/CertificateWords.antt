@@ -10,7 +10,7 @@ use Rattle.cert_format.specs.declared.keyword.Keyword.TheVariants as keyword
 use Rattle.cert_format.specs.declared.kind.LineKind.{LineKind}
 use Rattle.cert_format.specs.declared.kind.LineKind.TheVariants as kind
 use Rattle.cert_format.specs.declared.line.CertLine.{CertLine}
-use Rattle.cert_format.specs.declared.read.TheConstants.{MOST_WEIGHT, MOST_NUMBER}
+use Rattle.cert_format.specs.declared.read.TheConstants.{MOST_WEIGHT, MOST_LINE_NUMBER}
 use Rattle.cert_format.specs.declared.certificate.Certificate.{Certificate}
 use Rattle.cert_format.specs.declared.certificate.Certificate.TheVariants.{Refutation}
 
@@ -71,11 +71,11 @@ printed_certificate certificate = printed (certificate_words certificate)
 abbrev pub AreOperands : LineKind → Type 0
 AreOperands (kind.Bound name) = IsTrue (is_name name)
 AreOperands (kind.Link name) = IsTrue (is_name name)
-AreOperands (kind.No i j) = (i ≤ MOST_NUMBER) × (j ≤ MOST_NUMBER)
-AreOperands (kind.Up i j) = (i ≤ MOST_NUMBER) × (j ≤ MOST_NUMBER)
-AreOperands (kind.Low name j) = IsTrue (is_name name) × (j ≤ MOST_NUMBER)
-AreOperands (kind.Cross name j) = IsTrue (is_name name) × (j ≤ MOST_NUMBER)
-AreOperands (kind.Drop j) = j ≤ MOST_NUMBER
+AreOperands (kind.No i j) = (i ≤ MOST_LINE_NUMBER) × (j ≤ MOST_LINE_NUMBER)
+AreOperands (kind.Up i j) = (i ≤ MOST_LINE_NUMBER) × (j ≤ MOST_LINE_NUMBER)
+AreOperands (kind.Low name j) = IsTrue (is_name name) × (j ≤ MOST_LINE_NUMBER)
+AreOperands (kind.Cross name j) = IsTrue (is_name name) × (j ≤ MOST_LINE_NUMBER)
+AreOperands (kind.Drop j) = j ≤ MOST_LINE_NUMBER
 
 -- a weight within its limit
 abbrev pub IsWeight : CertLine → Type 0
@@ -95,4 +95,4 @@ HasWeights (Refutation lines walk) = All IsWeight lines
 
 -- a certificate that can be spelled
 abbrev pub IsSpelled : Certificate → Type 0
-IsSpelled (Refutation lines walk) = All IsSpelledLine lines × All (λ i. i ≤ MOST_NUMBER) walk
+IsSpelled (Refutation lines walk) = All IsSpelledLine lines × All (λ i. i ≤ MOST_LINE_NUMBER) walk

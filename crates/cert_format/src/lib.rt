@@ -16,7 +16,7 @@ pub use certificate::Certificate;
 pub use kind::LineKind;
 pub use line::CertLine;
 pub use print::print_certificate;
-pub use read::{CertText, MOST_NUMBER, MOST_WEIGHT, read_cert_line};
+pub use read::{CertText, MOST_LINE_NUMBER, MOST_WEIGHT, read_cert_line};
 pub use reader::CertReader;
 pub use section::Section;
 pub use whole::read_certificate;

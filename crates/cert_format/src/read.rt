@@ -15,7 +15,7 @@ use net_model::{FormatKind, Name, Weight, WordFault, text};
 pub const MOST_WEIGHT: u64 = 999_999_999_999_999_999;
 
 /// The greatest number of a line in the text of a certificate.
-pub const MOST_NUMBER: u64 = u64::MAX;
+pub const MOST_LINE_NUMBER: u64 = u64::MAX;
 
 /// A line of a certificate.
 #[derive(Clone, Copy, Debug, PartialEq, Eq)]
@@ -247,7 +247,7 @@ fn labelled(
 fn number(word: &[u8]) -> Result<u64, FormatKind>
     ensures { result ≡ number_of word.now }
 {
-    text::natural(word, MOST_NUMBER)
+    text::natural(word, MOST_LINE_NUMBER)
 }
 
 /// The weight of an edge.

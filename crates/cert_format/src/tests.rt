@@ -1,5 +1,5 @@
 use crate::{
-    CertLine, CertText, Certificate, LineKind, MOST_NUMBER, MOST_WEIGHT, print_certificate,
+    CertLine, CertText, Certificate, LineKind, MOST_LINE_NUMBER, MOST_WEIGHT, print_certificate,
     read_cert_line, read_certificate,
 };
 use net_model::{FormatFault, FormatKind, Name, TextFault, WordFault};
@@ -213,7 +213,10 @@ fn lines_say_what_their_words_say(rt: HostRuntime) -> Result<(), Fail> {
         (b" # bound", CertText::Blank),
         (b"\tcertificate  1\r", CertText::Header),
         (b"refutation", CertText::Refutation),
-        (b"walk 18446744073709551615", CertText::Walk(MOST_NUMBER)),
+        (
+            b"walk 18446744073709551615",
+            CertText::Walk(MOST_LINE_NUMBER),
+        ),
         (b"walk 0", CertText::Walk(0)),
         (b"end", CertText::End),
     ] {

@@ -16,7 +16,8 @@ use std::alloc::Global;
 /// line `end`, with blank lines between. Nothing behind the `end` line is looked at. The fault is that of the first
 /// bad line: `NoHeader` where the first line that is not blank is not the header, `UnknownWord` also where a line of
 /// another place begins with its word, and else that of `read_cert_line`. Where the text ends before its `end` line,
-/// the fault is `NoEnd`, or `NoHeader` before the header, at the number behind the last line.
+/// the fault is `NoEnd`, or `NoHeader` before the header, at the number behind the last line. `OutOfMemory` comes only for
+/// want of memory. There are fewer than 2^31 bytes.
 pub fn read_certificate(alloc: Global, bytes: &[u8]) -> Result<Certificate, TextFault>
     requires { length bytes.now < 2 ^ 31 }
     ensures text { SaysText result (certificate_text bytes.now) }

@@ -40,7 +40,9 @@ impl Network {
     /// a part are tried in this order. A point: `DuplicateName`, `Limit(Points)`. A bound: `DuplicateName`,
     /// `UnknownName` of its from and then of its to, `Limit(Number)`, `Limit(Bounds)`. A link: `UnknownName` of its
     /// from and then of its to, `LinkToItself`, `TwoLinksOnPoint`, `BadInterval`, `Limit(Number)` of its longest
-    /// duration, `Limit(Links)`. A limit on a count comes exactly where the list already has its greatest length.
+    /// duration, `Limit(Links)`. A limit on a count comes exactly where the list already has its greatest length. The
+    /// fault has the place of the part, from 1; there are fewer than 2^32. `OutOfMemory` comes only for want of memory,
+    /// and then nothing was made. The order of the refusals is this project's own choice.
     pub fn build(alloc: Global, parts: &[Part]) -> Result<Network, BuildFault>
         requires { length parts.now < 2 ^ 32 }
         ensures built { Builds result (built parts.now) }
@@ -103,7 +105,7 @@ impl Network {
         self.named_bound(&name)
     }
 
-    /// The link that ends in a point, or `None` exactly where none does.
+    /// The link that ends in a point of the network, or `None` exactly where none does.
     pub fn activation(&self, point: PointId) -> Option<LinkId>
         requires { IsPoint self.now point }
         ensures { result ≡ activation self.now point }
@@ -111,7 +113,7 @@ impl Network {
         self.ending[point.0 as usize]
     }
 
-    /// Whether a link ends in a point.
+    /// Whether a link ends in a point of the network.
     pub fn is_contingent(&self, point: PointId) -> bool
         requires { IsPoint self.now point }
         ensures { IsTrue result ↔ IsContingent self.now point }
@@ -119,7 +121,7 @@ impl Network {
         self.activation(point).is_some()
     }
 
-    /// The greatest size of a number of the network, or 0 where it has none.
+    /// The greatest size of a number of the network, in whole moments, or 0 where it has none.
     pub fn greatest(&self) -> Weight
         ensures { result ≡ pos (greatest self.now) }
     {
@@ -128,7 +130,7 @@ impl Network {
         bounds.max(links) as i64
     }
 
-    /// The links that begin in a point, in order.
+    /// The links that begin in a point of the network, in order. `AllocError` comes only for want of memory.
     pub fn links_from(&self, alloc: Global, point: PointId) -> Result<Vec<LinkId>, AllocError>
         requires { IsPoint self.now point }
         ensures { IfOk result (λ links. links.items ≡ links_from self.now point) }

@@ -30,7 +30,7 @@ pub struct Edge {
     pub weight: Weight,
 }
 
-/// A declaration of a plan.
+/// A declaration of a plan, by names, with numbers in whole moments.
 #[derive(Clone, Copy, Debug)]
 pub enum Part {
     /// A point of this name.
@@ -41,16 +41,16 @@ pub enum Part {
     Link(Name, Weight, Weight, Name),
 }
 
-/// A quantity that has a limit.
+/// A quantity that has a limit. The limits are this project's own choice.
 #[derive(Clone, Copy, Debug, PartialEq, Eq, Hash)]
 pub enum Which {
-    /// The number of points.
+    /// The number of points, at most 1,000.
     Points,
-    /// The number of links.
+    /// The number of links, at most 400.
     Links,
-    /// The number of bounds.
+    /// The number of bounds, at most 20,000.
     Bounds,
-    /// The size of a number.
+    /// The size of a number, at most 1,000,000,000.
     Number,
 }
 

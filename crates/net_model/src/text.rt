@@ -1,4 +1,4 @@
-//! What all texts share: the words of a line, numbers and names.
+//! What all texts share: lines, the words of a line, numbers and names. The forms are this project's own choice.
 
 ghost use Rattle.std.specs.Prelude.{◌≡◌, ℕ, ◌+◌, ◌-◌, ◌∷◌, ◌++◌, [], ◌<◌, ◌≤◌, ◌^◌, false, true, length, take, drop, slice_get, slice_index, List, map, MatchOption, MatchResult, IfSome, IfOk, OnOk, SomeIff};
 ghost use Rattle.std.specs.List.{list_all};
@@ -202,7 +202,8 @@ fn end_of_line(bytes: &[u8]) -> usize
     bytes.len()
 }
 
-/// Writes a line: its words with one blank between, and a line end.
+/// Writes a line: its words with one blank between, and a line end. `AllocError` comes only for want of memory; a part of
+/// the line may then have been written.
 pub fn push_line(out: &mut Vec<u8>, first: &[u8], others: &[&[u8]]) -> Result<(), AllocError>
     ensures { OnOk result (out.new.items ≡ out.old.items ++ printed_line (first.now ∷ map (λ word. word.now) others.now)) }
 {

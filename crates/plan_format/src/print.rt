@@ -14,7 +14,8 @@ use net_model::{Bound, Link, Name, Network, Part, PointId};
 use std::alloc::{AllocError, Global};
 
 /// The plan text of a network: the header, the points, the bounds and the links, each list in its order, and `end`,
-/// with one blank between words and a line end after each line.
+/// with one blank between words and a line end after each line. It reads back to the same three lists. `AllocError` comes
+/// only for want of memory.
 #[tactic(auto, unfolding(crate::specs::PlanPrinting::printed_plan))]
 pub fn print_plan(alloc: Global, net: &Network) -> Result<Vec<u8>, AllocError>
     ensures text { IfOk result (λ text. text.items ≡ printed_plan net.now) }

@@ -25,7 +25,7 @@ pub struct Parts {
 /// between. Nothing behind the `end` line is looked at. The fault is the one of the first bad line: `NoHeader` where the
 /// first line that is not blank is no header, or where there is no such line, at the number after the last line;
 /// `NoEnd` at the number after the last line where there is no `end`; else that of the line. `OutOfMemory` comes only
-/// for want of memory.
+/// for want of memory. There are fewer than 2^31 bytes.
 pub fn read_plan(alloc: Global, bytes: &[u8]) -> Result<Parts, TextFault>
     requires { length bytes.now < 2 ^ 31 }
     ensures reads { Reads result (plan_text bytes.now) }

@@ -113,8 +113,8 @@ impl Model for LineReader {
 }
 
 impl LineReader {
-    /// A reader of an input that may have `most` bytes, of which nothing was asked. `AllocError` comes only for want
-    /// of memory, and then nothing was made.
+    /// A reader of an input that may have `most` bytes, fewer than 2^31, of which nothing was asked. `AllocError` comes
+    /// only for want of memory, and then nothing was made.
     pub fn new(alloc: Global, most: u64) -> Result<LineReader, AllocError>
         requires { most < 2 ^ 31 }
         ensures { IfOk result (λ reader. reader ≡ fresh most) }
@@ -143,7 +143,8 @@ impl LineReader {
         self.number
     }
 
-    /// Reads the next line of the input that comes over the port, of at most `longest` bytes. It takes from the port
+    /// Reads the next line of the input that comes over the port, of at most `longest` bytes, which is 65,536 or less
+    /// and does not count the line end. It takes no memory, so `OutOfMemory` never comes. It takes from the port
     /// only while no whole line is kept, and judges the bytes one by one in their order, however they are cut:
     /// `TooLong` at byte `longest + 1` of the line, where that is among the first `most + 1` bytes of the input;
     /// else `TooMuch` where byte `most + 1` of the input belongs to the line or is its end. `ReadFault` comes where

@@ -24,7 +24,7 @@ use Rattle.cert_checker.specs.Judgement.{judgement_of}
 use Rattle.cert_checker.specs.declared.judgement.Judgement.{Judgement}
 use Rattle.cert_checker.specs.declared.judgement.Judgement.TheVariants.{Accepted, Refused}
 use Rattle.cert_checker.specs.declared.judgement.Claim.TheVariants.{NotControllable, Controllable}
-use Rattle.stnu_run.specs.Faults.{fault_line}
+use Rattle.stnu_run.specs.Faults.{fault_line, words_line}
 use Rattle.stnu_run.specs.Runs.{Follows, Refuses, Turn, RunsIn, Runs, most_input}
 use Rattle.stnu_run.specs.PlanReading.{before_header, declared, built_at}
 use Rattle.stnu_run.specs.Judging.{judge_takes, judge_stops, after_plan, after_line, Judges, GoesOn, ClaimHolds, judgement_line}
@@ -249,18 +249,18 @@ served_excludes status (Some before) (Some after) (Some input) (Some rest) serve
     λ parts net said reads builds. accepted_excludes input run.0 status net parts run.2 (append_cancel_left before.put run.0 accepted (sym run.1 ∙ said)) reads builds
 
 -- of words that are refused, nothing is accepted
-pub refused_excludes : (status : Status) (tb ta : Option Talk) (lb la : Option (List ℕ)) → AddsPut tb ta (codes "error words" ++ 10 ∷ []) → la ≡ lb → AcceptedExcludes status tb ta lb la
+pub refused_excludes : (status : Status) (tb ta : Option Talk) (lb la : Option (List ℕ)) → AddsPut tb ta words_line → la ≡ lb → AcceptedExcludes status tb ta lb la
 refused_excludes status tb None lb la adds same unbroken = tt
 refused_excludes status tb (Some after) lb None adds same unbroken = tt
 refused_excludes status None (Some after) lb (Some rest) adds same unbroken = adds
 refused_excludes status (Some before) (Some after) None (Some rest) adds same unbroken = absurd cc
 refused_excludes status (Some before) (Some after) (Some input) (Some rest) adds same unbroken =
     λ parts net said reads builds.
-    let words : codes "error words" ++ 10 ∷ [] ≡ accepted = append_cancel_left before.put (codes "error words" ++ 10 ∷ []) accepted (sym (ap (λ (t : Talk). t.put) adds) ∙ said) in
+    let words : words_line ≡ accepted = append_cancel_left before.put words_line accepted (sym (ap (λ (t : Talk). t.put) adds) ∙ said) in
     let heads : 101 ≡ 97 = ap (λ (l : List ℕ). get_or l 0 0) words in
     absurd (omega (arith, heads))
 
 -- of the write that refuses words
-pub written_excludes : {R : Type 0} (status : Status) (tb ta : Option Talk) (lb la : Option (List ℕ)) → (status ≡ record { 0 = 2 }) ⊎ ((status ≡ record { 0 = 6 }) × R) → (status ≡ record { 0 = 2 } → AddsPut tb ta (codes "error words" ++ 10 ∷ [])) → la ≡ lb → AcceptedExcludes status tb ta lb la
+pub written_excludes : {R : Type 0} (status : Status) (tb ta : Option Talk) (lb la : Option (List ℕ)) → (status ≡ record { 0 = 2 }) ⊎ ((status ≡ record { 0 = 6 }) × R) → (status ≡ record { 0 = 2 } → AddsPut tb ta words_line) → la ≡ lb → AcceptedExcludes status tb ta lb la
 written_excludes status tb ta lb la (inl two) adds same = refused_excludes status tb ta lb la (adds two) same
 written_excludes status tb ta lb la (inr six) adds same = λ unbroken. absurd (unbroken (inr (inl (ap (λ (s : Status). s.0) six.0))))

@@ -1,11 +1,12 @@
 -- The turns of the program, one after another, are a run.
-use Rattle.std.proofs.Common.{◌≡◌, ℕ, ◌+◌, ◌-◌, ◌<◌, ◌≤◌, suc, List, [], ◌++◌, length, Option, Some, None, IfSome, IsSomeAnd, refl, sym, ap, subst, ◌∙◌, arith}
+use Rattle.std.proofs.Common.{◌≡◌, ℕ, ◌+◌, ◌-◌, ◌<◌, ◌≤◌, zero, suc, List, [], ◌++◌, length, Option, Some, None, IfSome, IsSomeAnd, refl, sym, ap, subst, ◌∙◌, arith}
 use Rattle.std.proofs.lemmas.List.{append_assoc, append-nil}
 use Rattle.plan_port.specs.Talk.{Talk}
 use Rattle.plan_port.specs.Lines.{next}
 use Rattle.plan_port.specs.Reader.{Reader, fresh, room, remaining}
 use Rattle.stnu_run.specs.Runs.{Turn, RunsIn, most_input}
 use Rattle.stnu_run.specs.Turns.{Turns, Serves}
+use Rattle.stnu_run.specs.Breaks.{Reaches, PutsLast, ServesFront, TurnBreaks}
 use Rattle.stnu_run.specs.declared.status.Status.{Status}
 use Rattle.stnu_run.specs.declared.fault.Fault.{Fault}
 use Rattle.stnu_run.specs.declared.command.Onward.{Onward}
@@ -18,6 +19,7 @@ module _ {C : Type 0} (longest : C → ℕ) (takes : C → ℕ → List ℕ → 
     pub said : List ℕ
     pub put : now.put ≡ begin.put ++ said
     pub counted : reader.before + length (remaining reader rest) ≡ length bytes
+    pub reached : (turns : ℕ) × Reaches longest takes stops turns first 0 (length bytes) bytes said command reader.number (remaining reader rest)
     pub completes : (turns : ℕ) (more : List ℕ) (status : Status) → RunsIn longest takes stops turns command reader.number (length bytes) (remaining reader rest) more status → (all : ℕ) × RunsIn longest takes stops all first 0 (length bytes) bytes (said ++ more) status
 
   abbrev pub TellsSoFar : C → C → Reader → Option Talk → Option Talk → Option (List ℕ) → Option (List ℕ) → Type 0
@@ -34,7 +36,7 @@ module _ {C : Type 0} (longest : C → ℕ) (takes : C → ℕ → List ℕ → 
   begins first None left = tt
   begins first (Some now) None = tt
   begins first (Some now) (Some rest) =
-      record { said = []; put = sym (append-nil now.put); counted = omega arith; completes = λ turns more status run. (turns, run) }
+      record { said = []; put = sym (append-nil now.put); counted = omega arith; reached = (0, (refl, refl, refl, refl)); completes = λ turns more status run. (turns, run) }
 
   -- before the first turn
   pub serving_begins : (first : C) (talk : Option Talk) (left : Option (List ℕ)) → IsServing first first (fresh most_input) talk talk left left
@@ -44,12 +46,28 @@ module _ {C : Type 0} (longest : C → ℕ) (takes : C → ℕ → List ℕ → 
   room_is : (reader : Reader) (bytes rest : List ℕ) → reader.most ≡ most_input → reader.before + length (remaining reader rest) ≡ length bytes → room reader ≡ most_input - (length bytes - length (remaining reader rest))
   room_is reader bytes rest most counted = omega (arith, most, counted)
 
+  -- one turn more
+  reaches_on : (turns : ℕ) (command state then : C) (number size count : ℕ) (bytes said left answer rest : List ℕ) → Reaches longest takes stops turns command number size bytes said state count left → Turn longest takes stops state count (next (longest state) (most_input - (size - length left)) left) answer (Goes then) rest → Reaches longest takes stops (suc turns) command number size bytes (said ++ answer) then (count + 1) rest
+  reaches_on zero command state then number size count bytes said left answer rest (none, same, counted, here) turn =
+      let moved : Turn longest takes stops command number (next (longest command) (most_input - (size - length bytes)) bytes) answer (Goes then) rest =
+      subst (λ (c : C). Turn longest takes stops c number (next (longest c) (most_input - (size - length bytes)) bytes) answer (Goes then) rest) (sym same)
+      (subst (λ (k : ℕ). Turn longest takes stops state k (next (longest state) (most_input - (size - length bytes)) bytes) answer (Goes then) rest) (sym counted)
+      (subst (λ (l : List ℕ). Turn longest takes stops state count (next (longest state) (most_input - (size - length l)) l) answer (Goes then) rest) (sym here) turn)) in
+      (answer, then, rest, [], moved, ap (λ (l : List ℕ). l ++ answer) none ∙ sym (append-nil answer), (refl, refl, ap (λ (k : ℕ). k + 1) counted, refl))
+  reaches_on (suc turns) command state then number size count bytes said left answer rest (first, next_state, behind, more, here, whole, others) turn =
+      (first, next_state, behind, more ++ answer, here, ap (λ (l : List ℕ). l ++ answer) whole ∙ append_assoc first more answer, reaches_on turns next_state state then (number + 1) size count behind more left answer rest others turn)
+
   says_on : (first command then : C) (old new : Reader) (begin now after : Talk) (bytes rest left : List ℕ) → SaysSoFar first command old begin now bytes rest → old.most ≡ most_input → (answer : List ℕ) → after.put ≡ now.put ++ answer → Turn longest takes stops command old.number (next (longest command) (room old) (remaining old rest)) answer (Goes then) (remaining new left) → new.number ≡ old.number + 1 → new.before + length (remaining new left) ≡ old.before + length (remaining old rest) → SaysSoFar first then new begin after bytes left
   says_on first command then old new begin now after bytes rest left so_far most answer put turn number whole =
       record {
         said = so_far.said ++ answer;
         put = put ∙ ap (λ (l : List ℕ). l ++ answer) so_far.put ∙ append_assoc begin.put so_far.said answer;
         counted = whole ∙ so_far.counted;
+        reached =
+            let here : Turn longest takes stops command old.number (next (longest command) (most_input - (length bytes - length (remaining old rest))) (remaining old rest)) answer (Goes then) (remaining new left) =
+            subst (λ (r : ℕ). Turn longest takes stops command old.number (next (longest command) r (remaining old rest)) answer (Goes then) (remaining new left)) (room_is old bytes rest most so_far.counted) turn in
+            let on = reaches_on so_far.reached.0 first command then 0 (length bytes) old.number bytes so_far.said (remaining old rest) answer (remaining new left) so_far.reached.1 here in
+            (suc so_far.reached.0, subst (λ (k : ℕ). Reaches longest takes stops (suc so_far.reached.0) first 0 (length bytes) bytes (so_far.said ++ answer) then k (remaining new left)) (sym number) on);
         completes = λ turns more status run.
             let here : Turn longest takes stops command old.number (next (longest command) (most_input - (length bytes - length (remaining old rest))) (remaining old rest)) answer (Goes then) (remaining new left) =
             subst (λ (r : ℕ). Turn longest takes stops command old.number (next (longest command) r (remaining old rest)) answer (Goes then) (remaining new left)) (room_is old bytes rest most so_far.counted) turn in
@@ -98,3 +116,31 @@ module _ {C : Type 0} (longest : C → ℕ) (takes : C → ℕ → List ℕ → 
   pub serving_ends : (first command : C) (old new : Reader) (status : Status) (tf tb ta : Option Talk) (lf lb la : Option (List ℕ)) → IsServing first command old tf tb lf lb → Turns longest takes stops command old new (Ends status) tb ta lb la → Serves longest takes stops first status tf ta lf la
   serving_ends first command old new status tf tb ta lf lb la so_far turns =
       ends_by first command old new status tf tb ta lf lb la so_far.tells so_far.most turns
+
+  breaks_by : (first command : C) (old : Reader) (status : Status) (tf tb ta : Option Talk) (lf lb la : Option (List ℕ)) → TellsSoFar first command old tf tb lf lb → old.most ≡ most_input → TurnBreaks longest takes stops command old (Ends status) tb ta lb la → ServesFront longest takes stops first status tf ta lf la
+  breaks_by first command old status tf tb None lf lb la so_far most breaks = tt
+  breaks_by first command old status tf tb (Some after) lf lb None so_far most breaks = tt
+  breaks_by first command old status tf None (Some after) lf lb (Some behind) so_far most breaks = absurd breaks
+  breaks_by first command old status tf (Some now) (Some after) lf None (Some behind) so_far most breaks = absurd breaks
+  breaks_by first command old status None (Some now) (Some after) lf (Some rest) (Some behind) so_far most breaks = absurd so_far
+  breaks_by first command old status (Some begin) (Some now) (Some after) None (Some rest) (Some behind) so_far most breaks = absurd so_far
+  breaks_by first command old status (Some begin) (Some now) (Some after) (Some bytes) (Some rest) (Some behind) so_far most breaks =
+      let puts : PutsLast longest takes stops status command old.number (most_input - (length bytes - length (remaining old rest))) (remaining old rest) behind breaks.0 =
+      subst (λ (r : ℕ). PutsLast longest takes stops status command old.number r (remaining old rest) behind breaks.0) (room_is old bytes rest most so_far.counted) breaks.2 in (
+        so_far.said ++ breaks.0,
+        breaks.1 ∙ ap (λ (l : List ℕ). l ++ breaks.0) so_far.put ∙ append_assoc begin.put so_far.said breaks.0,
+        (so_far.reached.0, so_far.said, command, old.number, remaining old rest, breaks.0, so_far.reached.1, puts, refl),
+      )
+
+  -- the last turn, where it breaks the run off
+  pub serving_breaks : (first command : C) (old : Reader) (status : Status) (tf tb ta : Option Talk) (lf lb la : Option (List ℕ)) → IsServing first command old tf tb lf lb → TurnBreaks longest takes stops command old (Ends status) tb ta lb la → ServesFront longest takes stops first status tf ta lf la
+  serving_breaks first command old status tf tb ta lf lb la so_far breaks = breaks_by first command old status tf tb ta lf lb la so_far.tells so_far.most breaks
+
+  -- where there is no memory for a reader, nothing is put
+  pub breaks_at_once : (first : C) (status : Status) (talk : Option Talk) (left : Option (List ℕ)) → status.0 ≡ 8 → ServesFront longest takes stops first status talk talk left left
+  breaks_at_once first status None left eight = tt
+  breaks_at_once first status (Some now) None eight = tt
+  breaks_at_once first status (Some now) (Some bytes) eight =
+      let puts : PutsLast longest takes stops status first 0 (most_input - (length bytes - length bytes)) bytes bytes [] =
+      record { read = λ five. absurd (omega (arith, five, eight)); write = λ six. absurd (omega (arith, six, eight)); memory = λ _. refl } in
+      ([], sym (append-nil now.put), (0, [], first, 0, bytes, [], (refl, refl, refl, refl), puts, refl))

@@ -7,11 +7,13 @@ use Rattle.plan_format.specs.PlanText.{plan_text}
 use Rattle.plan_format.specs.declared.read.Parts.{Parts}
 use Rattle.strategy_model.specs.Control.{IsControllable}
 use Rattle.plan_port.specs.Talk.{Talk}
+use Rattle.stnu_run.specs.Faults.{words_line}
 use Rattle.stnu_run.specs.Runs.{Runs}
 use Rattle.stnu_run.specs.Turns.{IsBrokenOff}
 use Rattle.stnu_run.specs.Judging.{judge_takes, judge_stops}
 use Rattle.stnu_run.specs.Prompt.{IsUnsaid, ServesPromptly}
 use Rattle.stnu_run.specs.ToJudge.{IsJudged, IsWithinLimits, IsPlanAndCertificate}
+use Rattle.stnu_run.specs.Breaks.{IsFront, Breaks}
 use Rattle.stnu_run.specs.Words.{command_of}
 use Rattle.stnu_run.specs.declared.status.Status.{Status}
 use Rattle.stnu_run.specs.declared.words.Task.{Task}
@@ -22,7 +24,7 @@ use Rattle.stnu_run.specs.declared.plan_reading.PlanReading.TheVariants.{BeforeH
 -- the run of a task, or the refusal of words that are those of none
 abbrev pub TaskRuns : Option Task → List ℕ → List ℕ → Status → Type 0
 TaskRuns (Some Judge) input put status = Runs (λ _. 65536) judge_takes judge_stops (judging.Plan BeforeHeader) input put status
-TaskRuns None input put status = (put ≡ codes "error words" ++ 10 ∷ []) × (status ≡ record { 0 = 2 })
+TaskRuns None input put status = (put ≡ words_line) × (status ≡ record { 0 = 2 })
 
 -- these words and this input are answered by these bytes and this status
 abbrev pub DefinedRun : List (List ℕ) → List ℕ → List ℕ → Status → Type 0
@@ -34,6 +36,18 @@ abbrev pub RunsAsDefined : List (List ℕ) → Status → (talk_before talk_afte
 RunsAsDefined words status talk_before talk_after left_before left_after =
     ¬ IsBrokenOff status → IfSome talk_after (λ after. IfSome left_after (λ rest. IsSomeAnd talk_before (λ before. IsSomeAnd left_before (λ input.
     (put : List ℕ) × (after.put ≡ before.put ++ put) × DefinedRun words input put status))))
+
+-- what a run of a task has put where it breaks off with a status; `behind` are the bytes that were never taken
+abbrev pub TaskBreaks : Option Task → Status → (input behind put : List ℕ) → Type 0
+TaskBreaks (Some Judge) status input behind put = Breaks (λ _. 65536) judge_takes judge_stops (judging.Plan BeforeHeader) status input behind put
+TaskBreaks None status input behind put = IsFront put words_line
+
+-- Over a port that tells its bytes, where a call on the port or want of memory broke the run off: what was put is the front of
+-- what the words and the input define, with the line that tells of a failed take.
+abbrev pub RunsToBreak : List (List ℕ) → Status → (talk_before talk_after : Option Talk) (left_before left_after : Option (List ℕ)) → Type 0
+RunsToBreak words status talk_before talk_after left_before left_after =
+    IsBrokenOff status → IfSome talk_after (λ after. IfSome left_after (λ behind. IsSomeAnd talk_before (λ before. IsSomeAnd left_before (λ input.
+    (put : List ℕ) × (after.put ≡ before.put ++ put) × TaskBreaks (command_of words) status input behind put))))
 
 -- the talk of a task: that of its command is prompt, and words of no task take nothing
 abbrev pub TaskTalks : Option Task → Status → (talk_before talk_after : Option Talk) → Type 0

@@ -41,3 +41,11 @@ fault_status (Format line kind.NumberLimit) = record { 0 = 4 }
 fault_status (Format line kind) = record { 0 = 3 }
 fault_status (Plan line fault) = record { 0 = 3 }
 fault_status (Limit line quantity) = record { 0 = 4 }
+
+-- the line that is printed where a read failed
+abbrev pub read_fault_line : List ℕ
+read_fault_line = codes "error read" ++ 10 ∷ []
+
+-- the line that is printed where the words are those of no command
+abbrev pub words_line : List ℕ
+words_line = codes "error words" ++ 10 ∷ []

@@ -7,4 +7,5 @@ pub mod PlanReading
 pub mod Judging
 pub mod Words
 pub mod ToJudge
+pub mod Breaks
 pub mod DefinedRun

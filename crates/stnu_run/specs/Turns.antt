@@ -1,10 +1,11 @@
 -- What the program does at one turn of a run.
-use Rattle.std.specs.Prelude.{◌≡◌, ◌⊎◌, ℕ, ◌+◌, List, [], ◌∷◌, ◌++◌, codes, Option, IfSome, IsSomeAnd}
+use Rattle.std.specs.Prelude.{◌≡◌, ◌⊎◌, ℕ, ◌+◌, List, ◌++◌, Option, IfSome, IsSomeAnd}
 use Rattle.plan_port.specs.Talk.{Talk}
 use Rattle.plan_port.specs.Lines.{next}
 use Rattle.plan_port.specs.Reader.{Reader, room, remaining}
 use Rattle.plan_port.specs.declared.lines.Line.{Line}
 use Rattle.plan_port.specs.declared.lines.Line.TheVariants.{Text, End, TooLong, TooMuch, ReadFault, OutOfMemory}
+use Rattle.stnu_run.specs.Faults.{read_fault_line}
 use Rattle.stnu_run.specs.Runs.{Refuses, Turn, Runs}
 use Rattle.stnu_run.specs.declared.status.Status.{Status}
 use Rattle.stnu_run.specs.declared.fault.Fault.{Fault}
@@ -44,7 +45,7 @@ module _ {C : Type 0} (longest : C → ℕ) (takes : C → ℕ → List ℕ → 
   Replies command End reader answer onward = Refuses (stops command (reader.number + 1) InputEnded) answer onward
   Replies command (TooLong bytes) reader answer onward = Refuses (stops command reader.number LineTooLong) answer onward
   Replies command (TooMuch bytes) reader answer onward = Refuses (stops command reader.number InputTooMuch) answer onward
-  Replies command ReadFault reader answer onward = (answer ≡ codes "error read" ++ 10 ∷ []) × (onward ≡ Ends (record { 0 = 5 }))
+  Replies command ReadFault reader answer onward = (answer ≡ read_fault_line) × (onward ≡ Ends (record { 0 = 5 }))
   Replies command OutOfMemory reader answer onward = ⊥
 
   -- a turn over a port that tells its bytes: unless it was broken off, it put one answer, as the turn's definition says

@@ -1,9 +1,10 @@
-ghost use Rattle.std.specs.Prelude.{◌≡◌, ◌⊎◌, ℕ, ◌+◌, ◌<◌, ◌≤◌, ◌++◌, ◌∷◌, [], List, None, codes, IfSome, IfNone, IfOk, OnOk, IsSomeAnd, is_some, length};
+ghost use Rattle.std.specs.Prelude.{◌≡◌, ◌⊎◌, ℕ, ◌+◌, ◌<◌, ◌≤◌, List, None, IfSome, IfNone, IfOk, OnOk, IsSomeAnd, is_some, length};
 ghost use Rattle.plan_port.specs.Talk.{Rose, AddsPut};
 ghost use Rattle.plan_port.specs.Reader.{room, remaining};
-ghost use Rattle.stnu_run.specs.Faults.{fault_line, fault_status};
+ghost use Rattle.stnu_run.specs.Faults.{fault_line, fault_status, read_fault_line, words_line};
 ghost use Rattle.stnu_run.specs.Runs.{Refuses};
 ghost use Rattle.stnu_run.specs.Turns.{Replies, Turns, Serves, IsBrokenOff, IsUnbroken, IsCutOff, IsNotOfWords, IfGoes};
+ghost use Rattle.stnu_run.specs.Breaks.{AddsFront, TurnBreaks, ServesFront};
 ghost use Rattle.stnu_run.specs.Prompt.{IsSaid, ServesPromptly};
 ghost use Rattle.stnu_run.specs.TurnTalk.{Talks};
 
@@ -13,7 +14,7 @@ use crate::status::Status;
 use plan_port::{Line, LineReader, Port, Written, write_all};
 use std::alloc::{AllocError, Global};
 
-/// How many bytes an input may have.
+/// How many bytes an input may have, line ends included.
 pub const MOST_INPUT: u64 = 1_073_741_824;
 
 /// The reply that ends a run with a refusal.
@@ -29,7 +30,7 @@ pub fn refuse<C>(alloc: Global, fault: Fault) -> Result<Reply<C>, AllocError>
 
 /// The reply that ends a run where a read failed.
 fn tell_read_fault<C>(alloc: Global) -> Result<Reply<C>, AllocError>
-    ensures answer { IfOk result (λ reply. reply.answer.items ≡ codes "error read" ++ 10 ∷ []) }
+    ensures answer { IfOk result (λ reply. reply.answer.items ≡ read_fault_line) }
     ensures ends { IfOk result (λ reply. reply.onward ≡ Onward.Ends (record { 0 = 5 })) }
 {
     let answer = Vec::from_slice(alloc, b"error read\n".as_slice())?;
@@ -66,6 +67,7 @@ fn reply_to<C: Command>(
 fn put<C: Drop, P: Port>(port: &mut P, reply: Reply<C>) -> Onward<C>
     ensures put { IsUnbroken result → AddsPut (P.talk port.old) (P.talk port.new) reply.answer.items × (result ≡ reply.onward) }
     ensures said { IsSaid result → AddsPut (P.talk port.old) (P.talk port.new) reply.answer.items × (result ≡ reply.onward) }
+    ensures front { AddsFront (P.talk port.old) (P.talk port.new) reply.answer.items }
     ensures left { P.left port.new ≡ P.left port.old }
     ensures broken { (result ≡ reply.onward) ⊎ ((result ≡ Onward.Ends (record { 0 = 6 })) × Rose (P.write_faults port.old) (P.write_faults port.new)) }
     ensures unwritten { P.write_faults port.old < P.write_faults port.new → result ≡ Onward.Ends (record { 0 = 6 }) }
@@ -90,6 +92,8 @@ fn turn<C: Command, P: Port>(
     requires most { reader.old.most ≡ MOST_INPUT }
     ensures turns { Turns C.longest C.takes C.stops command reader.old reader.new result
         (P.talk port.old) (P.talk port.new) (P.left port.old) (P.left port.new) }
+    ensures breaks { TurnBreaks C.longest C.takes C.stops command reader.old result
+        (P.talk port.old) (P.talk port.new) (P.left port.old) (P.left port.new) }
     ensures talks { Talks C.longest C.takes command reader.old reader.new result (P.talk port.old) (P.talk port.new) }
     ensures goes_on { IfGoes result ((reader.new.stopped ≡ None) × (reader.old.before < reader.new.before) × (reader.new.number ≡ reader.old.number + 1)) }
     ensures most { (reader.new.most ≡ reader.old.most) × (reader.new.before ≤ reader.new.most) }
@@ -111,9 +115,12 @@ fn turn<C: Command, P: Port>(
     }
 }
 
-/// Runs a command over the input of a port: each line is answered, by one writing, before more is read.
+/// Runs a command over the input of a port: each line is answered, by one writing, before more is read. The run ends where
+/// the command ends it, at a failed call, or for want of memory.
 pub fn serve<C: Command, P: Port>(alloc: Global, command: C, port: &mut P) -> Status
     ensures runs { Serves C.longest C.takes C.stops command result
+        (P.talk port.old) (P.talk port.new) (P.left port.old) (P.left port.new) }
+    ensures front { ServesFront C.longest C.takes C.stops command result
         (P.talk port.old) (P.talk port.new) (P.left port.old) (P.left port.new) }
     ensures prompt { ServesPromptly C.longest C.takes command result (P.talk port.old) (P.talk port.new) }
     ensures read_fault { result.0 ≡ 5 → Rose (P.read_faults port.old) (P.read_faults port.new) }
@@ -140,7 +147,8 @@ pub fn serve<C: Command, P: Port>(alloc: Global, command: C, port: &mut P) -> St
 /// Refuses words that are those of no command.
 pub fn refuse_words<P: Port>(port: &mut P) -> Status
     ensures status { (result ≡ record { 0 = 2 }) ⊎ ((result ≡ record { 0 = 6 }) × Rose (P.write_faults port.old) (P.write_faults port.new)) }
-    ensures put { result ≡ record { 0 = 2 } → AddsPut (P.talk port.old) (P.talk port.new) (codes "error words" ++ 10 ∷ []) }
+    ensures put { result ≡ record { 0 = 2 } → AddsPut (P.talk port.old) (P.talk port.new) words_line }
+    ensures front { AddsFront (P.talk port.old) (P.talk port.new) words_line }
     ensures left { P.left port.new ≡ P.left port.old }
     ensures unwritten { P.write_faults port.old < P.write_faults port.new → result.0 ≡ 6 }
     ensures read_faults { P.read_faults port.new ≡ P.read_faults port.old }

@@ -303,7 +303,7 @@ fn refutations_of_plans_with_links(rt: HostRuntime) -> Result<(), Fail> {
 }
 
 /// Inputs that are no plan and no certificate, with their answers and statuses.
-const FAULTS: [(&str, &str, u8); 15] = [
+const FAULTS: [(&str, &str, u8); 17] = [
     // Texts that end too soon.
     ("", "error format 1 no-header\n", 3),
     ("\n# nothing\n", "error format 3 no-header\n", 3),
@@ -313,6 +313,11 @@ const FAULTS: [(&str, &str, u8); 15] = [
     (
         "stnu 1\nend\ncertificate 1\nrefutation\n",
         "error format 5 no-end\n",
+        3,
+    ),
+    (
+        "stnu 1\npoint A\npoint C\npoint D\nbound b1 D C 1\nbound b2 C D -1\nlink A 3 8 C\n",
+        "error format 8 no-end\n",
         3,
     ),
     // Lines that are no lines of their texts.
@@ -335,6 +340,11 @@ const FAULTS: [(&str, &str, u8); 15] = [
     ),
     // Parts that are refused, and limits that are passed.
     (
+        "stnu 1\npoint A\npoint A\nend\n",
+        "error plan 3 duplicate-name\n",
+        3,
+    ),
+    (
         "stnu 1\npoint A\npoint B\nlink A 0 4 B\nend\n",
         "error plan 4 bad-interval\n",
         3,
@@ -345,7 +355,7 @@ const FAULTS: [(&str, &str, u8); 15] = [
         3,
     ),
     (
-        "stnu 1\npoint A\npoint B\nbound b1 A B 1000000001\nend\n",
+        "stnu 1\npoint A\npoint B\nbound b1 A B 1000000001\nbound b2 B A -2\nend\n",
         "error limit 4 number\n",
         4,
     ),
@@ -473,6 +483,33 @@ fn longest_line(rt: HostRuntime) -> Result<(), Fail> {
     );
     let refused = judged(alloc, remark(alloc, 65_537)?.as_str(), false)?;
     assert_eq!(rt; refused.port.written(), b"error limit 1 line\n".as_slice());
+    assert_eq!(rt; refused.status, 4);
+    Ok(())
+}
+
+/// A plan of so many points, in lines 2 and following.
+fn plan_of_points(alloc: Global, count: u32) -> Result<String, AllocError> {
+    let mut text = String::from_str(alloc, "stnu 1\n")?;
+    for i in 0..count {
+        text.push_str(format!(in alloc; "point p{i}\n")?.as_str())?;
+    }
+    text.push_str("end\n")?;
+    Ok(text)
+}
+
+#[test]
+fn most_points(rt: HostRuntime) -> Result<(), Fail> {
+    let alloc = rt.alloc();
+    let passed = judged(alloc, plan_of_points(alloc, 1_000)?.as_str(), false)?;
+    assert_eq!(rt;
+        passed.port.written(),
+        b"error format 1003 no-header\n".as_slice()
+    );
+    let refused = judged(alloc, plan_of_points(alloc, 1_001)?.as_str(), false)?;
+    assert_eq!(rt;
+        refused.port.written(),
+        b"error limit 1002 points\n".as_slice()
+    );
     assert_eq!(rt; refused.status, 4);
     Ok(())
 }

@@ -11,7 +11,7 @@ use std::alloc::{AllocError, Global};
 /// The schedule that a strategy makes of a network in a situation, which has one duration for each link, each in its
 /// interval. It is `None` exactly where the strategy has no play there: where at some moment no case has just the points
 /// that are completed, or an act is no executable point or was executed before, or where a point has no moment at the
-/// leaf.
+/// leaf. `AllocError` comes only for want of memory.
 pub fn play(
     alloc: Global,
     tree: &Tree,

@@ -3,6 +3,7 @@ use Rattle.std.specs.Prelude.{string_bytes}
 use Rattle.stnu_run.specs.Words.{command_of}
 use Rattle.stnu_run.specs.DefinedRun.{TaskCompletes}
 use Rattle.stnu_run.specs.declared.words.Task.{Task}
+use Rattle.stnu_run.proofs.TaskLemmas.{judge_defined, judge_breaks}
 use Rattle.stnu_run.proofs.Accepted.{served_excludes, written_excludes}
 use Rattle.stnu_run.proofs.Complete.{served_judged, task_judged}
 use Rattle.stnu_run.proofs.run.run.Goals as goal
@@ -19,3 +20,11 @@ pub returns-in-Some-Judge-clause-complete : goal.returns-in-Some-Judge-clause-co
 returns-in-Some-Judge-clause-complete g c =
     subst (λ (t : Option Task). TaskCompletes t c.serve.result (g.P.Port.talk c.args.port.now) (g.P.Port.talk c.serve.new.port) (g.P.Port.left c.args.port.now) (g.P.Port.left c.serve.new.port)) (c.in-Some-Judge.ensures ∙ ap (λ (l : _). command_of (map string_bytes l)) c.deref.ensures.value)
     (task_judged c.in-Some-Judge.field-0 c.serve.result (g.P.Port.talk c.args.port.now) (g.P.Port.talk c.serve.new.port) (g.P.Port.left c.args.port.now) (g.P.Port.left c.serve.new.port) (served_judged c.serve.result (g.P.Port.talk c.args.port.now) (g.P.Port.talk c.serve.new.port) (g.P.Port.left c.args.port.now) (g.P.Port.left c.serve.new.port) c.serve.ensures.runs))
+
+pub returns-in-Some-Judge-clause-defined : goal.returns-in-Some-Judge-clause-defined
+returns-in-Some-Judge-clause-defined g c =
+    judge_defined c.in-Some-Judge.field-0 (map string_bytes c.args.words.now.items) c.serve.result (g.P.Port.talk c.args.port.now) (g.P.Port.talk c.serve.new.port) (g.P.Port.left c.args.port.now) (g.P.Port.left c.serve.new.port) (c.in-Some-Judge.ensures ∙ ap (λ (l : _). command_of (map string_bytes l)) c.deref.ensures.value) c.serve.ensures.runs
+
+pub returns-in-Some-Judge-clause-front : goal.returns-in-Some-Judge-clause-front
+returns-in-Some-Judge-clause-front g c =
+    judge_breaks c.in-Some-Judge.field-0 (map string_bytes c.args.words.now.items) c.serve.result (g.P.Port.talk c.args.port.now) (g.P.Port.talk c.serve.new.port) (g.P.Port.left c.args.port.now) (g.P.Port.left c.serve.new.port) (c.in-Some-Judge.ensures ∙ ap (λ (l : _). command_of (map string_bytes l)) c.deref.ensures.value) c.serve.ensures.front

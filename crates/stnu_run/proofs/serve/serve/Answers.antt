@@ -1,6 +1,6 @@
 use Rattle.std.proofs.Common.{◌<◌, ◌∙◌, refl, sym, subst, arith}
 use Rattle.plan_port.specs.Reader.{Reader}
-use Rattle.stnu_run.proofs.ServeLemmas.{IsServing, serving_begins, serving_goes, serving_ends}
+use Rattle.stnu_run.proofs.ServeLemmas.{IsServing, serving_begins, serving_goes, serving_ends, serving_breaks}
 use Rattle.stnu_run.proofs.PromptLemmas.{TellsPrompt, prompt_begins, prompt_goes, prompt_ends}
 use Rattle.stnu_run.proofs.serve.serve.Goals as goal
 
@@ -38,3 +38,7 @@ returns-in-Ends-clause-told g c = c.in-Ends.ensures.told ∙ c.lines.invariant.t
 pub returns-in-Ends-clause-prompt : goal.returns-in-Ends-clause-prompt
 returns-in-Ends-clause-prompt g c =
     prompt_ends g.C.Command.longest g.C.Command.takes g.C.Command.stops c.args.command c.lines.command c.lines.reader c.turn.new.reader c.in-Ends.status (g.P.Port.talk c.args.port.now) (g.P.Port.talk c.lines.port) (g.P.Port.talk c.turn.new.port) c.lines.invariant.prompt c.in-Ends.ensures.talks
+
+pub returns-in-Ends-clause-front : goal.returns-in-Ends-clause-front
+returns-in-Ends-clause-front g c =
+    serving_breaks g.C.Command.longest g.C.Command.takes g.C.Command.stops c.args.command c.lines.command c.lines.reader c.in-Ends.status (g.P.Port.talk c.args.port.now) (g.P.Port.talk c.lines.port) (g.P.Port.talk c.turn.new.port) (g.P.Port.left c.args.port.now) (g.P.Port.left c.lines.port) (g.P.Port.left c.turn.new.port) c.lines.invariant.serving c.in-Ends.ensures.breaks
