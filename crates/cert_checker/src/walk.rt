@@ -1,4 +1,4 @@
-ghost use Rattle.std.specs.Prelude.{◌≡◌, ◌+◌, ◌*◌, ◌^◌, ◌<◌, length};
+ghost use Rattle.std.specs.Prelude.{◌≡◌, ◌+◌, ◌*◌, ◌<◌, length};
 ghost use Rattle.cert_checker.specs.Lines.{line_at};
 ghost use Rattle.cert_checker.specs.Walk.{refusal, steps_known, returns_to, total_weight, weight_at, is_negative_total, is_negative_walk, walked, walk_passes};
 

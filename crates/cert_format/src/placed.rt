@@ -14,12 +14,9 @@ use net_model::{FormatKind, text};
 pub(crate) fn line_in(section: Section, line: &[u8]) -> Result<CertText, FormatKind>
     ensures { result ≡ line_in section (words line.now) }
 {
-    let Some((first, rest)) = text::next_word(line) else {
+    let Some((first, rest)) = text::first_word(line) else {
         return Ok(CertText::Blank);
     };
-    if text::is_remark(first) {
-        return Ok(CertText::Blank);
-    }
     refused_in(section, admitted(section, Keyword::of(first), rest))
 }
 

@@ -4,7 +4,7 @@ ghost use Rattle.std.specs.Prelude.{◌≡◌, true, false};
 ghost use Rattle.std.specs.Result.{result_map_both};
 ghost use Rattle.net_model.specs.Text.{words};
 ghost use Rattle.cert_format.specs.Kind.{has_label};
-ghost use Rattle.cert_format.specs.CertificateLines.{cert_text, begun_by, line_of, header_line, lone_word, walk_line, bound_line, link_line, no_line, up_line, low_line, cross_line, drop_line, unlabelled, labelled, number_of, weight_of};
+ghost use Rattle.cert_format.specs.CertificateLines.{cert_text, line_of, header_line, lone_word, walk_line, bound_line, link_line, no_line, up_line, low_line, cross_line, drop_line, unlabelled, labelled, number_of, weight_of};
 
 use crate::keyword::Keyword;
 use crate::kind::LineKind;
@@ -48,12 +48,9 @@ pub fn read_cert_line(line: &[u8]) -> Result<CertText, WordFault>
 pub(crate) fn cert_text(line: &[u8]) -> Result<CertText, FormatKind>
     ensures { result ≡ cert_text (words line.now) }
 {
-    let Some((first, rest)) = text::next_word(line) else {
+    let Some((first, rest)) = text::first_word(line) else {
         return Ok(CertText::Blank);
     };
-    if text::is_remark(first) {
-        return Ok(CertText::Blank);
-    }
     match Keyword::of(first) {
         None => Err(FormatKind::UnknownWord),
         Some(keyword) => line_of(keyword, rest),

@@ -3,7 +3,7 @@
 ghost use Rattle.std.specs.Prelude.{◌≡◌, ℕ, ◌+◌, ◌-◌, ◌∷◌, ◌++◌, [], ◌<◌, ◌≤◌, ◌^◌, false, true, length, take, drop, slice_get, slice_index, List, map, MatchOption, MatchResult, IfSome, IfOk, OnOk, SomeIff};
 ghost use Rattle.std.specs.List.{list_all};
 ghost use Rattle.net_model.specs.Names.{is_digit};
-ghost use Rattle.net_model.specs.Text.{is_blank, is_remark, if_filled, words, lines, lines_after};
+ghost use Rattle.net_model.specs.Text.{are_passed_over, is_blank, is_remark, if_filled, words, lines, lines_after};
 ghost use Rattle.net_model.specs.Lines.{size_of_lines};
 ghost use Rattle.net_model.specs.Printing.{printed_line};
 ghost use Rattle.net_model.specs.Numbers.{is_positive, natural_of, integer_of, name_of, value_of, limited, negative_of};
@@ -49,8 +49,20 @@ pub fn no_more(rest: &[u8]) -> Result<(), FormatKind>
     }
 }
 
+/// The first word of a line and what stands behind it, or `None` where the line is passed over: where it has no word, or its
+/// first word begins with `#`.
+pub fn first_word(line: &[u8]) -> Option<(&[u8], &[u8])>
+    ensures { MatchOption result (are_passed_over (words line.now) ≡ true) (λ found. (words line.now ≡ found.0.now ∷ words found.1.now) × (is_remark found.0.now ≡ false)) }
+{
+    let (first, rest) = next_word(line)?;
+    if is_remark(first) {
+        return None;
+    }
+    Some((first, rest))
+}
+
 /// Whether a word begins with `#`.
-pub fn is_remark(word: &[u8]) -> bool
+fn is_remark(word: &[u8]) -> bool
     ensures { result ≡ is_remark word.now }
 {
     word.first() == Some(&b'#')

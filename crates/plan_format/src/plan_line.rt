@@ -2,7 +2,7 @@
 
 ghost use Rattle.std.specs.Prelude.{◌≡◌, IfOk};
 ghost use Rattle.std.specs.Result.{result_map_both};
-ghost use Rattle.net_model.specs.Numbers.{name_of, integer_of};
+ghost use Rattle.net_model.specs.Numbers.{integer_of};
 ghost use Rattle.net_model.specs.Text.{words};
 ghost use Rattle.plan_format.specs.declared.plan_line.PlanLine.{PlanLine};
 ghost use Rattle.plan_format.specs.PlanGrammar.{IsLine};
@@ -39,12 +39,9 @@ pub fn read_plan_line(line: &[u8]) -> Result<PlanLine, WordFault>
 pub(crate) fn plan_line(line: &[u8]) -> Result<PlanLine, FormatKind>
     ensures { result ≡ plan_line (words line.now) }
 {
-    let Some((first, rest)) = text::next_word(line) else {
+    let Some((first, rest)) = text::first_word(line) else {
         return Ok(PlanLine::Blank);
     };
-    if text::is_remark(first) {
-        return Ok(PlanLine::Blank);
-    }
     line_of(first, rest)
 }
 

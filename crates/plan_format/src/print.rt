@@ -1,7 +1,6 @@
 //! Printing a network as a plan text.
 
-ghost use Rattle.std.specs.Prelude.{◌≡◌, ◌++◌, ◌<◌, ◌≤ℤ◌, IfOk, OnOk, length, pos};
-ghost use Rattle.std.specs.List.{All};
+ghost use Rattle.std.specs.Prelude.{◌≡◌, ◌++◌, ◌<◌, IfOk, OnOk, length};
 ghost use Rattle.std.specs.List.{flat_map};
 ghost use Rattle.net_model.specs.Network.{IsBound, IsLink};
 ghost use Rattle.net_model.specs.Printing.{printed_line};

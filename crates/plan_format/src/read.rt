@@ -1,6 +1,6 @@
 //! Reading a whole plan text.
 
-ghost use Rattle.std.specs.Prelude.{◌≡◌, ℕ, ◌+◌, ◌-◌, ◌<◌, ◌≤◌, ◌^◌, ◌∷◌, ◌++◌, [], length, IfErr, IfOk, OnOk, MatchResult};
+ghost use Rattle.std.specs.Prelude.{◌≡◌, ◌+◌, ◌-◌, ◌<◌, ◌≤◌, ◌^◌, ◌∷◌, ◌++◌, [], length, IfErr, IfOk, OnOk, MatchResult};
 ghost use Rattle.net_model.specs.Text.{lines};
 ghost use Rattle.plan_format.specs.declared.read.Parts.{Parts};
 ghost use Rattle.plan_format.specs.PlanGrammar.{IsFaultOf, Says};

@@ -1,8 +1,7 @@
 //! The lines of an input that comes over a port.
-ghost use Rattle.std.specs.Prelude.{◌≡◌, ◌≢◌, ℕ, ◌+◌, ◌<◌, ◌≤◌, ◌^◌, Bool, true, false, List, [], length, take, drop, Some, None, IfOk, IfSome, IfNone, is_some};
-ghost use Rattle.std.specs.List.{position};
+ghost use Rattle.std.specs.Prelude.{◌≡◌, ◌≢◌, ℕ, ◌+◌, ◌<◌, ◌≤◌, ◌^◌, true, false, List, [], length, take, drop, Some, None, IfOk, IfSome, IfNone, is_some};
 ghost use Rattle.plan_port.specs.Talk.{Rose};
-ghost use Rattle.plan_port.specs.Lines.{Decision, Undecided, decision};
+ghost use Rattle.plan_port.specs.Lines.{decision};
 ghost use Rattle.plan_port.specs.Reader.{Reader, IsReader, Takes, GivesNext, fresh, room, remaining, stop_of, answer, after_answer, with_pieces_kept, gives_line, gives_last, last_answer, stops_with, begins_and_stops, lines_begun, NamesLimit};
 ghost use Rattle.plan_port.specs.Reading.{TakesOnce, verdict, verdict_of, outcome_of, ended_after};
 

@@ -1,7 +1,7 @@
 //! A port in memory, whose takes can be cut short and whose calls can be made to fail.
-ghost use Rattle.std.specs.Prelude.{◌≡◌, ℕ, ◌+◌, ◌<◌, ◌≤◌, Bool, List, [], length, min, take, drop, Some, IfOk, IfSome, OnOk, OnErr};
+ghost use Rattle.std.specs.Prelude.{◌≡◌, ◌+◌, ◌<◌, ◌≤◌, [], length, min, take, drop, Some, IfSome, OnOk, OnErr};
 ghost use Rattle.std.specs.List.{concat};
-ghost use Rattle.plan_port.specs.Talk.{Talk, AddsPieces, AddsPut, LosesFront, Rose, TakesWithin, WritesWithin, pieces_given, bytes_written, with_put};
+ghost use Rattle.plan_port.specs.Talk.{AddsPieces, AddsPut, LosesFront, Rose, TakesWithin, WritesWithin, pieces_given, bytes_written, with_put};
 ghost use Rattle.plan_port.specs.Memory.{Memory, unused, raised, is_listed, limit, after_piece, TakesNext, PutsNext};
 
 use crate::ports::{Port, Sent, Took};

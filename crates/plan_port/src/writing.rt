@@ -1,5 +1,5 @@
 //! Writing all of some bytes over a port.
-ghost use Rattle.std.specs.Prelude.{◌≡◌, ℕ, ◌<◌, ◌≤◌, length};
+ghost use Rattle.std.specs.Prelude.{◌≡◌, ◌<◌, ◌≤◌, length};
 ghost use Rattle.plan_port.specs.Talk.{AddsPut, Rose};
 ghost use Rattle.plan_port.specs.Writing.{bytes_put, IsPart};
 

@@ -113,7 +113,7 @@ fn refused(number: u32, kind: FormatKind) -> PlanProgress
 }
 
 /// The items and one more.
-pub fn with_item<T: Drop>(items: Items<T>, item: T) -> Result<Items<T>, AllocError>
+fn with_item<T: Drop>(items: Items<T>, item: T) -> Result<Items<T>, AllocError>
     ensures { IfOk result (λ more. more ≡ items ++ item ∷ []) }
 {
     let mut items = items.into_vec();

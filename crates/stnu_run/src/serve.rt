@@ -1,7 +1,7 @@
-ghost use Rattle.std.specs.Prelude.{◌≡◌, ◌⊎◌, ℕ, ◌+◌, ◌<◌, ◌≤◌, List, None, IfSome, IfNone, IfOk, OnOk, IsSomeAnd, is_some, length};
+ghost use Rattle.std.specs.Prelude.{◌≡◌, ◌⊎◌, ◌+◌, ◌<◌, ◌≤◌, None, IfSome, IfOk, is_some, length};
 ghost use Rattle.plan_port.specs.Talk.{Rose, AddsPut};
-ghost use Rattle.plan_port.specs.Reader.{room, remaining};
-ghost use Rattle.stnu_run.specs.Faults.{fault_line, fault_status, read_fault_line, words_line};
+ghost use Rattle.plan_port.specs.Reader.{remaining};
+ghost use Rattle.stnu_run.specs.Faults.{read_fault_line, words_line};
 ghost use Rattle.stnu_run.specs.Runs.{Refuses};
 ghost use Rattle.stnu_run.specs.Turns.{Replies, Turns, Serves, IsBrokenOff, IsUnbroken, IsCutOff, IsNotOfWords, IfGoes};
 ghost use Rattle.stnu_run.specs.Breaks.{AddsFront, TurnBreaks, ServesFront};
