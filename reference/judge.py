@@ -1,5 +1,5 @@
 #!/usr/bin/env python3
-"""The judge once more, written from docs/FORMAT.md alone and sharing nothing with the program.
+"""The judge once more, by the rules of docs/FORMAT.md and without a line of the program.
 
     cat PLAN CERTIFICATE | reference/judge.py
 

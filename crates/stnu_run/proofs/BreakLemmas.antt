@@ -14,6 +14,7 @@ use Rattle.stnu_run.specs.Runs.{Refuses, Turn}
 use Rattle.stnu_run.specs.Turns.{Replies, IsUnbroken}
 use Rattle.stnu_run.specs.Prompt.{IsSaid}
 use Rattle.stnu_run.specs.Breaks.{IsFront, AddsFront, IsUnread, IsNextAnswer, TurnBreaks}
+use Rattle.stnu_run.proofs.PromptLemmas.{given_none}
 use Rattle.stnu_run.specs.declared.status.Status.{Status}
 use Rattle.stnu_run.specs.declared.fault.Fault.{Fault}
 use Rattle.stnu_run.specs.declared.command.Onward.{Onward}
@@ -124,14 +125,10 @@ module _ {C : Type 0} (longest : C → ℕ) (takes : C → ℕ → List ℕ → 
         },
       )
 
-  given : (stopped : Option Line) (P : Type 0) → IfNone stopped P → stopped ≡ None → P
-  given None P held e = held
-  given (Some line) P held e = absurd cc
-
   -- the same, in the words of the calls that a turn makes
   pub turn_breaks : {R : Type 0} (limit : ℕ) (command : C) (old new : Reader) (line : Line) (t0 t1 t2 : Option Talk) (l0 l1 l2 : Option (List ℕ)) (reply : List ℕ) (replied onward : Onward C) → limit ≡ longest command → l2 ≡ l1 → IfNone old.stopped ((pieces : List (List ℕ)) × (full : Reader) × Takes limit old full pieces t0 t1 l0 l1 × (line ≡ answer limit full) × (new ≡ after_answer limit full)) → IfNone old.stopped (IfSome l0 (λ before. IfSome l1 (λ after. GivesNext limit old new line before after))) → IfNone old.stopped (new.number ≡ old.number + lines_begun line) → old.stopped ≡ None → Replies longest takes stops command line new reply replied → IsUnbroken replied ⊎ ((line ≡ ReadFault) × (replied ≡ Ends (record { 0 = 5 }))) → AddsFront t1 t2 reply → (IsSaid onward → AddsPut t1 t2 reply × (onward ≡ replied)) → (onward ≡ replied) ⊎ ((onward ≡ Ends (record { 0 = 6 })) × R) → TurnBreaks longest takes stops command old onward t0 t2 l0 l2
   turn_breaks limit command old new line t0 t1 t2 l0 l1 l2 reply replied onward is kept reads lines number running replies broken front said ends =
-      let read = subst (λ (n : ℕ). (pieces : List (List ℕ)) × (full : Reader) × Takes n old full pieces t0 t1 l0 l1 × (line ≡ answer n full) × (new ≡ after_answer n full)) is (given old.stopped _ reads running) in
-      let next_is = subst (λ (n : ℕ). IfSome l0 (λ before. IfSome l1 (λ after. GivesNext n old new line before after))) is (given old.stopped _ lines running) in
+      let read = subst (λ (n : ℕ). (pieces : List (List ℕ)) × (full : Reader) × Takes n old full pieces t0 t1 l0 l1 × (line ≡ answer n full) × (new ≡ after_answer n full)) is (given_none old.stopped _ reads running) in
+      let next_is = subst (λ (n : ℕ). IfSome l0 (λ before. IfSome l1 (λ after. GivesNext n old new line before after))) is (given_none old.stopped _ lines running) in
       subst (λ (l : Option (List ℕ)). TurnBreaks longest takes stops command old onward t0 t2 l0 l) (sym kept)
-      (turn_fronts command old read.1 new line read.0 t0 t1 t2 l0 l1 reply replied onward read.2 read.3 next_is (given old.stopped _ number running) replies broken front said ends)
+      (turn_fronts command old read.1 new line read.0 t0 t1 t2 l0 l1 reply replied onward read.2 read.3 next_is (given_none old.stopped _ number running) replies broken front said ends)

@@ -67,6 +67,11 @@ answer_ended Undecided true longest full is =
 answer_ended Undecided false longest full is =
     ap (λ (b : Bool). (if b then gives_last full full.kept else stops_with full ReadFault).ended) is
 
+-- what holds of a reader that has not stopped
+pub given_none : (stopped : Option Line) (P : Type 0) → IfNone stopped P → stopped ≡ None → P
+given_none None P held e = held
+given_none (Some line) P held e = absurd cc
+
 module _ {C : Type 0} (longest : C → ℕ) (takes : C → ℕ → List ℕ → List ℕ → Onward C → Type 0) (stops : C → ℕ → Stop → Fault) where
   -- pieces stay prompt when more is put
   stay_prompt : (first : C) (begin put more seen : List ℕ) (pieces : List Piece) → ArePromptPieces longest takes first begin put seen pieces → ArePromptPieces longest takes first begin (put ++ more) seen pieces
@@ -242,10 +247,6 @@ module _ {C : Type 0} (longest : C → ℕ) (takes : C → ℕ → List ℕ → 
       line = subst (λ (o : Onward C). AnswersLine longest takes command old new o pieces reply) (sym (puts said).1) (line_of command old full new line pieces reply replied taken.reader gives after replies);
     },
   )
-
-  given_none : (stopped : Option Line) (P : Type 0) → IfNone stopped P → stopped ≡ None → P
-  given_none None P held e = held
-  given_none (Some line) P held e = absurd cc
 
   -- the same, in the words of the calls that a turn makes
   pub turn_says : (limit : ℕ) (command : C) (old new : Reader) (line : Line) (t0 t1 t2 : Option Talk) (l0 l1 : Option (List ℕ)) (reply : List ℕ) (replied onward : Onward C) → limit ≡ longest command → IfNone old.stopped ((pieces : List (List ℕ)) × (full : Reader) × Takes limit old full pieces t0 t1 l0 l1 × (line ≡ answer limit full) × (new ≡ after_answer limit full)) → old.stopped ≡ None → Replies longest takes stops command line new reply replied → (IsSaid onward → AddsPut t1 t2 reply × (onward ≡ replied)) → Talks longest takes command old new onward t0 t2

@@ -135,12 +135,3 @@ module _ {C : Type 0} (longest : C → ℕ) (takes : C → ℕ → List ℕ → 
   -- the last turn, where it breaks the run off
   pub serving_breaks : (first command : C) (old : Reader) (status : Status) (tf tb ta : Option Talk) (lf lb la : Option (List ℕ)) → IsServing first command old tf tb lf lb → TurnBreaks longest takes stops command old (Ends status) tb ta lb la → ServesFront longest takes stops first status tf ta lf la
   serving_breaks first command old status tf tb ta lf lb la so_far breaks = breaks_by first command old status tf tb ta lf lb la so_far.tells so_far.most breaks
-
-  -- where there is no memory for a reader, nothing is put
-  pub breaks_at_once : (first : C) (status : Status) (talk : Option Talk) (left : Option (List ℕ)) → status.0 ≡ 8 → ServesFront longest takes stops first status talk talk left left
-  breaks_at_once first status None left eight = tt
-  breaks_at_once first status (Some now) None eight = tt
-  breaks_at_once first status (Some now) (Some bytes) eight =
-      let puts : PutsLast longest takes stops status first 0 (most_input - (length bytes - length bytes)) bytes bytes [] =
-      record { read = λ five. absurd (omega (arith, five, eight)); write = λ six. absurd (omega (arith, six, eight)); memory = λ _. refl } in
-      ([], sym (append-nil now.put), (0, [], first, 0, bytes, [], (refl, refl, refl, refl), puts, refl))
