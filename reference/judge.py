@@ -21,7 +21,7 @@ MOST_WEIGHT = 999_999_999_999_999_999
 MOST_JUDGED_WEIGHT = 1_000_000_000_000
 MOST_LINE_NUMBER = 18_446_744_073_709_551_615
 
-# What stands behind the first word of a line: N a name, V a number of a plan, W a weight, I the number of a line.
+# What stands after the first word of a line: N a name, V a number of a plan, W a weight, I the number of a line.
 PLAN_WORDS = {b"point": "N", b"bound": "NNNV", b"link": "NVVN", b"end": ""}
 RULE_WORDS = {
     b"bound": "NNNW", b"link": "NNNW", b"no": "IINNW", b"up": "IINNNW",

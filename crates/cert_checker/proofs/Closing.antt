@@ -19,7 +19,7 @@ use Rattle.cert_checker.proofs.Following.{edges_of}
 use Rattle.cert_checker.proofs.Deriving.{derivation}
 
 module _ (net : Plan) where
-  -- a walk that goes on behind a line and comes back
+  -- a walk that goes on after a line and comes back
   returns_walk : (begin : List ℕ) (place : ℕ) (last : CertLine) (steps : List CertLine) → returns_to begin place last steps ≡ Ok tt → IsWalk (point_of net last.to) (edges_of net steps) (point_of net begin)
   returns_walk begin place last [] back = point_of_same net last.to begin (unless_ok (bytes_eq last.to begin) (refusal place WalkBroken) back)
   returns_walk begin place last (next ∷ steps) back =

@@ -8,7 +8,8 @@ use Rattle.std.proofs.lemmas.List.{append-nil, map-append, append_assoc}
 use Rattle.std.proofs.lemmas.List.Elements.{All-from_recursion, recursion_from_All, All-push}
 use Rattle.std.proofs.lemmas.Option.{same_Some}
 use Rattle.net_model.specs.Network.{Plan, IsPlan, point_named}
-use Rattle.net_model.specs.Rules.{Follows, IsEdge, IsDerivation}
+use Rattle.net_model.specs.Edges.{IsEdge}
+use Rattle.net_model.specs.LooseRules.{FollowsLoosely, IsLooseDerivation}
 use Rattle.net_model.specs.declared.part.Edge.{Edge}
 use Rattle.strategy_model.specs.Edges.{HoldsOf}
 use Rattle.strategy_model.specs.declared.tree.Tree.{Tree}
@@ -44,22 +45,22 @@ module _ (net : Plan) (plan : IsPlan net) (rules_keep_edges : RulesKeepEdges) wh
       subst (AllByRecursion (IsEdge net)) (sym (edges_push earlier line)) (recursion_from_All (IsEdge net) (edges_of net earlier ++ edge_of net line ∷ []) all)
 
   -- the edges of lines that pass follow from those before them
-  pub edges_follow : (earlier lines : List CertLine) → AllByRecursion (IsEdge net) (edges_of net earlier) → lines_pass net earlier lines ≡ Ok tt → (place : ℕ) (edge : Edge) → slice_get (edges_of net lines) place ≡ Some edge → Follows net (edges_of net earlier ++ take place (edges_of net lines)) edge
+  pub edges_follow : (earlier lines : List CertLine) → AllByRecursion (IsEdge net) (edges_of net earlier) → lines_pass net earlier lines ≡ Ok tt → (place : ℕ) (edge : Edge) → slice_get (edges_of net lines) place ≡ Some edge → FollowsLoosely net (edges_of net earlier ++ take place (edges_of net lines)) edge
   edges_follow earlier [] edges pass place edge here = absurd (cc)
   edges_follow earlier (line ∷ lines) edges pass zero edge here =
       let (passes, others) = first_passes net earlier line lines pass in
       let follows = line_follows net earlier line edges passes in
       let same : edge_of net line ≡ edge = same_Some (edge_of net line) edge here in
-      subst (λ (front : List Edge). Follows net front edge) (sym (append-nil (edges_of net earlier))) (subst (λ (e : Edge). Follows net (edges_of net earlier) e) same follows)
+      subst (λ (front : List Edge). FollowsLoosely net front edge) (sym (append-nil (edges_of net earlier))) (subst (λ (e : Edge). FollowsLoosely net (edges_of net earlier) e) same follows)
   edges_follow earlier (line ∷ lines) edges pass (suc place) edge here =
       let (passes, others) = first_passes net earlier line lines pass in
       let follows = line_follows net earlier line edges passes in
       let sound = rules_keep_edges net (edges_of net earlier) (edge_of net line) plan edges follows in
       let rest = edges_follow (earlier ++ line ∷ []) lines (edges_more earlier line edges sound) others place edge here in
       let shift : edges_of net (earlier ++ line ∷ []) ++ take place (edges_of net lines) ≡ edges_of net earlier ++ (edge_of net line ∷ take place (edges_of net lines)) = ap (λ (front : List Edge). front ++ take place (edges_of net lines)) (edges_push earlier line) ∙ append_assoc (edges_of net earlier) (edge_of net line ∷ []) (take place (edges_of net lines)) in
-      subst (λ (front : List Edge). Follows net front edge) shift rest
+      subst (λ (front : List Edge). FollowsLoosely net front edge) shift rest
 
-  pub derivation : (lines : List CertLine) → lines_pass net [] lines ≡ Ok tt → IsDerivation net (edges_of net lines)
+  pub derivation : (lines : List CertLine) → lines_pass net [] lines ≡ Ok tt → IsLooseDerivation net (edges_of net lines)
   derivation lines pass = edges_follow [] lines tt pass
 
   -- a line whose names are known states an edge

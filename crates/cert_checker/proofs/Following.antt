@@ -9,7 +9,8 @@ use Rattle.std.proofs.lemmas.Bool.{and_parts}
 use Rattle.std.proofs.lemmas.List.Elements.{All-from_recursion, All-contains}
 use Rattle.std.proofs.lemmas.Option.{same_Some}
 use Rattle.net_model.specs.Network.{Plan, point_named, bound_named}
-use Rattle.net_model.specs.Rules.{Follows, by_bound, by_link, by_no_case, by_upper_case, by_lower_case, by_cross_case, by_removal, IsEdge, IsLabelled}
+use Rattle.net_model.specs.Edges.{IsEdge, IsLabelled}
+use Rattle.net_model.specs.LooseRules.{FollowsLoosely, by_bound, by_link, by_no_case, by_upper_case, by_lower_case, by_cross_case, by_removal}
 use Rattle.net_model.specs.declared.ids.BoundId.{BoundId}
 use Rattle.net_model.specs.declared.ids.LinkId.{LinkId}
 use Rattle.net_model.specs.declared.part.Edge.{Edge}
@@ -28,7 +29,7 @@ abbrev pub edges_of : Plan → List CertLine → List Edge
 edges_of net lines = map (edge_of net) lines
 
 module _ (net : Plan) (earlier : List CertLine) (line : CertLine) where
-  bound_follows : (name : List ℕ) → label_of line ≡ None → bound_passes net line name ≡ Ok tt → Follows net (edges_of net earlier) (edge_of net line)
+  bound_follows : (name : List ℕ) → label_of line ≡ None → bound_passes net line name ≡ Ok tt → FollowsLoosely net (edges_of net earlier) (edge_of net line)
   unfolding bound_passes
   bound_follows name plain passes =
       let (bound, known, rest) = bind_ok (there (bound_of net name) UnknownItem) _ tt passes in
@@ -45,7 +46,7 @@ module _ (net : Plan) (earlier : List CertLine) (line : CertLine) where
         looser = at_least_ok line bound.most least;
       })
 
-  link_follows : (name : List ℕ) → label_of line ≡ Some name → link_passes net line name ≡ Ok tt → Follows net (edges_of net earlier) (edge_of net line)
+  link_follows : (name : List ℕ) → label_of line ≡ Some name → link_passes net line name ≡ Ok tt → FollowsLoosely net (edges_of net earlier) (edge_of net line)
   unfolding link_passes
   link_follows name label passes =
       let (link, known, rest) = bind_ok (there (link_named net name) UnknownItem) _ tt passes in
@@ -71,7 +72,7 @@ module _ (net : Plan) (earlier : List CertLine) (line : CertLine) where
       let (from, meet) = and_parts (bytes_eq first.from line.from) (bytes_eq first.to second.from) both in
       (point_of_same net first.to second.from meet, sym (point_of_same net first.from line.from from), sym (point_of_same net second.to line.to to), at_least_ok line (first.weight +ℤ second.weight) least)
 
-  no_follows : (i j : ℕ) → label_of line ≡ None → no_passes earlier line i j ≡ Ok tt → Follows net (edges_of net earlier) (edge_of net line)
+  no_follows : (i j : ℕ) → label_of line ≡ None → no_passes earlier line i j ≡ Ok tt → FollowsLoosely net (edges_of net earlier) (edge_of net line)
   unfolding no_passes
   no_follows i j plain passes =
       let (first, there_first, rest) = bind_ok (there (line_at earlier i) Premise) _ tt passes in
@@ -98,7 +99,7 @@ module _ (net : Plan) (earlier : List CertLine) (line : CertLine) where
       let (id, named, declared) = link_known net name link is_link in
       (id, name, of_line, named, labelled net premise name id of_premise named, labelled net line name id (own ∙ of_line) named)
 
-  up_follows : (i j : ℕ) → label_of line ≡ line.label → label_known net line.label ≡ true → up_passes earlier line i j ≡ Ok tt → Follows net (edges_of net earlier) (edge_of net line)
+  up_follows : (i j : ℕ) → label_of line ≡ line.label → label_known net line.label ≡ true → up_passes earlier line i j ≡ Ok tt → FollowsLoosely net (edges_of net earlier) (edge_of net line)
   unfolding up_passes
   up_follows i j own known passes =
       let (first, there_first, rest) = bind_ok (there (line_at earlier i) Premise) _ tt passes in
@@ -128,7 +129,7 @@ module _ (net : Plan) (earlier : List CertLine) (line : CertLine) where
       let (begins, from) = and_parts (names_point net second.from link.to) (names_point net line.from link.from) both in
       (point_of_named net second.from link.to begins, point_of_named net line.from link.from from, sym (point_of_same net second.to line.to to), at_least_ok line (link.low +ℤ second.weight) least)
 
-  low_follows : (name : List ℕ) (j : ℕ) → label_of line ≡ None → low_passes net earlier line name j ≡ Ok tt → Follows net (edges_of net earlier) (edge_of net line)
+  low_follows : (name : List ℕ) (j : ℕ) → label_of line ≡ None → low_passes net earlier line name j ≡ Ok tt → FollowsLoosely net (edges_of net earlier) (edge_of net line)
   unfolding low_passes
   low_follows name j plain passes =
       let (second, there_second, rest) = bind_ok (there (line_at earlier j) Premise) _ tt passes in
@@ -157,7 +158,7 @@ module _ (net : Plan) (earlier : List CertLine) (line : CertLine) where
       let equal_bytes = bytes_same x y equal in
       absurd (cc)
 
-  cross_follows : (name : List ℕ) (j : ℕ) → label_of line ≡ line.label → label_known net line.label ≡ true → cross_passes net earlier line name j ≡ Ok tt → Follows net (edges_of net earlier) (edge_of net line)
+  cross_follows : (name : List ℕ) (j : ℕ) → label_of line ≡ line.label → label_known net line.label ≡ true → cross_passes net earlier line name j ≡ Ok tt → FollowsLoosely net (edges_of net earlier) (edge_of net line)
   unfolding cross_passes
   cross_follows name j own known passes =
       let (second, there_second, rest) = bind_ok (there (line_at earlier j) Premise) _ tt passes in
@@ -189,7 +190,7 @@ module _ (net : Plan) (earlier : List CertLine) (line : CertLine) where
       let (other, other_declared, ends) = subst (IsLabelled net premise) label edge.labelled in
       ends ∙ ap (λ (l : Link). l.from) (same_Some other link (sym other_declared ∙ declared))
 
-  drop_follows : (j : ℕ) → label_of line ≡ None → AllByRecursion (IsEdge net) (edges_of net earlier) → drop_passes net earlier line j ≡ Ok tt → Follows net (edges_of net earlier) (edge_of net line)
+  drop_follows : (j : ℕ) → label_of line ≡ None → AllByRecursion (IsEdge net) (edges_of net earlier) → drop_passes net earlier line j ≡ Ok tt → FollowsLoosely net (edges_of net earlier) (edge_of net line)
   unfolding drop_passes
   drop_follows j plain edges passes =
       let (premise, there_premise, rest) = bind_ok (there (line_at earlier j) Premise) _ tt passes in
@@ -215,7 +216,7 @@ module _ (net : Plan) (earlier : List CertLine) (line : CertLine) where
         not_below_shortest = omega (arith, ints, clamps, looser);
       })
 
-  rule_follows : (kind : LineKind) → line.kind ≡ kind → label_known net line.label ≡ true → AllByRecursion (IsEdge net) (edges_of net earlier) → rule_passes net earlier line kind ≡ Ok tt → Follows net (edges_of net earlier) (edge_of net line)
+  rule_follows : (kind : LineKind) → line.kind ≡ kind → label_known net line.label ≡ true → AllByRecursion (IsEdge net) (edges_of net earlier) → rule_passes net earlier line kind ≡ Ok tt → FollowsLoosely net (edges_of net earlier) (edge_of net line)
   rule_follows (kind.Bound name) is known edges passes = bound_follows name (ap (λ k. label_by k line.label) is) passes
   rule_follows (kind.Link name) is known edges passes = link_follows name (ap (λ k. label_by k line.label) is) passes
   rule_follows (kind.No i j) is known edges passes = no_follows i j (ap (λ k. label_by k line.label) is) passes
@@ -237,7 +238,7 @@ module _ (net : Plan) (earlier : List CertLine) (line : CertLine) where
   label_ok names =
       (and_parts (is_some (point_named net line.from) && is_some (point_named net line.to) && item_known net line.kind) (label_known net line.label) names).1
 
-  pub line_follows : AllByRecursion (IsEdge net) (edges_of net earlier) → line_passes net earlier line ≡ Ok tt → Follows net (edges_of net earlier) (edge_of net line)
+  pub line_follows : AllByRecursion (IsEdge net) (edges_of net earlier) → line_passes net earlier line ≡ Ok tt → FollowsLoosely net (edges_of net earlier) (edge_of net line)
   unfolding line_passes
   line_follows edges passes =
       let (_, names, rest) = bind_ok (unless (names_known net line) UnknownItem) _ tt passes in

@@ -23,7 +23,7 @@ steps_known lines place (step ∷ steps) = do
   line ← there (line_at lines step) (refusal place Premise)
   steps_known lines (place + 1) steps
 
--- A walk from the name `begin` goes on behind a line: each step begins where the one before ended, and the last ends in
+-- A walk from the name `begin` goes on after a line: each step begins where the one before ended, and the last ends in
 -- `begin`. `place` is the number of the last step's own line.
 abbrev pub returns_to : List ℕ → ℕ → CertLine → List CertLine → WalkPasses
 returns_to begin place last [] = unless (bytes_eq last.to begin) (refusal place WalkBroken)

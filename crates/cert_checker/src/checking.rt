@@ -13,7 +13,7 @@ use strategy_model::laws;
 
 /// The judgement of a certificate of a network: it is accepted, or refused at its first line that does not pass. An
 /// accepted refutation shows that no strategy controls the network (Morris and Muscettola 2005, in this project's form).
-/// Lines are counted from 1 as the certificate counts them, the walk lines behind the rule lines. A line's names are tried
+/// Lines are counted from 1 as the certificate counts them, the walk lines after the rule lines. A line's names are tried
 /// first, then its weight, its premises, their labels, the condition of its rule, its ends, and the least weight that the
 /// rule gives; then each step of the walk, whether it is closed, and its total. For a refutation it takes no memory, and the
 /// answer is always `Ok`.

@@ -72,7 +72,7 @@ impl fmt::Display for CertFault {
 
 impl Error for CertFault {}
 
-/// What is said of a certificate. Lines are counted from 1 as its rules count them: those that are not blank, behind
+/// What is said of a certificate. Lines are counted from 1 as its rules count them: those that are not blank, after
 /// its second line.
 #[derive(Clone, Copy, Debug, PartialEq, Eq)]
 pub enum Judgement {

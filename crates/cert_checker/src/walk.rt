@@ -58,7 +58,7 @@ fn is_negative(place: u64, total: i128) -> Result<(), Refusal>
     Err(refusal(place, CertFault::WalkNotNegative { total }))
 }
 
-/// Each step behind the first begins where the one before ended, and the last ends where the first began.
+/// Each step after the first begins where the one before ended, and the last ends where the first began.
 fn returns_to(lines: &[CertLine], first: &CertLine, rest: &[u64]) -> Result<(), Refusal>
     ensures { result ≡ returns_to first.now.from (length lines.now + 1) first.now (walked lines.now rest.now) }
 {

@@ -1,13 +1,14 @@
 -- The fault of a text is its first one.
 use Rattle.std.proofs.Common.{◌≡◌, ℕ, ◌+◌, List, [], ◌∷◌, ◌++◌, length, Result, Ok, Err, refl, sym, ap, ◌∙◌, arith}
 use Rattle.std.proofs.lemmas.List.{append-nil}
-use Rattle.net_model.specs.Text.{words, lines}
-use Rattle.net_model.specs.Printing.{joined}
+use Rattle.texts.specs.Words.{words}
+use Rattle.texts.specs.Lines.{lines}
+use Rattle.texts.specs.Printing.{joined}
 use Rattle.net_model.specs.declared.format.FormatKind.{FormatKind}
 use Rattle.net_model.specs.declared.format.FormatFault.{FormatFault}
 use Rattle.net_model.specs.declared.format.TextFault.{TextFault}
 use Rattle.net_model.specs.declared.format.TextFault.TheVariants as whole
-use Rattle.net_model.proofs.PrintingLemmas.{words-joined}
+use Rattle.texts.proofs.PrintingLemmas.{words-joined}
 use Rattle.cert_format.specs.CertificateWords.{header_words, refutation_words, end_words}
 use Rattle.cert_format.specs.CertificateText.{Progress, advanced, begun, certificate_of, line_in, said_from, read_from, certificate_text, fault_at, missing, SaysText}
 use Rattle.cert_format.specs.CertificateGrammar.{AreCertificateLines, IsFirstFault, FaultIsFirst}
@@ -23,8 +24,8 @@ use Rattle.cert_format.proofs.GrammarLemmas.{lines_read}
 use Rattle.cert_format.proofs.InGrammarLemmas.{read_are_lines}
 
 -- what the lines from a line on say
-abbrev behind : Progress → ℕ → List (List ℕ) → Result CertText FormatKind → Result Certificate FormatFault
-behind p number others read = said_from p number read (λ more. read_from more (number + 1) others)
+abbrev after : Progress → ℕ → List (List ℕ) → Result CertText FormatKind → Result Certificate FormatFault
+after p number others read = said_from p number read (λ more. read_from more (number + 1) others)
 
 header_line : List ℕ
 header_line = joined header_words
@@ -71,7 +72,7 @@ ending_read section.Kind lines walk number = second_read lines walk number
 ending_read section.Rules lines walk number = end_read section.Rules lines walk number (text_read section.Rules text.End refl tt)
 ending_read section.Walk lines walk number = end_read section.Walk lines walk number (text_read section.Walk text.End refl tt)
 
--- the lines at and behind a fault: the text ends, or its first line is refused
+-- the lines at and after a fault: the text ends, or its first line is refused
 abbrev IsRefused : Progress → List (List ℕ) → FormatKind → Type 0
 IsRefused p [] kind = Unit {0}
 IsRefused p (line ∷ others) kind = line_in p.section (words line) ≡ Err kind
@@ -114,16 +115,16 @@ later p q number line others fault read r = record {
   refused = r.refused;
 }
 
-fault_by : (read : Result CertText FormatKind) (line : List ℕ) (others : List (List ℕ)) (p : Progress) (number : ℕ) (fault : FormatFault) → line_in p.section (words line) ≡ read → ((q : Progress) → read_from q (number + 1) others ≡ Err fault → IsFaultAt q (number + 1) others fault) → behind p number others read ≡ Err fault → IsFaultAt p number (line ∷ others) fault
-fault_by (Ok text.Blank) line others p number fault is found all = later p p number line others fault (λ more. ap (behind p number more) is) (found p all)
+fault_by : (read : Result CertText FormatKind) (line : List ℕ) (others : List (List ℕ)) (p : Progress) (number : ℕ) (fault : FormatFault) → line_in p.section (words line) ≡ read → ((q : Progress) → read_from q (number + 1) others ≡ Err fault → IsFaultAt q (number + 1) others fault) → after p number others read ≡ Err fault → IsFaultAt p number (line ∷ others) fault
+fault_by (Ok text.Blank) line others p number fault is found all = later p p number line others fault (λ more. ap (after p number more) is) (found p all)
 fault_by (Ok text.Header) line others p number fault is found all =
-    later p (advanced p text.Header) number line others fault (λ more. ap (behind p number more) is) (found (advanced p text.Header) all)
+    later p (advanced p text.Header) number line others fault (λ more. ap (after p number more) is) (found (advanced p text.Header) all)
 fault_by (Ok text.Refutation) line others p number fault is found all =
-    later p (advanced p text.Refutation) number line others fault (λ more. ap (behind p number more) is) (found (advanced p text.Refutation) all)
+    later p (advanced p text.Refutation) number line others fault (λ more. ap (after p number more) is) (found (advanced p text.Refutation) all)
 fault_by (Ok (text.Line rule)) line others p number fault is found all =
-    later p (advanced p (text.Line rule)) number line others fault (λ more. ap (behind p number more) is) (found (advanced p (text.Line rule)) all)
+    later p (advanced p (text.Line rule)) number line others fault (λ more. ap (after p number more) is) (found (advanced p (text.Line rule)) all)
 fault_by (Ok (text.Walk i)) line others p number fault is found all =
-    later p (advanced p (text.Walk i)) number line others fault (λ more. ap (behind p number more) is) (found (advanced p (text.Walk i)) all)
+    later p (advanced p (text.Walk i)) number line others fault (λ more. ap (after p number more) is) (found (advanced p (text.Walk i)) all)
 fault_by (Ok text.End) line others p number fault is found all = absurd (cc)
 fault_by (Err kind) line others p number fault is found all =
     let same = line_of_fault number kind fault all in
@@ -142,7 +143,7 @@ refused_line : (reached : Progress) (number : ℕ) (line : List ℕ) (rest other
 refused_line reached number line [] others more kind refused same = absurd (cc)
 refused_line reached number line (first ∷ rest) others more kind refused same =
     let first_is : first ≡ line = cc in
-    ap (behind reached number more) (sym (ap (λ (l : List ℕ). line_in reached.section (words l)) first_is) ∙ refused)
+    ap (after reached number more) (sym (ap (λ (l : List ℕ). line_in reached.section (words l)) first_is) ∙ refused)
 
 first_fault : (bytes : List ℕ) (fault : FormatFault) → read_from begun 1 (lines bytes) ≡ Err fault → IsFirstFault bytes fault
 first_fault bytes fault read =

@@ -3,7 +3,8 @@ use Rattle.std.proofs.Common.{◌≡◌, ℕ, ◌≤◌, ◌+◌, Bool, true, fa
 use Rattle.std.specs.List.{AllByRecursion}
 use Rattle.std.proofs.lemmas.List.{append-nil}
 use Rattle.std.proofs.lemmas.List.Elements.{recursion_from_All}
-use Rattle.net_model.specs.Text.{are_passed_over, words, lines}
+use Rattle.texts.specs.Words.{are_passed_over, words}
+use Rattle.texts.specs.Lines.{lines}
 use Rattle.net_model.specs.declared.format.FormatKind.{FormatKind}
 use Rattle.net_model.specs.declared.format.FormatFault.{FormatFault}
 use Rattle.cert_format.specs.CertificateWords.{rule_word, line_words, walk_words, refutation_words, header_words, end_words, certificate_words, IsSpelledLine, IsSpelled}
@@ -41,28 +42,28 @@ no_words : (said : List CertText) → [] ≡ map text_words said → said ≡ []
 no_words [] none = refl
 no_words (t ∷ said) none = absurd (cc)
 
-abbrev after : (p : Progress) (number : ℕ) (others : List (List ℕ)) → Result CertText FormatKind → Result Certificate FormatFault
-after p number others read = said_from p number read (λ more. read_from more (number + 1) others)
+abbrev said_after : (p : Progress) (number : ℕ) (others : List (List ℕ)) → Result CertText FormatKind → Result Certificate FormatFault
+said_after p number others read = said_from p number read (λ more. read_from more (number + 1) others)
 
--- what the lines from one on say, by whether that one is blank, where the lines behind it complete what is read with it
-completes_by : (blank : Bool) (line : List ℕ) (used ignored : List (List ℕ)) (p : Progress) (number : ℕ) (said : List CertText) (c : Certificate) → are_passed_over (words line) ≡ blank → ((q : Progress) (more : List CertText) → Completes q more c → filled_words used ≡ map text_words more → read_from q (number + 1) (used ++ ignored) ≡ Ok c) → Completes p said c → cond blank (filled_words used) (words line ∷ filled_words used) ≡ map text_words said → after p number (used ++ ignored) (line_in p.section (words line)) ≡ Ok c
-completes_by true line used ignored p number said c is behind complete spelled =
-    rw (blank_read p.section (words line) is) (behind p said complete spelled)
-completes_by false line used ignored p number [] c is behind complete spelled = absurd complete
-completes_by false line used ignored p number (text.Blank ∷ said) c is behind complete spelled = absurd complete
-completes_by false line used ignored p number (text.Header ∷ said) c is behind complete spelled =
+-- what the lines from one on say, by whether that one is blank, where the lines after it complete what is read with it
+completes_by : (blank : Bool) (line : List ℕ) (used ignored : List (List ℕ)) (p : Progress) (number : ℕ) (said : List CertText) (c : Certificate) → are_passed_over (words line) ≡ blank → ((q : Progress) (more : List CertText) → Completes q more c → filled_words used ≡ map text_words more → read_from q (number + 1) (used ++ ignored) ≡ Ok c) → Completes p said c → cond blank (filled_words used) (words line ∷ filled_words used) ≡ map text_words said → said_after p number (used ++ ignored) (line_in p.section (words line)) ≡ Ok c
+completes_by true line used ignored p number said c is after complete spelled =
+    rw (blank_read p.section (words line) is) (after p said complete spelled)
+completes_by false line used ignored p number [] c is after complete spelled = absurd complete
+completes_by false line used ignored p number (text.Blank ∷ said) c is after complete spelled = absurd complete
+completes_by false line used ignored p number (text.Header ∷ said) c is after complete spelled =
     let read : line_in p.section (words line) ≡ Ok text.Header = ap (line_in p.section) (head_is _ _ _ _ spelled) ∙ text_read p.section text.Header complete.0 tt in
-    rw read (behind (advanced p text.Header) said complete.1 (tail_is _ _ _ _ spelled))
-completes_by false line used ignored p number (text.Refutation ∷ said) c is behind complete spelled =
+    rw read (after (advanced p text.Header) said complete.1 (tail_is _ _ _ _ spelled))
+completes_by false line used ignored p number (text.Refutation ∷ said) c is after complete spelled =
     let read : line_in p.section (words line) ≡ Ok text.Refutation = ap (line_in p.section) (head_is _ _ _ _ spelled) ∙ text_read p.section text.Refutation complete.0 tt in
-    rw read (behind (advanced p text.Refutation) said complete.1 (tail_is _ _ _ _ spelled))
-completes_by false line used ignored p number (text.Line rule ∷ said) c is behind complete spelled =
+    rw read (after (advanced p text.Refutation) said complete.1 (tail_is _ _ _ _ spelled))
+completes_by false line used ignored p number (text.Line rule ∷ said) c is after complete spelled =
     let read : line_in p.section (words line) ≡ Ok (text.Line rule) = ap (line_in p.section) (head_is _ _ _ _ spelled) ∙ text_read p.section (text.Line rule) complete.0 complete.1 in
-    rw read (behind (advanced p (text.Line rule)) said complete.2 (tail_is _ _ _ _ spelled))
-completes_by false line used ignored p number (text.Walk i ∷ said) c is behind complete spelled =
+    rw read (after (advanced p (text.Line rule)) said complete.2 (tail_is _ _ _ _ spelled))
+completes_by false line used ignored p number (text.Walk i ∷ said) c is after complete spelled =
     let read : line_in p.section (words line) ≡ Ok (text.Walk i) = ap (line_in p.section) (head_is _ _ _ _ spelled) ∙ text_read p.section (text.Walk i) complete.0 complete.1 in
-    rw read (behind (advanced p (text.Walk i)) said complete.2 (tail_is _ _ _ _ spelled))
-completes_by false line used ignored p number (text.End ∷ said) c is behind complete spelled =
+    rw read (after (advanced p (text.Walk i)) said complete.2 (tail_is _ _ _ _ spelled))
+completes_by false line used ignored p number (text.End ∷ said) c is after complete spelled =
     let read : line_in p.section (words line) ≡ Ok text.End = ap (line_in p.section) (head_is _ _ _ _ spelled) ∙ text_read p.section text.End complete.0 tt in
     let ok : Certificate → Result Certificate FormatFault = λ d. Ok d in
     rw read (ap ok complete.1)

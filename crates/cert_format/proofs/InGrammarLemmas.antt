@@ -5,7 +5,8 @@ use Rattle.std.specs.List.{AllByRecursion}
 use Rattle.std.proofs.lemmas.Bool.{cond-true, cond-false}
 use Rattle.std.proofs.lemmas.List.{append-nil}
 use Rattle.std.proofs.lemmas.List.Elements.{All-from_recursion, All-weaker}
-use Rattle.net_model.specs.Text.{are_passed_over, words, lines}
+use Rattle.texts.specs.Words.{are_passed_over, words}
+use Rattle.texts.specs.Lines.{lines}
 use Rattle.net_model.specs.declared.format.FormatKind.{FormatKind}
 use Rattle.net_model.specs.declared.format.TextFault.{TextFault}
 use Rattle.cert_format.specs.CertificateWords.{rule_word, certificate_words, IsSpelledLine, IsSpelled, IsWeight, HasWeights}
@@ -71,26 +72,26 @@ no_blank t p line is other =
       | inr placed ↦ placed
     ]
 
--- one line that is read, and those behind it
+-- one line that is read, and those after it
 read_by : (read : Result CertText FormatKind) (line : List ℕ) (others : List (List ℕ)) (p : Progress) (number : ℕ) (c : Certificate) → line_in p.section (words line) ≡ read → ((q : Progress) → read_from q (number + 1) others ≡ Ok c → IsReadAs q others c) → said_from p number read (λ more. read_from more (number + 1) others) ≡ Ok c → IsReadAs p (line ∷ others) c
-read_by (Ok text.Blank) line others p number c is behind all =
+read_by (Ok text.Blank) line others p number c is after all =
     elim (line_is p.section (words line) text.Blank is) [
-      | inl blank ↦ with_blank p line others c blank.1 (behind p all)
+      | inl blank ↦ with_blank p line others c blank.1 (after p all)
       | inr placed ↦ absurd placed.spelling
     ]
-read_by (Ok text.Header) line others p number c is behind all =
+read_by (Ok text.Header) line others p number c is after all =
     let placed = no_blank text.Header p (words line) (line_is p.section (words line) text.Header is) (λ same. cc) in
-    with_line p (advanced p text.Header) line others text.Header c placed (λ said complete. (placed.may, complete)) (behind (advanced p text.Header) all)
-read_by (Ok text.Refutation) line others p number c is behind all =
+    with_line p (advanced p text.Header) line others text.Header c placed (λ said complete. (placed.may, complete)) (after (advanced p text.Header) all)
+read_by (Ok text.Refutation) line others p number c is after all =
     let placed = no_blank text.Refutation p (words line) (line_is p.section (words line) text.Refutation is) (λ same. cc) in
-    with_line p (advanced p text.Refutation) line others text.Refutation c placed (λ said complete. (placed.may, complete)) (behind (advanced p text.Refutation) all)
-read_by (Ok (text.Line rule)) line others p number c is behind all =
+    with_line p (advanced p text.Refutation) line others text.Refutation c placed (λ said complete. (placed.may, complete)) (after (advanced p text.Refutation) all)
+read_by (Ok (text.Line rule)) line others p number c is after all =
     let placed = no_blank (text.Line rule) p (words line) (line_is p.section (words line) (text.Line rule) is) (λ same. cc) in
-    with_line p (advanced p (text.Line rule)) line others (text.Line rule) c placed (λ said complete. (placed.may, placed.spelling, complete)) (behind (advanced p (text.Line rule)) all)
-read_by (Ok (text.Walk i)) line others p number c is behind all =
+    with_line p (advanced p (text.Line rule)) line others (text.Line rule) c placed (λ said complete. (placed.may, placed.spelling, complete)) (after (advanced p (text.Line rule)) all)
+read_by (Ok (text.Walk i)) line others p number c is after all =
     let placed = no_blank (text.Walk i) p (words line) (line_is p.section (words line) (text.Walk i) is) (λ same. cc) in
-    with_line p (advanced p (text.Walk i)) line others (text.Walk i) c placed (λ said complete. (placed.may, placed.spelling, complete)) (behind (advanced p (text.Walk i)) all)
-read_by (Ok text.End) line others p number c is behind all =
+    with_line p (advanced p (text.Walk i)) line others (text.Walk i) c placed (λ said complete. (placed.may, placed.spelling, complete)) (after (advanced p (text.Walk i)) all)
+read_by (Ok text.End) line others p number c is after all =
     let placed = no_blank text.End p (words line) (line_is p.section (words line) text.End is) (λ same. cc) in
     let same : certificate_of p ≡ c = cc in
     record {
@@ -101,7 +102,7 @@ read_by (Ok text.End) line others p number c is behind all =
       spelling = filled_line line [] text.End [] placed.filled placed.words refl;
       complete = (placed.may, same, refl);
     }
-read_by (Err kind) line others p number c is behind all = absurd (cc)
+read_by (Err kind) line others p number c is after all = absurd (cc)
 
 read_ok : (all : List (List ℕ)) (p : Progress) (number : ℕ) (c : Certificate) → read_from p number all ≡ Ok c → IsReadAs p all c
 read_ok [] p number c read = absurd (cc)
@@ -214,7 +215,7 @@ lines_rest before (text.End ∷ said) c complete = record {
   spelled_walk = tt;
 }
 
--- what completes the header: `refutation`, and the lines behind it
+-- what completes the header: `refutation`, and the lines after it
 kind_rest : (said : List CertText) (c : Certificate) → Completes (record { section = section.Kind; lines = []; walk = [] }) said c → (more : List CertText) × (said ≡ text.Refutation ∷ more) × IsRestOfLines [] more c
 kind_rest [] c complete = absurd complete
 kind_rest (text.Blank ∷ said) c complete = absurd complete

@@ -3,21 +3,21 @@ use Rattle.std.proofs.Common.{◌≡◌, ℕ, ◌<◌, ◌+◌, List, [], ◌∷
 use Rattle.std.proofs.lemmas.List.{append-nil, flat_map_more, take_more}
 use Rattle.std.proofs.lemmas.List.Concat.{flat_map-append}
 use Rattle.std.specs.List.{flat_map}
-use Rattle.net_model.specs.Printing.{behind_blank, printed_line, printed}
-use Rattle.net_model.proofs.PrintingLemmas.{flat_map-map}
+use Rattle.texts.specs.Printing.{after_blank, printed_line, printed}
+use Rattle.texts.proofs.PrintingLemmas.{flat_map-map}
 use Rattle.cert_format.specs.declared.line.CertLine.{CertLine}
 use Rattle.cert_format.specs.declared.certificate.Certificate.TheVariants.{Refutation}
 use Rattle.cert_format.specs.CertificateWords.{line_words, walk_words, header_words, refutation_words, end_words, printed_certificate}
 
 -- a rule line that was written word by word
-pub rule_written : (out first from to weight : List ℕ) (operands label : List (List ℕ)) → ((((((out ++ first) ++ flat_map behind_blank operands) ++ behind_blank from) ++ behind_blank to) ++ flat_map behind_blank label) ++ behind_blank weight) ++ 10 ∷ [] ≡ out ++ printed_line (first ∷ (operands ++ (from ∷ to ∷ (label ++ weight ∷ []))))
+pub rule_written : (out first from to weight : List ℕ) (operands label : List (List ℕ)) → ((((((out ++ first) ++ flat_map after_blank operands) ++ after_blank from) ++ after_blank to) ++ flat_map after_blank label) ++ after_blank weight) ++ 10 ∷ [] ≡ out ++ printed_line (first ∷ (operands ++ (from ∷ to ∷ (label ++ weight ∷ []))))
 rule_written out first from to weight operands label =
-    rw (flat_map-append behind_blank operands (from ∷ to ∷ (label ++ weight ∷ [])), flat_map-append behind_blank label (weight ∷ []))
+    rw (flat_map-append after_blank operands (from ∷ to ∷ (label ++ weight ∷ [])), flat_map-append after_blank label (weight ∷ []))
     (simp (append_assoc, append-nil))
 
--- printed lines behind those of a list
-printed_behind : {X : Type 0} (line : X → List (List ℕ)) (xs : List X) (others : List (List (List ℕ))) → printed (map line xs ++ others) ≡ flat_map (λ x. printed_line (line x)) xs ++ printed others
-printed_behind line xs others =
+-- printed lines after those of a list
+printed_after : {X : Type 0} (line : X → List (List ℕ)) (xs : List X) (others : List (List (List ℕ))) → printed (map line xs ++ others) ≡ flat_map (λ x. printed_line (line x)) xs ++ printed others
+printed_after line xs others =
     flat_map-append printed_line (map line xs) others ∙ ap (λ front. front ++ printed others) (flat_map-map printed_line line xs)
 
 regrouped : (header second rules walk end : List ℕ) → (((([] ++ header) ++ second) ++ rules) ++ walk) ++ end ≡ header ++ (second ++ (rules ++ (walk ++ (end ++ []))))
@@ -33,7 +33,7 @@ printed_pieces lines walk =
     let steps : List ℕ = flat_map (λ i. printed_line (walk_words i)) walk in
     let last : List (List (List ℕ)) = end_words ∷ [] in
     regrouped header second rules steps (printed_line end_words)
-    ∙ sym (ap (λ (rest : List ℕ). header ++ (second ++ rest)) (printed_behind line_words lines (map walk_words walk ++ last) ∙ ap (λ (rest : List ℕ). rules ++ rest) (printed_behind walk_words walk last)))
+    ∙ sym (ap (λ (rest : List ℕ). header ++ (second ++ rest)) (printed_after line_words lines (map walk_words walk ++ last) ∙ ap (λ (rest : List ℕ). rules ++ rest) (printed_after walk_words walk last)))
 
 -- one printed line more
 pub written_more : (print : CertLine → List ℕ) (out : List ℕ) (lines : List CertLine) (i : ℕ) (line : CertLine) → i < length lines → line ≡ get_or lines i line → (out ++ flat_map print (take i lines)) ++ print line ≡ out ++ flat_map print (take (i + 1) lines)

@@ -6,9 +6,10 @@ use Rattle.std.specs.Fmt.{decimal, signed_decimal}
 use Rattle.std.proofs.lemmas.List.{append-nil}
 use Rattle.std.proofs.lemmas.List.Elements.{recursion_from_All}
 use Rattle.net_model.specs.Names.{is_name}
-use Rattle.net_model.specs.Text.{are_passed_over, lines}
-use Rattle.net_model.specs.Printing.{joined}
-use Rattle.net_model.proofs.PrintingLemmas.{IsPrintable, IsPrintableLine, words-joined, lines-printed}
+use Rattle.texts.specs.Words.{are_passed_over}
+use Rattle.texts.specs.Lines.{lines}
+use Rattle.texts.specs.Printing.{joined}
+use Rattle.texts.proofs.PrintingLemmas.{IsPrintable, IsPrintableLine, words-joined, lines-printed}
 use Rattle.net_model.proofs.SpellingLemmas.{printable_name, printable_natural, printable_integer}
 use Rattle.cert_format.specs.Keywords.{spelled}
 use Rattle.cert_format.specs.CertificateWords.{rule_word, operand_words, label_words, line_words, walk_words, header_words, refutation_words, end_words, certificate_words, printed_certificate, AreOperands, IsSpelledLine, IsSpelled}

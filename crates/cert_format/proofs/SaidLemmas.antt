@@ -5,7 +5,7 @@ use Rattle.std.specs.Str.{bytes_eq}
 use Rattle.std.specs.Fmt.{decimal, signed_decimal}
 use Rattle.net_model.specs.Names.{is_name}
 use Rattle.net_model.specs.Numbers.{name_of}
-use Rattle.net_model.specs.Text.{is_remark, are_passed_over}
+use Rattle.texts.specs.Words.{is_remark, are_passed_over}
 use Rattle.net_model.specs.declared.format.FormatKind.{FormatKind}
 use Rattle.net_model.specs.declared.format.FormatKind.TheVariants.{UnknownWord}
 use Rattle.net_model.proofs.SpellingLemmas.{spelled_natural, spelled_integer}
@@ -33,7 +33,7 @@ number_ok word n read = spelled_natural MOST_LINE_NUMBER n word read (omega arit
 weight_ok : (word : List ℕ) (w : ℤ) → weight_of word ≡ Ok w → (word ≡ signed_decimal w) × (unsigned_abs w ≤ MOST_WEIGHT)
 weight_ok word w read = spelled_integer MOST_WEIGHT w word read (omega arith)
 
--- what stands behind the operands of a rule line, FROM, TO, LABEL where there is one, and W, is the edge of the line
+-- what stands after the operands of a rule line, FROM, TO, LABEL where there is one, and W, is the edge of the line
 record IsEdge (kind : LineKind) (tail : List (List ℕ)) (line : CertLine) : Type 0 where
   same_kind : line.kind ≡ kind
   words : tail ≡ line.from ∷ line.to ∷ (label_words line.label ++ signed_decimal line.weight ∷ [])
@@ -76,7 +76,7 @@ labelled_is kind one a b c d line read =
     let is : IsEdge kind (a ∷ b ∷ c ∷ d ∷ []) edge = record { same_kind = refl; words = four _ _ _ _ _ _ _ _ x.0 y.0 z.0 w.0; from = x.1; to = y.1; label = z.1; weight = w.1 } in
     subst (λ (l : CertLine). IsEdge kind (a ∷ b ∷ c ∷ d ∷ []) l) same is
 
--- a first word and what stands behind it are the words of a rule line
+-- a first word and what stands after it are the words of a rule line
 record IsRule (first : Keyword) (others : List (List ℕ)) (line : CertLine) : Type 0 where
   words : spelled first ∷ others ≡ line_words line
   spelling : IsSpelledLine line
@@ -191,7 +191,7 @@ drop_is (a ∷ b ∷ c ∷ d ∷ []) line read =
     rule_of_edge (kind.Drop first.0) (a ∷ []) (b ∷ c ∷ d ∷ []) line (one_word _ _ first_is.0) first_is.1 (unlabelled_is (kind.Drop first.0) refl b c d line first.2)
 drop_is (a ∷ b ∷ c ∷ d ∷ z ∷ others) line read = absurd (cc)
 
--- a first word and what stands behind it spell a text
+-- a first word and what stands after it spell a text
 record IsSaid (first : Keyword) (others : List (List ℕ)) (said : CertText) : Type 0 where
   words : spelled first ∷ others ≡ text_words said
   spelling : IsSpelledText said
@@ -248,7 +248,7 @@ find_passes test [] k found = absurd (cc)
 find_passes test (x ∷ ks) k found =
     elim (choice (test x) (Some x) (find test ks) (Some k) found) [
       | inl here ↦ let same : x ≡ k = cc in subst (λ (y : Keyword). test y ≡ true) same here.0
-      | inr behind ↦ find_passes test ks k behind.1
+      | inr after ↦ find_passes test ks k after.1
     ]
 
 keyword_is : (word : List ℕ) (k : Keyword) → keyword_of word ≡ Some k → word ≡ spelled k

@@ -3,7 +3,7 @@ use Rattle.std.proofs.Common.{◌≡◌, ℕ, ℤ, ◌≤◌, true, false, List,
 use Rattle.std.specs.Option.{is_some, IfSome}
 use Rattle.std.specs.Fmt.{decimal, signed_decimal}
 use Rattle.net_model.specs.Names.{is_name}
-use Rattle.net_model.specs.Text.{are_passed_over}
+use Rattle.texts.specs.Words.{are_passed_over}
 use Rattle.net_model.specs.declared.format.FormatKind.{FormatKind}
 use Rattle.net_model.proofs.SpellingLemmas.{natural_spelled, integer_spelled}
 use Rattle.net_model.proofs.ReadingLemmas.{name_read}
@@ -70,7 +70,7 @@ relabelled : (kind : LineKind) (from to : List ℕ) (label : Option (List ℕ)) 
 relabelled kind from to label weight p q read said =
     ap rule said ∙ ap (λ (line : CertLine). Ok (text.Line line)) (same_line kind from to label weight p q)
 
--- what stands behind the first word of a rule line
+-- what stands after the first word of a rule line
 abbrev rule_tail : (kind : LineKind) (from to : List ℕ) (label : Option (List ℕ)) (weight : ℤ) → List (List ℕ)
 rule_tail kind from to label weight = operand_words kind ++ (from ∷ to ∷ (label_words label ++ signed_decimal weight ∷ []))
 

@@ -1,6 +1,7 @@
 -- The grammar of the texts of certificates. This project's own choice.
 use Rattle.std.specs.Prelude.{◌≡◌, ℕ, ◌+◌, List, [], ◌∷◌, ◌++◌, length, Result, Ok, Err, if◌then◌else◌}
-use Rattle.net_model.specs.Text.{are_passed_over, words, lines}
+use Rattle.texts.specs.Words.{are_passed_over, words}
+use Rattle.texts.specs.Lines.{lines}
 use Rattle.net_model.specs.declared.format.FormatFault.{FormatFault}
 use Rattle.net_model.specs.declared.format.TextFault.{TextFault}
 use Rattle.net_model.specs.declared.format.TextFault.TheVariants as whole
@@ -12,7 +13,7 @@ abbrev pub filled_words : List (List ℕ) → List (List (List ℕ))
 filled_words [] = []
 filled_words (line ∷ others) = if are_passed_over (words line) then filled_words others else words line ∷ filled_words others
 
--- the lines of a certificate: those up to the last one spell it, and behind them anything may stand
+-- the lines of a certificate: those up to the last one spell it, and after them anything may stand
 pub record AreCertificateLines (all : List (List ℕ)) (certificate : Certificate) : Type 0 where
   pub used : List (List ℕ)
   pub ignored : List (List ℕ)

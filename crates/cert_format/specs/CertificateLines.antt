@@ -1,7 +1,7 @@
 -- The lines of a certificate, each by its words. This project's own choice.
 use Rattle.std.specs.Prelude.{◌≡◌, ℕ, ℤ, true, false, List, [], ◌∷◌, Option, None, Some, Result, Ok, Err, codes, if◌then◌else◌, refl}
 use Rattle.std.specs.Str.{bytes_eq}
-use Rattle.net_model.specs.Text.{is_remark}
+use Rattle.texts.specs.Words.{is_remark}
 use Rattle.net_model.specs.Numbers.{name_of, natural_of, integer_of}
 use Rattle.net_model.specs.Reading.{◌>>=◌}
 use Rattle.net_model.specs.declared.format.FormatKind.{FormatKind}
@@ -42,21 +42,21 @@ labelled kind one from to label weight = do
   w ← weight_of weight
   Ok (record { kind = kind; from = x; to = y; label = Some l; weight = w; labelled = one })
 
--- NAME FROM TO W, behind `bound`
+-- NAME FROM TO W, after `bound`
 abbrev pub bound_line : List (List ℕ) → Result CertLine FormatKind
 bound_line (name ∷ from ∷ to ∷ weight ∷ []) = do
   n ← name_of name
   unlabelled (kind.Bound n) refl from to weight
 bound_line others = Err WordCount
 
--- NAME FROM TO W, behind `link`
+-- NAME FROM TO W, after `link`
 abbrev pub link_line : List (List ℕ) → Result CertLine FormatKind
 link_line (name ∷ from ∷ to ∷ weight ∷ []) = do
   n ← name_of name
   unlabelled (kind.Link n) refl from to weight
 link_line others = Err WordCount
 
--- I J FROM TO W, behind `no`
+-- I J FROM TO W, after `no`
 abbrev pub no_line : List (List ℕ) → Result CertLine FormatKind
 no_line (first ∷ second ∷ from ∷ to ∷ weight ∷ []) = do
   i ← number_of first
@@ -64,7 +64,7 @@ no_line (first ∷ second ∷ from ∷ to ∷ weight ∷ []) = do
   unlabelled (kind.No i j) refl from to weight
 no_line others = Err WordCount
 
--- I J FROM TO LABEL W, behind `up`
+-- I J FROM TO LABEL W, after `up`
 abbrev pub up_line : List (List ℕ) → Result CertLine FormatKind
 up_line (first ∷ second ∷ from ∷ to ∷ label ∷ weight ∷ []) = do
   i ← number_of first
@@ -72,7 +72,7 @@ up_line (first ∷ second ∷ from ∷ to ∷ label ∷ weight ∷ []) = do
   labelled (kind.Up i j) refl from to label weight
 up_line others = Err WordCount
 
--- NAME J FROM TO W, behind `low`
+-- NAME J FROM TO W, after `low`
 abbrev pub low_line : List (List ℕ) → Result CertLine FormatKind
 low_line (name ∷ second ∷ from ∷ to ∷ weight ∷ []) = do
   n ← name_of name
@@ -80,7 +80,7 @@ low_line (name ∷ second ∷ from ∷ to ∷ weight ∷ []) = do
   unlabelled (kind.Low n j) refl from to weight
 low_line others = Err WordCount
 
--- NAME J FROM TO LABEL W, behind `cross`
+-- NAME J FROM TO LABEL W, after `cross`
 abbrev pub cross_line : List (List ℕ) → Result CertLine FormatKind
 cross_line (name ∷ second ∷ from ∷ to ∷ label ∷ weight ∷ []) = do
   n ← name_of name
@@ -88,7 +88,7 @@ cross_line (name ∷ second ∷ from ∷ to ∷ label ∷ weight ∷ []) = do
   labelled (kind.Cross n j) refl from to label weight
 cross_line others = Err WordCount
 
--- J FROM TO W, behind `drop`
+-- J FROM TO W, after `drop`
 abbrev pub drop_line : List (List ℕ) → Result CertLine FormatKind
 drop_line (second ∷ from ∷ to ∷ weight ∷ []) = do
   j ← number_of second
@@ -101,19 +101,19 @@ rule read = do
   line ← read
   Ok (text.Line line)
 
--- I, behind `walk`
+-- I, after `walk`
 abbrev pub walk_line : List (List ℕ) → Result CertText FormatKind
 walk_line (first ∷ []) = do
   i ← number_of first
   Ok (text.Walk i)
 walk_line others = Err WordCount
 
--- 1, behind `certificate`
+-- 1, after `certificate`
 abbrev pub header_line : List (List ℕ) → Result CertText FormatKind
 header_line (version ∷ []) = if bytes_eq version (codes "1") then Ok text.Header else Err UnknownWord
 header_line others = Err UnknownWord
 
--- nothing, behind `refutation` or `end`
+-- nothing, after `refutation` or `end`
 abbrev pub lone_word : CertText → List (List ℕ) → Result CertText FormatKind
 lone_word said [] = Ok said
 lone_word said others = Err WordCount

@@ -1,6 +1,7 @@
 -- The text of a certificate: the order of its lines, what a whole text says, or its first fault. This project's own choice.
 use Rattle.std.specs.Prelude.{◌≡◌, ℕ, ◌+◌, Bool, true, false, List, [], ◌∷◌, ◌++◌, Option, None, Some, Result, Ok, Err, if◌then◌else◌}
-use Rattle.net_model.specs.Text.{is_remark, words, lines}
+use Rattle.texts.specs.Words.{is_remark, words}
+use Rattle.texts.specs.Lines.{lines}
 use Rattle.net_model.specs.declared.format.FormatKind.{FormatKind}
 use Rattle.net_model.specs.declared.format.FormatKind.TheVariants.{UnknownWord, NoHeader, NoEnd}
 use Rattle.net_model.specs.declared.format.FormatFault.{FormatFault}
@@ -78,13 +79,13 @@ certificate_of progress = Refutation progress.lines progress.walk
 abbrev pub fault_at : ℕ → FormatKind → Result Certificate FormatFault
 fault_at number kind = Err (record { line = number; kind = kind })
 
--- what a text says that has come to a line, by the number of the line, what it says, and what the lines behind it add
+-- what a text says that has come to a line, by the number of the line, what it says, and what the lines after it add
 abbrev pub said_from : Progress → ℕ → Result CertText FormatKind → (Progress → Result Certificate FormatFault) → Result Certificate FormatFault
-said_from progress number (Ok text.End) behind = Ok (certificate_of progress)
-said_from progress number (Ok said) behind = behind (advanced progress said)
-said_from progress number (Err kind) behind = fault_at number kind
+said_from progress number (Ok text.End) after = Ok (certificate_of progress)
+said_from progress number (Ok said) after = after (advanced progress said)
+said_from progress number (Err kind) after = fault_at number kind
 
--- what the lines of a text say, of which the first has a number, behind what was read
+-- what the lines of a text say, of which the first has a number, after what was read
 abbrev pub read_from : Progress → ℕ → List (List ℕ) → Result Certificate FormatFault
 read_from progress number [] = fault_at number (missing progress.section)
 read_from progress number (line ∷ others) = said_from progress number (line_in progress.section (words line)) (λ more. read_from more (number + 1) others)

@@ -3,7 +3,7 @@ use Rattle.std.specs.Prelude.{◌≤◌, ℕ, List, [], ◌∷◌, ◌++◌, map
 use Rattle.std.specs.List.{All}
 use Rattle.std.specs.Fmt.{decimal, signed_decimal}
 use Rattle.net_model.specs.Names.{is_name}
-use Rattle.net_model.specs.Printing.{printed}
+use Rattle.texts.specs.Printing.{printed}
 use Rattle.cert_format.specs.Keywords.{spelled}
 use Rattle.cert_format.specs.declared.keyword.Keyword.{Keyword}
 use Rattle.cert_format.specs.declared.keyword.Keyword.TheVariants as keyword
@@ -24,7 +24,7 @@ rule_word (kind.Low name j) = keyword.Low
 rule_word (kind.Cross name j) = keyword.Cross
 rule_word (kind.Drop j) = keyword.Drop
 
--- the words behind it that name an item of the network and earlier lines
+-- the words after it that name an item of the network and earlier lines
 abbrev pub operand_words : LineKind → List (List ℕ)
 operand_words (kind.Bound name) = name ∷ []
 operand_words (kind.Link name) = name ∷ []

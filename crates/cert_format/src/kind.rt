@@ -1,7 +1,7 @@
 use net_model::Name;
 
 /// By what a line of a refutation derives its edge. A number is that of an earlier line, from 1: the lines of the
-/// certificate that are not blank, behind its second line.
+/// certificate that are not blank, after its second line.
 #[derive(Clone, Copy, Debug, PartialEq, Eq)]
 pub enum LineKind {
     /// The edge of the bound of this name.

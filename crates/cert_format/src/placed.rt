@@ -1,7 +1,7 @@
 //! One line of a certificate in its place.
 
 ghost use Rattle.std.specs.Prelude.{◌≡◌};
-ghost use Rattle.net_model.specs.Text.{words};
+ghost use Rattle.texts.specs.Words.{words};
 ghost use Rattle.cert_format.specs.CertificateText.{line_in, admitted, refused_in};
 
 use crate::keyword::Keyword;
@@ -14,13 +14,13 @@ use net_model::{FormatKind, text};
 pub(crate) fn line_in(section: Section, line: &[u8]) -> Result<CertText, FormatKind>
     ensures { result ≡ line_in section (words line.now) }
 {
-    let Some((first, rest)) = text::first_word(line) else {
+    let Some((first, rest)) = texts::first_word(line) else {
         return Ok(CertText::Blank);
     };
     refused_in(section, admitted(section, Keyword::of(first), rest))
 }
 
-/// What stands behind the first word of a line in a section.
+/// What stands after the first word of a line in a section.
 fn admitted(section: Section, first: Option<Keyword>, rest: &[u8]) -> Result<CertText, FormatKind>
     ensures { result ≡ admitted section first (words rest.now) }
 {

@@ -4,7 +4,7 @@ ghost use Rattle.std.specs.Prelude.{◌≡◌, ◌++◌, [], ◌≤◌, OnOk, If
 ghost use Rattle.std.specs.List.{flat_map};
 ghost use Rattle.std.specs.Fmt.{decimal};
 ghost use Rattle.net_model.specs.Names.{is_name};
-ghost use Rattle.net_model.specs.Printing.{behind_blank, printed_line};
+ghost use Rattle.texts.specs.Printing.{after_blank, printed_line};
 ghost use Rattle.cert_format.specs.declared.read.TheConstants.{MOST_LINE_NUMBER};
 ghost use Rattle.cert_format.specs.CertificateText.{certificate_text};
 ghost use Rattle.cert_format.specs.CertificateWords.{rule_word, operand_words, label_words, line_words, walk_words, printed_certificate, AreOperands, IsWeight, IsSpelledLine, HasWeights};
@@ -14,7 +14,7 @@ use crate::keyword::Keyword;
 use crate::kind::LineKind;
 use crate::line::CertLine;
 use net_model::Name;
-use net_model::text::push_line;
+use texts::push_line;
 use std::alloc::{AllocError, Global};
 
 /// The text of a certificate: the header, `refutation`, the rule lines and the walk in their order, and `end`, with one
@@ -88,7 +88,7 @@ fn rule_word(kind: &LineKind) -> Keyword
 }
 
 fn push_operands(alloc: Global, out: &mut Vec<u8>, kind: &LineKind) -> Result<(), AllocError>
-    ensures text { OnOk result (out.new.items ≡ out.old.items ++ flat_map behind_blank (operand_words kind.now)) }
+    ensures text { OnOk result (out.new.items ≡ out.old.items ++ flat_map after_blank (operand_words kind.now)) }
     ensures spelled { OnOk result (AreOperands kind.now) }
 {
     match kind {
@@ -106,7 +106,7 @@ fn push_operands(alloc: Global, out: &mut Vec<u8>, kind: &LineKind) -> Result<()
 }
 
 fn push_label(out: &mut Vec<u8>, label: &Option<Name>) -> Result<(), AllocError>
-    ensures text { OnOk result (out.new.items ≡ out.old.items ++ flat_map behind_blank (label_words label.now)) }
+    ensures text { OnOk result (out.new.items ≡ out.old.items ++ flat_map after_blank (label_words label.now)) }
     ensures spelled { OnOk result (IfSome label.now (λ label. IsTrue (is_name label))) }
 {
     match label {
@@ -126,14 +126,14 @@ fn push_walk(alloc: Global, out: &mut Vec<u8>, walk: &[u64]) -> Result<(), Alloc
 }
 
 fn push_number(alloc: Global, out: &mut Vec<u8>, number: u64) -> Result<(), AllocError>
-    ensures { OnOk result (out.new.items ≡ out.old.items ++ behind_blank (decimal number)) }
+    ensures { OnOk result (out.new.items ≡ out.old.items ++ after_blank (decimal number)) }
 {
     push_word(out, number.to_string(alloc)?.as_bytes())
 }
 
 /// One blank and a word.
 fn push_word(out: &mut Vec<u8>, word: &[u8]) -> Result<(), AllocError>
-    ensures { OnOk result (out.new.items ≡ out.old.items ++ behind_blank word.now) }
+    ensures { OnOk result (out.new.items ≡ out.old.items ++ after_blank word.now) }
 {
     out.push(b' ')?;
     out.extend_from_slice(word)?;

@@ -2,7 +2,7 @@
 
 ghost use Rattle.std.specs.Prelude.{◌≡◌, true, false};
 ghost use Rattle.std.specs.Result.{result_map_both};
-ghost use Rattle.net_model.specs.Text.{words};
+ghost use Rattle.texts.specs.Words.{words};
 ghost use Rattle.cert_format.specs.Kind.{has_label};
 ghost use Rattle.cert_format.specs.CertificateLines.{cert_text, line_of, header_line, lone_word, walk_line, bound_line, link_line, no_line, up_line, low_line, cross_line, drop_line, unlabelled, labelled, number_of, weight_of};
 
@@ -48,7 +48,7 @@ pub fn read_cert_line(line: &[u8]) -> Result<CertText, WordFault>
 pub(crate) fn cert_text(line: &[u8]) -> Result<CertText, FormatKind>
     ensures { result ≡ cert_text (words line.now) }
 {
-    let Some((first, rest)) = text::first_word(line) else {
+    let Some((first, rest)) = texts::first_word(line) else {
         return Ok(CertText::Blank);
     };
     match Keyword::of(first) {
@@ -57,7 +57,7 @@ pub(crate) fn cert_text(line: &[u8]) -> Result<CertText, FormatKind>
     }
 }
 
-/// What stands behind the first word of a line.
+/// What stands after the first word of a line.
 pub(crate) fn line_of(keyword: Keyword, rest: &[u8]) -> Result<CertText, FormatKind>
     ensures { result ≡ line_of keyword (words rest.now) }
 {
@@ -76,14 +76,14 @@ pub(crate) fn line_of(keyword: Keyword, rest: &[u8]) -> Result<CertText, FormatK
     }
 }
 
-/// What stands behind `certificate`.
+/// What stands after `certificate`.
 fn header_line(rest: &[u8]) -> Result<CertText, FormatKind>
     ensures { result ≡ header_line (words rest.now) }
 {
-    let Some((version, rest)) = text::next_word(rest) else {
+    let Some((version, rest)) = texts::next_word(rest) else {
         return Err(FormatKind::UnknownWord);
     };
-    if text::next_word(rest).is_some() {
+    if texts::next_word(rest).is_some() {
         return Err(FormatKind::UnknownWord);
     }
     if version == b"1".as_slice() {
@@ -92,7 +92,7 @@ fn header_line(rest: &[u8]) -> Result<CertText, FormatKind>
     Err(FormatKind::UnknownWord)
 }
 
-/// What stands behind a word that is a line by itself.
+/// What stands after a word that is a line by itself.
 fn lone_word(said: CertText, rest: &[u8]) -> Result<CertText, FormatKind>
     ensures { result ≡ lone_word said (words rest.now) }
 {
@@ -100,7 +100,7 @@ fn lone_word(said: CertText, rest: &[u8]) -> Result<CertText, FormatKind>
     Ok(said)
 }
 
-/// What stands behind `walk`.
+/// What stands after `walk`.
 fn walk_line(rest: &[u8]) -> Result<CertText, FormatKind>
     ensures { result ≡ walk_line (words rest.now) }
 {
@@ -109,7 +109,7 @@ fn walk_line(rest: &[u8]) -> Result<CertText, FormatKind>
     Ok(CertText::Walk(number(first)?))
 }
 
-/// What stands behind `bound`.
+/// What stands after `bound`.
 fn bound_line(rest: &[u8]) -> Result<CertLine, FormatKind>
     ensures { result ≡ bound_line (words rest.now) }
 {
@@ -122,7 +122,7 @@ fn bound_line(rest: &[u8]) -> Result<CertLine, FormatKind>
     unlabelled(kind, from, to, weight)
 }
 
-/// What stands behind `link`.
+/// What stands after `link`.
 fn link_line(rest: &[u8]) -> Result<CertLine, FormatKind>
     ensures { result ≡ link_line (words rest.now) }
 {
@@ -135,7 +135,7 @@ fn link_line(rest: &[u8]) -> Result<CertLine, FormatKind>
     unlabelled(kind, from, to, weight)
 }
 
-/// What stands behind `no`.
+/// What stands after `no`.
 fn no_line(rest: &[u8]) -> Result<CertLine, FormatKind>
     ensures { result ≡ no_line (words rest.now) }
 {
@@ -149,7 +149,7 @@ fn no_line(rest: &[u8]) -> Result<CertLine, FormatKind>
     unlabelled(kind, from, to, weight)
 }
 
-/// What stands behind `up`.
+/// What stands after `up`.
 fn up_line(rest: &[u8]) -> Result<CertLine, FormatKind>
     ensures { result ≡ up_line (words rest.now) }
 {
@@ -164,7 +164,7 @@ fn up_line(rest: &[u8]) -> Result<CertLine, FormatKind>
     labelled(kind, from, to, label, weight)
 }
 
-/// What stands behind `low`.
+/// What stands after `low`.
 fn low_line(rest: &[u8]) -> Result<CertLine, FormatKind>
     ensures { result ≡ low_line (words rest.now) }
 {
@@ -178,7 +178,7 @@ fn low_line(rest: &[u8]) -> Result<CertLine, FormatKind>
     unlabelled(kind, from, to, weight)
 }
 
-/// What stands behind `cross`.
+/// What stands after `cross`.
 fn cross_line(rest: &[u8]) -> Result<CertLine, FormatKind>
     ensures { result ≡ cross_line (words rest.now) }
 {
@@ -193,7 +193,7 @@ fn cross_line(rest: &[u8]) -> Result<CertLine, FormatKind>
     labelled(kind, from, to, label, weight)
 }
 
-/// What stands behind `drop`.
+/// What stands after `drop`.
 fn drop_line(rest: &[u8]) -> Result<CertLine, FormatKind>
     ensures { result ≡ drop_line (words rest.now) }
 {

@@ -30,7 +30,7 @@ impl Model for CertReader {
 
 impl CertReader {
     ghost use Rattle.std.specs.Prelude.{◌≡◌, IfOk, OnOk, OnErr};
-    ghost use Rattle.net_model.specs.Text.{words};
+    ghost use Rattle.texts.specs.Words.{words};
     ghost use Rattle.cert_format.specs.CertificateText.{SaysLine, begun, advanced, line_in, certificate_of};
 
     /// Before the first line.
@@ -52,7 +52,7 @@ impl CertReader {
     }
 
     /// Reads the next line in its place and keeps what it says. A line that is refused changes nothing, and want of
-    /// memory neither. The caller reads nothing more behind `End`.
+    /// memory neither. The caller reads nothing more after `End`.
     pub fn read_line(&mut self, line: &[u8]) -> Result<CertText, WordFault>
         ensures said { SaysLine result (line_in self.old.section (words line.now)) }
         ensures kept { IfOk result (λ said. self.new ≡ advanced self.old said) }

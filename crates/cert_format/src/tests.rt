@@ -15,7 +15,7 @@ enum Place {
     Weight,
 }
 
-/// A line: its first word and the places behind it.
+/// A line: its first word and the places after it.
 type Form = (&'static str, &'static [Place]);
 
 const FORMS: [Form; 8] = [
@@ -76,7 +76,7 @@ const FORMS: [Form; 8] = [
     ("walk", &[Place::Number]),
 ];
 
-/// A line of a form with a word in one place, good words before it, and bad ones behind it.
+/// A line of a form with a word in one place, good words before it, and bad ones after it.
 fn line_with(alloc: Global, form: Form, place: usize, word: &[u8]) -> Result<Vec<u8>, AllocError> {
     let (first, places) = form;
     let mut line = Vec::from_slice(alloc, first.as_bytes())?;
@@ -418,7 +418,7 @@ fn certificates_are_printed_as_they_were_read(rt: HostRuntime) -> Result<(), Fai
 }
 
 #[test]
-fn blank_lines_and_what_stands_behind_the_end_change_nothing(rt: HostRuntime) -> Result<(), Fail> {
+fn blank_lines_and_what_stands_after_the_end_change_nothing(rt: HostRuntime) -> Result<(), Fail> {
     let text =
         b"\n# x\n certificate\t1\r\n\nrefutation\n#\nbound b A B 3\n \nwalk 1\nend\r\nfoo\nend x\n";
     match printed_again(rt.alloc(), text)? {

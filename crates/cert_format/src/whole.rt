@@ -13,10 +13,10 @@ use net_model::{FormatFault, TextFault, WordFault, text};
 use std::alloc::Global;
 
 /// Reads the text of a certificate: the header `certificate 1`, the line `refutation`, rule lines, walk lines and the
-/// line `end`, with blank lines between. Nothing behind the `end` line is looked at. The fault is that of the first
+/// line `end`, with blank lines between. Nothing after the `end` line is looked at. The fault is that of the first
 /// bad line: `NoHeader` where the first line that is not blank is not the header, `UnknownWord` also where a line of
 /// another place begins with its word, and else that of `read_cert_line`. Where the text ends before its `end` line,
-/// the fault is `NoEnd`, or `NoHeader` before the header, at the number behind the last line. `OutOfMemory` comes only for
+/// the fault is `NoEnd`, or `NoHeader` before the header, at the number after the last line. `OutOfMemory` comes only for
 /// want of memory. There are fewer than 2^31 bytes.
 pub fn read_certificate(alloc: Global, bytes: &[u8]) -> Result<Certificate, TextFault>
     requires { length bytes.now < 2 ^ 31 }
@@ -38,7 +38,7 @@ fn read_lines(alloc: Global, bytes: &[u8]) -> Result<Certificate, TextFault>
     let mut reader = CertReader::new(alloc);
     let mut rest = bytes;
     let mut number: u32 = 1;
-    while let Some((line, others)) = text::next_line(rest) {
+    while let Some((line, others)) = texts::next_line(rest) {
         match reader.read_line(line) {
             Ok(CertText::End) => return Ok(reader.into_certificate()),
             Ok(_) => {}

@@ -2,10 +2,9 @@ pub mod NameLemmas
 pub mod Positions
 pub mod NetworkLemmas
 pub mod StoredLemmas
-pub mod TextLemmas
-pub mod LineLemmas
-pub mod PrintingLemmas
 pub mod SpellingLemmas
 pub mod ReadingLemmas
+pub mod PlanNumbers
+pub mod RuleLemmas
 pub mod PartsLemmas
 pub mod NumberLemmas

@@ -17,7 +17,8 @@ use Rattle.std.proofs.lemmas.List.Quantifiers.{all_pairs_push}
 use Rattle.std.proofs.lemmas.Map.Keys.{IsDistinct-push}
 use Rattle.net_model.proofs.Positions.{None_from_option_map, fails_from_None, None_from_fails, list_any_from_None, position-map}
 use Rattle.net_model.specs.Names.{is_name}
-use Rattle.net_model.specs.Network.{Plan, IsPlan, IsBound, IsLink, point_named, bound_named, activation, within_limit, greatest}
+use Rattle.net_model.specs.Network.{Plan, IsPlan, IsBound, IsLink, point_named, bound_named, activation, greatest}
+use Rattle.net_model.specs.Limits.{most_points, most_links, most_bounds, most_size, within_size}
 use Rattle.net_model.specs.declared.part.Bound.{Bound}
 use Rattle.net_model.specs.declared.part.Link.{Link}
 
@@ -46,7 +47,7 @@ module _ (net more : Plan) (grown : length net.points ≤ length more.points) wh
 abbrev pub more_points : Plan → List ℕ → Plan
 more_points net name = record net { points = net.points ++ name ∷ [] }
 
-pub IsPlan-more_points : (net : Plan) (name : List ℕ) → IsPlan net → IsTrue (is_name name) → point_named net name ≡ None → length net.points < 1000 → IsPlan (more_points net name)
+pub IsPlan-more_points : (net : Plan) (name : List ℕ) → IsPlan net → IsTrue (is_name name) → point_named net name ≡ None → length net.points < most_points → IsPlan (more_points net name)
 IsPlan-more_points net name plan named fresh room =
     let none = None_from_option_map _ (position (bytes_eq name) net.points) fresh in
     let grown : length net.points ≤ length (net.points ++ name ∷ []) = grind (arith, common_steps) in
@@ -81,7 +82,7 @@ pub free_name : (net : Plan) (name : List ℕ) → bound_named net name ≡ None
 free_name net name fresh =
     position-map (bytes_eq name) (λ (b : Bound). b.name) net.bounds ∙ None_from_option_map _ (position (λ (b : Bound). bytes_eq name b.name) net.bounds) fresh
 
-pub IsPlan-more_bounds : (net : Plan) (bound : Bound) → IsPlan net → IsBound net bound → bound_named net bound.name ≡ None → length net.bounds < 20000 → IsPlan (more_bounds net bound)
+pub IsPlan-more_bounds : (net : Plan) (bound : Bound) → IsPlan net → IsBound net bound → bound_named net bound.name ≡ None → length net.bounds < most_bounds → IsPlan (more_bounds net bound)
 IsPlan-more_bounds net bound plan sound fresh room = record {
   points_named = plan.points_named;
   points_apart = plan.points_apart;
@@ -98,7 +99,7 @@ IsPlan-more_bounds net bound plan sound fresh room = record {
 abbrev pub more_links : Plan → Link → Plan
 more_links net link = record net { links = net.links ++ link ∷ [] }
 
-pub IsPlan-more_links : (net : Plan) (link : Link) → IsPlan net → IsLink net link → activation net link.to ≡ None → length net.links < 400 → IsPlan (more_links net link)
+pub IsPlan-more_links : (net : Plan) (link : Link) → IsPlan net → IsLink net link → activation net link.to ≡ None → length net.links < most_links → IsPlan (more_links net link)
 IsPlan-more_links net link plan sound fresh room =
     let none = None_from_option_map _ (position (λ (l : Link). l.to.0 == link.to.0) net.links) fresh in
     record {
@@ -175,13 +176,13 @@ fold_max-le size most start (x ∷ xs) low all =
     let here = All-head (λ y. size y ≤ most) x xs all in
     fold_max-le size most (max start (size x)) xs (omega arith) (All-tail (λ y. size y ≤ most) x xs all)
 
-within : (number : ℤ) → within_limit number ≡ true → unsigned_abs number ≤ 1000000000
+within : (number : ℤ) → within_size number ≡ true → unsigned_abs number ≤ most_size
 within number small = grind (arith, common_steps)
 
-pub greatest-le : (net : Plan) → IsPlan net → greatest net ≤ 1000000000
+pub greatest-le : (net : Plan) → IsPlan net → greatest net ≤ most_size
 greatest-le net plan =
-    let bounds = fold_max-le (λ (b : Bound). unsigned_abs b.most) 1000000000 0 net.bounds (omega arith)
-    (All-weaker (IsBound net) (λ (b : Bound). unsigned_abs b.most ≤ 1000000000) (λ b sound. within b.most sound.within) net.bounds plan.bounds_sound) in
-    let links = fold_max-le (λ (l : Link). unsigned_abs l.high) 1000000000 0 net.links (omega arith)
-    (All-weaker (IsLink net) (λ (l : Link). unsigned_abs l.high ≤ 1000000000) (λ l sound. within l.high sound.within) net.links plan.links_sound) in
+    let bounds = fold_max-le (λ (b : Bound). unsigned_abs b.most) most_size 0 net.bounds (omega arith)
+    (All-weaker (IsBound net) (λ (b : Bound). unsigned_abs b.most ≤ most_size) (λ b sound. within b.most sound.within) net.bounds plan.bounds_sound) in
+    let links = fold_max-le (λ (l : Link). unsigned_abs l.high) most_size 0 net.links (omega arith)
+    (All-weaker (IsLink net) (λ (l : Link). unsigned_abs l.high ≤ most_size) (λ l sound. within l.high sound.within) net.links plan.links_sound) in
     omega arith

@@ -8,7 +8,8 @@ use Rattle.std.proofs.lemmas.List.{append-nil, map-append, get_or_append_left}
 use Rattle.std.proofs.Math.Seq.{get_or-append_seam}
 use Rattle.std.proofs.lemmas.List.Sums.{position_or_len_is}
 use Rattle.std.proofs.lemmas.Map.Made.{AllPairs-from_IsDistinct}
-use Rattle.net_model.specs.Network.{Plan, IsPlan, within_limit}
+use Rattle.net_model.specs.Network.{Plan, IsPlan, HasPlanNumbers}
+use Rattle.net_model.specs.Limits.{most_points, most_bounds, most_links, within_limit}
 use Rattle.net_model.specs.Building.{named, with_point, with_bound, with_link, with_part, with_parts, built}
 use Rattle.net_model.specs.NetworkParts.{point_name, bound_part, link_part, parts_of}
 use Rattle.net_model.specs.declared.ids.PointId.{PointId}
@@ -22,7 +23,7 @@ bytes_differ : (xs ys : List ℕ) → xs ≢ ys → bytes_eq ys xs ≡ false
 bytes_differ xs ys differ =
     false_from_ne_true (bytes_eq ys xs) (λ same. let equal : ys ≡ xs = search (rules, same, bytes_eq-Decides) in differ (sym equal))
 
--- a key that comes behind others that differ is none of them
+-- a key that comes after others that differ is none of them
 fresh_name : (done : List (List ℕ)) (name : List ℕ) (rest : List (List ℕ)) → IsDistinct bytes_eq (done ++ name ∷ rest) → position (bytes_eq name) done ≡ None
 fresh_name done name rest distinct =
     None_from_fails (bytes_eq name) done (λ k d inside.
@@ -57,16 +58,16 @@ has_room done x rest most few =
 abbrev only_points : List (List ℕ) → Plan
 only_points names = record { points = names; bounds = []; links = [] }
 
-point_taken : (done : List (List ℕ)) (name : List ℕ) (rest : List (List ℕ)) → IsDistinct bytes_eq (done ++ name ∷ rest) → length (done ++ name ∷ rest) ≤ 1000 → with_point (only_points done) name ≡ Ok (only_points (done ++ name ∷ []))
+point_taken : (done : List (List ℕ)) (name : List ℕ) (rest : List (List ℕ)) → IsDistinct bytes_eq (done ++ name ∷ rest) → length (done ++ name ∷ rest) ≤ most_points → with_point (only_points done) name ≡ Ok (only_points (done ++ name ∷ []))
 unfolding with_point
-point_taken done name rest distinct few = rw (fresh_name done name rest distinct, has_room done name rest 1000 few) refl
+point_taken done name rest distinct few = rw (fresh_name done name rest distinct, has_room done name rest most_points few) refl
 
-points_built : (names rest done : List (List ℕ)) (more : List Part) (answer : Result Plan _) → ((place : ℕ) → with_parts place (only_points names) more ≡ answer) → (place : ℕ) → names ≡ done ++ rest → IsDistinct bytes_eq names → length names ≤ 1000 → with_parts place (only_points done) (map part.Point rest ++ more) ≡ answer
+points_built : (names rest done : List (List ℕ)) (more : List Part) (answer : Result Plan _) → ((place : ℕ) → with_parts place (only_points names) more ≡ answer) → (place : ℕ) → names ≡ done ++ rest → IsDistinct bytes_eq names → length names ≤ most_points → with_parts place (only_points done) (map part.Point rest ++ more) ≡ answer
 points_built names [] done more answer goes_on place split distinct few =
     let same : names ≡ done = split ∙ append-nil done in
     subst (λ (ns : List (List ℕ)). with_parts place (only_points ns) more ≡ answer) same (goes_on place)
 points_built names (name ∷ rest) done more answer goes_on place split distinct few =
-    let taken = point_taken done name rest (subst (λ (ns : List (List ℕ)). IsDistinct bytes_eq ns) split distinct) (subst (λ (ns : List (List ℕ)). length ns ≤ 1000) split few) in
+    let taken = point_taken done name rest (subst (λ (ns : List (List ℕ)). IsDistinct bytes_eq ns) split distinct) (subst (λ (ns : List (List ℕ)). length ns ≤ most_points) split few) in
     built_step place (only_points done) (only_points (done ++ name ∷ [])) (part.Point name) (map part.Point rest ++ more) taken
     ∙ points_built names rest (done ++ name ∷ []) more answer goes_on (place + 1) (split ∙ one_more done name rest) distinct few
 
@@ -86,17 +87,17 @@ fresh_bound done bound rest distinct =
     sym (position-map (bytes_eq bound.name) (λ (b : Bound). b.name) done)
     ∙ fresh_name (names_of done) bound.name (names_of rest) (subst (λ (ns : List (List ℕ)). IsDistinct bytes_eq ns) names distinct)
 
-bound_taken : (points : List (List ℕ)) (done : List Bound) (bound : Bound) (rest : List Bound) → IsDistinct bytes_eq points → bound.from.0 < length points → bound.to.0 < length points → within_limit bound.most ≡ true → IsDistinct bytes_eq (names_of (done ++ bound ∷ rest)) → length (done ++ bound ∷ rest) ≤ 20000 → with_part (with_bounds points done) (bound_part points bound) ≡ Ok (with_bounds points (done ++ bound ∷ []))
+bound_taken : (points : List (List ℕ)) (done : List Bound) (bound : Bound) (rest : List Bound) → IsDistinct bytes_eq points → bound.from.0 < length points → bound.to.0 < length points → within_limit bound.most ≡ true → IsDistinct bytes_eq (names_of (done ++ bound ∷ rest)) → length (done ++ bound ∷ rest) ≤ most_bounds → with_part (with_bounds points done) (bound_part points bound) ≡ Ok (with_bounds points (done ++ bound ∷ []))
 unfolding with_bound
 bound_taken points done bound rest apart from to within distinct few =
     let net : Plan = with_bounds points done in
-    rw (fresh_bound done bound rest distinct, named_is net bound.from apart from, named_is net bound.to apart to, within, has_room done bound rest 20000 few) refl
+    rw (fresh_bound done bound rest distinct, named_is net bound.from apart from, named_is net bound.to apart to, within, has_room done bound rest most_bounds few) refl
 
 -- a bound between points that a plan has
 abbrev IsAmong : List (List ℕ) → Bound → Type 0
 IsAmong points bound = (bound.from.0 < length points) × (bound.to.0 < length points) × (within_limit bound.most ≡ true)
 
-bounds_built : (points : List (List ℕ)) (bounds rest done : List Bound) (more : List Part) (answer : Result Plan _) → ((place : ℕ) → with_parts place (with_bounds points bounds) more ≡ answer) → (place : ℕ) → bounds ≡ done ++ rest → IsDistinct bytes_eq points → All (IsAmong points) bounds → IsDistinct bytes_eq (names_of bounds) → length bounds ≤ 20000 → with_parts place (with_bounds points done) (map (bound_part points) rest ++ more) ≡ answer
+bounds_built : (points : List (List ℕ)) (bounds rest done : List Bound) (more : List Part) (answer : Result Plan _) → ((place : ℕ) → with_parts place (with_bounds points bounds) more ≡ answer) → (place : ℕ) → bounds ≡ done ++ rest → IsDistinct bytes_eq points → All (IsAmong points) bounds → IsDistinct bytes_eq (names_of bounds) → length bounds ≤ most_bounds → with_parts place (with_bounds points done) (map (bound_part points) rest ++ more) ≡ answer
 bounds_built points bounds [] done more answer goes_on place split apart among distinct few =
     let same : bounds ≡ done = split ∙ append-nil done in
     subst (λ (bs : List Bound). with_parts place (with_bounds points bs) more ≡ answer) same (goes_on place)
@@ -104,7 +105,7 @@ bounds_built points bounds (bound ∷ rest) done more answer goes_on place split
     let size : length (done ++ bound ∷ rest) ≡ length done + length (bound ∷ rest) = length-append done (bound ∷ rest) in
     let all : All (IsAmong points) (done ++ bound ∷ rest) = subst (λ (bs : List Bound). All (IsAmong points) bs) split among in
     let here : IsAmong points bound = subst (λ (b : Bound). IsAmong points b) (get_or-append_seam done bound rest bound) (all (length done) bound (omega arith)) in
-    let taken = bound_taken points done bound rest apart here.0 here.1 here.2 (subst (λ (bs : List Bound). IsDistinct bytes_eq (names_of bs)) split distinct) (subst (λ (bs : List Bound). length bs ≤ 20000) split few) in
+    let taken = bound_taken points done bound rest apart here.0 here.1 here.2 (subst (λ (bs : List Bound). IsDistinct bytes_eq (names_of bs)) split distinct) (subst (λ (bs : List Bound). length bs ≤ most_bounds) split few) in
     built_step place (with_bounds points done) (with_bounds points (done ++ bound ∷ [])) (bound_part points bound) (map (bound_part points) rest ++ more) taken
     ∙ bounds_built points bounds rest (done ++ bound ∷ []) more answer goes_on (place + 1) (split ∙ one_more done bound rest) apart among distinct few
 
@@ -133,14 +134,14 @@ fresh_link done link rest apart =
 good_interval : (low high : ℤ) → pos 1 ≤ℤ low → low ≤ℤ high → (int_lt low (pos 1) || int_lt high low) ≡ false
 good_interval low high positive interval = grind arith
 
-link_taken : (points : List (List ℕ)) (bounds : List Bound) (done : List Link) (link : Link) (rest : List Link) → IsDistinct bytes_eq points → IsSound points link → AllPairs EndApart (done ++ link ∷ rest) → length (done ++ link ∷ rest) ≤ 400 → with_part (with_links points bounds done) (link_part points link) ≡ Ok (with_links points bounds (done ++ link ∷ []))
+link_taken : (points : List (List ℕ)) (bounds : List Bound) (done : List Link) (link : Link) (rest : List Link) → IsDistinct bytes_eq points → IsSound points link → AllPairs EndApart (done ++ link ∷ rest) → length (done ++ link ∷ rest) ≤ most_links → with_part (with_links points bounds done) (link_part points link) ≡ Ok (with_links points bounds (done ++ link ∷ []))
 unfolding with_link
 link_taken points bounds done link rest apart sound ends few =
     let net : Plan = with_links points bounds done in
     let not_itself : (link.from.0 == link.to.0) ≡ false = ne_eqb link.from.0 link.to.0 sound.2 in
-    rw (named_is net link.from apart sound.0, named_is net link.to apart sound.1, not_itself, fresh_link done link rest ends, good_interval link.low link.high sound.3 sound.4, sound.5, has_room done link rest 400 few) refl
+    rw (named_is net link.from apart sound.0, named_is net link.to apart sound.1, not_itself, fresh_link done link rest ends, good_interval link.low link.high sound.3 sound.4, sound.5, has_room done link rest most_links few) refl
 
-links_built : (points : List (List ℕ)) (bounds : List Bound) (links rest done : List Link) (place : ℕ) → links ≡ done ++ rest → IsDistinct bytes_eq points → All (IsSound points) links → AllPairs EndApart links → length links ≤ 400 → with_parts place (with_links points bounds done) (map (link_part points) rest) ≡ Ok (with_links points bounds links)
+links_built : (points : List (List ℕ)) (bounds : List Bound) (links rest done : List Link) (place : ℕ) → links ≡ done ++ rest → IsDistinct bytes_eq points → All (IsSound points) links → AllPairs EndApart links → length links ≤ most_links → with_parts place (with_links points bounds done) (map (link_part points) rest) ≡ Ok (with_links points bounds links)
 links_built points bounds links [] done place split apart sound ends few =
     let same : links ≡ done = split ∙ append-nil done in
     subst (λ (ls : List Link). with_parts place (with_links points bounds done) [] ≡ Ok (with_links points bounds ls)) (sym same) refl
@@ -148,15 +149,15 @@ links_built points bounds links (link ∷ rest) done place split apart sound end
     let size : length (done ++ link ∷ rest) ≡ length done + length (link ∷ rest) = length-append done (link ∷ rest) in
     let all : All (IsSound points) (done ++ link ∷ rest) = subst (λ (ls : List Link). All (IsSound points) ls) split sound in
     let here : IsSound points link = subst (λ (l : Link). IsSound points l) (get_or-append_seam done link rest link) (all (length done) link (omega arith)) in
-    let taken = link_taken points bounds done link rest apart here (subst (λ (ls : List Link). AllPairs EndApart ls) split ends) (subst (λ (ls : List Link). length ls ≤ 400) split few) in
+    let taken = link_taken points bounds done link rest apart here (subst (λ (ls : List Link). AllPairs EndApart ls) split ends) (subst (λ (ls : List Link). length ls ≤ most_links) split few) in
     built_step place (with_links points bounds done) (with_links points bounds (done ++ link ∷ [])) (link_part points link) (map (link_part points) rest) taken
     ∙ links_built points bounds links rest (done ++ link ∷ []) (place + 1) (split ∙ one_more done link rest) apart sound ends few
 
 -- the parts of a network build that network
-pub parts_build : (net : Plan) → IsPlan net → built (parts_of net) ≡ Ok net
-parts_build net plan =
-    let among : All (IsAmong net.points) net.bounds = λ k d inside. (let b = plan.bounds_sound k d inside in (b.from_point, b.to_point, b.within)) in
-    let sound : All (IsSound net.points) net.links = λ k d inside. (let l = plan.links_sound k d inside in (l.from_point, l.to_point, l.apart, l.positive, l.interval, l.within)) in
+pub parts_build : (net : Plan) → IsPlan net → HasPlanNumbers net → built (parts_of net) ≡ Ok net
+parts_build net plan numbers =
+    let among : All (IsAmong net.points) net.bounds = λ k d inside. (let b = plan.bounds_sound k d inside in (b.from_point, b.to_point, numbers.bounds k d inside)) in
+    let sound : All (IsSound net.points) net.links = λ k d inside. (let l = plan.links_sound k d inside in (l.from_point, l.to_point, l.apart, l.positive, l.interval, numbers.links k d inside)) in
     let links : (place : ℕ) → with_parts place (with_bounds net.points net.bounds) (map (link_part net.points) net.links) ≡ Ok net = λ place. links_built net.points net.bounds net.links net.links [] place refl plan.points_apart sound plan.links_apart plan.few_links in
     let bounds : (place : ℕ) → with_parts place (only_points net.points) (map (bound_part net.points) net.bounds ++ map (link_part net.points) net.links) ≡ Ok net = λ place. bounds_built net.points net.bounds net.bounds [] (map (link_part net.points) net.links) (Ok net) links place refl plan.points_apart among plan.bounds_apart plan.few_bounds in
     points_built net.points net.points [] (map (bound_part net.points) net.bounds ++ map (link_part net.points) net.links) (Ok net) bounds 0 refl plan.points_apart plan.few_points

@@ -11,6 +11,7 @@ use Rattle.net_model.proofs.Positions.{None_from_option_map, list_any_from_None,
 use Rattle.net_model.proofs.NetworkLemmas.{names_of, more_points, more_bounds, more_links, IsPlan-more_points, IsPlan-more_bounds, IsPlan-more_links, activation-past, names_of-push, free_name}
 use Rattle.net_model.specs.Names.{is_name}
 use Rattle.net_model.specs.Network.{IsPlan, IsBound, IsLink, point_named, bound_named, activation}
+use Rattle.net_model.specs.Limits.{most_points, most_links, most_bounds}
 use Rattle.net_model.specs.Stored.{plan_of, IsStored}
 use Rattle.net_model.specs.declared.ids.LinkId.{LinkId}
 use Rattle.net_model.specs.declared.part.Bound.{Bound}
@@ -47,7 +48,7 @@ get_or-push_default (x ∷ xs) d zero = refl
 get_or-push_default (x ∷ xs) d (suc k) = get_or-push_default xs d k
 
 module _ (old new : Inside) (stored : IsStored old) where
-  pub stored-more_points : (name : List ℕ) → IsTrue (is_name name) → point_named (plan_of old) name ≡ None → length old.points.items < 1000
+  pub stored-more_points : (name : List ℕ) → IsTrue (is_name name) → point_named (plan_of old) name ≡ None → length old.points.items < most_points
       → new.bounds ≡ old.bounds → new.links ≡ old.links → new.bound_names ≡ old.bound_names
       → new.points.items ≡ old.points.items ++ name ∷ [] → new.point_names.keys ≡ insert_key bytes_eq old.point_names.keys name → new.ending.items ≡ old.ending.items ++ None ∷ []
       → IsStored new
@@ -69,7 +70,7 @@ module _ (old new : Inside) (stored : IsStored old) where
           (λ past. get_or_past old.ending.items p None (omega (arith, stored.ending_count)) ∙ sym (activation-past (plan_of old) stored.plan p past))
           (cases_lt p (length old.points.items))
 
-  pub stored-more_bounds : (bound : Bound) → IsBound (plan_of old) bound → bound_named (plan_of old) bound.name ≡ None → length old.bounds.items < 20000
+  pub stored-more_bounds : (bound : Bound) → IsBound (plan_of old) bound → bound_named (plan_of old) bound.name ≡ None → length old.bounds.items < most_bounds
       → new.points ≡ old.points → new.links ≡ old.links → new.point_names ≡ old.point_names → new.ending ≡ old.ending
       → new.bounds.items ≡ old.bounds.items ++ bound ∷ [] → new.bound_names.keys ≡ insert_key bytes_eq old.bound_names.keys bound.name
       → IsStored new
@@ -84,7 +85,7 @@ module _ (old new : Inside) (stored : IsStored old) where
         ending = λ p inside. rw (ending, links) (stored.ending p (rw points at inside));
       }
 
-  pub stored-more_links : (link : Link) → IsLink (plan_of old) link → activation (plan_of old) link.to ≡ None → length old.links.items < 400
+  pub stored-more_links : (link : Link) → IsLink (plan_of old) link → activation (plan_of old) link.to ≡ None → length old.links.items < most_links
       → new.points ≡ old.points → new.bounds ≡ old.bounds → new.point_names ≡ old.point_names → new.bound_names ≡ old.bound_names
       → new.links.items ≡ old.links.items ++ link ∷ [] → new.ending.items ≡ set old.ending.items link.to.0 (Some (record { 0 = length old.links.items }))
       → IsStored new

@@ -1,11 +1,11 @@
 -- What a list of parts builds, or the first part that is refused and why. This project's own choice.
 use Rattle.std.specs.Prelude.{◌≡◌, ℕ, ℤ, ◌+◌, ◌==◌, ◌||◌, Bool, true, false, List, [], ◌∷◌, ◌++◌, length, Result, Ok, Err, Some, None, is_some, nat_le, pos, int_lt, not, codes}
-use Rattle.net_model.specs.Network.{Plan, point_named, bound_named, activation, within_limit, empty}
+use Rattle.net_model.specs.Network.{Plan, point_named, bound_named, activation, empty}
 use Rattle.net_model.specs.declared.ids.PointId.{PointId}
 use Rattle.net_model.specs.declared.part.Part.{Part}
 use Rattle.net_model.specs.declared.part.Part.TheVariants.{Point, Bound, Link}
 use Rattle.net_model.specs.declared.part.Which.TheVariants.{Points, Links, Bounds, Number}
-use Rattle.net_model.specs.declared.part.TheConstants.{MOST_POINTS, MOST_LINKS, MOST_BOUNDS}
+use Rattle.net_model.specs.Limits.{most_points, most_links, most_bounds, within_limit}
 use Rattle.net_model.specs.declared.fault.PartFault.{PartFault}
 use Rattle.net_model.specs.declared.fault.PartFault.TheVariants.{DuplicateName, UnknownName, TwoLinksOnPoint, LinkToItself, BadInterval, Limit, OutOfMemory}
 use Rattle.net_model.specs.declared.fault.BuildFault.{BuildFault}
@@ -29,7 +29,7 @@ named net name = elim (point_named net name) [ Some point ↦ Ok point | None �
 unfoldable pub with_point : Plan → List ℕ → Result Plan PartFault
 with_point net name =
     refuse_if (is_some (point_named net name)) DuplicateName
-    (refuse_if (nat_le MOST_POINTS (length net.points)) (Limit Points)
+    (refuse_if (nat_le most_points (length net.points)) (Limit Points)
     (Ok (record net { points = net.points ++ name ∷ [] })))
 
 -- the network with one more bound `to - from <= most`
@@ -39,7 +39,7 @@ with_bound net name from to most =
       x ← named net from
       y ← named net to
       refuse_if (not (within_limit most)) (Limit Number)
-          (refuse_if (nat_le MOST_BOUNDS (length net.bounds)) (Limit Bounds)
+          (refuse_if (nat_le most_bounds (length net.bounds)) (Limit Bounds)
           (Ok (record net { bounds = net.bounds ++ record { name = name; from = x; to = y; most = most } ∷ [] })))
 
 -- the network with one more link, whose durations go from low to high
@@ -51,7 +51,7 @@ with_link net from low high to = do
       (refuse_if (is_some (activation net c)) TwoLinksOnPoint
       (refuse_if (int_lt low (pos 1) || int_lt high low) BadInterval
       (refuse_if (not (within_limit high)) (Limit Number)
-      (refuse_if (nat_le MOST_LINKS (length net.links)) (Limit Links)
+      (refuse_if (nat_le most_links (length net.links)) (Limit Links)
       (Ok (record net { links = net.links ++ record { from = a; low = low; high = high; to = c } ∷ [] }))))))
 
 -- the network with one more part

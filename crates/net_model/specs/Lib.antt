@@ -1,13 +1,14 @@
 pub mod Names
+pub mod Limits
 pub mod Network
+pub mod Edges
 pub mod Rules
+pub mod LooseRules
+pub mod Laws
 pub mod Building
 pub mod Formats
 pub mod NetworkParts
 pub mod Stored
-pub mod Text
-pub mod Lines
-pub mod Printing
 pub mod Numbers
 pub mod Reading
 pub mod formers

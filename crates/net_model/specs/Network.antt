@@ -1,5 +1,5 @@
 -- Temporal networks with uncertainty (Morris, Muscettola and Vidal 2001), in whole moments.
-use Rattle.std.specs.Prelude.{◌≡◌, ◌≢◌, ℕ, ℤ, ◌<◌, ◌≤◌, ◌==◌, Bool, true, nat_le, List, [], length, map, filter, fold, max, Option, IsTrue, IsSome, IsNone, pos, ◌≤ℤ◌, unsigned_abs}
+use Rattle.std.specs.Prelude.{◌≡◌, ◌≢◌, ℕ, ℤ, ◌<◌, ◌≤◌, ◌==◌, true, List, [], length, map, filter, fold, max, Option, IsTrue, IsSome, IsNone, pos, ◌≤ℤ◌, unsigned_abs}
 use Rattle.std.specs.Option.{option_map}
 use Rattle.std.specs.List.{All, AllPairs, IsDistinct, position, enumerate_from}
 use Rattle.std.specs.Str.{bytes_eq}
@@ -9,7 +9,7 @@ use Rattle.net_model.specs.declared.ids.LinkId.{LinkId}
 use Rattle.net_model.specs.declared.ids.BoundId.{BoundId}
 use Rattle.net_model.specs.declared.part.Bound.{Bound}
 use Rattle.net_model.specs.declared.part.Link.{Link}
-use Rattle.net_model.specs.declared.part.TheConstants.{MOST_POINTS, MOST_LINKS, MOST_BOUNDS, MOST_NUMBER}
+use Rattle.net_model.specs.Limits.{most_points, most_links, most_bounds, within_limit, within_size}
 
 -- a network as it is declared: its points by their names, its bounds, its links, each list in the order of declaration
 pub record Plan : Type 0 where
@@ -40,16 +40,12 @@ IsContingent net point = IsSome (activation net point)
 abbrev pub IsExecutable : Plan → PointId → Type 0
 IsExecutable net point = IsPoint net point × IsNone (activation net point)
 
--- a number that is not too great in size
-abbrev pub within_limit : ℤ → Bool
-within_limit number = nat_le (unsigned_abs number) MOST_NUMBER
-
 -- a bound between points of the network, with a number that is not too great
 pub record IsBound (net : Plan) (bound : Bound) : Type 0 where
   pub named : IsTrue (is_name bound.name)
   pub from_point : IsPoint net bound.from
   pub to_point : IsPoint net bound.to
-  pub within : within_limit bound.most ≡ true
+  pub within : within_size bound.most ≡ true
 
 -- a link between two points of the network, with an interval of durations from 1 on that is not empty
 pub record IsLink (net : Plan) (link : Link) : Type 0 where
@@ -58,7 +54,7 @@ pub record IsLink (net : Plan) (link : Link) : Type 0 where
   pub apart : link.from.0 ≢ link.to.0
   pub positive : pos 1 ≤ℤ link.low
   pub interval : link.low ≤ℤ link.high
-  pub within : within_limit link.high ≡ true
+  pub within : within_size link.high ≡ true
 
 -- a network: names are names and differ, bounds and links are sound, no two links end in one point, and no list is
 -- too long
@@ -69,9 +65,14 @@ pub record IsPlan (net : Plan) : Type 0 where
   pub bounds_apart : IsDistinct bytes_eq (map (λ (b : Bound). b.name) net.bounds)
   pub links_sound : All (IsLink net) net.links
   pub links_apart : AllPairs (λ (l m : Link). l.to.0 ≢ m.to.0) net.links
-  pub few_points : length net.points ≤ MOST_POINTS
-  pub few_bounds : length net.bounds ≤ MOST_BOUNDS
-  pub few_links : length net.links ≤ MOST_LINKS
+  pub few_points : length net.points ≤ most_points
+  pub few_bounds : length net.bounds ≤ most_bounds
+  pub few_links : length net.links ≤ most_links
+
+-- the numbers of a network are those that a plan may have
+pub record HasPlanNumbers (net : Plan) : Type 0 where
+  pub bounds : All (λ (b : Bound). within_limit b.most ≡ true) net.bounds
+  pub links : All (λ (l : Link). within_limit l.high ≡ true) net.links
 
 -- the links that begin in a point, in order
 abbrev pub links_from : Plan → PointId → List LinkId

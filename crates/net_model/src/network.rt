@@ -1,12 +1,14 @@
 ghost use Rattle.std.specs.Prelude.{◌≡◌, ◌<◌, ◌^◌, ◌↔◌, ◌==◌, ◌≤◌, [], ◌∷◌, ◌++◌, length, fold, map, filter, max, unsigned_abs, pos, IfOk, IsTrue};
 ghost use Rattle.std.specs.List.{enumerate_from};
-ghost use Rattle.net_model.specs.Network.{IsPlan, IsPoint, IsContingent, IsBound, IsLink, point_named, bound_named, activation, links_from, greatest, within_limit, empty};
+ghost use Rattle.net_model.specs.Network.{IsPlan, IsPoint, IsContingent, IsBound, IsLink, point_named, bound_named, activation, links_from, greatest, empty, HasPlanNumbers};
+ghost use Rattle.net_model.specs.Limits.{most_points, most_links, most_bounds, within_limit};
 ghost use Rattle.net_model.specs.Building.{Builds, Adds, built, with_part, with_point, with_bound, with_link, named};
 
 use crate::fault::{BuildFault, PartFault};
 use crate::ids::{BoundId, LinkId, PointId, Weight};
 use crate::name::Name;
-use crate::part::{Bound, Link, MOST_BOUNDS, MOST_LINKS, MOST_NUMBER, MOST_POINTS, Part, Which};
+use crate::limits::{MOST_BOUNDS, MOST_LINKS, MOST_NUMBER, MOST_POINTS};
+use crate::part::{Bound, Link, Part, Which};
 use indexmap::IndexSet;
 use std::alloc::{AllocError, Global};
 use std::marker::Model;
@@ -47,6 +49,7 @@ impl Network {
         requires { length parts.now < 2 ^ 32 }
         ensures built { Builds result (built parts.now) }
         ensures sound { IfOk result IsPlan }
+        ensures numbers { IfOk result HasPlanNumbers }
     {
         let mut net = Network::empty(alloc);
         let mut place = 0;
@@ -264,7 +267,7 @@ impl Network {
     /// Room is made first, so that want of memory changes nothing.
     fn push_point(&mut self, name: &Name) -> Result<(), PartFault>
         requires fresh { point_named self.old name.now ≡ None }
-        requires room { length self.old.points < MOST_POINTS }
+        requires room { length self.old.points < most_points }
         ensures { Adds self.old self.new result (Ok (record self.old { points = self.old.points ++ name.now ∷ [] })) }
     {
         // The proof reads here that these bytes are a name.
@@ -280,7 +283,7 @@ impl Network {
 
     fn push_bound(&mut self, bound: Bound) -> Result<(), PartFault>
         requires fresh { bound_named self.old bound.name ≡ None }
-        requires room { length self.old.bounds < MOST_BOUNDS }
+        requires room { length self.old.bounds < most_bounds }
         requires sound { IsBound self.old bound }
         ensures { Adds self.old self.new result (Ok (record self.old { bounds = self.old.bounds ++ bound ∷ [] })) }
     {
@@ -293,7 +296,7 @@ impl Network {
 
     fn push_link(&mut self, link: Link) -> Result<(), PartFault>
         requires fresh { activation self.old link.to ≡ None }
-        requires room { length self.old.links < MOST_LINKS }
+        requires room { length self.old.links < most_links }
         requires sound { IsLink self.old link }
         ensures { Adds self.old self.new result (Ok (record self.old { links = self.old.links ++ link ∷ [] })) }
     {
@@ -328,7 +331,7 @@ fn greatest_link(links: &[Link]) -> u64
 }
 
 fn links_from(alloc: Global, links: &[Link], point: PointId) -> Result<Vec<LinkId>, AllocError>
-    requires { length links.now ≤ MOST_LINKS }
+    requires { length links.now ≤ most_links }
     ensures { IfOk result (λ found. found.items ≡ map (λ l. record { 0 = l.0 }) (filter (λ l. l.1.from.0 == point.0) (enumerate_from 0 links.now))) }
 {
     let mut found = Vec::new(alloc);

@@ -53,15 +53,3 @@ pub enum Which {
     /// The size of a number, at most 1,000,000,000.
     Number,
 }
-
-/// The greatest number of points of a network.
-pub const MOST_POINTS: usize = 1_000;
-
-/// The greatest number of links of a network.
-pub const MOST_LINKS: usize = 400;
-
-/// The greatest number of bounds of a network.
-pub const MOST_BOUNDS: usize = 20_000;
-
-/// The greatest size of a number of a network, in whole moments.
-pub const MOST_NUMBER: u64 = 1_000_000_000;

@@ -3,8 +3,9 @@ use Rattle.std.proofs.Common.{◌≡◌, ℕ, ◌<◌, ◌≤◌, ◌+◌, ◌�
 use Rattle.std.specs.List.{All}
 use Rattle.std.specs.Result.{IfOk, IfErr, IsErr, IsErrAnd}
 use Rattle.std.proofs.lemmas.List.Elements.{All-nil, All-cons, All-head, All-tail}
-use Rattle.net_model.specs.Text.{words, lines}
-use Rattle.net_model.specs.Lines.{size_of_lines}
+use Rattle.texts.specs.Words.{words}
+use Rattle.texts.specs.Lines.{lines}
+use Rattle.texts.specs.Lines.{size_of_lines}
 use Rattle.net_model.specs.declared.format.FormatKind.{FormatKind}
 use Rattle.net_model.specs.declared.format.FormatKind.TheVariants.{UnknownWord, NoHeader, NoEnd}
 use Rattle.net_model.specs.declared.format.FormatFault.{FormatFault}
@@ -17,7 +18,7 @@ use Rattle.plan_format.specs.PlanText.{Declared, declared_before, declared_from,
 use Rattle.net_model.specs.declared.format.TextFault.{TextFault}
 use Rattle.net_model.specs.declared.format.TextFault.TheVariants as text
 use Rattle.plan_format.specs.PlanGrammar.{IsLine, Declare, nothing, blank, part, IsBegun, IsPlanText, Says, IsHeadless, IsStopped, IsFirstFault, IsFaultOf}
-use Rattle.net_model.proofs.LineLemmas.{lines-few, size_of_lines-le}
+use Rattle.texts.proofs.LineLemmas.{lines-few, size_of_lines-le}
 use Rattle.plan_format.proofs.PartLemmas.{read_is, is_read}
 use Rattle.plan_format.proofs.ReadLemmas.{declarations_step, headed_step}
 
@@ -25,8 +26,8 @@ use Rattle.plan_format.proofs.ReadLemmas.{declarations_step, headed_step}
 record Ended (number : ℕ) (text : List (List ℕ)) (declared : Declared) : Type 0 where
   body : List (List ℕ)
   last : List ℕ
-  behind : List (List ℕ)
-  split : text ≡ body ++ last ∷ behind
+  after : List (List ℕ)
+  split : text ≡ body ++ last ∷ after
   declare : Declare number body declared.parts declared.lines
   ends : IsLine line.End last
   end : declared.end ≡ number + length body
@@ -45,7 +46,7 @@ ended_by number text others (Ok line.Blank) said declared here goes_on read =
     record {
       body = text ∷ rest.body;
       last = rest.last;
-      behind = rest.behind;
+      after = rest.after;
       split = ap (λ (ls : List (List ℕ)). text ∷ ls) rest.split;
       declare = blank number text rest.body declared.parts declared.lines (read_is (words text) line.Blank here) rest.declare;
       ends = rest.ends;
@@ -58,7 +59,7 @@ ended_by number text others (Ok (line.Part p)) said declared here goes_on read =
     subst (λ (d : Declared). Ended number (text ∷ others) d) before.2 (record {
       body = text ∷ rest.body;
       last = rest.last;
-      behind = rest.behind;
+      after = rest.after;
       split = ap (λ (ls : List (List ℕ)). text ∷ ls) rest.split;
       declare = part number text rest.body p before.0.parts before.0.lines (read_is (words text) (line.Part p) here) rest.declare;
       ends = rest.ends;
@@ -69,7 +70,7 @@ ended_by number text others (Ok line.End) said declared here goes_on read =
     subst (λ (d : Declared). Ended number (text ∷ others) d) same (record {
       body = [];
       last = text;
-      behind = others;
+      after = others;
       split = refl;
       declare = nothing number;
       ends = read_is (words text) line.End here;
@@ -88,8 +89,8 @@ record Headed (number : ℕ) (text : List (List ℕ)) (declared : Declared) : Ty
   header : List ℕ
   body : List (List ℕ)
   last : List ℕ
-  behind : List (List ℕ)
-  split : text ≡ before ++ header ∷ (body ++ last ∷ behind)
+  after : List (List ℕ)
+  split : text ≡ before ++ header ∷ (body ++ last ∷ after)
   blank : All (IsLine line.Blank) before
   heads : IsLine line.Header header
   declare : Declare (number + length before + 1) body declared.parts declared.lines
@@ -106,7 +107,7 @@ headed_by number text others (Ok line.Blank) declared here goes_on read =
       header = rest.header;
       body = rest.body;
       last = rest.last;
-      behind = rest.behind;
+      after = rest.after;
       split = ap (λ (ls : List (List ℕ)). text ∷ ls) rest.split;
       blank = All-cons (IsLine line.Blank) text rest.before (read_is (words text) line.Blank here) rest.blank;
       heads = rest.heads;
@@ -123,7 +124,7 @@ headed_by number text others (Ok line.Header) declared here goes_on read =
       header = text;
       body = rest.body;
       last = rest.last;
-      behind = rest.behind;
+      after = rest.after;
       split = ap (λ (ls : List (List ℕ)). text ∷ ls) rest.split;
       blank = All-nil (IsLine line.Blank);
       heads = read_is (words text) line.Header here;
@@ -140,8 +141,8 @@ headed_ok number [] declared read = absurd (cc)
 headed_ok number (first ∷ others) declared read =
     headed_by number first others (plan_line (words first)) declared refl (λ said. headed_ok (number + 1) others declared said) read
 
-joined_lines : (before : List (List ℕ)) (header : List ℕ) (body : List (List ℕ)) (last : List ℕ) (behind : List (List ℕ)) → before ++ header ∷ (body ++ last ∷ behind) ≡ ((before ++ header ∷ body) ++ last ∷ []) ++ behind
-joined_lines before header body last behind = simp append_assoc
+joined_lines : (before : List (List ℕ)) (header : List ℕ) (body : List (List ℕ)) (last : List ℕ) (after : List (List ℕ)) → before ++ header ∷ (body ++ last ∷ after) ≡ ((before ++ header ∷ body) ++ last ∷ []) ++ after
+joined_lines before header body last after = simp append_assoc
 
 length_of_text : (before : List (List ℕ)) (header : List ℕ) (body : List (List ℕ)) (last : List ℕ) → length ((before ++ header ∷ body) ++ last ∷ []) ≡ 1 + length before + 1 + length body
 length_of_text before header body last =
@@ -156,8 +157,8 @@ says_ok bytes declared read =
     let size : declared.end ≡ length (begun ++ found.last ∷ []) = found.end ∙ sym (length_of_text found.before found.header found.body found.last) in
     record {
       text = begun ++ found.last ∷ [];
-      behind = found.behind;
-      split = found.split ∙ joined_lines found.before found.header found.body found.last found.behind;
+      after = found.after;
+      split = found.split ∙ joined_lines found.before found.header found.body found.last found.after;
       plan = record {
         begun = begun;
         last = found.last;
@@ -188,17 +189,17 @@ unfolding plan_text
 text_says bytes read said = says_text bytes (headed 1 (lines bytes)) read refl said
 
 -- lines that declare parts are read, up to the `end` line
-declare_read : (number : ℕ) (body : List (List ℕ)) (parts : List Part) (numbers : List ℕ) (last : List ℕ) (behind : List (List ℕ)) → Declare number body parts numbers → IsLine line.End last → declarations number (body ++ last ∷ behind) ≡ Ok (record { parts = parts; lines = numbers; end = number + length body })
-declare_read number body parts numbers last behind (nothing n) ends =
+declare_read : (number : ℕ) (body : List (List ℕ)) (parts : List Part) (numbers : List ℕ) (last : List ℕ) (after : List (List ℕ)) → Declare number body parts numbers → IsLine line.End last → declarations number (body ++ last ∷ after) ≡ Ok (record { parts = parts; lines = numbers; end = number + length body })
+declare_read number body parts numbers last after (nothing n) ends =
     let none : number + 0 ≡ number = omega arith in
-    rw none (declarations_step number (last ∷ behind) last behind (Ok line.End) refl (is_read (words last) line.End ends))
-declare_read number body parts numbers last behind (blank n text others ps ns is declare) ends =
-    declarations_step number (text ∷ (others ++ last ∷ behind)) text (others ++ last ∷ behind) (Ok line.Blank) refl (is_read (words text) line.Blank is)
-    ∙ (declare_read (number + 1) others parts numbers last behind declare ends
+    rw none (declarations_step number (last ∷ after) last after (Ok line.End) refl (is_read (words last) line.End ends))
+declare_read number body parts numbers last after (blank n text others ps ns is declare) ends =
+    declarations_step number (text ∷ (others ++ last ∷ after)) text (others ++ last ∷ after) (Ok line.Blank) refl (is_read (words text) line.Blank is)
+    ∙ (declare_read (number + 1) others parts numbers last after declare ends
     ∙ ap (λ (n : ℕ). Ok (record { parts = parts; lines = numbers; end = n })) (longer number others text))
-declare_read number body parts numbers last behind (part n text others p ps ns is declare) ends =
-    declarations_step number (text ∷ (others ++ last ∷ behind)) text (others ++ last ∷ behind) (Ok (line.Part p)) refl (is_read (words text) (line.Part p) is)
-    ∙ (ap (declared_before number p) (declare_read (number + 1) others ps ns last behind declare ends)
+declare_read number body parts numbers last after (part n text others p ps ns is declare) ends =
+    declarations_step number (text ∷ (others ++ last ∷ after)) text (others ++ last ∷ after) (Ok (line.Part p)) refl (is_read (words text) (line.Part p) is)
+    ∙ (ap (declared_before number p) (declare_read (number + 1) others ps ns last after declare ends)
     ∙ ap (λ (n : ℕ). Ok (record { parts = p ∷ ps; lines = number ∷ ns; end = n })) (longer number others text))
 
 -- blank lines and the header are read, up to the declarations
@@ -213,23 +214,23 @@ heads_read number (text ∷ before) header rest blanks heads =
     ∙ (heads_read (number + 1) before header rest (All-tail (IsLine line.Blank) text before blanks) heads
     ∙ ap (λ (n : ℕ). declarations n rest) further)
 
-plan_read : (text behind : List (List ℕ)) (parts : List Part) (numbers : List ℕ) → IsPlanText text parts numbers → headed 1 (text ++ behind) ≡ Ok (record { parts = parts; lines = numbers; end = length text })
-plan_read text behind parts numbers plan =
+plan_read : (text after : List (List ℕ)) (parts : List Part) (numbers : List ℕ) → IsPlanText text parts numbers → headed 1 (text ++ after) ≡ Ok (record { parts = parts; lines = numbers; end = length text })
+plan_read text after parts numbers plan =
     let begins = plan.begins in
-    let all : text ++ behind ≡ begins.before ++ begins.header ∷ (begins.body ++ plan.last ∷ behind) = ap (λ (ls : List (List ℕ)). ls ++ behind) (plan.whole ∙ ap (λ (ls : List (List ℕ)). ls ++ plan.last ∷ []) begins.whole) ∙ sym (joined_lines begins.before begins.header begins.body plan.last behind) in
+    let all : text ++ after ≡ begins.before ++ begins.header ∷ (begins.body ++ plan.last ∷ after) = ap (λ (ls : List (List ℕ)). ls ++ after) (plan.whole ∙ ap (λ (ls : List (List ℕ)). ls ++ plan.last ∷ []) begins.whole) ∙ sym (joined_lines begins.before begins.header begins.body plan.last after) in
     let number : length begins.before + 2 ≡ 1 + length begins.before + 1 = omega arith in
     let declare : Declare (1 + length begins.before + 1) begins.body parts numbers = subst (λ (n : ℕ). Declare n begins.body parts numbers) number begins.declare in
     let size : 1 + length begins.before + 1 + length begins.body ≡ length text = sym (length_of_text begins.before begins.header begins.body plan.last) ∙ ap length (sym (plan.whole ∙ ap (λ (ls : List (List ℕ)). ls ++ plan.last ∷ []) begins.whole)) in
     ap (headed 1) all
-    ∙ (heads_read 1 begins.before begins.header (begins.body ++ plan.last ∷ behind) begins.blank begins.heads
-    ∙ (declare_read (1 + length begins.before + 1) begins.body parts numbers plan.last behind declare plan.ends
+    ∙ (heads_read 1 begins.before begins.header (begins.body ++ plan.last ∷ after) begins.blank begins.heads
+    ∙ (declare_read (1 + length begins.before + 1) begins.body parts numbers plan.last after declare plan.ends
     ∙ ap (λ (n : ℕ). Ok (record { parts = parts; lines = numbers; end = n })) size))
 
 -- every text of the grammar is read
 pub says_read : (bytes : List ℕ) (read : Parts) → Says bytes read → plan_text bytes ≡ Ok read
 unfolding plan_text
 says_read bytes read says =
-    ap (read_of bytes) (ap (headed 1) says.split ∙ plan_read says.text says.behind read.parts read.lines says.plan)
+    ap (read_of bytes) (ap (headed 1) says.split ∙ plan_read says.text says.after read.parts read.lines says.plan)
     ∙ ap (λ (n : ℕ). Ok (record { parts = read.parts; lines = read.lines; used = n })) (sym says.used)
 
 -- lines that declare parts up to a line that stops them
@@ -318,8 +319,8 @@ record FaultFrom (number : ℕ) (text : List (List ℕ)) (fault : FormatFault) :
   at_line : fault.line ≡ number + length front
   why : Why number front rest fault.kind
 
-begun_behind_blank : (number : ℕ) (text : List ℕ) (front : List (List ℕ)) (parts : List Part) (numbers : List ℕ) → IsLine line.Blank text → BegunFrom (number + 1) front parts numbers → BegunFrom number (text ∷ front) parts numbers
-begun_behind_blank number text front parts numbers is begun =
+begun_after_blank : (number : ℕ) (text : List ℕ) (front : List (List ℕ)) (parts : List Part) (numbers : List ℕ) → IsLine line.Blank text → BegunFrom (number + 1) front parts numbers → BegunFrom number (text ∷ front) parts numbers
+begun_after_blank number text front parts numbers is begun =
     let further : number + 1 + length begun.before + 1 ≡ number + length (text ∷ begun.before) + 1 = omega arith in
     record {
       before = text ∷ begun.before;
@@ -331,11 +332,11 @@ begun_behind_blank number text front parts numbers is begun =
       declare = subst (λ (n : ℕ). Declare n begun.body parts numbers) further begun.declare;
     }
 
-why_behind_blank : (number : ℕ) (text : List ℕ) (front rest : List (List ℕ)) (kind : FormatKind) → IsLine line.Blank text → Why (number + 1) front rest kind → Why number (text ∷ front) rest kind
-why_behind_blank number text front rest kind is why =
+why_after_blank : (number : ℕ) (text : List ℕ) (front rest : List (List ℕ)) (kind : FormatKind) → IsLine line.Blank text → Why (number + 1) front rest kind → Why number (text ∷ front) rest kind
+why_after_blank number text front rest kind is why =
     elim why [
       | inl headless ↦ inl (All-cons (IsLine line.Blank) text front is headless.0, headless.1)
-      | inr stopped ↦ inr (stopped.0, stopped.1, begun_behind_blank number text front stopped.0 stopped.1 is stopped.2, stopped.3)
+      | inr stopped ↦ inr (stopped.0, stopped.1, begun_after_blank number text front stopped.0 stopped.1 is stopped.2, stopped.3)
     ]
 
 begun_at_header : (number : ℕ) (text : List ℕ) (body : List (List ℕ)) (parts : List Part) (numbers : List ℕ) → IsLine line.Header text → Declare (number + 1) body parts numbers → BegunFrom number (text ∷ body) parts numbers
@@ -375,7 +376,7 @@ fault_by number text others (Ok line.Blank) fault here goes_on read =
       rest = rest.rest;
       split = ap (λ (ls : List (List ℕ)). text ∷ ls) rest.split;
       at_line = rest.at_line ∙ longer number rest.front text;
-      why = why_behind_blank number text rest.front rest.rest fault.kind (read_is (words text) line.Blank here) rest.why;
+      why = why_after_blank number text rest.front rest.rest fault.kind (read_is (words text) line.Blank here) rest.why;
     }
 fault_by number text others (Ok line.Header) fault here goes_on read =
     let rest = stops (number + 1) others fault read in
@@ -482,8 +483,8 @@ sizes_said bytes read says =
     let sizes = declare_sizes _ begins.body read.parts read.lines begins.declare in
     let whole : length says.text ≡ length ((begins.before ++ begins.header ∷ begins.body) ++ says.plan.last ∷ []) = ap length (says.plan.whole ∙ ap (λ (ls : List (List ℕ)). ls ++ says.plan.last ∷ []) begins.whole) in
     let count : length ((begins.before ++ begins.header ∷ begins.body) ++ says.plan.last ∷ []) ≡ 1 + length begins.before + 1 + length begins.body = length_of_text begins.before begins.header begins.body says.plan.last in
-    let all : length (lines bytes) ≡ length (says.text ++ says.behind) = ap length says.split in
-    let both : length (says.text ++ says.behind) ≡ length says.text + length says.behind = length-append says.text says.behind in
+    let all : length (lines bytes) ≡ length (says.text ++ says.after) = ap length says.split in
+    let both : length (says.text ++ says.after) ≡ length says.text + length says.after = length-append says.text says.after in
     let lines_few : length (lines bytes) ≤ length bytes = lines-few bytes in
     let size : size_of_lines (length says.text) bytes ≤ length bytes = size_of_lines-le (length says.text) bytes in
     record {

@@ -5,7 +5,7 @@ use Rattle.std.specs.Fmt.{signed_decimal}
 use Rattle.std.proofs.lemmas.Bool.{leb-true, le-leb}
 use Rattle.net_model.specs.Numbers.{name_of, integer_of}
 use Rattle.net_model.specs.Network.{within_limit}
-use Rattle.net_model.specs.Text.{is_remark, are_passed_over}
+use Rattle.texts.specs.Words.{is_remark, are_passed_over}
 use Rattle.net_model.specs.declared.format.FormatKind.{FormatKind}
 use Rattle.net_model.specs.declared.format.FormatKind.TheVariants.{UnknownWord}
 use Rattle.net_model.specs.declared.part.Part.{Part}
@@ -49,7 +49,7 @@ number_ok word n read =
     let parts = spelled_integer MOST_NUMBER n word read (omega arith) in
     (parts.0, le-leb (unsigned_abs n) MOST_NUMBER parts.1)
 
--- the words behind the first one of the line of a part
+-- the words after the first one of the line of a part
 point_ok : (others : List (List ℕ)) (p : Part) → point_line others ≡ Ok p → (codes "point" ∷ others ≡ part_words p) × IsSpelled p
 point_ok [] p read = absurd (cc)
 point_ok (word ∷ []) p read =

@@ -4,8 +4,8 @@ use Rattle.std.proofs.lemmas.List.{append-nil, map-append}
 use Rattle.std.proofs.lemmas.List.Concat.{flat_map-append}
 use Rattle.std.specs.List.{flat_map}
 use Rattle.net_model.specs.Network.{Plan}
-use Rattle.net_model.specs.Printing.{printed_line, printed}
-use Rattle.net_model.proofs.PrintingLemmas.{flat_map-map}
+use Rattle.texts.specs.Printing.{printed_line, printed}
+use Rattle.texts.proofs.PrintingLemmas.{flat_map-map}
 use Rattle.net_model.specs.declared.part.Part.{Part}
 use Rattle.net_model.specs.declared.part.Part.TheVariants.{Point}
 use Rattle.net_model.specs.NetworkParts.{bound_part, link_part, parts_of}

@@ -8,14 +8,15 @@ use Rattle.std.proofs.lemmas.List.Elements.{recursion_from_All, All-append, All-
 use Rattle.net_model.specs.Names.{is_name}
 use Rattle.net_model.specs.Network.{Plan, IsPlan, within_limit}
 use Rattle.net_model.specs.NetworkParts.{bound_part, link_part, parts_of}
-use Rattle.net_model.specs.Text.{words, lines}
-use Rattle.net_model.specs.Lines.{size_of_lines}
-use Rattle.net_model.specs.Printing.{joined, printed}
+use Rattle.texts.specs.Words.{words}
+use Rattle.texts.specs.Lines.{lines}
+use Rattle.texts.specs.Lines.{size_of_lines}
+use Rattle.texts.specs.Printing.{joined, printed}
 use Rattle.net_model.specs.declared.part.Part.{Part}
 use Rattle.net_model.specs.declared.part.Part.TheVariants as part
 use Rattle.net_model.specs.declared.part.TheConstants.{MOST_NUMBER}
-use Rattle.net_model.proofs.LineLemmas.{size_of_lines-other, size_of_lines-end, size_of_lines-nil}
-use Rattle.net_model.proofs.PrintingLemmas.{IsPrintable, IsPrintableLine, words-joined, plain-joined, lines-printed}
+use Rattle.texts.proofs.LineLemmas.{size_of_lines-other, size_of_lines-end, size_of_lines-nil}
+use Rattle.texts.proofs.PrintingLemmas.{IsPrintable, IsPrintableLine, words-joined, plain-joined, lines-printed}
 use Rattle.net_model.proofs.SpellingLemmas.{printable_name, printable_integer}
 use Rattle.plan_format.specs.declared.plan_line.PlanLine.TheVariants as line
 use Rattle.plan_format.specs.PlanLines.{plan_line}
@@ -66,7 +67,7 @@ printable_parts (p ∷ parts) spelled = (printable_part p spelled.0, printable_p
 printable_plan : (parts : List Part) → AllByRecursion IsSpelled parts → AllByRecursion IsPrintableLine (plan_words parts)
 printable_plan parts spelled = ((literal_stnu, (literal_one, tt)), printable_parts parts spelled)
 
--- the numbers of the lines of parts that stand one behind another
+-- the numbers of the lines of parts that stand one after another
 abbrev pub numbers_from : ℕ → List Part → List ℕ
 numbers_from number [] = []
 numbers_from number (p ∷ parts) = number ∷ numbers_from (number + 1) parts

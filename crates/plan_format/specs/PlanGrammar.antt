@@ -1,8 +1,9 @@
 -- The grammar of plan texts, version 1. This project's own choice.
 use Rattle.std.specs.Prelude.{◌≡◌, ◌⊎◌, ℕ, ◌+◌, true, Err, List, [], ◌∷◌, ◌++◌, length}
 use Rattle.std.specs.List.{All}
-use Rattle.net_model.specs.Text.{words, lines, are_passed_over}
-use Rattle.net_model.specs.Lines.{size_of_lines}
+use Rattle.texts.specs.Words.{words, are_passed_over}
+use Rattle.texts.specs.Lines.{lines}
+use Rattle.texts.specs.Lines.{size_of_lines}
 use Rattle.net_model.specs.declared.format.FormatFault.{FormatFault}
 use Rattle.net_model.specs.declared.format.TextFault.{TextFault}
 use Rattle.net_model.specs.declared.format.TextFault.TheVariants as text
@@ -54,8 +55,8 @@ pub record IsPlanText (text : List (List ℕ)) (parts : List Part) (numbers : Li
 -- the first lines of the bytes are a plan text, and this is read of it
 pub record Says (bytes : List ℕ) (read : Parts) : Type 0 where
   pub text : List (List ℕ)
-  pub behind : List (List ℕ)
-  pub split : lines bytes ≡ text ++ behind
+  pub after : List (List ℕ)
+  pub split : lines bytes ≡ text ++ after
   pub plan : IsPlanText text read.parts read.lines
   pub used : read.used ≡ size_of_lines (length text) bytes
 

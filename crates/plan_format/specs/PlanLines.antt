@@ -1,7 +1,7 @@
 -- The lines of a plan text, version 1, each by its words. This project's own choice.
 use Rattle.std.specs.Prelude.{ℕ, List, [], ◌∷◌, Result, Ok, Err, codes, if◌then◌else◌}
 use Rattle.std.specs.Str.{bytes_eq}
-use Rattle.net_model.specs.Text.{is_remark}
+use Rattle.texts.specs.Words.{is_remark}
 use Rattle.net_model.specs.Numbers.{name_of, integer_of}
 use Rattle.net_model.specs.Reading.{◌>>=◌}
 use Rattle.net_model.specs.declared.format.FormatKind.{FormatKind}
@@ -45,12 +45,12 @@ declares read = do
   declared ← read
   Ok (line.Part declared)
 
--- the line behind `stnu`: the version of the text
+-- the line after `stnu`: the version of the text
 abbrev pub header_line : List (List ℕ) → Result PlanLine FormatKind
 header_line (version ∷ []) = if bytes_eq version (codes "1") then Ok line.Header else Err UnknownWord
 header_line others = Err UnknownWord
 
--- the line behind `end`: nothing
+-- the line after `end`: nothing
 abbrev pub end_line : List (List ℕ) → Result PlanLine FormatKind
 end_line [] = Ok line.End
 end_line others = Err WordCount

@@ -1,7 +1,7 @@
 -- The plan text of a network. This project's own choice.
 use Rattle.std.specs.Prelude.{◌≡◌, ℕ, List, [], ◌∷◌, ◌++◌, map, length, Ok}
 use Rattle.net_model.specs.Network.{Plan}
-use Rattle.net_model.specs.Printing.{printed}
+use Rattle.texts.specs.Printing.{printed}
 use Rattle.net_model.specs.declared.part.Part.{Part}
 use Rattle.net_model.specs.NetworkParts.{parts_of}
 use Rattle.net_model.specs.Building.{built}

@@ -1,7 +1,8 @@
 -- Plan texts, version 1: what a whole text declares, or its first fault. This project's own choice.
 use Rattle.std.specs.Prelude.{◌≡◌, ℕ, ◌+◌, ◌-◌, ◌≤◌, List, [], ◌∷◌, length, Result, Ok, Err}
-use Rattle.net_model.specs.Text.{words, lines}
-use Rattle.net_model.specs.Lines.{size_of_lines}
+use Rattle.texts.specs.Words.{words}
+use Rattle.texts.specs.Lines.{lines}
+use Rattle.texts.specs.Lines.{size_of_lines}
 use Rattle.net_model.specs.declared.format.FormatKind.{FormatKind}
 use Rattle.net_model.specs.declared.format.FormatKind.TheVariants.{UnknownWord, NoHeader, NoEnd}
 use Rattle.net_model.specs.declared.format.FormatFault.{FormatFault}
@@ -35,7 +36,7 @@ declared_from number (Ok (line.Part part)) others = declared_before number part 
 declared_from number (Ok line.End) others = Ok (record { parts = []; lines = []; end = number })
 declared_from number (Err kind) others = fault_at number kind
 
--- what the lines behind the header declare, of which the first has a number
+-- what the lines after the header declare, of which the first has a number
 abbrev pub declarations : ℕ → List (List ℕ) → Result Declared FormatFault
 declarations number [] = fault_at number NoEnd
 declarations number (line ∷ others) = declared_from number (plan_line (words line)) (declarations (number + 1) others)
@@ -68,7 +69,7 @@ Reads (Ok parts) said = said ≡ Ok parts
 Reads (Err (text.Format fault)) said = said ≡ Err fault
 Reads (Err text.OutOfMemory) said = Unit {0}
 
--- what is left of a text behind its first lines, as many as `count`
-pub record IsBehind (bytes : List ℕ) (count : ℕ) (rest : List ℕ) : Type 0 where
+-- what is left of a text after its first lines, as many as `count`
+pub record IsLeftAfter (bytes : List ℕ) (count : ℕ) (rest : List ℕ) : Type 0 where
   pub within : count + length rest ≤ length bytes
   pub sizes : (more : ℕ) → size_of_lines (more + count) bytes ≡ size_of_lines more rest + (length bytes - length rest)

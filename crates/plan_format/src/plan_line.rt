@@ -3,7 +3,7 @@
 ghost use Rattle.std.specs.Prelude.{◌≡◌, IfOk};
 ghost use Rattle.std.specs.Result.{result_map_both};
 ghost use Rattle.net_model.specs.Numbers.{integer_of};
-ghost use Rattle.net_model.specs.Text.{words};
+ghost use Rattle.texts.specs.Words.{words};
 ghost use Rattle.plan_format.specs.declared.plan_line.PlanLine.{PlanLine};
 ghost use Rattle.plan_format.specs.PlanGrammar.{IsLine};
 ghost use Rattle.plan_format.specs.PlanLines.{plan_line, line_of, header_line, point_line, bound_line, link_line, end_line};
@@ -39,7 +39,7 @@ pub fn read_plan_line(line: &[u8]) -> Result<PlanLine, WordFault>
 pub(crate) fn plan_line(line: &[u8]) -> Result<PlanLine, FormatKind>
     ensures { result ≡ plan_line (words line.now) }
 {
-    let Some((first, rest)) = text::first_word(line) else {
+    let Some((first, rest)) = texts::first_word(line) else {
         return Ok(PlanLine::Blank);
     };
     line_of(first, rest)
@@ -66,14 +66,14 @@ fn line_of(first: &[u8], rest: &[u8]) -> Result<PlanLine, FormatKind>
     Err(FormatKind::UnknownWord)
 }
 
-/// What stands behind `stnu`.
+/// What stands after `stnu`.
 fn header_line(rest: &[u8]) -> Result<PlanLine, FormatKind>
     ensures { result ≡ header_line (words rest.now) }
 {
-    let Some((version, rest)) = text::next_word(rest) else {
+    let Some((version, rest)) = texts::next_word(rest) else {
         return Err(FormatKind::UnknownWord);
     };
-    if text::next_word(rest).is_some() {
+    if texts::next_word(rest).is_some() {
         return Err(FormatKind::UnknownWord);
     }
     if version == b"1".as_slice() {
@@ -82,7 +82,7 @@ fn header_line(rest: &[u8]) -> Result<PlanLine, FormatKind>
     Err(FormatKind::UnknownWord)
 }
 
-/// What stands behind `point`.
+/// What stands after `point`.
 fn point_line(rest: &[u8]) -> Result<Part, FormatKind>
     ensures { result ≡ point_line (words rest.now) }
 {
@@ -91,7 +91,7 @@ fn point_line(rest: &[u8]) -> Result<Part, FormatKind>
     Ok(Part::Point(text::name(name)?))
 }
 
-/// What stands behind `bound`.
+/// What stands after `bound`.
 fn bound_line(rest: &[u8]) -> Result<Part, FormatKind>
     ensures { result ≡ bound_line (words rest.now) }
 {
@@ -108,7 +108,7 @@ fn bound_line(rest: &[u8]) -> Result<Part, FormatKind>
     ))
 }
 
-/// What stands behind `link`.
+/// What stands after `link`.
 fn link_line(rest: &[u8]) -> Result<Part, FormatKind>
     ensures { result ≡ link_line (words rest.now) }
 {
@@ -125,7 +125,7 @@ fn link_line(rest: &[u8]) -> Result<Part, FormatKind>
     ))
 }
 
-/// What stands behind `end`.
+/// What stands after `end`.
 fn end_line(rest: &[u8]) -> Result<PlanLine, FormatKind>
     ensures { result ≡ end_line (words rest.now) }
 {

@@ -3,12 +3,12 @@
 ghost use Rattle.std.specs.Prelude.{◌≡◌, ◌++◌, ◌<◌, IfOk, OnOk, length};
 ghost use Rattle.std.specs.List.{flat_map};
 ghost use Rattle.net_model.specs.Network.{IsBound, IsLink};
-ghost use Rattle.net_model.specs.Printing.{printed_line};
+ghost use Rattle.texts.specs.Printing.{printed_line};
 ghost use Rattle.net_model.specs.NetworkParts.{bound_part, link_part, point_name};
 ghost use Rattle.plan_format.specs.PlanParts.{part_words};
 ghost use Rattle.plan_format.specs.PlanPrinting.{ReadsBack, printed_plan};
 
-use net_model::text::push_line;
+use texts::push_line;
 use net_model::{Bound, Link, Name, Network, Part, PointId};
 use std::alloc::{AllocError, Global};
 

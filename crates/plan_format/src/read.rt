@@ -1,10 +1,10 @@
 //! Reading a whole plan text.
 
 ghost use Rattle.std.specs.Prelude.{◌≡◌, ◌+◌, ◌-◌, ◌<◌, ◌≤◌, ◌^◌, ◌∷◌, ◌++◌, [], length, IfErr, IfOk, OnOk, MatchResult};
-ghost use Rattle.net_model.specs.Text.{lines};
+ghost use Rattle.texts.specs.Lines.{lines};
 ghost use Rattle.plan_format.specs.declared.read.Parts.{Parts};
 ghost use Rattle.plan_format.specs.PlanGrammar.{IsFaultOf, Says};
-ghost use Rattle.plan_format.specs.PlanText.{IsBehind, Reads, declarations, headed, plan_text, read_of};
+ghost use Rattle.plan_format.specs.PlanText.{IsLeftAfter, Reads, declarations, headed, plan_text, read_of};
 
 use crate::plan_line::{PlanLine, plan_line};
 use net_model::{FormatFault, FormatKind, Items, Part, TextFault, text};
@@ -22,7 +22,7 @@ pub struct Parts {
 }
 
 /// Reads a plan text: the header `stnu 1`, declarations of points, bounds and links, and `end`, with blank lines
-/// between. Nothing behind the `end` line is looked at. The fault is the one of the first bad line: `NoHeader` where the
+/// between. Nothing after the `end` line is looked at. The fault is the one of the first bad line: `NoHeader` where the
 /// first line that is not blank is no header, or where there is no such line, at the number after the last line;
 /// `NoEnd` at the number after the last line where there is no `end`; else that of the line. `OutOfMemory` comes only
 /// for want of memory. There are fewer than 2^31 bytes.
@@ -44,21 +44,21 @@ fn read_text(alloc: Global, bytes: &[u8]) -> Result<Parts, TextFault>
     requires { length bytes.now < 2 ^ 31 }
     ensures { Reads result (plan_text bytes.now) }
 {
-    let (count, rest) = behind_header(bytes)?;
+    let (count, rest) = after_header(bytes)?;
     read_declarations(alloc, bytes, count, rest)
 }
 
-/// The number of lines up to the header, and what stands behind them.
-fn behind_header(bytes: &[u8]) -> Result<(u32, &[u8]), FormatFault>
+/// The number of lines up to the header, and what stands after them.
+fn after_header(bytes: &[u8]) -> Result<(u32, &[u8]), FormatFault>
     requires { length bytes.now < 2 ^ 31 }
     ensures header { MatchResult result (λ found. headed 1 (lines bytes.now) ≡ declarations (found.0 + 1) (lines found.1.now)) (λ fault. headed 1 (lines bytes.now) ≡ Err fault) }
-    ensures rest { IfOk result (λ found. IsBehind bytes.now found.0 found.1.now) }
+    ensures rest { IfOk result (λ found. IsLeftAfter bytes.now found.0 found.1.now) }
 {
     let mut count = 0;
     let mut rest = bytes;
-    while let Some((line, behind)) = text::next_line(rest) {
+    while let Some((line, after)) = texts::next_line(rest) {
         count += 1;
-        rest = behind;
+        rest = after;
         match plan_line(line) {
             Ok(PlanLine::Blank) => {}
             Ok(PlanLine::Header) => return Ok((count, rest)),
@@ -68,7 +68,7 @@ fn behind_header(bytes: &[u8]) -> Result<(u32, &[u8]), FormatFault>
     Err(fault(count + 1, FormatKind::NoHeader))
 }
 
-/// What the lines behind the header declare.
+/// What the lines after the header declare.
 fn read_declarations(
     alloc: Global,
     bytes: &[u8],
@@ -76,16 +76,16 @@ fn read_declarations(
     rest: &[u8],
 ) -> Result<Parts, TextFault>
     requires room { length bytes.now < 2 ^ 31 }
-    requires rest { IsBehind bytes.now count rest.now }
+    requires rest { IsLeftAfter bytes.now count rest.now }
     ensures { Reads result (read_of bytes.now (declarations (count + 1) (lines rest.now))) }
 {
     let mut parts = Vec::new(alloc);
     let mut lines = Vec::new(alloc);
     let mut number = count;
     let mut rest = rest;
-    while let Some((line, behind)) = text::next_line(rest) {
+    while let Some((line, after)) = texts::next_line(rest) {
         number += 1;
-        rest = behind;
+        rest = after;
         match plan_line(line) {
             Ok(PlanLine::Blank) => {}
             Ok(PlanLine::Part(part)) => {

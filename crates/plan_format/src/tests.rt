@@ -218,7 +218,7 @@ fn faults_of_texts(rt: HostRuntime) {
     }
 }
 
-/// The bytes up to the end of the `end` line, its line end included where it has one, and nothing behind.
+/// The bytes up to the end of the `end` line, its line end included where it has one, and nothing after.
 #[test]
 fn used_bytes(rt: HostRuntime) -> Result<(), Fail> {
     let rows = [

@@ -8,7 +8,7 @@ use Rattle.std.proofs.lemmas.Bool.Decides.{nat_tests}
 use Rattle.plan_port.specs.Lines.{Decision, Undecided, Whole, Long, Much, decision, first_line, has_line_end, ends_line, is_long, is_much}
 use Rattle.plan_port.specs.Reading.{verdict, verdict_of}
 use Rattle.plan_port.specs.declared.lines.Verdict.TheVariants.{Unclear, Line, BeyondLine, BeyondInput}
-use Rattle.plan_port.proofs.Windows.{position_or_len-behind}
+use Rattle.plan_port.proofs.Windows.{position_or_len-after}
 
 -- a decision by its three tests
 abbrev pub by_tests : Bool → Bool → Bool → List ℕ → List ℕ → Decision
@@ -210,7 +210,7 @@ stays_whole longest room bytes more text rest e =
 
 -- a line without its end goes on with the bytes that come
 open_grows : (bytes more : List ℕ) → has_line_end bytes ≡ false → length bytes ≤ position_or_len ends_line (bytes ++ more)
-open_grows bytes more e = omega (arith, position_or_len-behind ends_line bytes more (open_place bytes e))
+open_grows bytes more e = omega (arith, position_or_len-after ends_line bytes more (open_place bytes e))
 
 line_grows_by : (closed : Bool) (bytes more : List ℕ) → has_line_end bytes ≡ closed → length (first_line bytes) ≤ length (first_line (bytes ++ more))
 line_grows_by true bytes more e = omega (arith, ap (λ (l : List ℕ). length l) (first_closed bytes more e))

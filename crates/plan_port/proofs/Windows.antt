@@ -1,4 +1,4 @@
--- The bytes of a window after a take behind them, and the place of a line end in them.
+-- The bytes of a window after a take after them, and the place of a line end in them.
 use Rattle.std.proofs.Common.{◌≡◌, ℕ, ◌+◌, ◌-◌, ◌<◌, ◌≤◌, Bool, true, false, cond, nat_lt, List, [], ◌∷◌, ◌++◌, length, take, drop, slice_range, Some, None, refl, sym, ap, ◌∙◌, arith, eq-eqb}
 use Rattle.std.specs.Option.{option_map}
 use Rattle.std.specs.List.{position, position_or_len, concat, All}
@@ -48,7 +48,7 @@ consumed xs start end count inside =
     sym (ap (λ j. drop count (take j (drop start xs))) parts ∙ drop-take count _ (drop start xs)
     ∙ ap (take (end - (start + count))) (drop-drop count start xs))
 
--- a part of a list is its own front and what stands behind that
+-- a part of a list is its own front and what stands after that
 pub split_range : (xs : List ℕ) (i j k : ℕ) → i ≤ j → j ≤ k → slice_range xs i k ≡ slice_range xs i j ++ slice_range xs j k
 split_range xs i j k le le' =
     let sum : k - i ≡ (j - i) + (k - j) = omega arith in
@@ -69,14 +69,14 @@ none_from_test true place size is le e = absurd (none-some place e)
 none_from_test false place size is le e = grind (arith, nat_tests)
 
 module _ (p : ℕ → Bool) where
-  pub position_or_len-behind : (front back : List ℕ) → position_or_len p front ≡ length front → position_or_len p (front ++ back) ≡ length front + position_or_len p back
-  position_or_len-behind front back none =
+  pub position_or_len-after : (front back : List ℕ) → position_or_len p front ≡ length front → position_or_len p (front ++ back) ≡ length front + position_or_len p back
+  position_or_len-after front back none =
       prefix_len-append _ front back ∙ ap (λ t. cond t (length front + position_or_len p back) (position_or_len p front)) (eq-eqb _ _ none)
 
   -- the first place that passes, where nothing in the front does
-  pub position-behind : (front back : List ℕ) → position_or_len p front ≡ length front → position p (front ++ back) ≡ option_map (λ i. length front + i) (position p back)
-  position-behind front back none =
-      let place = position_or_len-behind front back none in
+  pub position-after : (front back : List ℕ) → position_or_len p front ≡ length front → position p (front ++ back) ≡ option_map (λ i. length front + i) (position p back)
+  position-after front back none =
+      let place = position_or_len-after front back none in
       rw (place, length-append front back) (shifted (length front) (position_or_len p back) (length back))
 
   pub none_from_position : (xs : List ℕ) → None ≡ position p xs → position_or_len p xs ≡ length xs
@@ -95,14 +95,14 @@ takes_nothing (Bytes n) into h = absurd (h n refl)
 takes_nothing End into h = (refl, refl)
 takes_nothing Failed into h = (refl, refl)
 
--- a line end that was found behind the part that has none
+-- a line end that was found after the part that has none
 pub found : (p : ℕ → Bool) (items : List ℕ) (s m e place : ℕ) → s ≤ m → m ≤ e → e ≤ length items → position_or_len p (slice_range items s m) ≡ m - s → Some place ≡ position p (slice_range items m e) → Some (m - s + place) ≡ position p (slice_range items s e)
 found p items s m e place le le' within none is =
     let size = length_range items s m le (omega arith) in
-    let behind = position-behind p (slice_range items s m) (slice_range items m e) (none ∙ sym size) in
+    let after = position-after p (slice_range items s m) (slice_range items m e) (none ∙ sym size) in
     ap (λ o. option_map (λ i. m - s + i) o) is
     ∙ ap (λ n. option_map (λ i. n + i) (position p (slice_range items m e))) (sym size)
-    ∙ sym behind
+    ∙ sym after
     ∙ ap (λ (l : List ℕ). position p l) (sym (split_range items s m e le le'))
 
 -- none was found there
@@ -110,11 +110,11 @@ pub not_found : (p : ℕ → Bool) (items : List ℕ) (s m e : ℕ) → s ≤ m 
 not_found p items s m e le le' within none is =
     let size = length_range items s m le (omega arith) in
     let size' = length_range items m e le' within in
-    let behind = position-behind p (slice_range items s m) (slice_range items m e) (none ∙ sym size) in
-    let place = position_or_len-behind p (slice_range items s m) (slice_range items m e) (none ∙ sym size) in
+    let after = position-after p (slice_range items s m) (slice_range items m e) (none ∙ sym size) in
+    let place = position_or_len-after p (slice_range items s m) (slice_range items m e) (none ∙ sym size) in
     let all = none_from_position p (slice_range items m e) is in
     let whole = sym (split_range items s m e le le') in (
-      ap (λ o. option_map (λ i. length (slice_range items s m) + i) o) is ∙ sym behind ∙ ap (λ (l : List ℕ). position p l) whole,
+      ap (λ o. option_map (λ i. length (slice_range items s m) + i) o) is ∙ sym after ∙ ap (λ (l : List ℕ). position p l) whole,
       ap (λ (l : List ℕ). position_or_len p l) (sym whole) ∙ place ∙ omega arith,
     )
 

@@ -88,7 +88,7 @@ impl Window {
         }
     }
 
-    /// Gives out the first bytes as a line, and passes over the byte behind them.
+    /// Gives out the first bytes as a line, and passes over the byte after them.
     pub(crate) fn give_line(&mut self, size: usize)
         requires { size < length self.old.kept }
         ensures text { self.new.text ≡ take size self.old.kept }
@@ -136,7 +136,7 @@ impl Window {
         self.end = end - start;
     }
 
-    /// Takes once from the port, behind the kept bytes. The last line is forgotten, since its place may be needed.
+    /// Takes once from the port, after the kept bytes. The last line is forgotten, since its place may be needed.
     pub(crate) fn take_from<P: Port>(&mut self, port: &mut P) -> Took
         requires { length self.old.kept < 65537 }
         ensures took { (pieces : List (List ℕ))

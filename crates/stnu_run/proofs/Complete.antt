@@ -1,7 +1,8 @@
 -- A run of `judge` over a plan and a certificate within their limits ends with a judgement.
 use Rattle.std.proofs.Common.{◌≡◌, inl, inr, ℕ, ◌+◌, ◌-◌, ◌≤◌, zero, suc, List, [], ◌∷◌, ◌++◌, length, drop, Option, Some, None, Result, Ok, Err, refl, sym, ap, subst, ◌∙◌, arith}
 use Rattle.std.proofs.lemmas.List.{append-nil}
-use Rattle.net_model.specs.Text.{words, lines}
+use Rattle.texts.specs.Words.{words}
+use Rattle.texts.specs.Lines.{lines}
 use Rattle.net_model.specs.Network.{Plan}
 use Rattle.net_model.specs.Building.{built}
 use Rattle.net_model.specs.declared.fault.BuildFault.{BuildFault}

@@ -3,8 +3,9 @@ use Rattle.std.proofs.Common.{◌≡◌, ℕ, ◌+◌, ◌<◌, Bool, true, fals
 use Rattle.std.specs.List.{position_or_len, after_first}
 use Rattle.std.proofs.lemmas.Bool.{cond-true, cond-false}
 use Rattle.std.proofs.lemmas.List.{append_assoc, append-nil}
-use Rattle.net_model.specs.Text.{lines, lines_after, if_filled}
-use Rattle.net_model.proofs.LineLemmas.{lines_is, lines-nil}
+use Rattle.texts.specs.Words.{if_filled}
+use Rattle.texts.specs.Lines.{lines, lines_after}
+use Rattle.texts.proofs.LineLemmas.{lines_is, lines-nil}
 use Rattle.plan_port.specs.Lines.{ends_line, Decision, Undecided, Whole, Long, Much, decision, NextText, next, next_by, last_line}
 use Rattle.plan_port.proofs.Decisions.{whole_is, undecided_is_open, closed_place, open_place}
 

@@ -3,8 +3,8 @@ use Rattle.std.proofs.Common.{◌≡◌, ℕ, ◌+◌, ◌-◌, ◌≤◌, Bool,
 use Rattle.std.specs.List.{position_or_len, after_first}
 use Rattle.std.proofs.lemmas.List.{length-drop}
 use Rattle.std.proofs.lemmas.Bool.Decides.{nat_tests}
-use Rattle.net_model.specs.Text.{lines}
-use Rattle.net_model.proofs.LineLemmas.{lines_is, lines-nil}
+use Rattle.texts.specs.Lines.{lines}
+use Rattle.texts.proofs.LineLemmas.{lines_is, lines-nil}
 use Rattle.plan_port.specs.Lines.{ends_line, first_line, has_line_end, is_long, is_much, Decision, Undecided, Whole, Long, Much, decision, Next, NextText, NextEnd, NextTooLong, NextTooMuch, next, next_by, last_line}
 use Rattle.plan_port.proofs.Decisions.{by_tests, size_is, place_within, closed_place, open_place, open_line, whole_is}
 use Rattle.stnu_run.specs.Runs.{most_input}

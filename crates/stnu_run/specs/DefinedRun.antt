@@ -1,6 +1,6 @@
 -- The defined run: what words and an input are answered by. This project's own choice.
 use Rattle.std.specs.Prelude.{◌≡◌, ◌⊎◌, ℕ, List, [], ◌∷◌, ◌++◌, codes, Option, Some, None, Ok, IfSome, IsSomeAnd}
-use Rattle.net_model.specs.Text.{lines}
+use Rattle.texts.specs.Lines.{lines}
 use Rattle.net_model.specs.Network.{Plan}
 use Rattle.net_model.specs.Building.{built}
 use Rattle.plan_format.specs.PlanText.{plan_text}

@@ -1,6 +1,6 @@
 -- The command `judge`: what it answers to each line of a plan and of a certificate. This project's own choice.
 use Rattle.std.specs.Prelude.{◌≡◌, ℕ, List, [], ◌∷◌, ◌++◌, Result, Ok, Err}
-use Rattle.net_model.specs.Text.{words}
+use Rattle.texts.specs.Words.{words}
 use Rattle.net_model.specs.Network.{Plan}
 use Rattle.net_model.specs.declared.format.FormatKind.{FormatKind}
 use Rattle.strategy_model.specs.Control.{IsControllable}

@@ -1,6 +1,6 @@
 -- The reading of a plan text, line by line, up to the network that it declares. This project's own choice.
 use Rattle.std.specs.Prelude.{ℕ, ◌-◌, List, [], ◌∷◌, ◌++◌, Result, Ok, Err, unwrap_or, slice_get}
-use Rattle.net_model.specs.Text.{words}
+use Rattle.texts.specs.Words.{words}
 use Rattle.net_model.specs.Network.{Plan}
 use Rattle.net_model.specs.Building.{built}
 use Rattle.net_model.specs.declared.fault.BuildFault.{BuildFault}

@@ -1,6 +1,6 @@
 -- An input that `judge` answers with a judgement. This project's own choice.
 use Rattle.std.specs.Prelude.{◌≡◌, ◌⊎◌, ℕ, ◌+◌, ◌≤◌, List, [], ◌∷◌, length, drop, Ok}
-use Rattle.net_model.specs.Text.{lines}
+use Rattle.texts.specs.Lines.{lines}
 use Rattle.net_model.specs.Network.{Plan}
 use Rattle.net_model.specs.Building.{built}
 use Rattle.plan_format.specs.PlanText.{Declared, headed}

@@ -1,7 +1,7 @@
 //! The command `judge`: a plan, then a certificate, which is judged.
 
 ghost use Rattle.std.specs.Prelude.{◌≡◌, IfOk};
-ghost use Rattle.net_model.specs.Text.{words};
+ghost use Rattle.texts.specs.Words.{words};
 ghost use Rattle.stnu_run.specs.Turns.{IsUnbroken, IsNotOfWords};
 ghost use Rattle.stnu_run.specs.Judging.{judge_takes, judge_stops, end_of, GoesOn, ClaimHolds, judgement_line, judgement_status};
 ghost use Rattle.cert_checker.specs.Judgement.{judgement_of};

@@ -28,7 +28,7 @@ pub enum PlanProgress {
 
 ghost use Rattle.std.specs.Prelude.{◌≡◌, ◌∷◌, [], ◌++◌, IfOk};
 ghost use Rattle.plan_format.specs.PlanLines.{plan_line};
-ghost use Rattle.net_model.specs.Text.{words};
+ghost use Rattle.texts.specs.Words.{words};
 ghost use Rattle.net_model.specs.Building.{built};
 ghost use Rattle.stnu_run.specs.PlanReading.{plan_takes, plan_stops, before_header, declared, built_at, build_fault, quantity_of, line_of_part};
 

@@ -4,7 +4,7 @@ use Rattle.std.specs.List.{AllByRecursion, slice_get}
 use Rattle.std.proofs.lemmas.Int.{ints}
 use Rattle.std.proofs.lemmas.Option.{slice_get_within, get_or_from_slice_get}
 use Rattle.net_model.specs.Network.{Plan, IsPlan}
-use Rattle.net_model.specs.Rules.{IsOfBound}
+use Rattle.net_model.specs.LooseRules.{IsLooseBound}
 use Rattle.net_model.specs.declared.part.Bound.{Bound}
 use Rattle.net_model.specs.declared.part.Edge.{Edge}
 use Rattle.strategy_model.specs.Situations.{Satisfies, Keeps, moment_in}
@@ -19,7 +19,7 @@ bound_kept net schedule place bound satisfies declared =
     subst (Keeps schedule) here (satisfies.keeps place bound (slice_get_within net.bounds place bound declared))
 
 -- and so the edge of each
-pub edge_of_bound_holds : (net : Plan) (schedule : List ℕ) → Satisfies net schedule → (edge : Edge) → IsOfBound net edge → HoldsIn schedule edge
+pub edge_of_bound_holds : (net : Plan) (schedule : List ℕ) → Satisfies net schedule → (edge : Edge) → IsLooseBound net edge → HoldsIn schedule edge
 edge_of_bound_holds net schedule satisfies edge made =
     let kept = bound_kept net schedule made.place made.bound satisfies made.declared in
     let from : moment_in schedule edge.from ≡ moment_in schedule made.bound.from = ap (moment_in schedule) made.from in
@@ -27,7 +27,7 @@ edge_of_bound_holds net schedule satisfies edge made =
     let looser = made.looser in
     omega (arith, ints, kept, from, to, looser)
 
-pub edges_of_bounds_hold : (net : Plan) (schedule : List ℕ) → Satisfies net schedule → (edges : List Edge) → AllByRecursion (IsOfBound net) edges → AllByRecursion (HoldsIn schedule) edges
+pub edges_of_bounds_hold : (net : Plan) (schedule : List ℕ) → Satisfies net schedule → (edges : List Edge) → AllByRecursion (IsLooseBound net) edges → AllByRecursion (HoldsIn schedule) edges
 edges_of_bounds_hold net schedule satisfies [] made = tt
 edges_of_bounds_hold net schedule satisfies (edge ∷ edges) made =
     (edge_of_bound_holds net schedule satisfies edge made.0, edges_of_bounds_hold net schedule satisfies edges made.1)

@@ -7,7 +7,8 @@ use Rattle.std.proofs.lemmas.Int.{ints}
 use Rattle.std.proofs.lemmas.List.Elements.{All-from_recursion, All-contains, All-weaker, recursion_from_All}
 use Rattle.std.proofs.lemmas.Option.{same_Some, slice_get-map, slice_get_within, get_or_from_slice_get}
 use Rattle.net_model.specs.Network.{Plan, IsPlan, IsBound, IsPoint}
-use Rattle.net_model.specs.Rules.{IsEdge, IsLabelled, IsOfBound, IsOfLink, by_bound, by_link, by_no_case, by_upper_case, by_lower_case, by_cross_case, by_removal}
+use Rattle.net_model.specs.Edges.{IsEdge, IsLabelled}
+use Rattle.net_model.specs.LooseRules.{IsLooseBound, IsLooseLink, by_bound, by_link, by_no_case, by_upper_case, by_lower_case, by_cross_case, by_removal}
 use Rattle.net_model.specs.declared.ids.LinkId.{LinkId}
 use Rattle.net_model.specs.declared.part.Bound.{Bound}
 use Rattle.net_model.specs.declared.part.Edge.{Edge}
@@ -82,12 +83,12 @@ bound_sound net plan place bound declared =
 edge_of : (net : Plan) (edges : List Edge) (edge : Edge) → AllByRecursion (IsEdge net) edges → Contains edges edge → IsEdge net edge
 edge_of net edges edge all among = All-contains (IsEdge net) edges edge (All-from_recursion (IsEdge net) edges all) among
 
-bound_gives_edge : (net : Plan) (edge : Edge) → IsPlan net → IsOfBound net edge → IsEdge net edge
+bound_gives_edge : (net : Plan) (edge : Edge) → IsPlan net → IsLooseBound net edge → IsEdge net edge
 bound_gives_edge net edge plan rule =
     let sound = bound_sound net plan rule.place rule.bound rule.declared in
     ordinary_edge net edge (subst (IsPoint net) (sym rule.from) sound.from_point) (subst (IsPoint net) (sym rule.to) sound.to_point) rule.ordinary
 
-link_gives_edge : (net : Plan) (edge : Edge) → IsPlan net → IsOfLink net edge → IsEdge net edge
+link_gives_edge : (net : Plan) (edge : Edge) → IsPlan net → IsLooseLink net edge → IsEdge net edge
 link_gives_edge net edge plan rule =
     let sound = link_sound net plan rule.name.0 rule.link rule.declared in
     record {

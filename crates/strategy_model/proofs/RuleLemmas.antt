@@ -8,7 +8,8 @@ use Rattle.std.proofs.lemmas.Int.{ints}
 use Rattle.std.proofs.lemmas.List.Elements.{All-from_recursion, recursion_from_All, All-contains, All-nil, All-more}
 use Rattle.std.proofs.lemmas.Option.{same_Some, slice_get_cases}
 use Rattle.net_model.specs.Network.{Plan, IsPlan, IsLink}
-use Rattle.net_model.specs.Rules.{IsLinkOf, IsDerivation, by_bound, by_link, by_no_case, by_upper_case, by_lower_case, by_cross_case, by_removal}
+use Rattle.net_model.specs.Edges.{IsLinkOf}
+use Rattle.net_model.specs.LooseRules.{IsLooseDerivation, by_bound, by_link, by_no_case, by_upper_case, by_lower_case, by_cross_case, by_removal}
 use Rattle.net_model.specs.declared.ids.LinkId.{LinkId}
 use Rattle.net_model.specs.declared.part.Edge.{Edge}
 use Rattle.net_model.specs.declared.part.Link.{Link}
@@ -174,7 +175,7 @@ rules_keep_truth net strategy earlier edge plan controls all (by_removal premise
     removal_keeps_truth net strategy premise edge plan controls (true_of net strategy earlier premise all among) rule
 
 -- the edges of a derivation up to a place are true
-true_up_to : (net : Plan) (strategy : Tree) (edges : List Edge) → IsPlan net → Controls strategy net → IsDerivation net edges → (k : ℕ) → k ≤ length edges → All (HoldsOf net strategy) (take k edges)
+true_up_to : (net : Plan) (strategy : Tree) (edges : List Edge) → IsPlan net → Controls strategy net → IsLooseDerivation net edges → (k : ℕ) → k ≤ length edges → All (HoldsOf net strategy) (take k edges)
 true_up_to net strategy edges plan controls derivation zero within = All-nil (HoldsOf net strategy)
 true_up_to net strategy edges plan controls derivation (suc k) within =
     let before = true_up_to net strategy edges plan controls derivation k (omega arith) in

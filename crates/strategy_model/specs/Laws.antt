@@ -2,7 +2,8 @@
 use Rattle.std.specs.Prelude.{◌≡◌, ℕ, ◌+◌, ◌<◌, min, List, Some, slice_get}
 use Rattle.std.specs.List.{All, AllByRecursion, Contains}
 use Rattle.net_model.specs.Network.{Plan, IsPlan}
-use Rattle.net_model.specs.Rules.{IsLinkOf, IsEdge, IsOfBound, IsOfLink, IsNoCase, IsUpperCase, IsLowerCase, IsCrossCase, IsRemoval, Follows, IsDerivation}
+use Rattle.net_model.specs.Edges.{IsLinkOf, IsEdge}
+use Rattle.net_model.specs.LooseRules.{IsLooseBound, IsLooseLink, IsLooseNoCase, IsLooseUpperCase, IsLooseLowerCase, IsLooseCrossCase, IsLooseRemoval, FollowsLoosely, IsLooseDerivation}
 use Rattle.net_model.specs.declared.ids.PointId.{PointId}
 use Rattle.net_model.specs.declared.ids.LinkId.{LinkId}
 use Rattle.net_model.specs.declared.part.Edge.{Edge}
@@ -26,50 +27,50 @@ PlaysAgree =
 
 -- the edge of a bound is true of a strategy that controls the network
 abbrev pub BoundKeepsTruth : Type 0
-BoundKeepsTruth = (net : Plan) (strategy : Tree) (edge : Edge) → IsPlan net → Controls strategy net → IsOfBound net edge → HoldsOf net strategy edge
+BoundKeepsTruth = (net : Plan) (strategy : Tree) (edge : Edge) → IsPlan net → Controls strategy net → IsLooseBound net edge → HoldsOf net strategy edge
 
 -- the edge of a link is true of a strategy that controls the network
 abbrev pub LinkKeepsTruth : Type 0
-LinkKeepsTruth = (net : Plan) (strategy : Tree) (edge : Edge) → IsPlan net → Controls strategy net → IsOfLink net edge → HoldsOf net strategy edge
+LinkKeepsTruth = (net : Plan) (strategy : Tree) (edge : Edge) → IsPlan net → Controls strategy net → IsLooseLink net edge → HoldsOf net strategy edge
 
 -- what no-case gives from edges that are true of a controlling strategy is true of it
 abbrev pub NoCaseKeepsTruth : Type 0
 NoCaseKeepsTruth =
-    (net : Plan) (strategy : Tree) (first second edge : Edge) → IsPlan net → Controls strategy net → HoldsOf net strategy first → HoldsOf net strategy second → IsNoCase first second edge → HoldsOf net strategy edge
+    (net : Plan) (strategy : Tree) (first second edge : Edge) → IsPlan net → Controls strategy net → HoldsOf net strategy first → HoldsOf net strategy second → IsLooseNoCase first second edge → HoldsOf net strategy edge
 
 -- what upper-case gives from edges that are true of a controlling strategy is true of it
 abbrev pub UpperCaseKeepsTruth : Type 0
 UpperCaseKeepsTruth =
-    (net : Plan) (strategy : Tree) (first second edge : Edge) → IsPlan net → Controls strategy net → HoldsOf net strategy first → HoldsOf net strategy second → IsUpperCase first second edge → HoldsOf net strategy edge
+    (net : Plan) (strategy : Tree) (first second edge : Edge) → IsPlan net → Controls strategy net → HoldsOf net strategy first → HoldsOf net strategy second → IsLooseUpperCase first second edge → HoldsOf net strategy edge
 
 -- what lower-case gives from an edge that is true of a controlling strategy is true of it
 abbrev pub LowerCaseKeepsTruth : Type 0
 LowerCaseKeepsTruth =
-    (net : Plan) (strategy : Tree) (second edge : Edge) → IsPlan net → Controls strategy net → HoldsOf net strategy second → IsLowerCase net second edge → HoldsOf net strategy edge
+    (net : Plan) (strategy : Tree) (second edge : Edge) → IsPlan net → Controls strategy net → HoldsOf net strategy second → IsLooseLowerCase net second edge → HoldsOf net strategy edge
 
 -- what cross-case gives from an edge that is true of a controlling strategy is true of it
 abbrev pub CrossCaseKeepsTruth : Type 0
 CrossCaseKeepsTruth =
-    (net : Plan) (strategy : Tree) (second edge : Edge) → IsPlan net → Controls strategy net → HoldsOf net strategy second → IsCrossCase net second edge → HoldsOf net strategy edge
+    (net : Plan) (strategy : Tree) (second edge : Edge) → IsPlan net → Controls strategy net → HoldsOf net strategy second → IsLooseCrossCase net second edge → HoldsOf net strategy edge
 
 -- what removal gives from an edge that is true of a controlling strategy is true of it
 abbrev pub RemovalKeepsTruth : Type 0
 RemovalKeepsTruth =
-    (net : Plan) (strategy : Tree) (premise edge : Edge) → IsPlan net → Controls strategy net → HoldsOf net strategy premise → IsRemoval net premise edge → HoldsOf net strategy edge
+    (net : Plan) (strategy : Tree) (premise edge : Edge) → IsPlan net → Controls strategy net → HoldsOf net strategy premise → IsLooseRemoval net premise edge → HoldsOf net strategy edge
 
 -- what follows by one rule from edges that are true of a controlling strategy is true of it
 abbrev pub RulesKeepTruth : Type 0
 RulesKeepTruth =
-    (net : Plan) (strategy : Tree) (earlier : List Edge) (edge : Edge) → IsPlan net → Controls strategy net → AllByRecursion (HoldsOf net strategy) earlier → Follows net earlier edge → HoldsOf net strategy edge
+    (net : Plan) (strategy : Tree) (earlier : List Edge) (edge : Edge) → IsPlan net → Controls strategy net → AllByRecursion (HoldsOf net strategy) earlier → FollowsLoosely net earlier edge → HoldsOf net strategy edge
 
 -- every edge of a derivation is true of every strategy that controls the network
 abbrev pub DerivationsAreTrue : Type 0
-DerivationsAreTrue = (net : Plan) (strategy : Tree) (edges : List Edge) → IsPlan net → Controls strategy net → IsDerivation net edges → All (HoldsOf net strategy) edges
+DerivationsAreTrue = (net : Plan) (strategy : Tree) (edges : List Edge) → IsPlan net → Controls strategy net → IsLooseDerivation net edges → All (HoldsOf net strategy) edges
 
 -- what follows by one rule from edges of the network is an edge of it
 abbrev pub RulesKeepEdges : Type 0
 RulesKeepEdges =
-    (net : Plan) (earlier : List Edge) (edge : Edge) → IsPlan net → AllByRecursion (IsEdge net) earlier → Follows net earlier edge → IsEdge net edge
+    (net : Plan) (earlier : List Edge) (edge : Edge) → IsPlan net → AllByRecursion (IsEdge net) earlier → FollowsLoosely net earlier edge → IsEdge net edge
 
 -- no schedule keeps every edge of a closed walk of negative total
 abbrev pub LoopsExcludeSchedules : Type 0
@@ -83,14 +84,14 @@ LoopsExcludeStrategies =
 -- a derivation and a closed walk of negative total over its edges exclude every strategy that controls the network
 abbrev pub RefutationsExcludeStrategies : Type 0
 RefutationsExcludeStrategies =
-    (net : Plan) (edges walk : List Edge) → IsPlan net → IsDerivation net edges → All (Contains edges) walk → IsNegativeLoop walk → IsControllable net → ⊥
+    (net : Plan) (edges walk : List Edge) → IsPlan net → IsLooseDerivation net edges → All (Contains edges) walk → IsNegativeLoop walk → IsControllable net → ⊥
 
 -- a closed walk over bounds of negative total excludes every schedule that satisfies the network
 abbrev pub LoopsOfBoundsExcludeSchedules : Type 0
 LoopsOfBoundsExcludeSchedules =
-    (net : Plan) (edges : List Edge) → IsNegativeLoop edges → AllByRecursion (IsOfBound net) edges → (schedule : List ℕ) → Satisfies net schedule → ⊥
+    (net : Plan) (edges : List Edge) → IsNegativeLoop edges → AllByRecursion (IsLooseBound net) edges → (schedule : List ℕ) → Satisfies net schedule → ⊥
 
 -- and so it excludes every strategy that controls the network
 abbrev pub LoopsOfBoundsExcludeStrategies : Type 0
 LoopsOfBoundsExcludeStrategies =
-    (net : Plan) (edges : List Edge) → IsPlan net → IsNegativeLoop edges → AllByRecursion (IsOfBound net) edges → IsControllable net → ⊥
+    (net : Plan) (edges : List Edge) → IsPlan net → IsNegativeLoop edges → AllByRecursion (IsLooseBound net) edges → IsControllable net → ⊥

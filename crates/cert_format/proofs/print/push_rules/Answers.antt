@@ -1,6 +1,6 @@
 use Rattle.std.proofs.Common.{rules, List, ℕ}
 use Rattle.std.proofs.lemmas.List.Elements.{All-more}
-use Rattle.net_model.specs.Printing.{printed_line}
+use Rattle.texts.specs.Printing.{printed_line}
 use Rattle.cert_format.specs.declared.line.CertLine.{CertLine}
 use Rattle.cert_format.specs.CertificateWords.{line_words, IsSpelledLine}
 use Rattle.cert_format.proofs.PrintLemmas.{written_more}

@@ -1,5 +1,5 @@
 use Rattle.std.proofs.Common.{◌≡◌, ◌+◌, ◌≤◌, length}
-use Rattle.net_model.specs.Text.{lines}
+use Rattle.texts.specs.Lines.{lines}
 use Rattle.cert_format.specs.CertificateText.{read_from, certificate_text}
 use Rattle.cert_format.proofs.whole.read_lines.Given as goal
 

@@ -1,5 +1,5 @@
 use Rattle.std.proofs.Common.{◌≡◌, Ok, Err, sym, ◌∙◌}
-use Rattle.net_model.specs.Text.{words}
+use Rattle.texts.specs.Words.{words}
 use Rattle.plan_format.specs.PlanLines.{plan_line}
 use Rattle.plan_format.proofs.PartLemmas.{read_is, is_read}
 use Rattle.plan_format.proofs.plan_line.read_plan_line.Goals as goal

@@ -1,0 +1,34 @@
+-- The greatest counts and sizes. This project's own choice.
+use Rattle.std.specs.Prelude.{ℕ, ℤ, Bool, nat_le, unsigned_abs}
+
+-- how many points a network may have
+abbrev pub most_points : ℕ
+most_points = 1000
+
+-- how many links a network may have
+abbrev pub most_links : ℕ
+most_links = 400
+
+-- how many bounds a network may have
+abbrev pub most_bounds : ℕ
+most_bounds = 20000
+
+-- the greatest size of a number of a plan, in whole moments
+abbrev pub most_number : ℕ
+most_number = 1000000000
+
+-- the greatest size of a number of a sound network: above those of every plan and of every form that is made of one
+abbrev pub most_size : ℕ
+most_size = 2000000000
+
+-- the greatest size of the weight of an edge that is derived, judged or kept in a table
+abbrev pub most_weight : ℕ
+most_weight = 1000000000000
+
+-- a number that a plan may have
+abbrev pub within_limit : ℤ → Bool
+within_limit number = nat_le (unsigned_abs number) most_number
+
+-- a number that a sound network may have
+abbrev pub within_size : ℤ → Bool
+within_size number = nat_le (unsigned_abs number) most_size
