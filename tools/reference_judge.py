@@ -1,10 +1,10 @@
 #!/usr/bin/env python3
 """The judge once more, by the rules of docs/FORMAT.md and without a line of the program.
 
-    cat PLAN CERTIFICATE | reference/judge.py
+    cat PLAN CERTIFICATE | tools/reference_judge.py
 
-Prints the answer and ends with the status that README.md gives it. It is slow and nothing of it is proved: it serves to
-compare the program's definitions with the page that describes them, as compare.py does.
+Prints the answer and ends with the status that docs/ANSWERS.md gives it. It is slow and nothing of it is proved: it serves to
+compare the program's definitions with the page that describes them, as compare-judge does.
 """
 
 import re
