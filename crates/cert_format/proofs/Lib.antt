@@ -1,8 +1,11 @@
 pub mod EdgeLemmas
 pub mod PrintLemmas
 pub mod WordLemmas
-pub mod GrammarLemmas
-pub mod RoundTripLemmas
+pub mod NumberLemmas
 pub mod SaidLemmas
-pub mod InGrammarLemmas
-pub mod FaultLemmas
+pub mod FormLemmas
+pub mod AloneLemmas
+pub mod FrontLemmas
+pub mod RoundTripLemmas
+pub mod ReadingLemmas
+pub mod OnceLemmas

@@ -3,7 +3,7 @@ use Rattle.std.proofs.Common.{◌≡◌, ℕ, ℤ, ◌≤◌, false, List, [], �
 use Rattle.std.specs.Option.{IfSome}
 use Rattle.std.specs.List.{AllByRecursion}
 use Rattle.std.specs.Fmt.{decimal, signed_decimal}
-use Rattle.std.proofs.lemmas.List.{append-nil}
+use Rattle.std.proofs.lemmas.List.{map-append}
 use Rattle.std.proofs.lemmas.List.Elements.{recursion_from_All}
 use Rattle.net_model.specs.Names.{is_name}
 use Rattle.texts.specs.Words.{are_passed_over}
@@ -22,9 +22,9 @@ use Rattle.cert_format.specs.declared.kind.LineKind.TheVariants as kind
 use Rattle.cert_format.specs.declared.line.CertLine.{CertLine}
 use Rattle.cert_format.specs.declared.certificate.Certificate.{Certificate}
 use Rattle.cert_format.specs.declared.certificate.Certificate.TheVariants.{Refutation}
-use Rattle.cert_format.specs.declared.read.TheConstants.{MOST_WEIGHT, MOST_LINE_NUMBER}
+use Rattle.cert_format.specs.Limits.{most_written_weight, most_line_number}
 use Rattle.cert_format.proofs.WordLemmas.{no_remark}
-use Rattle.cert_format.proofs.GrammarLemmas.{grammar_read}
+use Rattle.cert_format.proofs.FrontLemmas.{after_two, certificate_front, grammar_read}
 
 printable_keyword : (k : Keyword) → IsPrintable (spelled k)
 printable_keyword keyword.Certificate = record { filled = omega arith; plain = (omega arith, (omega arith, (omega arith, (omega arith, (omega arith, (omega arith, (omega arith, (omega arith, (omega arith, (omega arith, (omega arith, tt))))))))))) }
@@ -42,10 +42,10 @@ printable_keyword keyword.End = record { filled = omega arith; plain = (omega ar
 printable_one : IsPrintable (codes "1")
 printable_one = record { filled = omega arith; plain = (omega arith, tt) }
 
-printable_number : (n : ℕ) → n ≤ MOST_LINE_NUMBER → IsPrintable (decimal n)
+printable_number : (n : ℕ) → n ≤ most_line_number → IsPrintable (decimal n)
 printable_number n within = printable_natural n (omega arith)
 
-printable_weight : (w : ℤ) → unsigned_abs w ≤ MOST_WEIGHT → IsPrintable (signed_decimal w)
+printable_weight : (w : ℤ) → unsigned_abs w ≤ most_written_weight → IsPrintable (signed_decimal w)
 printable_weight w within = printable_integer w (omega arith)
 
 both : {A : Type 0} (P : A → Type 0) (xs ys : List A) → AllByRecursion P xs → AllByRecursion P ys → AllByRecursion P (xs ++ ys)
@@ -76,7 +76,7 @@ written_line line spelled = record {
   filled = no_remark (rule_word line.kind) (operand_words line.kind ++ (line.from ∷ line.to ∷ (label_words line.label ++ signed_decimal line.weight ∷ [])));
 }
 
-written_walk : (i : ℕ) → i ≤ MOST_LINE_NUMBER → IsWritten (walk_words i)
+written_walk : (i : ℕ) → i ≤ most_line_number → IsWritten (walk_words i)
 written_walk i within = record { printable = (printable_keyword keyword.Walk, (printable_number i within, tt)); filled = refl }
 
 pub written_header : IsWritten header_words
@@ -88,17 +88,17 @@ written_refutation = record { printable = (printable_keyword keyword.Refutation,
 pub written_end : IsWritten end_words
 written_end = record { printable = (printable_keyword keyword.End, tt); filled = refl }
 
-all_walk : (walk : List ℕ) → AllByRecursion (λ i. i ≤ MOST_LINE_NUMBER) walk → AllByRecursion IsWritten (map walk_words walk ++ end_words ∷ [])
+all_walk : (walk : List ℕ) → AllByRecursion (λ i. i ≤ most_line_number) walk → AllByRecursion IsWritten (map walk_words walk ++ end_words ∷ [])
 all_walk [] within = (written_end, tt)
 all_walk (i ∷ walk) within = (written_walk i within.0, all_walk walk within.1)
 
-all_lines : (lines : List CertLine) (walk : List ℕ) → AllByRecursion IsSpelledLine lines → AllByRecursion (λ i. i ≤ MOST_LINE_NUMBER) walk → AllByRecursion IsWritten (map line_words lines ++ (map walk_words walk ++ end_words ∷ []))
+all_lines : (lines : List CertLine) (walk : List ℕ) → AllByRecursion IsSpelledLine lines → AllByRecursion (λ i. i ≤ most_line_number) walk → AllByRecursion IsWritten (map line_words lines ++ (map walk_words walk ++ end_words ∷ []))
 all_lines [] walk spelled within = all_walk walk within
 all_lines (line ∷ lines) walk spelled within = (written_line line spelled.0, all_lines lines walk spelled.1 within)
 
 all_written : (c : Certificate) → IsSpelled c → AllByRecursion IsWritten (certificate_words c)
 all_written (Refutation lines walk) spelled =
-    (written_header, (written_refutation, all_lines lines walk (recursion_from_All IsSpelledLine lines spelled.0) (recursion_from_All (λ i. i ≤ MOST_LINE_NUMBER) walk spelled.1)))
+    (written_header, (written_refutation, all_lines lines walk (recursion_from_All IsSpelledLine lines spelled.0) (recursion_from_All (λ i. i ≤ most_line_number) walk spelled.1)))
 
 all_printable : (text : List (List (List ℕ))) → AllByRecursion IsWritten text → AllByRecursion IsPrintableLine text
 all_printable [] written = tt
@@ -112,15 +112,20 @@ filled_joined (line ∷ text) written =
 
 printed_is_text : (c : Certificate) → IsSpelled c → IsCertificateText (printed_certificate c) c
 unfolding printed_certificate
-printed_is_text c spelled =
-    let written = all_written c spelled in
-    record {
-      used = map joined (certificate_words c);
-      ignored = [];
-      whole = lines-printed (certificate_words c) (all_printable (certificate_words c) written) ∙ sym (append-nil (map joined (certificate_words c)));
-      said = filled_joined (certificate_words c) written;
-      spelled = spelled;
-    }
+printed_is_text (Refutation lines walk) spelled =
+    let written = all_written (Refutation lines walk) spelled in
+    let body : List (List (List ℕ)) = after_two (map line_words lines ++ map walk_words walk) in
+    let all : map joined (certificate_words (Refutation lines walk)) ≡ map joined body ++ joined end_words ∷ [] = ap (map joined) (sym (certificate_front lines walk)) ∙ map-append joined body (end_words ∷ []) in (
+      [],
+      record {
+        front = map joined body;
+        last = joined end_words;
+        whole = lines-printed (certificate_words (Refutation lines walk)) (all_printable (certificate_words (Refutation lines walk)) written) ∙ all;
+        said = ap filled_words (sym all) ∙ filled_joined (certificate_words (Refutation lines walk)) written;
+        ends = words-joined end_words written_end.printable;
+        spelled = spelled;
+      },
+    )
 
 -- a printed certificate is read back
 pub printed_read : (c : Certificate) → IsSpelled c → certificate_text (printed_certificate c) ≡ Ok c

@@ -14,7 +14,8 @@ use Rattle.cert_format.specs.Kind.{has_label}
 use Rattle.cert_format.specs.Keywords.{spelled, keywords, keyword_of}
 use Rattle.cert_format.specs.CertificateLines.{number_of, weight_of, unlabelled, labelled, bound_line, link_line, no_line, up_line, low_line, cross_line, drop_line, rule, walk_line, header_line, lone_word, line_of}
 use Rattle.cert_format.specs.CertificateWords.{rule_word, operand_words, label_words, line_words, AreOperands, IsSpelledLine}
-use Rattle.cert_format.specs.CertificateText.{admits, admitted, refused_in, line_in}
+use Rattle.cert_format.specs.CertificateGrammar.{admits}
+use Rattle.cert_format.specs.CertificateText.{admitted, refused_in, line_in}
 use Rattle.cert_format.specs.declared.keyword.Keyword.{Keyword}
 use Rattle.cert_format.specs.declared.keyword.Keyword.TheVariants as keyword
 use Rattle.cert_format.specs.declared.kind.LineKind.{LineKind}
@@ -22,16 +23,16 @@ use Rattle.cert_format.specs.declared.kind.LineKind.TheVariants as kind
 use Rattle.cert_format.specs.declared.line.CertLine.{CertLine}
 use Rattle.cert_format.specs.declared.read.CertText.{CertText}
 use Rattle.cert_format.specs.declared.read.CertText.TheVariants as text
-use Rattle.cert_format.specs.declared.read.TheConstants.{MOST_WEIGHT, MOST_LINE_NUMBER}
+use Rattle.cert_format.specs.Limits.{most_written_weight, most_line_number}
 use Rattle.cert_format.specs.declared.section.Section.{Section}
 use Rattle.cert_format.specs.declared.section.Section.TheVariants as section
 use Rattle.cert_format.proofs.WordLemmas.{text_words, text_word, IsSpelledText, no_remark}
 
-number_ok : (word : List ℕ) (n : ℕ) → number_of word ≡ Ok n → (word ≡ decimal n) × (n ≤ MOST_LINE_NUMBER)
-number_ok word n read = spelled_natural MOST_LINE_NUMBER n word read (omega arith)
+number_ok : (word : List ℕ) (n : ℕ) → number_of word ≡ Ok n → (word ≡ decimal n) × (n ≤ most_line_number)
+number_ok word n read = spelled_natural most_line_number n word read (omega arith)
 
-weight_ok : (word : List ℕ) (w : ℤ) → weight_of word ≡ Ok w → (word ≡ signed_decimal w) × (unsigned_abs w ≤ MOST_WEIGHT)
-weight_ok word w read = spelled_integer MOST_WEIGHT w word read (omega arith)
+weight_ok : (word : List ℕ) (w : ℤ) → weight_of word ≡ Ok w → (word ≡ signed_decimal w) × (unsigned_abs w ≤ most_written_weight)
+weight_ok word w read = spelled_integer most_written_weight w word read (omega arith)
 
 -- what stands after the operands of a rule line, FROM, TO, LABEL where there is one, and W, is the edge of the line
 record IsEdge (kind : LineKind) (tail : List (List ℕ)) (line : CertLine) : Type 0 where
@@ -40,7 +41,7 @@ record IsEdge (kind : LineKind) (tail : List (List ℕ)) (line : CertLine) : Typ
   from : IsTrue (is_name line.from)
   to : IsTrue (is_name line.to)
   label : IfSome line.label (λ label. IsTrue (is_name label))
-  weight : unsigned_abs line.weight ≤ MOST_WEIGHT
+  weight : unsigned_abs line.weight ≤ most_written_weight
 
 three : (a b c x y z : List ℕ) → a ≡ x → b ≡ y → c ≡ z → a ∷ b ∷ c ∷ [] ≡ x ∷ y ∷ z ∷ []
 three a b c x y z p q r = cc
@@ -192,10 +193,10 @@ drop_is (a ∷ b ∷ c ∷ d ∷ []) line read =
 drop_is (a ∷ b ∷ c ∷ d ∷ z ∷ others) line read = absurd (cc)
 
 -- a first word and what stands after it spell a text
-record IsSaid (first : Keyword) (others : List (List ℕ)) (said : CertText) : Type 0 where
-  words : spelled first ∷ others ≡ text_words said
-  spelling : IsSpelledText said
-  first_word : text_word said ≡ first
+pub record IsSaid (first : Keyword) (others : List (List ℕ)) (said : CertText) : Type 0 where
+  pub words : spelled first ∷ others ≡ text_words said
+  pub spelling : IsSpelledText said
+  pub first_word : text_word said ≡ first
 
 rule_said : (first : Keyword) (others : List (List ℕ)) (read : Result CertLine FormatKind) (said : CertText) → ((line : CertLine) → read ≡ Ok line → IsRule first others line) → rule read ≡ Ok said → IsSaid first others said
 rule_said first others (Ok line) said is read =
@@ -230,7 +231,7 @@ lone_is first alone said [] is read =
     subst (λ (t : CertText). IsSaid first [] t) same is
 lone_is first alone said (word ∷ others) is read = absurd (cc)
 
-line_of_is : (first : Keyword) (others : List (List ℕ)) (said : CertText) → line_of first others ≡ Ok said → IsSaid first others said
+pub line_of_is : (first : Keyword) (others : List (List ℕ)) (said : CertText) → line_of first others ≡ Ok said → IsSaid first others said
 line_of_is keyword.Certificate others said read = header_is others said read
 line_of_is keyword.Refutation others said read = lone_is keyword.Refutation text.Refutation said others (record { words = refl; spelling = tt; first_word = refl }) read
 line_of_is keyword.Bound others said read = rule_said keyword.Bound others (bound_line others) said (bound_is others) read
@@ -251,7 +252,7 @@ find_passes test (x ∷ ks) k found =
       | inr after ↦ find_passes test ks k after.1
     ]
 
-keyword_is : (word : List ℕ) (k : Keyword) → keyword_of word ≡ Some k → word ≡ spelled k
+pub keyword_is : (word : List ℕ) (k : Keyword) → keyword_of word ≡ Some k → word ≡ spelled k
 keyword_is word k found = word_is word (spelled k) (find_passes (λ keyword. bytes_eq word (spelled keyword)) keywords k found)
 
 refused_ok : (s : Section) (read : Result CertText FormatKind) (said : CertText) → refused_in s read ≡ Ok said → read ≡ Ok said

@@ -1,5 +1,5 @@
 -- The line that spells a text is read as that text, and no other line is.
-use Rattle.std.proofs.Common.{◌≡◌, ℕ, ℤ, ◌≤◌, true, false, List, [], ◌∷◌, ◌++◌, Option, None, Some, Result, Ok, refl, ap, ◌∙◌, arith, unsigned_abs, IsTrue}
+use Rattle.std.proofs.Common.{◌≡◌, ℕ, ℤ, ◌≤◌, true, false, List, [], ◌∷◌, ◌++◌, Option, None, Some, Result, Ok, refl, ap, ◌∙◌, arith, unsigned_abs, IsTrue, codes}
 use Rattle.std.specs.Option.{is_some, IfSome}
 use Rattle.std.specs.Fmt.{decimal, signed_decimal}
 use Rattle.net_model.specs.Names.{is_name}
@@ -11,7 +11,8 @@ use Rattle.cert_format.specs.Kind.{has_label}
 use Rattle.cert_format.specs.Keywords.{spelled, keyword_of}
 use Rattle.cert_format.specs.CertificateLines.{number_of, weight_of, unlabelled, labelled, rule, line_of}
 use Rattle.cert_format.specs.CertificateWords.{rule_word, operand_words, label_words, line_words, walk_words, header_words, refutation_words, end_words, AreOperands, IsSpelledLine}
-use Rattle.cert_format.specs.CertificateText.{admits, line_in}
+use Rattle.cert_format.specs.CertificateGrammar.{admits}
+use Rattle.cert_format.specs.CertificateText.{line_in}
 use Rattle.cert_format.specs.declared.keyword.Keyword.{Keyword}
 use Rattle.cert_format.specs.declared.keyword.Keyword.TheVariants as keyword
 use Rattle.cert_format.specs.declared.kind.LineKind.{LineKind}
@@ -19,7 +20,7 @@ use Rattle.cert_format.specs.declared.kind.LineKind.TheVariants as kind
 use Rattle.cert_format.specs.declared.line.CertLine.{CertLine}
 use Rattle.cert_format.specs.declared.read.CertText.{CertText}
 use Rattle.cert_format.specs.declared.read.CertText.TheVariants as text
-use Rattle.cert_format.specs.declared.read.TheConstants.{MOST_WEIGHT, MOST_LINE_NUMBER}
+use Rattle.cert_format.specs.Limits.{most_written_weight, most_line_number}
 use Rattle.cert_format.specs.declared.section.Section.{Section}
 use Rattle.cert_format.proofs.EdgeLemmas.{same_line}
 
@@ -47,19 +48,19 @@ IsSpelledText text.Blank = ⊥
 IsSpelledText text.Header = Unit {0}
 IsSpelledText text.Refutation = Unit {0}
 IsSpelledText (text.Line line) = IsSpelledLine line
-IsSpelledText (text.Walk i) = i ≤ MOST_LINE_NUMBER
+IsSpelledText (text.Walk i) = i ≤ most_line_number
 IsSpelledText text.End = Unit {0}
 
-number_read : (n : ℕ) → n ≤ MOST_LINE_NUMBER → number_of (decimal n) ≡ Ok n
-number_read n within = natural_spelled MOST_LINE_NUMBER n within (omega arith)
+number_read : (n : ℕ) → n ≤ most_line_number → number_of (decimal n) ≡ Ok n
+number_read n within = natural_spelled most_line_number n within (omega arith)
 
-weight_read : (w : ℤ) → unsigned_abs w ≤ MOST_WEIGHT → weight_of (signed_decimal w) ≡ Ok w
-weight_read w within = integer_spelled MOST_WEIGHT w within (omega arith)
+weight_read : (w : ℤ) → unsigned_abs w ≤ most_written_weight → weight_of (signed_decimal w) ≡ Ok w
+weight_read w within = integer_spelled most_written_weight w within (omega arith)
 
-unlabelled_read : (kind : LineKind) (none : false ≡ has_label kind) (from to : List ℕ) (weight : ℤ) → IsTrue (is_name from) → IsTrue (is_name to) → unsigned_abs weight ≤ MOST_WEIGHT → unlabelled kind none from to (signed_decimal weight) ≡ Ok (record { kind = kind; from = from; to = to; label = None; weight = weight; labelled = none })
+unlabelled_read : (kind : LineKind) (none : false ≡ has_label kind) (from to : List ℕ) (weight : ℤ) → IsTrue (is_name from) → IsTrue (is_name to) → unsigned_abs weight ≤ most_written_weight → unlabelled kind none from to (signed_decimal weight) ≡ Ok (record { kind = kind; from = from; to = to; label = None; weight = weight; labelled = none })
 unlabelled_read kind none from to weight f t w = rw (name_read from f, name_read to t, weight_read weight w) refl
 
-labelled_read : (kind : LineKind) (one : true ≡ has_label kind) (from to label : List ℕ) (weight : ℤ) → IsTrue (is_name from) → IsTrue (is_name to) → IsTrue (is_name label) → unsigned_abs weight ≤ MOST_WEIGHT → labelled kind one from to label (signed_decimal weight) ≡ Ok (record { kind = kind; from = from; to = to; label = Some label; weight = weight; labelled = one })
+labelled_read : (kind : LineKind) (one : true ≡ has_label kind) (from to label : List ℕ) (weight : ℤ) → IsTrue (is_name from) → IsTrue (is_name to) → IsTrue (is_name label) → unsigned_abs weight ≤ most_written_weight → labelled kind one from to label (signed_decimal weight) ≡ Ok (record { kind = kind; from = from; to = to; label = Some label; weight = weight; labelled = one })
 labelled_read kind one from to label weight f t l w = rw (name_read from f, name_read to t, name_read label l, weight_read weight w) refl
 
 -- a rule line, however its label is known to be there
@@ -71,10 +72,10 @@ relabelled kind from to label weight p q read said =
     ap rule said ∙ ap (λ (line : CertLine). Ok (text.Line line)) (same_line kind from to label weight p q)
 
 -- what stands after the first word of a rule line
-abbrev rule_tail : (kind : LineKind) (from to : List ℕ) (label : Option (List ℕ)) (weight : ℤ) → List (List ℕ)
+abbrev pub rule_tail : (kind : LineKind) (from to : List ℕ) (label : Option (List ℕ)) (weight : ℤ) → List (List ℕ)
 rule_tail kind from to label weight = operand_words kind ++ (from ∷ to ∷ (label_words label ++ signed_decimal weight ∷ []))
 
-edge_read : (kind : LineKind) (from to : List ℕ) (label : Option (List ℕ)) (weight : ℤ) (fits : is_some label ≡ has_label kind) → AreOperands kind → IsTrue (is_name from) → IsTrue (is_name to) → IfSome label (λ l. IsTrue (is_name l)) → unsigned_abs weight ≤ MOST_WEIGHT → line_of (rule_word kind) (rule_tail kind from to label weight) ≡ Ok (text.Line (edge kind from to label weight fits))
+edge_read : (kind : LineKind) (from to : List ℕ) (label : Option (List ℕ)) (weight : ℤ) (fits : is_some label ≡ has_label kind) → AreOperands kind → IsTrue (is_name from) → IsTrue (is_name to) → IfSome label (λ l. IsTrue (is_name l)) → unsigned_abs weight ≤ most_written_weight → line_of (rule_word kind) (rule_tail kind from to label weight) ≡ Ok (text.Line (edge kind from to label weight fits))
 edge_read (kind.Bound name) from to None weight fits ops f t l w =
     rw (name_read name ops) (relabelled (kind.Bound name) from to None weight refl fits (unlabelled (kind.Bound name) refl from to (signed_decimal weight)) (unlabelled_read (kind.Bound name) refl from to weight f t w))
 edge_read (kind.Bound name) from to (Some label) weight fits ops f t l w = absurd (cc)
@@ -97,7 +98,7 @@ edge_read (kind.Drop j) from to None weight fits ops f t l w =
     rw (number_read j ops) (relabelled (kind.Drop j) from to None weight refl fits (unlabelled (kind.Drop j) refl from to (signed_decimal weight)) (unlabelled_read (kind.Drop j) refl from to weight f t w))
 edge_read (kind.Drop j) from to (Some label) weight fits ops f t l w = absurd (cc)
 
-keyword_spelled : (k : Keyword) → keyword_of (spelled k) ≡ Some k
+pub keyword_spelled : (k : Keyword) → keyword_of (spelled k) ≡ Some k
 keyword_spelled keyword.Certificate = refl
 keyword_spelled keyword.Refutation = refl
 keyword_spelled keyword.Bound = refl
@@ -129,15 +130,36 @@ unfolding line_in
 admitted_read s k others said may read =
     rw (no_remark k others, keyword_spelled k, may, read) refl
 
+-- what stands after the first word
+abbrev pub text_tail : CertText → List (List ℕ)
+text_tail text.Blank = []
+text_tail text.Header = codes "1" ∷ []
+text_tail text.Refutation = []
+text_tail (text.Line line) = rule_tail line.kind line.from line.to line.label line.weight
+text_tail (text.Walk i) = decimal i ∷ []
+text_tail text.End = []
+
+pub words_of_text : (said : CertText) → IsSpelledText said → text_words said ≡ spelled (text_word said) ∷ text_tail said
+words_of_text text.Blank spelling = absurd spelling
+words_of_text text.Header spelling = refl
+words_of_text text.Refutation spelling = refl
+words_of_text (text.Line line) spelling = refl
+words_of_text (text.Walk i) spelling = refl
+words_of_text text.End spelling = refl
+
+pub tail_read : (said : CertText) → IsSpelledText said → line_of (text_word said) (text_tail said) ≡ Ok said
+tail_read text.Blank spelling = absurd spelling
+tail_read text.Header spelling = refl
+tail_read text.Refutation spelling = refl
+tail_read (text.Line line) spelling =
+    edge_read line.kind line.from line.to line.label line.weight line.labelled spelling.operands spelling.from spelling.to spelling.label spelling.weight
+tail_read (text.Walk i) spelling = rw (number_read i spelling) refl
+tail_read text.End spelling = refl
+
 -- the line that spells a text is read as that text
 pub text_read : (s : Section) (said : CertText) → admits s (text_word said) ≡ true → IsSpelledText said → line_in s (text_words said) ≡ Ok said
-text_read s text.Blank may spelled = absurd spelled
-text_read s text.Header may spelled = admitted_read s keyword.Certificate _ text.Header may refl
-text_read s text.Refutation may spelled = admitted_read s keyword.Refutation _ text.Refutation may refl
-text_read s (text.Line line) may spelled =
-    admitted_read s (rule_word line.kind) (rule_tail line.kind line.from line.to line.label line.weight) (text.Line line) may (edge_read line.kind line.from line.to line.label line.weight line.labelled spelled.operands spelled.from spelled.to spelled.label spelled.weight)
-text_read s (text.Walk i) may spelled = admitted_read s keyword.Walk _ (text.Walk i) may (rw (number_read i spelled) refl)
-text_read s text.End may spelled = admitted_read s keyword.End _ text.End may refl
+text_read s said may spelling =
+    ap (line_in s) (words_of_text said spelling) ∙ admitted_read s (text_word said) (text_tail said) said may (tail_read said spelling)
 
 pub blank_read : (s : Section) (words : List (List ℕ)) → are_passed_over words ≡ true → line_in s words ≡ Ok text.Blank
 unfolding line_in

@@ -1,42 +1,155 @@
--- The grammar of the texts of certificates. This project's own choice.
-use Rattle.std.specs.Prelude.{◌≡◌, ℕ, ◌+◌, List, [], ◌∷◌, ◌++◌, length, Result, Ok, Err, if◌then◌else◌}
+-- The grammar of the texts of certificates: their lines and sections, the certificate that lines declare, and their first
+-- fault. This project's own choice.
+use Rattle.std.specs.Prelude.{◌≡◌, ◌≢◌, ℕ, ◌+◌, ◌≤◌, Bool, true, false, List, [], ◌∷◌, ◌++◌, map, length, if◌then◌else◌}
+use Rattle.std.specs.List.{All}
 use Rattle.texts.specs.Words.{are_passed_over, words}
 use Rattle.texts.specs.Lines.{lines}
+use Rattle.net_model.specs.declared.format.FormatKind.{FormatKind}
+use Rattle.net_model.specs.declared.format.FormatKind.TheVariants.{NoHeader, NoEnd}
 use Rattle.net_model.specs.declared.format.FormatFault.{FormatFault}
 use Rattle.net_model.specs.declared.format.TextFault.{TextFault}
 use Rattle.net_model.specs.declared.format.TextFault.TheVariants as whole
+use Rattle.net_model.specs.declared.format.WordFault.{WordFault}
+use Rattle.net_model.specs.declared.format.WordFault.TheVariants as word
+use Rattle.cert_format.specs.Limits.{most_line_number}
+use Rattle.cert_format.specs.LineForms.{IsFaultAmong}
+use Rattle.cert_format.specs.CertificateWords.{line_words, walk_words, header_words, refutation_words, end_words, certificate_words, IsSpelledLine, IsSpelled}
+use Rattle.cert_format.specs.declared.keyword.Keyword.{Keyword}
+use Rattle.cert_format.specs.declared.keyword.Keyword.TheVariants as keyword
+use Rattle.cert_format.specs.declared.section.Section.{Section}
+use Rattle.cert_format.specs.declared.section.Section.TheVariants as section
+use Rattle.cert_format.specs.declared.line.CertLine.{CertLine}
+use Rattle.cert_format.specs.declared.read.CertText.{CertText}
+use Rattle.cert_format.specs.declared.read.CertText.TheVariants as text
 use Rattle.cert_format.specs.declared.certificate.Certificate.{Certificate}
-use Rattle.cert_format.specs.CertificateWords.{certificate_words, IsSpelled}
+use Rattle.cert_format.specs.declared.certificate.Certificate.TheVariants.{Refutation}
+
+-- how a line is spelled, by what it says
+abbrev pub AreWordsOf : CertText → List (List ℕ) → Type 0
+AreWordsOf text.Blank words = are_passed_over words ≡ true
+AreWordsOf text.Header words = words ≡ header_words
+AreWordsOf text.Refutation words = words ≡ refutation_words
+AreWordsOf (text.Line line) words = (words ≡ line_words line) × IsSpelledLine line
+AreWordsOf (text.Walk i) words = (words ≡ walk_words i) × (i ≤ most_line_number)
+AreWordsOf text.End words = words ≡ end_words
+
+-- a line says this
+abbrev pub IsLine : CertText → List ℕ → Type 0
+IsLine said line = AreWordsOf said (words line)
 
 -- the words of the lines that are not blank
 abbrev pub filled_words : List (List ℕ) → List (List (List ℕ))
 filled_words [] = []
 filled_words (line ∷ others) = if are_passed_over (words line) then filled_words others else words line ∷ filled_words others
 
--- the lines of a certificate: those up to the last one spell it, and after them anything may stand
-pub record AreCertificateLines (all : List (List ℕ)) (certificate : Certificate) : Type 0 where
-  pub used : List (List ℕ)
-  pub ignored : List (List ℕ)
-  pub whole : all ≡ used ++ ignored
-  pub said : filled_words used ≡ certificate_words certificate
+-- The lines declare a certificate, and these lines stand after it: the lines up to the `end` line are spelled as the
+-- certificate is, with blank lines between.
+pub record DeclareCertificate (all : List (List ℕ)) (certificate : Certificate) (after : List (List ℕ)) : Type 0 where
+  pub front : List (List ℕ)
+  pub last : List ℕ
+  pub whole : all ≡ front ++ last ∷ after
+  pub said : filled_words (front ++ last ∷ []) ≡ certificate_words certificate
+  pub ends : IsLine text.End last
   pub spelled : IsSpelled certificate
 
--- the text of a certificate
+-- the text of a certificate, with anything after it
 abbrev pub IsCertificateText : List ℕ → Certificate → Type 0
-IsCertificateText bytes certificate = AreCertificateLines (lines bytes) certificate
+IsCertificateText bytes certificate = (after : List (List ℕ)) × DeclareCertificate (lines bytes) certificate after
 
--- the first fault of a text: the lines before it may be continued to a certificate, and with its line they may not
-pub record IsFirstFault (bytes : List ℕ) (fault : FormatFault) : Type 0 where
-  pub before : List (List ℕ)
+-- lines that can be continued to a certificate
+abbrev pub CanBecomeCertificate : List (List ℕ) → Type 0
+CanBecomeCertificate front = (more : List (List ℕ)) × (certificate : Certificate) × (after : List (List ℕ)) × DeclareCertificate (front ++ more) certificate after
+
+-- which first words may come in a section
+abbrev pub admits : Section → Keyword → Bool
+admits section.Header keyword.Certificate = true
+admits section.Kind keyword.Refutation = true
+admits section.Rules keyword.Certificate = false
+admits section.Rules keyword.Refutation = false
+admits section.Rules others = true
+admits section.Walk keyword.Walk = true
+admits section.Walk keyword.End = true
+admits others first = false
+
+-- what was read of a certificate: the section that is reached, the rule lines and the walk so far
+pub record Progress : Type 0 where
+  pub section : Section
+  pub lines : List CertLine
+  pub walk : List ℕ
+
+-- before the first line
+abbrev pub begun : Progress
+begun = record { section = section.Header; lines = []; walk = [] }
+
+-- the certificate of which all was read
+abbrev pub certificate_of : Progress → Certificate
+certificate_of read = Refutation read.lines read.walk
+
+-- how the lines are spelled with which a section is reached
+abbrev pub front_words : Section → List CertLine → List ℕ → List (List (List ℕ))
+front_words section.Header lines walk = []
+front_words section.Kind lines walk = header_words ∷ []
+front_words section.Rules lines walk = header_words ∷ refutation_words ∷ map line_words lines
+front_words section.Walk lines walk = header_words ∷ refutation_words ∷ (map line_words lines ++ map walk_words walk)
+
+-- what may have been read where a section is reached
+abbrev pub IsReached : Section → List CertLine → List ℕ → Type 0
+IsReached section.Header lines walk = (lines ≡ []) × (walk ≡ [])
+IsReached section.Kind lines walk = (lines ≡ []) × (walk ≡ [])
+IsReached section.Rules lines walk = walk ≡ []
+IsReached section.Walk lines walk = walk ≢ []
+
+-- the front of a certificate: its lines are spelled as what was read of it, with blank lines between
+pub record IsFront (front : List (List ℕ)) (read : Progress) : Type 0 where
+  pub said : filled_words front ≡ front_words read.section read.lines read.walk
+  pub reached : IsReached read.section read.lines read.walk
+  pub spelled_lines : All IsSpelledLine read.lines
+  pub spelled_walk : All (λ i. i ≤ most_line_number) read.walk
+
+-- the fault of a line in a section
+abbrev pub IsFaultIn : Section → List (List ℕ) → FormatKind → Type 0
+IsFaultIn section.Header line kind = (are_passed_over line ≡ false) × (line ≢ header_words) × (kind ≡ NoHeader)
+IsFaultIn others line kind = IsFaultAmong (admits others) line kind
+
+-- the fault of a text that ends in a section
+abbrev pub missing : Section → FormatKind
+missing section.Header = NoHeader
+missing others = NoEnd
+
+-- the fault of the lines that are left where a section is reached
+abbrev pub IsFaultOfRest : Section → List (List ℕ) → FormatKind → Type 0
+IsFaultOfRest section [] kind = kind ≡ missing section
+IsFaultOfRest section (line ∷ others) kind = IsFaultIn section (words line) kind
+
+-- the first of the lines that are left, or that there is none, excludes a certificate
+abbrev pub ExcludesCertificate : List (List ℕ) → List (List ℕ) → Type 0
+ExcludesCertificate front [] = (certificate : Certificate) (after : List (List ℕ)) → DeclareCertificate front certificate after → ⊥
+ExcludesCertificate front (line ∷ others) = CanBecomeCertificate (front ++ line ∷ []) → ⊥
+
+-- The first fault of lines: those before it can be continued to a certificate, with its line they cannot, and its kind is
+-- how that line first departs from what may come there, or that the text ends.
+pub record IsFirstFault (all : List (List ℕ)) (fault : FormatFault) : Type 0 where
+  pub front : List (List ℕ)
   pub rest : List (List ℕ)
-  pub whole : lines bytes ≡ before ++ rest
-  pub place : fault.line ≡ length before + 1
-  pub possible : (more : List (List ℕ)) × (certificate : Certificate) × AreCertificateLines (before ++ more) certificate
-  pub unfinished : (certificate : Certificate) → AreCertificateLines before certificate → ⊥
-  pub refused : (line : List ℕ) (others more : List (List ℕ)) (certificate : Certificate) → rest ≡ line ∷ others → AreCertificateLines (before ++ line ∷ more) certificate → ⊥
+  pub read : Progress
+  pub whole : all ≡ front ++ rest
+  pub place : fault.line ≡ length front + 1
+  pub possible : CanBecomeCertificate front
+  pub refused : ExcludesCertificate front rest
+  pub reached : IsFront front read
+  pub departs : IsFaultOfRest read.section rest fault.kind
 
--- the fault of an answer is the first one
-abbrev pub FaultIsFirst : List ℕ → Result Certificate TextFault → Type 0
-FaultIsFirst bytes (Ok certificate) = Unit {0}
-FaultIsFirst bytes (Err (whole.Format fault)) = IsFirstFault bytes fault
-FaultIsFirst bytes (Err whole.OutOfMemory) = Unit {0}
+-- the fault of an answer is the first one of a text
+abbrev pub FaultIsFirst : List ℕ → TextFault → Type 0
+FaultIsFirst bytes (whole.Format fault) = IsFirstFault (lines bytes) fault
+FaultIsFirst bytes whole.OutOfMemory = Unit {0}
+
+-- the first words of the lines after the header
+abbrev pub comes_after_header : Keyword → Bool
+comes_after_header keyword.Certificate = false
+comes_after_header others = true
+
+-- the fault of a line that is read alone; it takes no memory
+abbrev pub IsFaultAlone : List ℕ → WordFault → Type 0
+IsFaultAlone line (word.Kind kind) = (words line ≢ header_words) × IsFaultAmong comes_after_header (words line) kind
+IsFaultAlone line word.OutOfMemory = ⊥

@@ -1,4 +1,4 @@
--- The lines of a certificate, each by its words. This project's own choice.
+-- What is read of a line of a certificate, by its words. This project's own choice.
 use Rattle.std.specs.Prelude.{◌≡◌, ℕ, ℤ, true, false, List, [], ◌∷◌, Option, None, Some, Result, Ok, Err, codes, if◌then◌else◌, refl}
 use Rattle.std.specs.Str.{bytes_eq}
 use Rattle.texts.specs.Words.{is_remark}
@@ -6,6 +6,7 @@ use Rattle.net_model.specs.Numbers.{name_of, natural_of, integer_of}
 use Rattle.net_model.specs.Reading.{◌>>=◌}
 use Rattle.net_model.specs.declared.format.FormatKind.{FormatKind}
 use Rattle.net_model.specs.declared.format.FormatKind.TheVariants.{UnknownWord, WordCount}
+use Rattle.cert_format.specs.Limits.{most_written_weight, most_line_number}
 use Rattle.cert_format.specs.Kind.{has_label}
 use Rattle.cert_format.specs.Keywords.{keyword_of}
 use Rattle.cert_format.specs.declared.keyword.Keyword.{Keyword}
@@ -15,15 +16,14 @@ use Rattle.cert_format.specs.declared.kind.LineKind.TheVariants as kind
 use Rattle.cert_format.specs.declared.line.CertLine.{CertLine}
 use Rattle.cert_format.specs.declared.read.CertText.{CertText}
 use Rattle.cert_format.specs.declared.read.CertText.TheVariants as text
-use Rattle.cert_format.specs.declared.read.TheConstants.{MOST_WEIGHT, MOST_LINE_NUMBER}
 
 -- the number of a line
 abbrev pub number_of : List ℕ → Result ℕ FormatKind
-number_of word = natural_of MOST_LINE_NUMBER word
+number_of word = natural_of most_line_number word
 
 -- the weight of an edge
 abbrev pub weight_of : List ℕ → Result ℤ FormatKind
-weight_of word = integer_of MOST_WEIGHT word
+weight_of word = integer_of most_written_weight word
 
 -- FROM TO W, of a rule whose edge has no label
 abbrev pub unlabelled : (kind : LineKind) → false ≡ has_label kind → (from to weight : List ℕ) → Result CertLine FormatKind

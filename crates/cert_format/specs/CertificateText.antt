@@ -1,9 +1,9 @@
--- The text of a certificate: the order of its lines, what a whole text says, or its first fault. This project's own choice.
-use Rattle.std.specs.Prelude.{◌≡◌, ℕ, ◌+◌, Bool, true, false, List, [], ◌∷◌, ◌++◌, Option, None, Some, Result, Ok, Err, if◌then◌else◌}
+-- What is read of the text of a certificate, line by line, or its first fault. This project's own choice.
+use Rattle.std.specs.Prelude.{◌≡◌, ℕ, ◌+◌, List, [], ◌∷◌, ◌++◌, length, Option, None, Some, Result, Ok, Err, if◌then◌else◌}
 use Rattle.texts.specs.Words.{is_remark, words}
 use Rattle.texts.specs.Lines.{lines}
 use Rattle.net_model.specs.declared.format.FormatKind.{FormatKind}
-use Rattle.net_model.specs.declared.format.FormatKind.TheVariants.{UnknownWord, NoHeader, NoEnd}
+use Rattle.net_model.specs.declared.format.FormatKind.TheVariants.{UnknownWord, NoHeader}
 use Rattle.net_model.specs.declared.format.FormatFault.{FormatFault}
 use Rattle.net_model.specs.declared.format.WordFault.{WordFault}
 use Rattle.net_model.specs.declared.format.WordFault.TheVariants as word
@@ -11,26 +11,13 @@ use Rattle.net_model.specs.declared.format.TextFault.{TextFault}
 use Rattle.net_model.specs.declared.format.TextFault.TheVariants as whole
 use Rattle.cert_format.specs.Keywords.{keyword_of}
 use Rattle.cert_format.specs.CertificateLines.{line_of}
+use Rattle.cert_format.specs.CertificateGrammar.{Progress, DeclareCertificate, IsFirstFault, IsFront, IsLine, admits, begun, certificate_of, missing}
 use Rattle.cert_format.specs.declared.keyword.Keyword.{Keyword}
-use Rattle.cert_format.specs.declared.keyword.Keyword.TheVariants as keyword
 use Rattle.cert_format.specs.declared.section.Section.{Section}
 use Rattle.cert_format.specs.declared.section.Section.TheVariants as section
-use Rattle.cert_format.specs.declared.line.CertLine.{CertLine}
 use Rattle.cert_format.specs.declared.read.CertText.{CertText}
 use Rattle.cert_format.specs.declared.read.CertText.TheVariants as text
 use Rattle.cert_format.specs.declared.certificate.Certificate.{Certificate}
-use Rattle.cert_format.specs.declared.certificate.Certificate.TheVariants.{Refutation}
-
--- which first words may come in a section
-abbrev pub admits : Section → Keyword → Bool
-admits section.Header keyword.Certificate = true
-admits section.Kind keyword.Refutation = true
-admits section.Rules keyword.Certificate = false
-admits section.Rules keyword.Refutation = false
-admits section.Rules others = true
-admits section.Walk keyword.Walk = true
-admits section.Walk keyword.End = true
-admits others first = false
 
 -- a line in a section, by the word with which it begins
 abbrev pub admitted : Section → Option Keyword → List (List ℕ) → Result CertText FormatKind
@@ -48,51 +35,42 @@ unfoldable pub line_in : Section → List (List ℕ) → Result CertText FormatK
 line_in section [] = Ok text.Blank
 line_in section (first ∷ others) = if is_remark first then Ok text.Blank else refused_in section (admitted section (keyword_of first) others)
 
--- the fault of a text that ends in a section
-abbrev pub missing : Section → FormatKind
-missing section.Header = NoHeader
-missing others = NoEnd
-
--- what was read of a certificate
-pub record Progress : Type 0 where
-  pub section : Section
-  pub lines : List CertLine
-  pub walk : List ℕ
-
--- before the first line
-abbrev pub begun : Progress
-begun = record { section = section.Header; lines = []; walk = [] }
-
--- with one line more
+-- what was read, with one line more
 abbrev pub advanced : Progress → CertText → Progress
-advanced progress text.Blank = progress
-advanced progress text.Header = record progress { section = section.Kind }
-advanced progress text.Refutation = record progress { section = section.Rules }
-advanced progress (text.Line line) = record progress { lines = progress.lines ++ line ∷ [] }
-advanced progress (text.Walk i) = record progress { section = section.Walk; walk = progress.walk ++ i ∷ [] }
-advanced progress text.End = progress
+advanced read text.Blank = read
+advanced read text.Header = record read { section = section.Kind }
+advanced read text.Refutation = record read { section = section.Rules }
+advanced read (text.Line line) = record read { lines = read.lines ++ line ∷ [] }
+advanced read (text.Walk i) = record read { section = section.Walk; walk = read.walk ++ i ∷ [] }
+advanced read text.End = read
 
--- the certificate of which all was read
-abbrev pub certificate_of : Progress → Certificate
-certificate_of progress = Refutation progress.lines progress.walk
+-- a certificate that was read, and the lines after it
+pub record Declared : Type 0 where
+  pub certificate : Certificate
+  pub after : List (List ℕ)
 
-abbrev pub fault_at : ℕ → FormatKind → Result Certificate FormatFault
+abbrev pub fault_at : ℕ → FormatKind → Result Declared FormatFault
 fault_at number kind = Err (record { line = number; kind = kind })
 
--- what a text says that has come to a line, by the number of the line, what it says, and what the lines after it add
-abbrev pub said_from : Progress → ℕ → Result CertText FormatKind → (Progress → Result Certificate FormatFault) → Result Certificate FormatFault
-said_from progress number (Ok text.End) after = Ok (certificate_of progress)
-said_from progress number (Ok said) after = after (advanced progress said)
-said_from progress number (Err kind) after = fault_at number kind
+-- what is read from a line on, by its number, what it says, the lines after it, and what is read of those
+abbrev pub said_from : Progress → ℕ → Result CertText FormatKind → List (List ℕ) → (Progress → Result Declared FormatFault) → Result Declared FormatFault
+said_from read number (Ok text.End) others next = Ok (record { certificate = certificate_of read; after = others })
+said_from read number (Ok said) others next = next (advanced read said)
+said_from read number (Err kind) others next = fault_at number kind
 
--- what the lines of a text say, of which the first has a number, after what was read
-abbrev pub read_from : Progress → ℕ → List (List ℕ) → Result Certificate FormatFault
-read_from progress number [] = fault_at number (missing progress.section)
-read_from progress number (line ∷ others) = said_from progress number (line_in progress.section (words line)) (λ more. read_from more (number + 1) others)
+-- what is read of lines, of which the first has a number, after what was read
+abbrev pub read_from : Progress → ℕ → List (List ℕ) → Result Declared FormatFault
+read_from read number [] = fault_at number (missing read.section)
+read_from read number (line ∷ others) = said_from read number (line_in read.section (words line)) others (λ more. read_from more (number + 1) others)
 
--- what a text says, or its first fault
+-- the certificate without the lines after it
+abbrev pub certificate_part : Result Declared FormatFault → Result Certificate FormatFault
+certificate_part (Ok declared) = Ok declared.certificate
+certificate_part (Err fault) = Err fault
+
+-- what is read of a text, or its first fault
 unfoldable pub certificate_text : List ℕ → Result Certificate FormatFault
-certificate_text bytes = read_from begun 1 (lines bytes)
+certificate_text bytes = certificate_part (read_from begun 1 (lines bytes))
 
 -- the fault of a text whose line has a fault
 abbrev pub at_line : ℕ → WordFault → TextFault
@@ -110,3 +88,15 @@ abbrev pub SaysText : Result Certificate TextFault → Result Certificate Format
 SaysText (Ok certificate) read = read ≡ Ok certificate
 SaysText (Err (whole.Format fault)) read = read ≡ Err fault
 SaysText (Err whole.OutOfMemory) read = Unit {0}
+
+-- a fault in the line after these
+abbrev pub fault_after : List (List ℕ) → FormatKind → FormatFault
+fault_after front kind = record { line = length front + 1; kind = kind }
+
+-- what a line brings after the front of a certificate, whatever lines come after it: the certificate, more of its front, or
+-- the first fault, unless memory ran out
+abbrev pub Brings : List (List ℕ) → List ℕ → Result CertText WordFault → Progress → Type 0
+Brings front line (Ok text.End) read = (after : List (List ℕ)) → DeclareCertificate (front ++ line ∷ after) (certificate_of read) after
+Brings front line (Ok said) read = IsLine said line × IsFront (front ++ line ∷ []) read
+Brings front line (Err (word.Kind kind)) read = (after : List (List ℕ)) → IsFirstFault (front ++ line ∷ after) (fault_after front kind)
+Brings front line (Err word.OutOfMemory) read = Unit {0}

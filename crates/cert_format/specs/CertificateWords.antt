@@ -4,13 +4,13 @@ use Rattle.std.specs.List.{All}
 use Rattle.std.specs.Fmt.{decimal, signed_decimal}
 use Rattle.net_model.specs.Names.{is_name}
 use Rattle.texts.specs.Printing.{printed}
+use Rattle.cert_format.specs.Limits.{most_written_weight, most_line_number}
 use Rattle.cert_format.specs.Keywords.{spelled}
 use Rattle.cert_format.specs.declared.keyword.Keyword.{Keyword}
 use Rattle.cert_format.specs.declared.keyword.Keyword.TheVariants as keyword
 use Rattle.cert_format.specs.declared.kind.LineKind.{LineKind}
 use Rattle.cert_format.specs.declared.kind.LineKind.TheVariants as kind
 use Rattle.cert_format.specs.declared.line.CertLine.{CertLine}
-use Rattle.cert_format.specs.declared.read.TheConstants.{MOST_WEIGHT, MOST_LINE_NUMBER}
 use Rattle.cert_format.specs.declared.certificate.Certificate.{Certificate}
 use Rattle.cert_format.specs.declared.certificate.Certificate.TheVariants.{Refutation}
 
@@ -71,15 +71,15 @@ printed_certificate certificate = printed (certificate_words certificate)
 abbrev pub AreOperands : LineKind → Type 0
 AreOperands (kind.Bound name) = IsTrue (is_name name)
 AreOperands (kind.Link name) = IsTrue (is_name name)
-AreOperands (kind.No i j) = (i ≤ MOST_LINE_NUMBER) × (j ≤ MOST_LINE_NUMBER)
-AreOperands (kind.Up i j) = (i ≤ MOST_LINE_NUMBER) × (j ≤ MOST_LINE_NUMBER)
-AreOperands (kind.Low name j) = IsTrue (is_name name) × (j ≤ MOST_LINE_NUMBER)
-AreOperands (kind.Cross name j) = IsTrue (is_name name) × (j ≤ MOST_LINE_NUMBER)
-AreOperands (kind.Drop j) = j ≤ MOST_LINE_NUMBER
+AreOperands (kind.No i j) = (i ≤ most_line_number) × (j ≤ most_line_number)
+AreOperands (kind.Up i j) = (i ≤ most_line_number) × (j ≤ most_line_number)
+AreOperands (kind.Low name j) = IsTrue (is_name name) × (j ≤ most_line_number)
+AreOperands (kind.Cross name j) = IsTrue (is_name name) × (j ≤ most_line_number)
+AreOperands (kind.Drop j) = j ≤ most_line_number
 
 -- a weight within its limit
 abbrev pub IsWeight : CertLine → Type 0
-IsWeight line = unsigned_abs line.weight ≤ MOST_WEIGHT
+IsWeight line = unsigned_abs line.weight ≤ most_written_weight
 
 -- a rule line that can be spelled
 pub record IsSpelledLine (line : CertLine) : Type 0 where
@@ -95,4 +95,4 @@ HasWeights (Refutation lines walk) = All IsWeight lines
 
 -- a certificate that can be spelled
 abbrev pub IsSpelled : Certificate → Type 0
-IsSpelled (Refutation lines walk) = All IsSpelledLine lines × All (λ i. i ≤ MOST_LINE_NUMBER) walk
+IsSpelled (Refutation lines walk) = All IsSpelledLine lines × All (λ i. i ≤ most_line_number) walk

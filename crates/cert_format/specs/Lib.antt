@@ -1,6 +1,9 @@
+pub mod Limits
 pub mod Kind
 pub mod Keywords
-pub mod CertificateLines
-pub mod CertificateText
+pub mod LineForms
 pub mod CertificateWords
 pub mod CertificateGrammar
+pub mod CertificateLines
+pub mod CertificateText
+pub mod Laws

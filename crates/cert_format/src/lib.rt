@@ -4,6 +4,8 @@
 mod certificate;
 mod keyword;
 mod kind;
+pub mod laws;
+mod limits;
 mod line;
 mod placed;
 mod print;
@@ -14,12 +16,10 @@ mod whole;
 
 pub use certificate::Certificate;
 pub use kind::LineKind;
+pub use limits::{MOST_LINE_NUMBER, MOST_WEIGHT, limits_are_defined};
 pub use line::CertLine;
 pub use print::print_certificate;
-pub use read::{CertText, MOST_LINE_NUMBER, MOST_WEIGHT, read_cert_line};
+pub use read::{CertText, read_cert_line};
 pub use reader::CertReader;
 pub use section::Section;
 pub use whole::read_certificate;
-
-#[cfg(test)]
-mod tests;

@@ -5,7 +5,7 @@ ghost use Rattle.std.specs.List.{flat_map};
 ghost use Rattle.std.specs.Fmt.{decimal};
 ghost use Rattle.net_model.specs.Names.{is_name};
 ghost use Rattle.texts.specs.Printing.{after_blank, printed_line};
-ghost use Rattle.cert_format.specs.declared.read.TheConstants.{MOST_LINE_NUMBER};
+ghost use Rattle.cert_format.specs.Limits.{most_line_number};
 ghost use Rattle.cert_format.specs.CertificateText.{certificate_text};
 ghost use Rattle.cert_format.specs.CertificateWords.{rule_word, operand_words, label_words, line_words, walk_words, printed_certificate, AreOperands, IsWeight, IsSpelledLine, HasWeights};
 
@@ -14,8 +14,8 @@ use crate::keyword::Keyword;
 use crate::kind::LineKind;
 use crate::line::CertLine;
 use net_model::Name;
-use texts::push_line;
 use std::alloc::{AllocError, Global};
+use texts::push_line;
 
 /// The text of a certificate: the header, `refutation`, the rule lines and the walk in their order, and `end`, with one
 /// blank between words and a line end after each line. Each weight must be below 10^18 in size. It reads back to the same
@@ -117,7 +117,7 @@ fn push_label(out: &mut Vec<u8>, label: &Option<Name>) -> Result<(), AllocError>
 
 fn push_walk(alloc: Global, out: &mut Vec<u8>, walk: &[u64]) -> Result<(), AllocError>
     ensures text { OnOk result (out.new.items ≡ out.old.items ++ flat_map (λ i. printed_line (walk_words i)) walk.now) }
-    ensures spelled { OnOk result (All (λ i. i ≤ MOST_LINE_NUMBER) walk.now) }
+    ensures spelled { OnOk result (All (λ i. i ≤ most_line_number) walk.now) }
 {
     for number in walk {
         push_line(out, b"walk", &[number.to_string(alloc)?.as_bytes()])?;

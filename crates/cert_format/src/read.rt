@@ -1,21 +1,18 @@
 //! One line of a certificate.
 
-ghost use Rattle.std.specs.Prelude.{◌≡◌, true, false};
+ghost use Rattle.std.specs.Prelude.{◌≡◌, true, false, IfErr, IfOk};
 ghost use Rattle.std.specs.Result.{result_map_both};
 ghost use Rattle.texts.specs.Words.{words};
 ghost use Rattle.cert_format.specs.Kind.{has_label};
+ghost use Rattle.cert_format.specs.declared.read.CertText.{CertText};
+ghost use Rattle.cert_format.specs.CertificateGrammar.{IsFaultAlone, IsLine};
 ghost use Rattle.cert_format.specs.CertificateLines.{cert_text, line_of, header_line, lone_word, walk_line, bound_line, link_line, no_line, up_line, low_line, cross_line, drop_line, unlabelled, labelled, number_of, weight_of};
 
 use crate::keyword::Keyword;
 use crate::kind::LineKind;
+use crate::limits::{MOST_LINE_NUMBER, MOST_WEIGHT};
 use crate::line::CertLine;
 use net_model::{FormatKind, Name, Weight, WordFault, text};
-
-/// The greatest size of a weight in the text of a certificate, in whole moments.
-pub const MOST_WEIGHT: u64 = 999_999_999_999_999_999;
-
-/// The greatest number of a line in the text of a certificate.
-pub const MOST_LINE_NUMBER: u64 = u64::MAX;
 
 /// A line of a certificate.
 #[derive(Clone, Copy, Debug, PartialEq, Eq)]
@@ -38,6 +35,15 @@ pub enum CertText {
 /// and then `BadName`, `BadNumber` or `NumberLimit` of the words from left to right. A line whose first word is
 /// `certificate` is the header `certificate 1` or `UnknownWord`. It takes no memory, so `OutOfMemory` never comes.
 pub fn read_cert_line(line: &[u8]) -> Result<CertText, WordFault>
+    ensures reads { result ≡ result_map_both (λ read. read) (λ kind. WordFault.Kind kind) (cert_text (words line.now)) }
+    ensures grammar { IfOk result (λ read. IsLine read line.now) }
+    ensures every { (read : CertText) → IsLine read line.now → result ≡ Ok read }
+    ensures fault { IfErr result (IsFaultAlone line.now) }
+{
+    read_alone(line)
+}
+
+fn read_alone(line: &[u8]) -> Result<CertText, WordFault>
     ensures { result ≡ result_map_both (λ read. read) (λ kind. WordFault.Kind kind) (cert_text (words line.now)) }
 {
     Ok(cert_text(line)?)

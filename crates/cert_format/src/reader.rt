@@ -7,7 +7,7 @@ use crate::line::CertLine;
 use crate::placed::line_in;
 use crate::read::CertText;
 use crate::section::Section;
-use net_model::{Items, WordFault};
+use net_model::{FormatKind, Items, WordFault};
 use std::alloc::{AllocError, Global};
 use std::marker::Model;
 
@@ -21,7 +21,7 @@ pub struct CertReader {
 }
 
 impl Model for CertReader {
-    ghost use Rattle.cert_format.specs.CertificateText.{Progress};
+    ghost use Rattle.cert_format.specs.CertificateGrammar.{Progress};
 
     ghost Value = { Progress };
 
@@ -29,13 +29,15 @@ impl Model for CertReader {
 }
 
 impl CertReader {
-    ghost use Rattle.std.specs.Prelude.{◌≡◌, IfOk, OnOk, OnErr};
+    ghost use Rattle.std.specs.Prelude.{◌≡◌, ℕ, List, [], IfOk, OnOk, OnErr};
     ghost use Rattle.texts.specs.Words.{words};
-    ghost use Rattle.cert_format.specs.CertificateText.{SaysLine, begun, advanced, line_in, certificate_of};
+    ghost use Rattle.cert_format.specs.CertificateGrammar.{IsFirstFault, IsFront, begun, certificate_of, missing};
+    ghost use Rattle.cert_format.specs.CertificateText.{Brings, SaysLine, advanced, fault_after, line_in};
 
     /// Before the first line.
     pub fn new(alloc: Global) -> CertReader
-        ensures { result ≡ begun }
+        ensures begun { result ≡ begun }
+        ensures front { IsFront [] result }
     {
         CertReader {
             section: Section::Header,
@@ -51,9 +53,20 @@ impl CertReader {
         self.section
     }
 
-    /// Reads the next line in its place and keeps what it says. A line that is refused changes nothing, and want of
-    /// memory neither. The caller reads nothing more after `End`.
+    /// Reads the next line in its place and keeps what it says. After the front of a certificate the lines are a longer
+    /// front, or at `End` they declare the certificate, or the line has their first fault. A line that is refused changes
+    /// nothing, and want of memory neither. The caller reads nothing more after `End`.
     pub fn read_line(&mut self, line: &[u8]) -> Result<CertText, WordFault>
+        ensures brings { (front : List (List ℕ)) → IsFront front self.old → Brings front line.now result self.new }
+        ensures said { SaysLine result (line_in self.old.section (words line.now)) }
+        ensures kept { IfOk result (λ said. self.new ≡ advanced self.old said) }
+        ensures refused { OnErr result (self.new ≡ self.old) }
+    {
+        self.take_line(line)
+    }
+
+    /// Reads the next line in its place and keeps what it says.
+    fn take_line(&mut self, line: &[u8]) -> Result<CertText, WordFault>
         ensures said { SaysLine result (line_in self.old.section (words line.now)) }
         ensures kept { IfOk result (λ said. self.new ≡ advanced self.old said) }
         ensures refused { OnErr result (self.new ≡ self.old) }
@@ -61,6 +74,14 @@ impl CertReader {
         let said = line_in(self.section, line)?;
         self.keep(&said)?;
         Ok(said)
+    }
+
+    /// The fault where the lines end here: `NoHeader` before the header, else `NoEnd`, in the line after them.
+    pub fn missing(&self) -> FormatKind
+        ensures missing { result ≡ missing self.now.section }
+        ensures fault { (front : List (List ℕ)) → IsFront front self.now → IsFirstFault front (fault_after front result) }
+    {
+        self.section().missing()
     }
 
     /// Keeps what a line says.

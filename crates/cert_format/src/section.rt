@@ -16,7 +16,7 @@ pub enum Section {
 
 impl Section {
     ghost use Rattle.std.specs.Prelude.{◌≡◌};
-    ghost use Rattle.cert_format.specs.CertificateText.{admits, missing};
+    ghost use Rattle.cert_format.specs.CertificateGrammar.{admits, missing};
 
     /// Whether a line that begins with this word may come next.
     pub(crate) fn admits(self, first: Keyword) -> bool
@@ -31,7 +31,7 @@ impl Section {
     }
 
     /// The fault of a text that ends here: `NoHeader` before the header, else `NoEnd`.
-    pub fn missing(self) -> FormatKind
+    pub(crate) fn missing(self) -> FormatKind
         ensures { result ≡ missing self }
     {
         match self {

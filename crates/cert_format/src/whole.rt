@@ -1,6 +1,6 @@
 //! The whole text of a certificate.
 
-ghost use Rattle.std.specs.Prelude.{◌≡◌, ◌<◌, ◌^◌, length, IfOk, Ok};
+ghost use Rattle.std.specs.Prelude.{◌≡◌, ◌<◌, ◌^◌, length, IfErr, IfOk, Ok};
 ghost use Rattle.cert_format.specs.CertificateText.{certificate_text, SaysText, at_line};
 ghost use Rattle.cert_format.specs.CertificateWords.{HasWeights};
 ghost use Rattle.cert_format.specs.CertificateGrammar.{IsCertificateText, FaultIsFirst};
@@ -22,7 +22,7 @@ pub fn read_certificate(alloc: Global, bytes: &[u8]) -> Result<Certificate, Text
     requires { length bytes.now < 2 ^ 31 }
     ensures text { SaysText result (certificate_text bytes.now) }
     ensures in_grammar { IfOk result (λ certificate. IsCertificateText bytes.now certificate) }
-    ensures first_fault { FaultIsFirst bytes.now result }
+    ensures first_fault { IfErr result (FaultIsFirst bytes.now) }
     ensures weights { IfOk result (λ certificate. HasWeights certificate) }
     ensures every_text { (certificate : Certificate) → IsCertificateText bytes.now certificate → SaysText result (Ok certificate) }
 {
@@ -47,7 +47,7 @@ fn read_lines(alloc: Global, bytes: &[u8]) -> Result<Certificate, TextFault>
         number += 1;
         rest = others;
     }
-    let kind = reader.section().missing();
+    let kind = reader.missing();
     Err(FormatFault { line: number, kind }.into())
 }
 

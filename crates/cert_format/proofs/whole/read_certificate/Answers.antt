@@ -2,9 +2,8 @@ use Rattle.std.proofs.Common.{subst, Result}
 use Rattle.net_model.specs.declared.format.FormatFault.{FormatFault}
 use Rattle.cert_format.specs.CertificateText.{SaysText}
 use Rattle.cert_format.specs.declared.certificate.Certificate.{Certificate}
-use Rattle.cert_format.proofs.GrammarLemmas.{grammar_read}
-use Rattle.cert_format.proofs.FaultLemmas.{answer_fault}
-use Rattle.cert_format.proofs.InGrammarLemmas.{answer_is_text, answer_weights}
+use Rattle.cert_format.proofs.FrontLemmas.{grammar_read}
+use Rattle.cert_format.proofs.ReadingLemmas.{answer_is_text, answer_weights, answer_fault}
 use Rattle.cert_format.proofs.whole.read_certificate.Goals as goal
 
 pub returns-clause-every_text : goal.returns-clause-every_text

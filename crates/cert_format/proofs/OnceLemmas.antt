@@ -1,0 +1,143 @@
+-- Lines declare one certificate, or have one first fault.
+use Rattle.std.proofs.Common.{◌≡◌, ◌⊎◌, ℕ, ◌+◌, Bool, true, false, List, [], ◌∷◌, ◌++◌, length, Some, Result, Ok, Err, refl, sym, ap, ◌∙◌, subst, arith, inl, inr, unsigned_abs}
+use Rattle.std.proofs.lemmas.List.{append-nil}
+use Rattle.texts.specs.Words.{words}
+use Rattle.net_model.specs.declared.format.FormatKind.{FormatKind}
+use Rattle.net_model.specs.declared.format.FormatFault.{FormatFault}
+use Rattle.cert_format.specs.Keywords.{spelled, keyword_of}
+use Rattle.cert_format.specs.LineForms.{Place, version, name, line_number, weight, places, Fits, Departs, DepartFirst, IsFaultAmong, unknown_word, word_count, wrong_word}
+use Rattle.cert_format.specs.CertificateGrammar.{Progress, DeclareCertificate, CanBecomeCertificate, IsFirstFault, IsFront, IsFaultIn, IsFaultOfRest, ExcludesCertificate, admits, begun, certificate_of, missing}
+use Rattle.cert_format.specs.CertificateText.{Declared, Brings, advanced, line_in, said_from, read_from}
+use Rattle.cert_format.specs.Laws.{OneReading}
+use Rattle.cert_format.specs.declared.keyword.Keyword.{Keyword}
+use Rattle.cert_format.specs.declared.certificate.Certificate.{Certificate}
+use Rattle.cert_format.specs.declared.read.CertText.{CertText}
+use Rattle.cert_format.specs.declared.read.CertText.TheVariants as text
+use Rattle.cert_format.specs.declared.section.Section.{Section}
+use Rattle.cert_format.specs.declared.section.Section.TheVariants as section
+use Rattle.cert_format.proofs.NumberLemmas.{one_natural, one_integer}
+use Rattle.cert_format.proofs.WordLemmas.{keyword_spelled}
+use Rattle.cert_format.proofs.FormLemmas.{line_err}
+use Rattle.cert_format.proofs.FrontLemmas.{front_read, declared_read}
+use Rattle.cert_format.proofs.ReadingLemmas.{ReadsSo, can_become, said_brings, lines_read}
+
+-- a word has one fault in a place, and none where it is what the place asks for
+one_departure : (place : Place) (word : List ℕ) (k l : FormatKind) → Departs place word k → Departs place word l → k ≡ l
+one_departure version word k l a b = a.1 ∙ sym b.1
+one_departure name word k l a b = a.1 ∙ sym b.1
+one_departure line_number word k l (inl a) (inl b) = a.1 ∙ sym b.1
+one_departure line_number word k l (inl a) (inr b) = absurd (a.0 b.0 b.1)
+one_departure line_number word k l (inr a) (inl b) = absurd (b.0 a.0 a.1)
+one_departure line_number word k l (inr a) (inr b) = a.3 ∙ sym b.3
+one_departure weight word k l (inl a) (inl b) = a.1 ∙ sym b.1
+one_departure weight word k l (inl a) (inr b) = absurd (a.0 b.0 b.1)
+one_departure weight word k l (inr a) (inl b) = absurd (b.0 a.0 a.1)
+one_departure weight word k l (inr a) (inr b) = a.3 ∙ sym b.3
+
+not_both : (place : Place) (word : List ℕ) (k : FormatKind) → Departs place word k → Fits place word → ⊥
+not_both version word k a fits = a.0 fits
+not_both name word k a fits = let wrong : false ≡ true = sym a.0 ∙ fits in cc
+not_both line_number word k (inl a) fits = a.0 fits.0 fits.1
+not_both line_number word k (inr a) fits =
+    let same : a.0 ≡ fits.0 = one_natural word a.0 fits.0 a.1 fits.1 in
+    omega (arith, a.2, fits.2)
+not_both weight word k (inl a) fits = a.0 fits.0 fits.1
+not_both weight word k (inr a) fits =
+    let same : unsigned_abs a.0 ≡ unsigned_abs fits.0 = ap unsigned_abs (one_integer word a.0 fits.0 a.1 fits.1) in
+    omega (arith, a.2, fits.2)
+
+first_departure : (ps : List Place) (ws : List (List ℕ)) (k l : FormatKind) → DepartFirst ps ws k → DepartFirst ps ws l → k ≡ l
+first_departure [] ws k l a b = absurd a
+first_departure (place ∷ ps) [] k l a b = absurd a
+first_departure (place ∷ ps) (word ∷ ws) k l (inl a) (inl b) = one_departure place word k l a b
+first_departure (place ∷ ps) (word ∷ ws) k l (inl a) (inr b) = absurd (not_both place word k a b.0)
+first_departure (place ∷ ps) (word ∷ ws) k l (inr a) (inl b) = absurd (not_both place word l b a.0)
+first_departure (place ∷ ps) (word ∷ ws) k l (inr a) (inr b) = first_departure ps ws k l a.1 b.1
+
+-- a line begins in one way
+one_beginning : (line : List (List ℕ)) (f g : Keyword) (xs ys : List (List ℕ)) → line ≡ spelled f ∷ xs → line ≡ spelled g ∷ ys → (f ≡ g) × (xs ≡ ys)
+one_beginning line f g xs ys p q =
+    let both : spelled f ∷ xs ≡ spelled g ∷ ys = sym p ∙ q in
+    let first : spelled f ≡ spelled g = cc in
+    let found : Some f ≡ Some g = sym (keyword_spelled f) ∙ ap keyword_of first ∙ keyword_spelled g in
+    (cc, cc)
+
+same_length : (f g : Keyword) (xs ys : List (List ℕ)) → f ≡ g → xs ≡ ys → length xs ≡ length (places f) → length ys ≡ length (places g)
+same_length f g xs ys p q count = sym (ap length q) ∙ count ∙ ap (λ (k : Keyword). length (places k)) p
+
+fault_among : (may : Keyword → Bool) (line : List (List ℕ)) (k l : FormatKind) → IsFaultAmong may line k → IsFaultAmong may line l → k ≡ l
+fault_among may line k l (unknown_word _ none is) (unknown_word _ none' is') = is ∙ sym is'
+fault_among may line k l (unknown_word _ none is) (word_count g ys comes begins count is') = absurd (none g ys comes begins)
+fault_among may line k l (unknown_word _ none is) (wrong_word g ys comes begins count departs) = absurd (none g ys comes begins)
+fault_among may line k l (word_count f xs comes begins count is) (unknown_word _ none is') = absurd (none f xs comes begins)
+fault_among may line k l (word_count f xs comes begins count is) (word_count g ys comes' begins' count' is') = is ∙ sym is'
+fault_among may line k l (word_count f xs comes begins count is) (wrong_word g ys comes' begins' count' departs) =
+    let (same, rest) = one_beginning line g f ys xs begins' begins in
+    absurd (count (same_length g f ys xs same rest count'))
+fault_among may line k l (wrong_word f xs comes begins count departs) (unknown_word _ none is') = absurd (none f xs comes begins)
+fault_among may line k l (wrong_word f xs comes begins count departs) (word_count g ys comes' begins' count' is') =
+    let (same, rest) = one_beginning line f g xs ys begins begins' in
+    absurd (count' (same_length f g xs ys same rest count))
+fault_among may line k l (wrong_word f xs comes begins count departs) (wrong_word g ys comes' begins' count' departs') =
+    let (same, rest) = one_beginning line g f ys xs begins' begins in
+    first_departure (places f) xs k l departs (subst (λ (ws : List (List ℕ)). DepartFirst (places f) ws l) rest (subst (λ (h : Keyword). DepartFirst (places h) ys l) same departs'))
+
+fault_in : (s : Section) (line : List (List ℕ)) (k l : FormatKind) → IsFaultIn s line k → IsFaultIn s line l → k ≡ l
+fault_in section.Header line k l a b = a.2 ∙ sym b.2
+fault_in section.Kind line k l a b = fault_among (admits section.Kind) line k l a b
+fault_in section.Rules line k l a b = fault_among (admits section.Rules) line k l a b
+fault_in section.Walk line k l a b = fault_among (admits section.Walk) line k l a b
+
+-- after a line that brings something a certificate can come
+brought : (front : List (List ℕ)) (line : List ℕ) (p : Progress) (t : CertText) → Brings front line (Ok t) (advanced p t) → CanBecomeCertificate (front ++ line ∷ [])
+brought front line p text.End brings = ([], certificate_of p, [], subst (λ (all : List (List ℕ)). DeclareCertificate all (certificate_of p) []) (sym (append-nil (front ++ line ∷ []))) (brings []))
+brought front line p text.Blank brings = can_become (front ++ line ∷ []) p brings.1
+brought front line p text.Header brings = can_become (front ++ line ∷ []) (advanced p text.Header) brings.1
+brought front line p text.Refutation brings = can_become (front ++ line ∷ []) (advanced p text.Refutation) brings.1
+brought front line p (text.Line rule) brings = can_become (front ++ line ∷ []) (advanced p (text.Line rule)) brings.1
+brought front line p (text.Walk i) brings = can_become (front ++ line ∷ []) (advanced p (text.Walk i)) brings.1
+
+-- a line that a front excludes is read with its fault
+refused_read : (front : List (List ℕ)) (line : List ℕ) (p : Progress) (kind : FormatKind) (read : Result CertText FormatKind) → IsFront front p → (CanBecomeCertificate (front ++ line ∷ []) → ⊥) → IsFaultIn p.section (words line) kind → line_in p.section (words line) ≡ read → read ≡ Err kind
+refused_read front line p kind (Ok t) is excludes departs read = absurd (excludes (brought front line p t (said_brings front line p t is read)))
+refused_read front line p kind (Err other) is excludes departs read =
+    ap (λ (k : FormatKind). Err k) (fault_in p.section (words line) other kind (line_err p.section (words line) other read) departs)
+
+fault_is : (line other : ℕ) (kind : FormatKind) (fault : FormatFault) → fault.line ≡ other + 1 → line ≡ 1 + other → fault.kind ≡ kind → (let f : FormatFault = record { line = line; kind = kind } in f) ≡ fault
+fault_is line other kind fault place at same =
+    let number : line ≡ fault.line = omega (arith, place, at) in
+    ap (λ (n : ℕ). let f : FormatFault = record { line = n; kind = kind } in f) number ∙ ap (λ (k : FormatKind). let f : FormatFault = record { line = fault.line; kind = k } in f) (sym same)
+
+rest_read : (front rest : List (List ℕ)) (p : Progress) (fault : FormatFault) → fault.line ≡ length front + 1 → IsFront front p → ExcludesCertificate front rest → IsFaultOfRest p.section rest fault.kind → read_from p (1 + length front) rest ≡ Err fault
+rest_read front [] p fault place is excludes departs =
+    ap (λ (f : FormatFault). Err f) (fault_is (1 + length front) (length front) (missing p.section) fault place refl departs)
+rest_read front (line ∷ others) p fault place is excludes departs =
+    let at : ℕ = 1 + length front in
+    let read : line_in p.section (words line) ≡ Err fault.kind = refused_read front line p fault.kind (line_in p.section (words line)) is excludes departs refl in
+    ap (λ (r : Result CertText FormatKind). said_from p at r others (λ q. read_from q (at + 1) others)) read ∙ ap (λ (f : FormatFault). Err f) (fault_is at (length front) fault.kind fault place refl refl)
+
+-- the first fault of lines is what is read of them
+fault_read : (all : List (List ℕ)) (fault : FormatFault) → IsFirstFault all fault → read_from begun 1 all ≡ Err fault
+fault_read all fault f =
+    ap (read_from begun 1) f.whole ∙ front_read f.front f.read f.reached f.rest ∙ rest_read f.front f.rest f.read fault f.place f.reached f.refused f.departs
+
+either_by : (all : List (List ℕ)) (read : Result Declared FormatFault) → ReadsSo all read → ((c : Certificate) × (after : List (List ℕ)) × DeclareCertificate all c after) ⊎ ((fault : FormatFault) × IsFirstFault all fault)
+either_by all (Ok declared) reads = inl (declared.certificate, declared.after, reads)
+either_by all (Err fault) reads = inr (fault, reads)
+
+pub one_reading : (all : List (List ℕ)) → OneReading all
+one_reading all = record {
+  either = either_by all (read_from begun 1 all) (lines_read all);
+  one_certificate = λ c d after later first second.
+      let one : Declared = record { certificate = c; after = after } in
+      let other : Declared = record { certificate = d; after = later } in
+      let read : Result Declared FormatFault = Ok one in
+      let same : read ≡ Ok other = sym (declared_read all c after first) ∙ declared_read all d later second in
+      let is : one ≡ other = cc in
+      (ap (λ (x : Declared). x.certificate) is, ap (λ (x : Declared). x.after) is);
+  one_fault = λ f g first second. let read : Result Declared FormatFault = Err f in let same : read ≡ Err g = sym (fault_read all f first) ∙ fault_read all g second in cc;
+  not_both = λ c after fault declares faults.
+      let declared : Result Declared FormatFault = Ok (record { certificate = c; after = after }) in
+      let wrong : declared ≡ Err fault = sym (declared_read all c after declares) ∙ fault_read all fault faults in
+      absurd (cc);
+}
