@@ -9,3 +9,5 @@ pub mod RuleLemmas
 pub mod LoopLemmas
 pub mod StepLemmas
 pub mod TreeLemmas
+pub mod EarliestLemmas
+pub mod ExactLemmas
