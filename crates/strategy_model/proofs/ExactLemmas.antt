@@ -58,7 +58,7 @@ pub exact_derivations_are_true : ExactDerivationsAreTrue
 exact_derivations_are_true net strategy edges plan controls derivation =
     derivations_are_true net strategy edges plan controls (derivation_stated net edges plan derivation)
 
-below_zero : (edge : Edge) → IsTrue (is_negative edge) → edge.weight <ℤ pos 0
+pub below_zero : (edge : Edge) → IsTrue (is_negative edge) → edge.weight <ℤ pos 0
 below_zero edge holds = grind (arith, ints)
 
 -- the total of negative edges is negative

@@ -11,3 +11,9 @@ pub mod StepLemmas
 pub mod TreeLemmas
 pub mod EarliestLemmas
 pub mod ExactLemmas
+pub mod ClosedLemmas
+pub mod OrderLemmas
+pub mod KindLemmas
+pub mod ViolationLemmas
+pub mod DispatchedLemmas
+pub mod LowerLemmas
