@@ -17,3 +17,4 @@ pub mod KindLemmas
 pub mod ViolationLemmas
 pub mod DispatchedLemmas
 pub mod LowerLemmas
+pub mod SeenLemmas
