@@ -9,3 +9,12 @@ pub mod RuleLemmas
 pub mod LoopLemmas
 pub mod StepLemmas
 pub mod TreeLemmas
+pub mod EarliestLemmas
+pub mod ExactLemmas
+pub mod ClosedLemmas
+pub mod OrderLemmas
+pub mod KindLemmas
+pub mod ViolationLemmas
+pub mod DispatchedLemmas
+pub mod LowerLemmas
+pub mod SeenLemmas

@@ -1,5 +1,5 @@
 -- Each rule keeps truth of a strategy that controls the network.
-use Rattle.std.proofs.Common.{◌≡◌, ◌≢◌, ℕ, zero, suc, pos, length, take, get_or, add-one, ◌≤◌, ◌+ℤ◌, ◌-ℤ◌, ◌≤ℤ◌, ◌<ℤ◌, List, Option, Some, None, inl, inr, sym, ap, subst, ◌∙◌, arith, nat_abs}
+use Rattle.std.proofs.Common.{◌≡◌, ◌≢◌, ℕ, zero, suc, pos, length, take, get_or, add-one, ◌<◌, ◌≤◌, ◌+ℤ◌, ◌-ℤ◌, ◌≤ℤ◌, ◌<ℤ◌, List, Option, Some, None, inl, inr, sym, ap, subst, ◌∙◌, arith, nat_abs}
 use Rattle.std.specs.Prelude.{slice_get}
 use Rattle.std.specs.List.{All, AllByRecursion, Contains}
 use Rattle.std.proofs.Math.Seq.{take-length}
@@ -116,27 +116,20 @@ cross_case_keeps_truth net strategy second edge plan controls holds rule situati
     let holds_there = holds both.other both.other_schedule both.is_situation (same_label net both.other (Some rule.label) second.label (sym rule.second_labelled) longest_there) both.played in
     after_shortest net strategy rule.name rule.link situation schedule sound both second edge holds_there rule.begins rule.negative rule.from rule.to rule.looser
 
--- A point comes before a link's completion, and then at the same moment where the link is longest, or after it.
-beside_longest : (net : Plan) (strategy : Tree) (name : LinkId) (link : Link) (situation schedule : List ℕ) → IsLink net link → (both : Compared net strategy name link situation schedule (nat_abs link.high)) → (premise edge : Edge) → HoldsIn both.other_schedule premise → premise.to ≡ link.from → edge.from ≡ premise.from → edge.to ≡ premise.to → premise.weight ≤ℤ edge.weight → (pos 0 -ℤ link.low) ≤ℤ edge.weight → HoldsIn schedule edge
-beside_longest net strategy name link situation schedule sound both premise edge holds ends from to looser not_below =
+-- a point that comes before a link's completion comes at the same moment where the link is longest
+beside_longest : (net : Plan) (strategy : Tree) (name : LinkId) (link : Link) (situation schedule : List ℕ) → IsLink net link → (both : Compared net strategy name link situation schedule (nat_abs link.high)) → (premise : Edge) → HoldsIn both.other_schedule premise → premise.to ≡ link.from → moment_in schedule premise.from < moment_in schedule link.to → HoldsIn schedule premise
+beside_longest net strategy name link situation schedule sound both premise holds ends before =
     let ends_in : moment_in schedule premise.to ≡ moment_in schedule link.from = ap (moment_in schedule) ends in
     let ends_there : moment_in both.other_schedule premise.to ≡ moment_in both.other_schedule link.from = ap (moment_in both.other_schedule) ends in
-    let from_in : moment_in schedule edge.from ≡ moment_in schedule premise.from = ap (moment_in schedule) from in
-    let to_in : moment_in schedule edge.to ≡ moment_in schedule premise.to = ap (moment_in schedule) to in
     let same_activation = both.same_activation in
     let completes = both.completes in
     let other_completes = both.other_completes in
-    let low = both.is_duration.0 in
     let high = both.is_duration.1 in
     let positive = sound.positive in
     let interval = sound.interval in
     let longest : pos (nat_abs link.high) ≡ link.high = own_size link.high (omega (arith, ints, positive, interval)) in
-    elim (cases_lt (moment_in schedule premise.from) (moment_in schedule link.to)) [
-      | inl before ↦
-          let same : moment_in schedule premise.from ≡ moment_in both.other_schedule premise.from = both.agree premise.from (omega (arith, ints, before, same_activation, completes, other_completes, high, longest)) in
-          omega (arith, ints, holds, ends_in, ends_there, from_in, to_in, same_activation, same, looser)
-      | inr after ↦ omega (arith, ints, after, ends_in, from_in, to_in, completes, low, not_below)
-    ]
+    let same : moment_in schedule premise.from ≡ moment_in both.other_schedule premise.from = both.agree premise.from (omega (arith, ints, before, same_activation, completes, other_completes, high, longest)) in
+    omega (arith, ints, holds, ends_in, ends_there, same_activation, same)
 
 -- in the situation in which the link is longest, it takes its longest duration
 longest_there : (net : Plan) (other : List ℕ) (name : LinkId) (link : Link) → IsLinkOf net name link → slice_get other name.0 ≡ Some (nat_abs link.high) → pos (nat_abs link.high) ≡ link.high → TakesLongest net other (Some name)
@@ -145,15 +138,33 @@ longest_there net other name link declared lasts longest its duration its_declar
     let same_duration : duration ≡ nat_abs link.high = same_Some duration (nat_abs link.high) (sym its_lasts ∙ lasts) in
     ap pos same_duration ∙ longest ∙ ap (λ (l : Link). l.high) same_link
 
-pub removal_keeps_truth : RemovalKeepsTruth
-removal_keeps_truth net strategy premise edge plan controls holds rule situation schedule is_situation longest played =
-    let sound = link_sound net plan rule.name.0 rule.link rule.declared in
+-- a labelled edge that is true holds wherever its first point comes before its label's completion
+pub wait_kept : (net : Plan) (strategy : Tree) (name : LinkId) (link : Link) (premise : Edge) (situation schedule : List ℕ) → IsPlan net → Controls strategy net → HoldsOf net strategy premise → premise.label ≡ Some name → IsLinkOf net name link → premise.to ≡ link.from → IsSituation net situation → play strategy net situation ≡ Some schedule → moment_in schedule premise.from < moment_in schedule link.to → HoldsIn schedule premise
+wait_kept net strategy name link premise situation schedule plan controls holds labelled declared ends is_situation played before =
+    let sound = link_sound net plan name.0 link declared in
     let positive = sound.positive in
     let interval = sound.interval in
-    let both = compared net strategy rule.name rule.link situation schedule (nat_abs rule.link.high) plan controls rule.declared is_situation played (longest_is_duration net rule.link sound) in
-    let is_longest = longest_there net both.other rule.name rule.link rule.declared both.lasts (own_size rule.link.high (omega (arith, ints, positive, interval))) in
-    let holds_there = holds both.other both.other_schedule both.is_situation (same_label net both.other (Some rule.name) premise.label (sym rule.premise_labelled) is_longest) both.played in
-    beside_longest net strategy rule.name rule.link situation schedule sound both premise edge holds_there rule.ends rule.from rule.to rule.looser rule.not_below_shortest
+    let both = compared net strategy name link situation schedule (nat_abs link.high) plan controls declared is_situation played (longest_is_duration net link sound) in
+    let is_longest = longest_there net both.other name link declared both.lasts (own_size link.high (omega (arith, ints, positive, interval))) in
+    let holds_there = holds both.other both.other_schedule both.is_situation (same_label net both.other (Some name) premise.label (sym labelled) is_longest) both.played in
+    beside_longest net strategy name link situation schedule sound both premise holds_there ends before
+
+pub removal_keeps_truth : RemovalKeepsTruth
+removal_keeps_truth net strategy premise edge plan controls holds rule situation schedule is_situation longest played =
+    let (duration, lasts, fits) = duration_of net.links situation rule.name.0 rule.link is_situation rule.declared in
+    let completes = completion_follows_activation net strategy situation schedule rule.name rule.link duration plan played rule.declared lasts in
+    let shortest = fits.0 in
+    let ends : moment_in schedule premise.to ≡ moment_in schedule rule.link.from = ap (moment_in schedule) rule.ends in
+    let from : moment_in schedule edge.from ≡ moment_in schedule premise.from = ap (moment_in schedule) rule.from in
+    let to : moment_in schedule edge.to ≡ moment_in schedule premise.to = ap (moment_in schedule) rule.to in
+    let looser = rule.looser in
+    let not_below = rule.not_below_shortest in
+    elim (cases_lt (moment_in schedule premise.from) (moment_in schedule rule.link.to)) [
+      | inl before ↦
+          let kept = wait_kept net strategy rule.name rule.link premise situation schedule plan controls holds rule.premise_labelled rule.declared rule.ends is_situation played before in
+          omega (arith, ints, kept, from, to, looser)
+      | inr after ↦ omega (arith, ints, after, ends, from, to, completes, shortest, not_below)
+    ]
 
 -- an edge of a list whose edges are all true is true
 true_of : (net : Plan) (strategy : Tree) (edges : List Edge) (edge : Edge) → AllByRecursion (HoldsOf net strategy) edges → Contains edges edge → HoldsOf net strategy edge

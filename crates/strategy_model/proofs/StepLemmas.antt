@@ -60,7 +60,7 @@ completion_none so_far t links durations point n whole = go (drop n links) (drop
     go (l ∷ ls) [] none = refl
     go (l ∷ ls) (d ∷ ds) none = absurd (omega (arith, none))
 
-points_length : (net : Plan) → length (points_of net) ≡ length net.points
+pub points_length : (net : Plan) → length (points_of net) ≡ length net.points
 points_length net =
     length-map (range_with_len 0 (length net.points)) (λ (k : ℕ). let point : PointId = record { 0 = k } in point) ∙ length-range_with_len 0 (length net.points)
 

@@ -18,6 +18,7 @@ IsControllable net = (strategy : Tree) × Controls strategy net
 -- the earliest schedule of a situation: a strategy that controls the network plays it there, and no such strategy plays
 -- any point sooner there
 pub record IsEarliest (net : Plan) (situation schedule : List ℕ) : Type 0 where
+  pub is_situation : IsSituation net situation
   pub strategy : Tree
   pub controls : Controls strategy net
   pub played : play strategy net situation ≡ Some schedule

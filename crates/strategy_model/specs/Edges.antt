@@ -1,6 +1,8 @@
 -- Edges of the labelled distance graph (Morris and Muscettola 2005): what they say, when they are true, and walks.
-use Rattle.std.specs.Prelude.{◌≡◌, ℕ, ℤ, pos, ◌-ℤ◌, ◌+ℤ◌, ◌≤ℤ◌, ◌<ℤ◌, List, [], ◌∷◌, Option, Some, None, slice_get}
+use Rattle.std.specs.Prelude.{◌≡◌, ℕ, ℤ, pos, ◌-ℤ◌, ◌+ℤ◌, ◌≤ℤ◌, ◌<ℤ◌, ◌≢◌, IsTrue, List, [], ◌∷◌, Option, Some, None, slice_get}
+use Rattle.std.specs.List.{AllByRecursion}
 use Rattle.net_model.specs.Network.{Plan}
+use Rattle.net_model.specs.Rules.{is_ordinary, is_negative}
 use Rattle.net_model.specs.declared.ids.PointId.{PointId}
 use Rattle.net_model.specs.declared.ids.LinkId.{LinkId}
 use Rattle.net_model.specs.declared.part.Edge.{Edge}
@@ -38,3 +40,11 @@ total (edge ∷ edges) = edge.weight +ℤ total edges
 -- a walk that ends where it began, of negative total
 abbrev pub IsNegativeLoop : List Edge → Type 0
 IsNegativeLoop edges = (point : PointId) × IsWalk point edges point × (total edges <ℤ pos 0)
+
+-- an ordinary edge of negative weight
+abbrev pub IsNegativeOrdinary : Edge → Type 0
+IsNegativeOrdinary edge = IsTrue (is_ordinary edge) × IsTrue (is_negative edge)
+
+-- a cycle of negative ordinary edges
+abbrev pub IsNegativeCycle : List Edge → Type 0
+IsNegativeCycle edges = (point : PointId) × IsWalk point edges point × (edges ≢ []) × AllByRecursion IsNegativeOrdinary edges

@@ -3,6 +3,7 @@ use Rattle.std.specs.Prelude.{◌≡◌, ℕ, ◌+◌, ◌<◌, min, List, Some,
 use Rattle.std.specs.List.{All, AllByRecursion, Contains}
 use Rattle.net_model.specs.Network.{Plan, IsPlan}
 use Rattle.net_model.specs.Edges.{IsLinkOf, IsEdge}
+use Rattle.net_model.specs.Rules.{Follows, IsDerivation}
 use Rattle.net_model.specs.LooseRules.{IsLooseBound, IsLooseLink, IsLooseNoCase, IsLooseUpperCase, IsLooseLowerCase, IsLooseCrossCase, IsLooseRemoval, FollowsLoosely, IsLooseDerivation}
 use Rattle.net_model.specs.declared.ids.PointId.{PointId}
 use Rattle.net_model.specs.declared.ids.LinkId.{LinkId}
@@ -10,8 +11,8 @@ use Rattle.net_model.specs.declared.part.Edge.{Edge}
 use Rattle.net_model.specs.declared.part.Link.{Link}
 use Rattle.strategy_model.specs.Situations.{IsSituation, Satisfies, DifferOnlyIn, moment_in}
 use Rattle.strategy_model.specs.Plays.{play}
-use Rattle.strategy_model.specs.Control.{Controls, IsControllable}
-use Rattle.strategy_model.specs.Edges.{HoldsIn, HoldsOf, IsNegativeLoop}
+use Rattle.strategy_model.specs.Control.{Controls, IsControllable, IsEarliest}
+use Rattle.strategy_model.specs.Edges.{HoldsIn, HoldsOf, IsNegativeLoop, IsNegativeCycle}
 use Rattle.strategy_model.specs.declared.tree.Tree.{Tree}
 
 -- in a play each contingent point comes its link's duration after its activation point
@@ -95,3 +96,25 @@ LoopsOfBoundsExcludeSchedules =
 abbrev pub LoopsOfBoundsExcludeStrategies : Type 0
 LoopsOfBoundsExcludeStrategies =
     (net : Plan) (edges : List Edge) → IsPlan net → IsNegativeLoop edges → AllByRecursion (IsLooseBound net) edges → IsControllable net → ⊥
+
+-- a situation has at most one earliest schedule
+abbrev pub AtMostOneEarliest : Type 0
+AtMostOneEarliest = (net : Plan) (situation first second : List ℕ) → IsEarliest net situation first → IsEarliest net situation second → first ≡ second
+
+-- what an exact rule gives from edges of the network that are true of a controlling strategy is true of it
+abbrev pub ExactRulesKeepTruth : Type 0
+ExactRulesKeepTruth =
+    (net : Plan) (strategy : Tree) (earlier : List Edge) (edge : Edge) → IsPlan net → Controls strategy net → All (IsEdge net) earlier → All (HoldsOf net strategy) earlier → Follows net earlier edge → HoldsOf net strategy edge
+
+-- every edge of a derivation by the exact rules is an edge of the network
+abbrev pub ExactDerivationsHaveEdges : Type 0
+ExactDerivationsHaveEdges = (net : Plan) (edges : List Edge) → IsPlan net → IsDerivation net edges → All (IsEdge net) edges
+
+-- and is true of every strategy that controls the network
+abbrev pub ExactDerivationsAreTrue : Type 0
+ExactDerivationsAreTrue = (net : Plan) (strategy : Tree) (edges : List Edge) → IsPlan net → Controls strategy net → IsDerivation net edges → All (HoldsOf net strategy) edges
+
+-- so a cycle of negative ordinary edges that are derived excludes every strategy that controls the network
+abbrev pub NegativeCyclesExcludeStrategies : Type 0
+NegativeCyclesExcludeStrategies =
+    (net : Plan) (edges cycle : List Edge) → IsPlan net → IsDerivation net edges → All (Contains edges) cycle → IsNegativeCycle cycle → IsControllable net → ⊥

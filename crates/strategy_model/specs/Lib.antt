@@ -3,4 +3,6 @@ pub mod Plays
 pub mod Control
 pub mod Edges
 pub mod Laws
+pub mod Dispatch
+pub mod DispatchLaws
 pub use Rattle.net_model.specs.Network

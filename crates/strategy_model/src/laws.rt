@@ -1,6 +1,6 @@
 //! Laws about plays and edges, each the contract of a function without parameters.
 
-ghost use Rattle.strategy_model.specs.Laws.{CompletionFollowsActivation, PlaysAgree, BoundKeepsTruth, LinkKeepsTruth, NoCaseKeepsTruth, UpperCaseKeepsTruth, LowerCaseKeepsTruth, CrossCaseKeepsTruth, RemovalKeepsTruth, RulesKeepTruth, DerivationsAreTrue, RulesKeepEdges, LoopsExcludeSchedules, LoopsExcludeStrategies, RefutationsExcludeStrategies, LoopsOfBoundsExcludeSchedules, LoopsOfBoundsExcludeStrategies};
+ghost use Rattle.strategy_model.specs.Laws.{CompletionFollowsActivation, PlaysAgree, BoundKeepsTruth, LinkKeepsTruth, NoCaseKeepsTruth, UpperCaseKeepsTruth, LowerCaseKeepsTruth, CrossCaseKeepsTruth, RemovalKeepsTruth, RulesKeepTruth, DerivationsAreTrue, RulesKeepEdges, LoopsExcludeSchedules, LoopsExcludeStrategies, RefutationsExcludeStrategies, LoopsOfBoundsExcludeSchedules, LoopsOfBoundsExcludeStrategies, AtMostOneEarliest, ExactRulesKeepTruth, ExactDerivationsHaveEdges, ExactDerivationsAreTrue, NegativeCyclesExcludeStrategies};
 
 /// In a play each contingent point comes its link's duration after its activation point.
 pub fn completion_follows_activation()
@@ -86,4 +86,30 @@ pub fn loops_of_bounds_exclude_schedules()
 /// A closed walk over bounds of negative total excludes every strategy that controls the network.
 pub fn loops_of_bounds_exclude_strategies()
     ensures { LoopsOfBoundsExcludeStrategies }
+{}
+
+/// A situation has at most one earliest schedule.
+pub fn at_most_one_earliest()
+    ensures { AtMostOneEarliest }
+{}
+
+/// What an exact rule gives from edges of the network that are true of a controlling strategy is true of it.
+pub fn exact_rules_keep_truth()
+    ensures { ExactRulesKeepTruth }
+{}
+
+/// Every edge of a derivation by the exact rules is an edge of the network.
+pub fn exact_derivations_have_edges()
+    ensures { ExactDerivationsHaveEdges }
+{}
+
+/// Every edge of a derivation by the exact rules is true of every strategy that controls the network.
+pub fn exact_derivations_are_true()
+    ensures { ExactDerivationsAreTrue }
+{}
+
+/// A cycle of negative ordinary edges that are derived by the exact rules excludes every strategy that controls the
+/// network.
+pub fn negative_cycles_exclude_strategies()
+    ensures { NegativeCyclesExcludeStrategies }
 {}

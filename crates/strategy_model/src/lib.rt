@@ -4,8 +4,6 @@
 pub mod laws;
 mod plays;
 mod schedules;
-#[cfg(test)]
-mod tests;
 mod tree;
 
 pub use plays::play;
