@@ -1,0 +1,6 @@
+pub mod Lists
+pub mod KeyOrder
+pub mod KeyLists
+pub mod Entries
+pub mod TableLemmas
+pub mod BaseLemmas
