@@ -1,0 +1,3 @@
+//! What a table of the labelled distance graph is, and when it is closed: definitions, and laws about them. Nothing here makes
+//! an edge.
+#![tactic(auto)]
