@@ -1,2 +1,5 @@
 pub mod Keys
 pub mod Tables
+pub mod Derivable
+pub mod Closure
+pub mod Derivations
