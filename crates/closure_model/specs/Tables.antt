@@ -2,13 +2,12 @@
 -- the one of least weight.
 use Rattle.std.specs.Prelude.{◌≡◌, ◌==◌, ℕ, ℤ, ◌≤ℤ◌, ◌≤◌, ◌<◌, int_le, unsigned_abs, Bool, false, List, ◌++◌, length, map, filter, fold, Option, Some, IsSomeAnd, if◌then◌else◌}
 use Rattle.std.specs.FinMap as map_of
-use Rattle.std.specs.List.{All, Contains, enumerate_from}
-use Rattle.std.specs.Option.{option_map_or}
+use Rattle.std.specs.List.{All, Contains, enumerate_from, filter_map}
+use Rattle.std.specs.Option.{option_map, option_map_or}
 use Rattle.net_model.specs.Limits.{most_points, most_links, most_weight}
 use Rattle.net_model.specs.Network.{Plan}
 use Rattle.net_model.specs.Rules.{bound_edge, link_edge, Follows}
 use Rattle.net_model.specs.declared.ids.PointId.{PointId}
-use Rattle.net_model.specs.declared.part.Bound.{Bound}
 use Rattle.net_model.specs.declared.part.Edge.{Edge}
 use Rattle.net_model.specs.declared.part.Link.{Link}
 use Rattle.closure_model.specs.Keys.{Key, key_of, edge_of, key_cmp, Shape, shape_of, IsKey}
@@ -33,6 +32,10 @@ edges_of graph = map (λ entry. edge_of entry.0 entry.1) (map_of.entries graph.w
 -- the edges of the row of a target, in the order of their keys
 abbrev pub row_of : Graph → PointId → List Edge
 row_of graph to = filter (λ edge. edge.to.0 == to.0) (edges_of graph)
+
+-- the edges that a table has at some keys, in the order of these
+abbrev pub edges_at : Graph → List Key → List Edge
+edges_at graph keys = filter_map (λ key. option_map (edge_of key) (weight_of graph key)) keys
 
 -- the table in which the key of an edge has its weight, and every other key what it had
 abbrev pub with_edge : Graph → Edge → Graph
@@ -61,10 +64,10 @@ lowered graph edge = if has_at_most graph edge then graph else with_edge graph e
 abbrev pub table_of : Shape → List Edge → Graph
 table_of shape given = fold lowered (no_edges shape) given
 
--- the least weight of the edges of a key
-pub record IsLeast (given : List Edge) (key : Key) (weight : ℤ) : Type 0 where
-  pub given_so : Contains given (edge_of key weight)
-  pub least : All (λ edge. key_of edge ≡ key → weight ≤ℤ edge.weight) given
+-- an edge is the least of its key among given ones
+pub record IsLeast (given : List Edge) (edge : Edge) : Type 0 where
+  pub is_given : Contains given edge
+  pub least : All (λ other. key_of other ≡ key_of edge → edge.weight ≤ℤ other.weight) given
 
 -- the edges of bounds and links, each list in its order
 abbrev pub base_edges : Plan → List Edge

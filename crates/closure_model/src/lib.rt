@@ -3,5 +3,6 @@
 #![tactic(auto)]
 
 mod derivation;
+pub mod table_laws;
 
 pub use derivation::{Item, Node, NodeId, Rule};

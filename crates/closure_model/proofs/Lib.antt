@@ -1,0 +1,9 @@
+pub mod Lists
+pub mod KeyOrder
+pub mod KeyLists
+pub mod Entries
+pub mod TableLemmas
+pub mod BaseLemmas
+pub mod Tabulated
+pub mod Listed
+pub mod SoundTables
