@@ -5,3 +5,5 @@ pub mod Codes
 pub mod Derivable
 pub mod Closure
 pub mod Derivations
+pub mod ClosureLaws
+pub mod DerivationLaws

@@ -3,6 +3,7 @@
 #![tactic(auto)]
 
 mod derivation;
+pub mod laws;
 pub mod table_laws;
 
 pub use derivation::{Item, Node, NodeId, Rule};
