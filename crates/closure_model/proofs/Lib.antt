@@ -1,1 +1,2 @@
-mod NextSlot
+mod Weights
+mod FirstLeast

@@ -1,15 +1,16 @@
 -- The reference row: the least row of a target against a table. The keys of the row are settled one after another, always the one
 -- of least weight (Dijkstra 1959; backwards from a target as in Morris 2014). What decides between equal weights is this project's
 -- own choice.
-use Rattle.std.specs.Prelude.{◌≡◌, ◌==◌, ◌&&◌, ℕ, suc, zero, ℤ, ◌≤ℤ◌, ◌<ℤ◌, ◌<◌, int_lt, int_le, Bool, true, false, List, [], ◌∷◌, ◌++◌, length, map, fold, slice_get, slice_set, Option, Some, None, MatchOption, if◌then◌else◌}
-use Rattle.std.specs.Option.{option_map, option_map_or, option_and_then}
-use Rattle.std.specs.List.{Contains, All, filter_map, flat_map}
+use Rattle.std.specs.Prelude.{◌≡◌, ◌==◌, ◌&&◌, ℕ, suc, zero, ℤ, int_lt, Bool, true, false, List, [], ◌∷◌, ◌++◌, length, map, fold, slice_get, slice_set, Option, Some, None, if◌then◌else◌}
+use Rattle.std.specs.Option.{option_map, option_map_or}
+use Rattle.std.specs.List.{Contains, filter_map, flat_map}
 use Rattle.net_model.specs.Network.{Plan, activation}
 use Rattle.net_model.specs.Rules.{no_case, upper_case, lower_case, cross_case, removal}
 use Rattle.net_model.specs.declared.ids.LinkId.{LinkId}
 use Rattle.net_model.specs.declared.ids.PointId.{PointId}
 use Rattle.net_model.specs.declared.part.Edge.{Edge}
 use Rattle.closure_model.specs.Keys.{Key, key_of, edge_of, ordinary_key, row_keys, all_points}
+use Rattle.closure_model.specs.Least.{first_least, IsFirstLeast, HasNoWeight}
 use Rattle.closure_model.specs.Tables.{Graph, weight_of, with_edge, HasEdge, HasAtMost}
 use Rattle.closure_model.specs.declared.rows.Made.{Made}
 use Rattle.closure_model.specs.declared.rows.Slot.{Slot}
@@ -72,20 +73,10 @@ offered slots made = map (λ slot. if is_slot_of made.edge slot then taken made 
 abbrev pub open_weight : Slot → Option ℤ
 open_weight slot = if slot.settled then None else slot.weight
 
--- the lesser of two weights with their places, the first where they are equal
-abbrev pub lesser : Option (ℕ × ℤ) → Option (ℕ × ℤ) → Option (ℕ × ℤ)
-lesser None second = second
-lesser (Some first) None = Some first
-lesser (Some first) (Some second) = if int_le first.1 second.1 then Some first else Some second
-
--- the place and the weight of the slot that is settled next, of slots whose places begin with a number: of those that can be
--- settled the one of least weight, the first of these in the order of keys
-abbrev pub next_from : ℕ → List Slot → Option (ℕ × ℤ)
-next_from place [] = None
-next_from place (slot ∷ slots) = lesser (option_map (λ weight. (place, weight)) (open_weight slot)) (next_from (suc place) slots)
-
+-- the place and the weight of the slot that is settled next: of those that can be settled the one of least weight, the first of
+-- these in the order of keys
 abbrev pub next_slot : List Slot → Option (ℕ × ℤ)
-next_slot slots = next_from 0 slots
+next_slot slots = first_least open_weight slots
 
 -- the edge of a slot of the row of a target, at a weight
 abbrev pub edge_in : PointId → Slot → ℤ → Edge
@@ -141,24 +132,14 @@ pub record IsLeastRow (net : Plan) (table : Graph) (to : PointId) (after : Graph
   pub derivable : (edge : Edge) → HasEdge after edge → edge.to ≡ to → IsInRow net table to edge
   pub least : (edge : Edge) → IsInRow net table to edge → HasAtMost after edge
 
--- the weight at which the slot at a place can be settled
-abbrev pub open_at : List Slot → ℕ → Option ℤ
-open_at slots place = option_and_then open_weight (slice_get slots place)
-
--- a place is the next: its slot can be settled, no other can at a lesser weight, and none before it at the same
-pub record IsNext (slots : List Slot) (next : ℕ × ℤ) : Type 0 where
-  pub open_there : open_at slots next.0 ≡ Some next.1
-  pub least : (place : ℕ) (weight : ℤ) → open_at slots place ≡ Some weight → next.1 ≤ℤ weight
-  pub first : (place : ℕ) (weight : ℤ) → open_at slots place ≡ Some weight → place < next.0 → next.1 <ℤ weight
-
 -- no slot can be settled
 abbrev pub IsAllSettled : List Slot → Type 0
-IsAllSettled slots = (place : ℕ) → open_at slots place ≡ None
+IsAllSettled slots = HasNoWeight open_weight slots
 
--- which slot is settled next, if any
-abbrev pub NextIs : List Slot → Option (ℕ × ℤ) → Type 0
-NextIs slots next = MatchOption next (IsAllSettled slots) (IsNext slots)
+-- the slot of a place is settled next: it can be settled at a weight, no other can at a lesser one, and none before it at the same
+abbrev pub IsNextSlot : List Slot → ℕ × ℤ → Type 0
+IsNextSlot slots next = IsFirstLeast open_weight slots next
 
 -- Whatever slot is first of those that can be settled, it is the next one.
 abbrev pub FirstIsNext : Type 0
-FirstIsNext = (slots : List Slot) (next : Option (ℕ × ℤ)) → NextIs slots next → next_slot slots ≡ next
+FirstIsNext = (slots : List Slot) (next : ℕ × ℤ) → IsNextSlot slots next → next_slot slots ≡ Some next
