@@ -1,2 +1,3 @@
 mod Weights
 mod FirstLeast
+mod RuleSteps

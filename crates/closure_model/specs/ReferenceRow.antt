@@ -3,15 +3,15 @@
 -- own choice.
 use Rattle.std.specs.Prelude.{◌≡◌, ◌==◌, ◌&&◌, ℕ, suc, zero, ℤ, int_lt, Bool, true, false, List, [], ◌∷◌, ◌++◌, length, map, fold, slice_get, slice_set, Option, Some, None, if◌then◌else◌}
 use Rattle.std.specs.Option.{option_map, option_map_or}
-use Rattle.std.specs.List.{Contains, filter_map, flat_map}
+use Rattle.std.specs.List.{filter_map, flat_map}
 use Rattle.net_model.specs.Network.{Plan, activation}
 use Rattle.net_model.specs.Rules.{no_case, upper_case, lower_case, cross_case, removal}
 use Rattle.net_model.specs.declared.ids.LinkId.{LinkId}
 use Rattle.net_model.specs.declared.ids.PointId.{PointId}
 use Rattle.net_model.specs.declared.part.Edge.{Edge}
-use Rattle.closure_model.specs.Keys.{Key, key_of, edge_of, ordinary_key, row_keys, all_points}
+use Rattle.closure_model.specs.Keys.{Key, edge_of, ordinary_key, row_keys, all_points}
 use Rattle.closure_model.specs.Least.{first_least, IsFirstLeast, HasNoWeight}
-use Rattle.closure_model.specs.Tables.{Graph, weight_of, with_edge, HasEdge, HasAtMost}
+use Rattle.closure_model.specs.Tables.{Graph, weight_of, lowered, HasEdge, HasAtMost}
 use Rattle.closure_model.specs.declared.rows.Made.{Made}
 use Rattle.closure_model.specs.declared.rows.Slot.{Slot}
 use Rattle.closure_model.specs.declared.rows.Why.{Why}
@@ -27,24 +27,24 @@ abbrev pub ordinary_into : Graph → PointId → List Edge
 ordinary_into table point = filter_map (λ from. option_map (edge_of (ordinary_key from point)) (weight_of table (ordinary_key from point))) (all_points table.shape)
 
 -- what follows from an edge of a row by the removal of its label
-abbrev pub by_removal : Plan → Edge → List Made
-by_removal net edge = given (Drop edge) (removal net edge)
+abbrev pub from_removal : Plan → Edge → List Made
+from_removal net edge = given (Drop edge) (removal net edge)
 
 -- what follows over a link that ends where the edge begins
 abbrev pub over_link : Plan → Edge → LinkId → List Made
 over_link net edge link = given (Low link edge) (lower_case net link edge) ++ given (Cross link edge) (cross_case net link edge)
 
 -- what follows over the link that ends where the edge begins, if one does
-abbrev pub by_link : Plan → Edge → List Made
-by_link net edge = option_map_or (over_link net edge) (activation net edge.from) []
+abbrev pub from_link : Plan → Edge → List Made
+from_link net edge = option_map_or (over_link net edge) (activation net edge.from) []
 
 -- what follows with one more edge before it
-abbrev pub after_first : Edge → Edge → List Made
-after_first edge first = given (No first edge) (no_case first edge) ++ given (Up first edge) (upper_case first edge)
+abbrev pub from_first : Edge → Edge → List Made
+from_first edge first = given (No first edge) (no_case first edge) ++ given (Up first edge) (upper_case first edge)
 
 -- the consequences of an edge of a row, in their order; first premises are always those of the table
 abbrev pub consequences : Plan → Graph → Edge → List Made
-consequences net table edge = by_removal net edge ++ (by_link net edge ++ flat_map (after_first edge) (ordinary_into table edge.from))
+consequences net table edge = from_removal net edge ++ (from_link net edge ++ flat_map (from_first edge) (ordinary_into table edge.from))
 
 -- the same label, or none
 abbrev pub same_label : Option LinkId → Option LinkId → Bool
@@ -117,17 +117,21 @@ settled_row net table to = settled_times net table to (length (row_keys table.sh
 abbrev pub reference_row : Plan → Graph → PointId → List Made
 reference_row net table to = (settled_row net table to).made
 
--- the table with edges in place of what it had of their keys, one after another
+-- the table with edges, where it had none of their keys or greater ones
 abbrev pub with_made : Graph → List Made → Graph
-with_made table made = fold (λ now (one : Made). with_edge now one.edge) table made
+with_made table made = fold lowered table (map (λ (one : Made). one.edge) made)
 
--- an edge is derivable in the row of a target against a table: the table has it, or it follows from one that is derivable there
+-- an edge is derivable in the row of a target against a table: it is an edge of the table, or a rule gives it from one that is
+-- derivable in the row, with an edge of the table before it where the rule takes two
 pub data IsInRow (net : Plan) (table : Graph) (to : PointId) : Edge → Type 0 where
   of_table : (edge : Edge) → HasEdge table edge → edge.to ≡ to → IsInRow net table to edge
-  by_rule : (premise edge : Edge) (made : Made) → IsInRow net table to premise → Contains (consequences net table premise) made → made.edge ≡ edge → IsInRow net table to edge
+  by_no_case : (first second edge : Edge) → HasEdge table first → IsInRow net table to second → no_case first second ≡ Some edge → IsInRow net table to edge
+  by_upper_case : (first second edge : Edge) → HasEdge table first → IsInRow net table to second → upper_case first second ≡ Some edge → IsInRow net table to edge
+  by_lower_case : (name : LinkId) (second edge : Edge) → IsInRow net table to second → lower_case net name second ≡ Some edge → IsInRow net table to edge
+  by_cross_case : (name : LinkId) (second edge : Edge) → IsInRow net table to second → cross_case net name second ≡ Some edge → IsInRow net table to edge
+  by_removal : (premise edge : Edge) → IsInRow net table to premise → removal net premise ≡ Some edge → IsInRow net table to edge
 
--- the least row: of the keys of a target a table has each at the least weight that is derivable in the row against another table,
--- and none other
+-- a table has, of the keys of a target, each at the least weight that is derivable in the row against another table, and none other
 pub record IsLeastRow (net : Plan) (table : Graph) (to : PointId) (after : Graph) : Type 0 where
   pub derivable : (edge : Edge) → HasEdge after edge → edge.to ≡ to → IsInRow net table to edge
   pub least : (edge : Edge) → IsInRow net table to edge → HasAtMost after edge
