@@ -1,3 +1,9 @@
 mod Weights
 mod FirstLeast
 mod RuleSteps
+pub mod Lists
+pub mod KeyOrder
+pub mod KeyLists
+pub mod Entries
+pub mod TableLemmas
+pub mod BaseLemmas

@@ -6,3 +6,4 @@ pub mod ReferenceRound
 pub mod Derivable
 pub mod Closure
 pub mod Derivations
+pub mod TableLaws

@@ -8,7 +8,6 @@ use Rattle.net_model.specs.Limits.{most_points, most_links, most_weight}
 use Rattle.net_model.specs.Network.{Plan}
 use Rattle.net_model.specs.Rules.{bound_edge, link_edge, Follows}
 use Rattle.net_model.specs.declared.ids.PointId.{PointId}
-use Rattle.net_model.specs.declared.part.Bound.{Bound}
 use Rattle.net_model.specs.declared.part.Edge.{Edge}
 use Rattle.net_model.specs.declared.part.Link.{Link}
 use Rattle.closure_model.specs.Keys.{Key, key_of, edge_of, key_cmp, Shape, shape_of, IsKey}
@@ -61,10 +60,10 @@ lowered graph edge = if has_at_most graph edge then graph else with_edge graph e
 abbrev pub table_of : Shape → List Edge → Graph
 table_of shape given = fold lowered (no_edges shape) given
 
--- the least weight of the edges of a key
-pub record IsLeast (given : List Edge) (key : Key) (weight : ℤ) : Type 0 where
-  pub given_so : Contains given (edge_of key weight)
-  pub least : All (λ edge. key_of edge ≡ key → weight ≤ℤ edge.weight) given
+-- an edge is the least of its key among given ones
+pub record IsLeast (given : List Edge) (edge : Edge) : Type 0 where
+  pub is_given : Contains given edge
+  pub least : All (λ other. key_of other ≡ key_of edge → edge.weight ≤ℤ other.weight) given
 
 -- the edges of bounds and links, each list in its order
 abbrev pub base_edges : Plan → List Edge

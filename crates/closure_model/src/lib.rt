@@ -4,6 +4,7 @@
 
 mod derivation;
 mod rows;
+pub mod table_laws;
 
 pub use derivation::{Item, Node, NodeId, Rule};
 pub use rows::{Made, Slot, Why};
