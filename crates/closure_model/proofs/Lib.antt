@@ -1,6 +1,7 @@
 mod Weights
 mod FirstLeast
 mod RuleSteps
+mod Consequences
 pub mod Lists
 pub mod KeyOrder
 pub mod KeyLists
