@@ -2,6 +2,7 @@ mod Weights
 mod FirstLeast
 mod RuleSteps
 mod Consequences
+mod Slots
 pub mod Lists
 pub mod KeyOrder
 pub mod KeyLists
