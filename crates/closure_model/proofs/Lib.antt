@@ -1,3 +1,8 @@
+mod Weights
+mod FirstLeast
+mod RuleSteps
+mod Consequences
+mod Slots
 pub mod Lists
 pub mod KeyOrder
 pub mod KeyLists

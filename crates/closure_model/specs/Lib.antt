@@ -7,3 +7,6 @@ pub mod Closure
 pub mod Derivations
 pub mod ClosureLaws
 pub mod DerivationLaws
+pub mod Least
+pub mod ReferenceRow
+pub mod ReferenceRound

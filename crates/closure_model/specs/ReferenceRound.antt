@@ -1,0 +1,57 @@
+-- The reference round: the rows of all targets against one table, and what it adds to the list and the table that support them.
+-- Morris and Muscettola 2005, in this project's form; the order of making is this project's own choice.
+use Rattle.std.specs.Prelude.{◌==◌, ◌&&◌, ℕ, ℤ, Bool, List, [], ◌∷◌, ◌++◌, fold, Option, Some, None, if◌then◌else◌}
+use Rattle.std.specs.Option.{option_map, option_map_or, option_and_then}
+use Rattle.std.specs.List.{flat_map}
+use Rattle.net_model.specs.Network.{Plan}
+use Rattle.net_model.specs.declared.ids.PointId.{PointId}
+use Rattle.net_model.specs.declared.part.Edge.{Edge}
+use Rattle.closure_model.specs.Derivations.{Support}
+use Rattle.closure_model.specs.Keys.{all_points}
+use Rattle.closure_model.specs.Least.{first_least}
+use Rattle.closure_model.specs.ReferenceRow.{reference_row, with_made, same_label}
+use Rattle.closure_model.specs.Tables.{Graph}
+use Rattle.closure_model.specs.declared.derivation.Node.{Node}
+use Rattle.closure_model.specs.declared.derivation.NodeId.{NodeId}
+use Rattle.closure_model.specs.declared.derivation.Rule.{Rule}
+use Rattle.closure_model.specs.declared.derivation.Rule.TheVariants as by_rule
+use Rattle.closure_model.specs.declared.rows.Made.{Made}
+use Rattle.closure_model.specs.declared.rows.Why.{Why}
+use Rattle.closure_model.specs.declared.rows.Why.TheVariants.{No, Up, Low, Cross, Drop}
+
+-- two edges are of one key
+abbrev pub is_same_key : Edge → Edge → Bool
+is_same_key one other = one.to.0 == other.to.0 && (one.from.0 == other.from.0 && same_label one.label other.label)
+
+-- the weight of a node of the key of an edge
+abbrev pub weight_for : Edge → Node → Option ℤ
+weight_for edge node = if is_same_key edge node.edge then Some node.edge.weight else None
+
+-- the node of the key of an edge: the first of least weight among its nodes
+abbrev pub node_for : List Node → Edge → Option NodeId
+node_for nodes edge = option_map (λ (first : ℕ × ℤ). record { 0 = first.0 }) (first_least (weight_for edge) nodes)
+
+-- the rule of a new node: its premise in the row is the node that the key now has, an edge before it the node that its key had
+-- before the round
+abbrev pub rule_for : (before now : List Node) → Why → Option Rule
+rule_for before now (No first second) = option_and_then (λ one. option_map (by_rule.No one) (node_for now second)) (node_for before first)
+rule_for before now (Up first second) = option_and_then (λ one. option_map (by_rule.Up one) (node_for now second)) (node_for before first)
+rule_for before now (Low link second) = option_map (by_rule.Low link) (node_for now second)
+rule_for before now (Cross link second) = option_map (by_rule.Cross link) (node_for now second)
+rule_for before now (Drop premise) = option_map by_rule.Drop (node_for now premise)
+
+-- the list with a node for one more edge that fell
+abbrev pub with_node : (before now : List Node) → Made → List Node
+with_node before now made = option_map_or (λ rule. now ++ record { rule = rule; edge = made.edge } ∷ []) (rule_for before now made.why) now
+
+-- the edges that fall in a round: all rows are against the same table; target by target in order, and in each row in the order of
+-- settling
+abbrev pub round_made : Plan → Graph → List Made
+round_made net table = flat_map (reference_row net table) (all_points table.shape)
+
+-- the list and the table after a round: each key whose weight fell has a new node, and the table its new weight
+abbrev pub after_round : Plan → Support → Support
+after_round net support = record {
+    nodes = fold (with_node support.nodes) support.nodes (round_made net support.table);
+    table = with_made support.table (round_made net support.table);
+  }
