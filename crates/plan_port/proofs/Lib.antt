@@ -1,3 +1,5 @@
 pub mod Talks
 pub mod Windows
+pub mod FirstLines
 pub mod Readings
+pub mod Answering

@@ -163,7 +163,7 @@ impl LineReader {
             return line;
         }
         let outcome = self.take_until_decided(port, longest);
-        self.give(outcome, longest)
+        self.answer(outcome, longest)
     }
 
     fn stopped(&self) -> Option<Line>
@@ -231,20 +231,34 @@ impl LineReader {
     }
 
     /// The answer after the taking.
-    fn give(&mut self, outcome: Outcome, longest: u32) -> Line
+    fn answer(&mut self, outcome: Outcome, longest: u32) -> Line
         requires running { self.old.stopped ≡ None }
         requires outcome { outcome ≡ outcome_of longest self.old }
         ensures answer { result ≡ answer longest self.old }
         ensures after { self.new ≡ after_answer result self.old }
         ensures valid { IsReader self.new }
     {
-        let most = self.most;
         match outcome {
-            Outcome::Decided(Verdict::Line(size)) => self.give_line(size),
-            Outcome::Decided(Verdict::Unclear) => self.give_last(),
-            Outcome::Decided(Verdict::BeyondLine) => self.refuse(Line::TooLong(longest)),
-            Outcome::Decided(Verdict::BeyondInput) => self.refuse(Line::TooMuch(most)),
+            Outcome::Decided(verdict) => self.give(verdict, longest),
             Outcome::Fault => self.fail(),
+        }
+    }
+
+    /// The answer by the verdict on what is kept.
+    fn give(&mut self, judged: Verdict, longest: u32) -> Line
+        requires running { self.old.stopped ≡ None }
+        requires judged { judged ≡ verdict longest (room self.old) self.old.kept }
+        requires ended { judged ≡ Verdict.Unclear → self.old.ended ≡ true }
+        ensures answer { result ≡ answer longest self.old }
+        ensures after { self.new ≡ after_answer result self.old }
+        ensures valid { IsReader self.new }
+    {
+        let most = self.most;
+        match judged {
+            Verdict::Line(size) => self.give_line(size),
+            Verdict::Unclear => self.give_last(),
+            Verdict::BeyondLine => self.refuse(Line::TooLong(longest)),
+            Verdict::BeyondInput => self.refuse(Line::TooMuch(most)),
         }
     }
 

@@ -1,6 +1,6 @@
 -- Lines of an input: how they go on with bytes that come, and what the first of them is.
 use Rattle.std.proofs.Common.{◌≡◌, ℕ, ◌+◌, ◌<◌, ◌≤◌, ◌==◌, Bool, true, false, cond, List, [], ◌∷◌, ◌++◌, length, map, refl, sym, ap, ◌∙◌, arith, append_assoc}
-use Rattle.std.proofs.lemmas.List.{append-nil, map-append, length-append}
+use Rattle.std.proofs.lemmas.List.{append-nil, length-append}
 use Rattle.std.proofs.lemmas.Bool.{eqb-true, cond-false}
 use Rattle.texts.specs.Words.{if_filled}
 use Rattle.texts.specs.Lines.{lines_after, lines, whole_lines_after, whole_lines, unfinished_after, unfinished, InputLine, whole_line, open_line, last_line, input_lines}
