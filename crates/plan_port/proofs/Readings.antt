@@ -12,7 +12,7 @@ use Rattle.plan_port.specs.Reader.{Reader, Takes, with_pieces_kept, room, remain
 use Rattle.plan_port.specs.Reading.{with_bytes_kept, ended_after, has_failed, pieces_given}
 use Rattle.plan_port.specs.declared.ports.Took.{Took}
 use Rattle.plan_port.specs.declared.ports.Took.TheVariants.{Bytes, End, Failed}
-use Rattle.plan_port.proofs.Talks.{WhereTold-same, WhereTold-twice, with_pieces-nil, with_pieces-with_pieces, LosesFront-nil, LosesFront-twice, concat-append}
+use Rattle.plan_port.proofs.Talks.{WhereTold-same, changed_twice, with_pieces-nil, with_pieces-with_pieces, LosesFront-nil, LosesFront-twice, concat-append}
 
 -- each take that doesn't fail brings the reader nearer to a decision
 abbrev pub distance : Reader → ℕ
@@ -21,12 +21,13 @@ distance r = 2 * (most_line + 1 - length r.kept) + cond r.ended 0 1
 pub Takes-none : (longest : ℕ) (old : Reader) (seen : Seen) → Takes longest old (with_pieces_kept old [] old.ended) [] false seen seen
 Takes-none longest old seen = record {
   reader = refl;
-  talk = WhereTold-same seen.talk (λ t. with_pieces t []) with_pieces-nil;
+  talk = WhereTold-same seen.talk (λ was is. is ≡ with_pieces was []) with_pieces-nil;
   left = LosesFront-nil seen.left;
   filled = All-nil (λ (piece : List ℕ). 0 < length piece);
   undecided = λ k h. absurd (omega arith);
   none_after_end = λ e. (refl, e);
   all_at_end = λ e e'. absurd (false≢true (sym e ∙ e'));
+  none_at_end = λ e e'. absurd (false≢true (sym e ∙ e'));
   read_faults = refl;
   write_faults = refl;
 }
@@ -77,6 +78,12 @@ counted_is (Bytes n) count = refl
 counted_is End count = refl
 counted_is Failed count = refl
 
+-- where a take found the end, the reader holds what it held
+none_at : (longest : ℕ) (mid new : Reader) (took : Took) (into : List ℕ) → took ≡ End → DecideNothing longest (room mid) mid.kept → new ≡ with_bytes_kept mid (bytes_given took into) (ended_after took mid.ended) → DecideNothing longest (room new) new.kept
+none_at longest mid new took into end decides is =
+    let kept : mid.kept ++ bytes_given took into ≡ mid.kept = ap (λ (t : Took). mid.kept ++ bytes_given t into) end ∙ append-nil mid.kept in
+    subst (λ (r : Reader). DecideNothing longest (room r) r.kept) (sym is) (subst (λ (l : List ℕ). DecideNothing longest (room mid) l) (sym kept) decides)
+
 -- one take more
 pub Takes-more : (longest : ℕ) (old mid new : Reader) (took : Took) (into : List ℕ) (pieces : List (List ℕ)) (a b c : Seen) → Takes longest old mid pieces false a b → TakesOnce b c took into → mid.ended ≡ false → DecideNothing longest (room mid) mid.kept → new ≡ with_bytes_kept mid (bytes_given took into) (ended_after took mid.ended) → Takes longest old new (pieces ++ pieces_given took into) (has_failed took) a c
 Takes-more longest old mid new took into pieces a b c before once unended decides is =
@@ -87,12 +94,13 @@ Takes-more longest old mid new took into pieces a b c before once unended decide
     let bytes : bytes_given took into ≡ concat more = sym (given_bytes took into) in
     record {
       reader = is ∙ ap (λ (l : List ℕ). with_bytes_kept mid l (ended_after took mid.ended)) bytes ∙ ap (λ (r : Reader). with_bytes_kept r (concat more) (ended_after took mid.ended)) same ∙ kept_twice old pieces more mid.ended (ended_after took mid.ended) ∙ ap (λ e. with_pieces_kept old (pieces ++ more) e) (sym ended);
-      talk = WhereTold-twice a.talk b.talk c.talk (λ t. with_pieces t pieces) (λ t. after_take took into t) (λ t. after_takes (pieces ++ more) (has_failed took) t) (talk_twice took into pieces) before.talk once.talk;
+      talk = changed_twice a.talk b.talk c.talk (λ t. with_pieces t pieces) (λ t. after_take took into t) (λ t. after_takes (pieces ++ more) (has_failed took) t) (talk_twice took into pieces) before.talk once.talk;
       left = LosesFront-twice a.left b.left c.left (concat pieces) (bytes_given took into) before.left once.left ∙ ap (λ (l : List ℕ). option_map (λ rest. l ++ rest) c.left) (ap (λ (l : List ℕ). concat pieces ++ l) bytes ∙ sym (concat-append pieces more));
       filled = All-append (λ (piece : List ℕ). 0 < length piece) pieces more before.filled (given_filled took into b c once);
       undecided = λ k h. undecided_at longest (room old) old.kept pieces more k (at_most_one took into) h (cases_lt k (length pieces)) before.undecided at;
       none_after_end = λ e. absurd (false≢true (sym unended ∙ (before.none_after_end e).1));
       all_at_end = λ e e'. once.at_end (was_end took mid.ended unended (sym ended ∙ e'));
+      none_at_end = λ e e'. none_at longest mid new took into (was_end took mid.ended unended (sym ended ∙ e')) decides is;
       read_faults = once.read_faults ∙ (counted_is took b.read_faults ∙ ap (λ (n : ℕ). counted_takes (has_failed took) n) before.read_faults);
       write_faults = once.write_faults ∙ before.write_faults;
     }

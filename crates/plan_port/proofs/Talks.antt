@@ -20,16 +20,27 @@ with_pieces-with_pieces t ps qs =
     ap (λ (p : List Piece). record t { taken = p }) (append_assoc t.taken (map f ps) (map f qs) ∙ ap (λ l. t.taken ++ l) (sym (map-append f ps qs)))
 
 -- what is told and stays
-pub WhereTold-same : (a : Option Talk) (f : Talk → Talk) → ((t : Talk) → t ≡ f t) → WhereTold a a (λ before after. after ≡ f before)
-WhereTold-same None f is = tt
-WhereTold-same (Some t) f is = is t
+pub WhereTold-same : {A : Type 0} (a : Option A) (P : A → A → Type 0) → ((x : A) → P x x) → WhereTold a a P
+WhereTold-same None P same = tt
+WhereTold-same (Some x) P same = same x
 
 -- one call after another
-pub WhereTold-twice : (a b c : Option Talk) (f g h : Talk → Talk) → ((t : Talk) → g (f t) ≡ h t) → WhereTold a b (λ before after. after ≡ f before) → WhereTold b c (λ before after. after ≡ g before) → WhereTold a c (λ before after. after ≡ h before)
-WhereTold-twice a b None f g h is p q = tt
-WhereTold-twice a None (Some t) f g h is p q = absurd q
-WhereTold-twice None (Some s) (Some t) f g h is p q = absurd p
-WhereTold-twice (Some r) (Some s) (Some t) f g h is p q = q ∙ (ap g p ∙ is r)
+pub WhereTold-twice : {A : Type 0} (a b c : Option A) (P Q R : A → A → Type 0) → ((x y z : A) → P x y → Q y z → R x z) → WhereTold a b P → WhereTold b c Q → WhereTold a c R
+WhereTold-twice a b None P Q R twice p q = tt
+WhereTold-twice a None (Some z) P Q R twice p q = absurd q
+WhereTold-twice None (Some y) (Some z) P Q R twice p q = absurd p
+WhereTold-twice (Some x) (Some y) (Some z) P Q R twice p q = twice x y z p q
+
+-- a consequence
+pub WhereTold-so : {A : Type 0} (a b : Option A) (P Q : A → A → Type 0) → ((x y : A) → P x y → Q x y) → WhereTold a b P → WhereTold a b Q
+WhereTold-so a None P Q so p = tt
+WhereTold-so None (Some y) P Q so p = absurd p
+WhereTold-so (Some x) (Some y) P Q so p = so x y p
+
+-- a talk that changed by one function, and then by another
+pub changed_twice : (a b c : Option Talk) (f g h : Talk → Talk) → ((t : Talk) → g (f t) ≡ h t) → WhereTold a b (λ before after. after ≡ f before) → WhereTold b c (λ before after. after ≡ g before) → WhereTold a c (λ before after. after ≡ h before)
+changed_twice a b c f g h is p q =
+    WhereTold-twice a b c (λ x y. y ≡ f x) (λ y z. z ≡ g y) (λ x z. z ≡ h x) (λ x y z e e'. e' ∙ (ap g e ∙ is x)) p q
 
 pub LosesFront-nil : (a : Option (List ℕ)) → LosesFront a a []
 LosesFront-nil None = refl

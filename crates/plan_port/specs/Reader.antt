@@ -78,8 +78,8 @@ after_takes pieces failed talk =
 abbrev pub counted_takes : (failed : Bool) → ℕ → ℕ
 counted_takes failed count = if failed then raised count else count
 
--- a reader took these pieces from a port, each while the bytes before it decided nothing. Only the last take may have
--- failed.
+-- a reader took these pieces from a port, each while the bytes before it decided nothing, and it learned only then that the
+-- input had ended. Only the last take may have failed.
 pub record Takes (longest : ℕ) (old full : Reader) (pieces : List (List ℕ)) (failed : Bool) (before after : Seen) : Type 0 where
   pub reader : full ≡ with_pieces_kept old pieces full.ended
   pub talk : WhereTold before.talk after.talk (λ was is. is ≡ after_takes pieces failed was)
@@ -88,6 +88,7 @@ pub record Takes (longest : ℕ) (old full : Reader) (pieces : List (List ℕ)) 
   pub undecided : (k : ℕ) → k < length pieces → DecideNothing longest (room old) (old.kept ++ concat (take k pieces))
   pub none_after_end : old.ended ≡ true → (pieces ≡ []) × (full.ended ≡ true)
   pub all_at_end : old.ended ≡ false → full.ended ≡ true → IfSome after.left (λ bytes. bytes ≡ [])
+  pub none_at_end : old.ended ≡ false → full.ended ≡ true → DecideNothing longest (room full) full.kept
   pub read_faults : after.read_faults ≡ counted_takes failed before.read_faults
   pub write_faults : after.write_faults ≡ before.write_faults
 
