@@ -8,3 +8,4 @@ pub mod PlanNumbers
 pub mod RuleLemmas
 pub mod PartsLemmas
 pub mod NumberLemmas
+pub mod PlaceLemmas

@@ -1,5 +1,5 @@
 -- What a list of parts builds has the numbers that a plan may have.
-use Rattle.std.proofs.Common.{◌≡◌, ◌++◌, ◌∷◌, [], ℕ, ℤ, ◌+◌, Bool, true, false, List, Option, Some, None, Result, Ok, Err, refl, sym, ap, subst, not, IfOk, arith, is_some, nat_le, int_lt, pos, ◌==◌, ◌||◌, length}
+use Rattle.std.proofs.Common.{◌≡◌, ◌++◌, ◌∷◌, [], ℕ, ℤ, ◌+◌, Bool, true, false, List, Result, Ok, Err, refl, not, IfOk, arith, is_some, nat_le, int_lt, pos, ◌==◌, ◌||◌, length}
 use Rattle.std.proofs.lemmas.List.Elements.{All-push}
 use Rattle.net_model.specs.Limits.{most_points, most_links, most_bounds, within_limit}
 use Rattle.net_model.specs.Network.{Plan, HasPlanNumbers, point_named, bound_named, activation, empty}
@@ -12,7 +12,6 @@ use Rattle.net_model.specs.declared.part.Part.TheVariants as part
 use Rattle.net_model.specs.declared.part.Which.TheVariants.{Points, Links, Bounds, Number}
 use Rattle.net_model.specs.declared.fault.PartFault.{PartFault}
 use Rattle.net_model.specs.declared.fault.PartFault.TheVariants.{DuplicateName, TwoLinksOnPoint, LinkToItself, BadInterval, Limit}
-use Rattle.net_model.specs.declared.fault.BuildFault.{BuildFault}
 
 -- what may be refused keeps what it keeps where its test fails
 unless_refused : {A : Type 0} (P : A → Type 0) (test : Bool) (fault : PartFault) (otherwise : Result A PartFault) → (test ≡ false → IfOk otherwise P) → IfOk (refuse_if test fault otherwise) P

@@ -1,5 +1,5 @@
 -- What words that are read are.
-use Rattle.std.proofs.Common.{◌≡◌, ◌⊎◌, ℕ, Bool, true, false, cond, List, Result, Ok, Err, refl, subst, rules, inl, inr, IsTrue}
+use Rattle.std.proofs.Common.{◌≡◌, ◌⊎◌, ℕ, Bool, true, false, cond, List, Result, Ok, Err, refl, ap, subst, rules, inl, inr, IsTrue}
 use Rattle.std.specs.Str.{bytes_eq}
 use Rattle.std.proofs.lemmas.Slice.Eq.{bytes_eq-Decides}
 use Rattle.net_model.specs.Names.{is_name}
@@ -17,6 +17,19 @@ choice false x y z chosen = inr (refl, chosen)
 pub bind_ok : {A B : Type 0} (read : Result A FormatKind) (next : A → Result B FormatKind) (y : B) → (read >>= next) ≡ Ok y → (x : A) × (read ≡ Ok x) × (next x ≡ Ok y)
 bind_ok (Ok x) next y said = (x, refl, said)
 bind_ok (Err kind) next y said = absurd (cc)
+
+-- where a word is refused, it is the first one or a later one
+pub bind_err : {A B : Type 0} (read : Result A FormatKind) (next : A → Result B FormatKind) (kind : FormatKind) → (read >>= next) ≡ Err kind → (read ≡ Err kind) ⊎ ((x : A) × (read ≡ Ok x) × (next x ≡ Err kind))
+bind_err (Ok x) next kind said = inr (x, refl, said)
+bind_err (Err k) next kind said = inl (let same : k ≡ kind = cc in ap (λ (e : FormatKind). Err e) same)
+
+-- a word that is read as no name is none
+pub name_err : (word : List ℕ) (kind : FormatKind) → name_of word ≡ Err kind → (is_name word ≡ false) × (kind ≡ BadName)
+name_err word kind read =
+    elim (choice (is_name word) (Ok word) (Err BadName) (Err kind) read) [
+      | inl named ↦ absurd (let wrong : Ok word ≡ Err kind = named.1 in cc)
+      | inr other ↦ (other.0, let same : Err BadName ≡ Err kind = other.1 in cc)
+    ]
 
 -- a name is read as it stands
 pub name_ok : (word name : List ℕ) → name_of word ≡ Ok name → (word ≡ name) × IsTrue (is_name name)

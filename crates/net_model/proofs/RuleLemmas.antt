@@ -1,15 +1,15 @@
 -- What a rule asks of its premises where it gives an edge, and that a certificate may state what an exact rule gives.
 use Rattle.std.proofs.Common.{◌≡◌, ◌≢◌, ℕ, ℤ, pos, ◌≤ℤ◌, ◌<ℤ◌, ◌+ℤ◌, ◌-ℤ◌, ◌==◌, ◌&&◌, not, Bool, true, false, cond, List, Option, Some, None, refl, ap, sym, ◌∙◌, subst, arith, is_some, is_none}
-use Rattle.std.specs.Prelude.{slice_get, int_lt}
+use Rattle.std.specs.Prelude.{slice_get}
 use Rattle.std.specs.Int.{int_max}
-use Rattle.std.specs.Option.{option_and_then, option_map_or}
+use Rattle.std.specs.Option.{option_and_then}
 use Rattle.std.specs.List.{Contains, AllByRecursion}
 use Rattle.std.proofs.lemmas.Int.{ints, int_max_is}
 use Rattle.std.proofs.lemmas.Bool.{eqb-true}
 use Rattle.std.proofs.lemmas.Option.{cond_some}
 use Rattle.std.proofs.lemmas.List.Elements.{All-from_recursion}
 use Rattle.net_model.specs.Network.{Plan}
-use Rattle.net_model.specs.Edges.{IsLinkOf, IsLabelled, IsEdge, Meet}
+use Rattle.net_model.specs.Edges.{IsLinkOf, IsLabelled, IsEdge}
 use Rattle.net_model.specs.Rules.{is_ordinary, is_labelled, is_labelled_by, meet, is_negative, joined_weight, no_case, upper_case, goes_on_from, moved_to_activation, lower_case, cross_case, removal, bound_edge, link_edge}
 use Rattle.net_model.specs.Rules as exact
 use Rattle.net_model.specs.LooseRules as loose
@@ -187,30 +187,58 @@ module _ (net : Plan) (earlier : List Edge) where
   no_case_stated : (first second edge : Edge) → Contains earlier first → Contains earlier second → NoCaseGives first second edge → loose.FollowsLoosely net earlier edge
   no_case_stated first second edge one two gives =
       subst (loose.FollowsLoosely net earlier) gives.is (loose.by_no_case first second one two (record {
-        first_ordinary = gives.first_ordinary; second_ordinary = gives.second_ordinary; meet = gives.meeting;
-        from = refl; to = refl; ordinary = refl; looser = joined first second;
+        first_ordinary = gives.first_ordinary;
+        second_ordinary = gives.second_ordinary;
+        meet = gives.meeting;
+        from = refl;
+        to = refl;
+        ordinary = refl;
+        looser = joined first second;
       }))
 
   upper_case_stated : (first second edge : Edge) → Contains earlier first → Contains earlier second → UpperCaseGives first second edge → loose.FollowsLoosely net earlier edge
   upper_case_stated first second edge one two gives =
       subst (loose.FollowsLoosely net earlier) gives.is (loose.by_upper_case first second one two (record {
-        label = gives.label; first_ordinary = gives.first_ordinary; second_labelled = gives.second_labelled; meet = gives.meeting;
-        from = refl; to = refl; labelled = gives.second_labelled; looser = joined first second;
+        label = gives.label;
+        first_ordinary = gives.first_ordinary;
+        second_labelled = gives.second_labelled;
+        meet = gives.meeting;
+        from = refl;
+        to = refl;
+        labelled = gives.second_labelled;
+        looser = joined first second;
       }))
 
   lower_case_stated : (name : LinkId) (second edge : Edge) → Contains earlier second → LowerCaseGives net name second edge → loose.FollowsLoosely net earlier edge
   lower_case_stated name second edge one gives =
       subst (loose.FollowsLoosely net earlier) gives.is (loose.by_lower_case second one (record {
-        name = name; link = gives.link; declared = gives.declared; second_ordinary = gives.second_ordinary; begins = gives.begins; negative = gives.negative;
-        from = refl; to = refl; ordinary = gives.second_ordinary; looser = self (gives.link.low +ℤ second.weight);
+        name = name;
+        link = gives.link;
+        declared = gives.declared;
+        second_ordinary = gives.second_ordinary;
+        begins = gives.begins;
+        negative = gives.negative;
+        from = refl;
+        to = refl;
+        ordinary = gives.second_ordinary;
+        looser = self (gives.link.low +ℤ second.weight);
       }))
 
   cross_case_stated : (name : LinkId) (second edge : Edge) → Contains earlier second → CrossCaseGives net name second edge → loose.FollowsLoosely net earlier edge
   cross_case_stated name second edge one gives =
       subst (loose.FollowsLoosely net earlier) gives.is (loose.by_cross_case second one (record {
-        name = name; link = gives.link; label = gives.label; declared = gives.declared; another = gives.another; second_labelled = gives.second_labelled;
-        begins = gives.begins; negative = gives.negative;
-        from = refl; to = refl; labelled = gives.second_labelled; looser = self (gives.link.low +ℤ second.weight);
+        name = name;
+        link = gives.link;
+        label = gives.label;
+        declared = gives.declared;
+        another = gives.another;
+        second_labelled = gives.second_labelled;
+        begins = gives.begins;
+        negative = gives.negative;
+        from = refl;
+        to = refl;
+        labelled = gives.second_labelled;
+        looser = self (gives.link.low +ℤ second.weight);
       }))
 
   -- a labelled edge of the network ends in the activation point of its label
@@ -226,9 +254,14 @@ module _ (net : Plan) (earlier : List Edge) where
   removal_stated : (premise edge : Edge) → IsEdge net premise → Contains earlier premise → RemovalGives net premise edge → loose.FollowsLoosely net earlier edge
   removal_stated premise edge sound one gives =
       subst (loose.FollowsLoosely net earlier) gives.is (loose.by_removal premise one (record {
-        name = gives.name; link = gives.link; declared = gives.declared; premise_labelled = gives.labelled;
+        name = gives.name;
+        link = gives.link;
+        declared = gives.declared;
+        premise_labelled = gives.labelled;
         ends = ends_in_activation premise gives.name gives.link sound gives.labelled gives.declared;
-        from = refl; to = refl; ordinary = refl;
+        from = refl;
+        to = refl;
+        ordinary = refl;
         looser = max_left premise.weight (pos 0 -ℤ gives.link.low);
         not_below_shortest = max_right premise.weight (pos 0 -ℤ gives.link.low);
       }))
@@ -236,11 +269,23 @@ module _ (net : Plan) (earlier : List Edge) where
   stated : AllByRecursion (IsEdge net) earlier → (edge : Edge) → exact.Follows net earlier edge → loose.FollowsLoosely net earlier edge
   stated sound edge (exact.by_bound place bound declared is) =
       subst (loose.FollowsLoosely net earlier) is (loose.by_bound (record {
-        place = place; bound = bound; declared = declared; from = refl; to = refl; ordinary = refl; looser = self bound.most;
+        place = place;
+        bound = bound;
+        declared = declared;
+        from = refl;
+        to = refl;
+        ordinary = refl;
+        looser = self bound.most;
       }))
   stated sound edge (exact.by_link name link declared is) =
       subst (loose.FollowsLoosely net earlier) is (loose.by_link (record {
-        name = name; link = link; declared = declared; from = refl; to = refl; labelled = refl; looser = self (pos 0 -ℤ link.high);
+        name = name;
+        link = link;
+        declared = declared;
+        from = refl;
+        to = refl;
+        labelled = refl;
+        looser = self (pos 0 -ℤ link.high);
       }))
   stated sound edge (exact.by_no_case first second one two gave) = no_case_stated first second edge one two (no_case_gives first second edge gave)
   stated sound edge (exact.by_upper_case first second one two gave) = upper_case_stated first second edge one two (upper_case_gives first second edge gave)

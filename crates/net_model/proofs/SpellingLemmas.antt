@@ -1,15 +1,15 @@
 -- Numbers are read from their decimal spelling, and from nothing else.
-use Rattle.std.proofs.Common.{◌≡◌, ℕ, ℤ, pos, negsuc, neg_ℤ, ◌<◌, ◌≤◌, ◌+◌, ◌-◌, ◌*◌, ◌^◌, ◌==◌, ◌&&◌, ◌⊎◌, Bool, true, false, cond, List, [], ◌∷◌, length, get_or, fold, zero, suc, Result, Ok, Err, refl, sym, ap, ◌∙◌, subst, arith, rules, nat_le, nat_lt, unsigned_abs, inl, inr}
+use Rattle.std.proofs.Common.{◌≡◌, ℕ, ℤ, pos, negsuc, neg_ℤ, ◌<◌, ◌≤◌, ◌+◌, ◌-◌, ◌*◌, ◌^◌, ◌==◌, ◌&&◌, ◌||◌, ◌⊎◌, Bool, true, false, cond, List, [], ◌∷◌, length, get_or, fold, zero, suc, Result, Ok, Err, refl, sym, ap, ◌∙◌, subst, arith, rules, nat_le, nat_lt, unsigned_abs, inl, inr}
 use Rattle.std.specs.List.{list_all, AllByRecursion}
 use Rattle.std.specs.Result.{result_map_both}
 use Rattle.texts.proofs.PrintingLemmas.{IsPrintable}
 use Rattle.std.specs.Fmt.{decimal, signed_decimal}
 use Rattle.std.proofs.lemmas.Str.Parse.{IsNumeralModel, IsDigitsTest, FoldsDigits, numerals_by_fold}
 use Rattle.std.proofs.lemmas.Fmt.{decimal_digit, decimal_nonempty, first_decimal, digits_decimal, digits_value-decimal, decimal-digits_value}
-use Rattle.std.proofs.lemmas.Bool.{cases_lt, lt-leb, ne_eqb, ltb-false, eqb-true, leb-true, and_parts}
+use Rattle.std.proofs.lemmas.Bool.{cases_lt, lt-leb, ne_eqb, ltb-false, ltb-true, eqb-true, leb-true, and_parts}
 use Rattle.std.proofs.lemmas.Slice.Eq.{bytes_eq-Decides}
 use Rattle.net_model.specs.Names.{is_digit, is_letter, is_name_byte, is_name}
-use Rattle.net_model.specs.Numbers.{is_positive, value_of, limited, is_zero, natural_of, negative_of, integer_of}
+use Rattle.net_model.specs.Numbers.{is_positive, value_of, limited, is_zero, natural_of, negative_of, integer_of, spells_number, size_of_number}
 use Rattle.net_model.specs.declared.format.FormatKind.{FormatKind}
 use Rattle.net_model.specs.declared.format.FormatKind.TheVariants.{BadNumber, NumberLimit}
 
@@ -151,6 +151,44 @@ spelled_integer limit n (byte ∷ bytes) read small =
           let spelling = spelled_natural limit above.0 (byte ∷ bytes) above.1 (omega arith) in
           (subst (λ (z : ℤ). byte ∷ bytes ≡ signed_decimal z) above.2 spelling.0, subst (λ (z : ℤ). unsigned_abs z ≤ limit) above.2 spelling.1)
     ]
+
+-- what a word in the place of a number is, by the answer to it
+abbrev pub IsJudged : {A : Type 0} → (limit : ℕ) → (spells : Bool) → (size : ℕ) → Result A FormatKind → Type 0
+IsJudged limit spells size (Ok number) = (spells ≡ true) × (size ≤ limit)
+IsJudged limit spells size (Err kind) = ((spells ≡ false) × (kind ≡ BadNumber)) ⊎ ((spells ≡ true) × (limit < size) × (kind ≡ NumberLimit))
+
+judged_limit : {A : Type 0} (beyond : Bool) (limit size : ℕ) (number : A) → nat_lt limit size ≡ beyond → IsJudged limit true size (cond beyond (Err NumberLimit) (Ok number))
+judged_limit true limit size number is = inr (refl, ltb-true limit size is, refl)
+judged_limit false limit size number is = (refl, ltb-false limit size is)
+
+judged_positive : {A : Type 0} (positive : Bool) (limit size : ℕ) (number : A) → IsJudged limit positive size (cond positive (limited limit size number) (Err BadNumber))
+judged_positive true limit size number = judged_limit (nat_lt limit size) limit size number refl
+judged_positive false limit size number = inl (refl, refl)
+
+judged_natural : (none positive : Bool) (limit size : ℕ) → (none ≡ true → size ≡ 0) → IsJudged limit (none || positive) size (cond none (Ok 0) (cond positive (limited limit size size) (Err BadNumber)))
+judged_natural true positive limit size zero_size = (refl, omega (arith, zero_size refl))
+judged_natural false positive limit size zero_size = judged_positive positive limit size size
+
+judged_signed : (limit size : ℕ) (spells : Bool) (read : Result ℕ FormatKind) → IsJudged limit spells size read → IsJudged limit spells size (result_map_both pos (λ kind. kind) read)
+judged_signed limit size spells (Ok number) judged = judged
+judged_signed limit size spells (Err kind) judged = judged
+
+judged_by : (minus positive spells : Bool) (limit below above : ℕ) (number : ℤ) (read : Result ℕ FormatKind) → IsJudged limit spells above read → IsJudged limit (cond minus positive spells) (cond minus below above) (cond minus (cond positive (limited limit below number) (Err BadNumber)) (result_map_both pos (λ kind. kind) read))
+judged_by true positive spells limit below above number read judged = judged_positive positive limit below number
+judged_by false positive spells limit below above number read judged = judged_signed limit above spells read judged
+
+zero_value : (word : List ℕ) → is_zero word ≡ true → value_of word ≡ 0
+zero_value word none =
+    let zero_word : word ≡ 48 ∷ [] = search (rules, none, bytes_eq-Decides) in
+    ap value_of zero_word
+
+-- what a word in the place of a number is
+pub judged_integer : (limit : ℕ) (word : List ℕ) → IsJudged limit (spells_number word) (size_of_number word) (integer_of limit word)
+unfolding integer_of natural_of
+judged_integer limit [] = inl (refl, refl)
+judged_integer limit (byte ∷ bytes) =
+    let word : List ℕ = byte ∷ bytes in
+    judged_by (byte == 45) (is_positive bytes) (is_zero word || is_positive word) limit (value_of bytes) (value_of word) (neg_ℤ (pos (value_of bytes))) (natural_of limit word) (judged_natural (is_zero word) (is_positive word) limit (value_of word) (zero_value word))
 
 -- digits stand above the blank
 plain_digits : (digits : List ℕ) → list_all is_digit digits ≡ true → AllByRecursion (λ byte. 32 < byte) digits

@@ -1,5 +1,5 @@
 -- What a list of parts builds, or the first part that is refused and why. This project's own choice.
-use Rattle.std.specs.Prelude.{◌≡◌, ℕ, ℤ, ◌+◌, ◌==◌, ◌||◌, Bool, true, false, List, [], ◌∷◌, ◌++◌, length, Result, Ok, Err, Some, None, is_some, nat_le, pos, int_lt, not, codes}
+use Rattle.std.specs.Prelude.{◌≡◌, ℕ, ℤ, ◌+◌, ◌==◌, ◌||◌, Bool, true, false, List, [], ◌∷◌, ◌++◌, length, Option, Result, Ok, Err, Some, None, is_some, nat_le, pos, int_lt, not, codes}
 use Rattle.net_model.specs.Network.{Plan, point_named, bound_named, activation, empty}
 use Rattle.net_model.specs.declared.ids.PointId.{PointId}
 use Rattle.net_model.specs.declared.part.Part.{Part}
@@ -69,6 +69,16 @@ at_place place LinkToItself = build.LinkToItself place
 at_place place BadInterval = build.BadInterval place
 at_place place (Limit which) = build.Limit which place
 at_place place OutOfMemory = build.OutOfMemory
+
+-- the place of the part that is refused
+abbrev pub place_of : BuildFault → Option ℕ
+place_of (build.DuplicateName place) = Some place
+place_of (build.UnknownName place) = Some place
+place_of (build.TwoLinksOnPoint place) = Some place
+place_of (build.LinkToItself place) = Some place
+place_of (build.BadInterval place) = Some place
+place_of (build.Limit which place) = Some place
+place_of build.OutOfMemory = None
 
 -- the word by which a fault is printed
 abbrev pub word_of : BuildFault → List ℕ

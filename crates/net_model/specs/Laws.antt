@@ -1,6 +1,6 @@
 -- What holds of the rules.
 use Rattle.std.specs.Prelude.{List}
-use Rattle.net_model.specs.Network.{Plan, IsPlan}
+use Rattle.net_model.specs.Network.{Plan}
 use Rattle.net_model.specs.Edges.{IsEdge}
 use Rattle.net_model.specs.Rules as exact
 use Rattle.net_model.specs.LooseRules.{FollowsLoosely}

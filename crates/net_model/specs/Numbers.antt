@@ -1,5 +1,5 @@
 -- Numbers in texts. This project's own choice: no sign but `-`, no zero in front, and `-0` is no number.
-use Rattle.std.specs.Prelude.{ℕ, ℤ, pos, neg_ℤ, ◌+◌, ◌-◌, ◌*◌, ◌==◌, ◌&&◌, Bool, false, List, [], ◌∷◌, Result, Ok, Err, fold, nat_le, nat_lt, if◌then◌else◌}
+use Rattle.std.specs.Prelude.{ℕ, ℤ, pos, neg_ℤ, ◌+◌, ◌-◌, ◌*◌, ◌==◌, ◌&&◌, ◌||◌, Bool, false, List, [], ◌∷◌, Result, Ok, Err, fold, nat_le, nat_lt, if◌then◌else◌}
 use Rattle.std.specs.List.{list_all}
 use Rattle.std.specs.Str.{bytes_eq}
 use Rattle.std.specs.Result.{result_map_both}
@@ -23,6 +23,16 @@ limited limit size number = if nat_lt limit size then Err NumberLimit else Ok nu
 -- the word `0`
 abbrev pub is_zero : List ℕ → Bool
 is_zero word = bytes_eq word (48 ∷ [])
+
+-- a word that spells a whole number: `0`, or digits of which the first is not 0, or `-` and such digits
+abbrev pub spells_number : List ℕ → Bool
+spells_number [] = false
+spells_number (byte ∷ bytes) = if byte == 45 then is_positive bytes else (is_zero (byte ∷ bytes) || is_positive (byte ∷ bytes))
+
+-- the size of the number that a word spells
+abbrev pub size_of_number : List ℕ → ℕ
+size_of_number [] = 0
+size_of_number (byte ∷ bytes) = if byte == 45 then value_of bytes else value_of (byte ∷ bytes)
 
 -- a word in the place of a whole number from 0
 unfoldable pub natural_of : ℕ → List ℕ → Result ℕ FormatKind

@@ -34,6 +34,26 @@ pub enum BuildFault {
     OutOfMemory,
 }
 
+impl BuildFault {
+    ghost use Rattle.std.specs.Prelude.{◌≡◌};
+    ghost use Rattle.net_model.specs.Building.{place_of};
+
+    /// The place of the part that is refused, from 1, or `None` exactly where there was no memory.
+    pub fn place(self) -> Option<u32>
+        ensures { result ≡ place_of self }
+    {
+        match self {
+            BuildFault::DuplicateName(place)
+            | BuildFault::UnknownName(place)
+            | BuildFault::TwoLinksOnPoint(place)
+            | BuildFault::LinkToItself(place)
+            | BuildFault::BadInterval(place)
+            | BuildFault::Limit(_, place) => Some(place),
+            BuildFault::OutOfMemory => None,
+        }
+    }
+}
+
 impl fmt::Display for BuildFault {
     ghost use Rattle.std.specs.Prelude.{Some};
     ghost use Rattle.net_model.specs.Building.{word_of};

@@ -6,8 +6,8 @@ ghost use Rattle.net_model.specs.Building.{Builds, Adds, built, with_part, with_
 
 use crate::fault::{BuildFault, PartFault};
 use crate::ids::{BoundId, LinkId, PointId, Weight};
-use crate::name::Name;
 use crate::limits::{MOST_BOUNDS, MOST_LINKS, MOST_NUMBER, MOST_POINTS};
+use crate::name::Name;
 use crate::part::{Bound, Link, Part, Which};
 use indexmap::IndexSet;
 use std::alloc::{AllocError, Global};

@@ -1,5 +1,9 @@
+pub mod PartLemmas
+pub mod DepartureLemmas
+pub mod StepLemmas
+pub mod GrammarLemmas
+pub mod FaultLemmas
 pub mod ReadLemmas
 pub mod PrintLemmas
-pub mod PartLemmas
 pub mod RoundTripLemmas
-pub mod GrammarLemmas
+pub mod DeclarationLemmas

@@ -4,13 +4,12 @@ use Rattle.std.specs.Str.{bytes_eq}
 use Rattle.std.specs.Fmt.{signed_decimal}
 use Rattle.std.proofs.lemmas.Bool.{leb-true, le-leb}
 use Rattle.net_model.specs.Numbers.{name_of, integer_of}
-use Rattle.net_model.specs.Network.{within_limit}
+use Rattle.net_model.specs.Limits.{within_limit, most_number}
 use Rattle.texts.specs.Words.{is_remark, are_passed_over}
 use Rattle.net_model.specs.declared.format.FormatKind.{FormatKind}
 use Rattle.net_model.specs.declared.format.FormatKind.TheVariants.{UnknownWord}
 use Rattle.net_model.specs.declared.part.Part.{Part}
 use Rattle.net_model.specs.declared.part.Part.TheVariants as part
-use Rattle.net_model.specs.declared.part.TheConstants.{MOST_NUMBER}
 use Rattle.net_model.proofs.SpellingLemmas.{integer_spelled, spelled_integer}
 use Rattle.net_model.proofs.ReadingLemmas.{choice, bind_ok, name_ok, name_read, word_is}
 use Rattle.plan_format.specs.declared.plan_line.PlanLine.{PlanLine}
@@ -19,8 +18,8 @@ use Rattle.plan_format.specs.PlanLines.{plan_line, line_of, header_line, end_lin
 use Rattle.plan_format.specs.PlanGrammar.{AreWordsOf}
 use Rattle.plan_format.specs.PlanParts.{part_words, IsSpelled, header_words, end_words}
 
-number_read : (n : ℤ) → within_limit n ≡ true → integer_of MOST_NUMBER (signed_decimal n) ≡ Ok n
-number_read n within = integer_spelled MOST_NUMBER n (leb-true (unsigned_abs n) MOST_NUMBER within) (omega arith)
+number_read : (n : ℤ) → within_limit n ≡ true → integer_of most_number (signed_decimal n) ≡ Ok n
+number_read n within = integer_spelled most_number n (leb-true (unsigned_abs n) most_number within) (omega arith)
 
 -- the line of a part is read as that part
 pub spelled_read : (p : Part) → IsSpelled p → plan_line (part_words p) ≡ Ok (line.Part p)
@@ -44,10 +43,10 @@ unfolding plan_line
 blank_read [] blank = refl
 blank_read (first ∷ others) blank = rw blank refl
 
-number_ok : (word : List ℕ) (n : ℤ) → integer_of MOST_NUMBER word ≡ Ok n → (word ≡ signed_decimal n) × (within_limit n ≡ true)
+number_ok : (word : List ℕ) (n : ℤ) → integer_of most_number word ≡ Ok n → (word ≡ signed_decimal n) × (within_limit n ≡ true)
 number_ok word n read =
-    let parts = spelled_integer MOST_NUMBER n word read (omega arith) in
-    (parts.0, le-leb (unsigned_abs n) MOST_NUMBER parts.1)
+    let parts = spelled_integer most_number n word read (omega arith) in
+    (parts.0, le-leb (unsigned_abs n) most_number parts.1)
 
 -- the words after the first one of the line of a part
 point_ok : (others : List (List ℕ)) (p : Part) → point_line others ≡ Ok p → (codes "point" ∷ others ≡ part_words p) × IsSpelled p
@@ -72,7 +71,7 @@ bound_ok (a ∷ b ∷ c ∷ d ∷ []) p read =
     let name = bind_ok (name_of a) _ p read in
     let from = bind_ok (name_of b) _ p name.2 in
     let to = bind_ok (name_of c) _ p from.2 in
-    let most = bind_ok (integer_of MOST_NUMBER d) _ p to.2 in
+    let most = bind_ok (integer_of most_number d) _ p to.2 in
     let x = name_ok a name.0 name.1 in
     let y = name_ok b from.0 from.1 in
     let z = name_ok c to.0 to.1 in
@@ -89,8 +88,8 @@ link_ok (a ∷ b ∷ []) p read = absurd (cc)
 link_ok (a ∷ b ∷ c ∷ []) p read = absurd (cc)
 link_ok (a ∷ b ∷ c ∷ d ∷ []) p read =
     let from = bind_ok (name_of a) _ p read in
-    let low = bind_ok (integer_of MOST_NUMBER b) _ p from.2 in
-    let high = bind_ok (integer_of MOST_NUMBER c) _ p low.2 in
+    let low = bind_ok (integer_of most_number b) _ p from.2 in
+    let high = bind_ok (integer_of most_number c) _ p low.2 in
     let to = bind_ok (name_of d) _ p high.2 in
     let x = name_ok a from.0 from.1 in
     let y = number_ok b low.0 low.1 in

@@ -1,17 +1,27 @@
--- Reading the lines of a plan text one after another.
-use Rattle.std.proofs.Common.{◌≡◌, ℕ, ◌<◌, ◌+◌, ◌-◌, List, [], ◌∷◌, ◌++◌, length, Result, Ok, Err, refl, ap, ◌∙◌, subst, arith, append_assoc}
-use Rattle.std.proofs.lemmas.List.{append-nil}
-use Rattle.texts.specs.Words.{words}
-use Rattle.texts.specs.Lines.{lines}
-use Rattle.texts.specs.Lines.{size_of_lines}
-use Rattle.net_model.specs.declared.format.FormatKind.{FormatKind}
-use Rattle.net_model.specs.declared.format.FormatKind.TheVariants.{NoHeader}
+-- Reading the lines of bytes one after another.
+use Rattle.std.proofs.Common.{◌≡◌, ℕ, ◌<◌, ◌≤◌, ◌+◌, ◌-◌, List, [], ◌∷◌, ◌++◌, length, map, Result, Ok, Err, refl, sym, ap, ◌∙◌, subst, arith, append_assoc, length-append}
+use Rattle.std.specs.Result.{IfOk, IfErr}
+use Rattle.std.proofs.lemmas.List.{length-map, append-nil}
+use Rattle.texts.specs.Lines.{lines, size_of_lines}
+use Rattle.texts.proofs.LineLemmas.{lines-few, size_of_lines-le}
 use Rattle.net_model.specs.declared.format.FormatFault.{FormatFault}
+use Rattle.net_model.specs.declared.format.TextFault.{TextFault}
+use Rattle.net_model.specs.declared.format.TextFault.TheVariants as text
+use Rattle.net_model.specs.declared.format.WordFault.{WordFault}
+use Rattle.net_model.specs.declared.format.WordFault.TheVariants as word
 use Rattle.net_model.specs.declared.part.Part.{Part}
-use Rattle.plan_format.specs.declared.plan_line.PlanLine.{PlanLine}
-use Rattle.plan_format.specs.declared.plan_line.PlanLine.TheVariants as line
-use Rattle.plan_format.specs.PlanLines.{plan_line}
-use Rattle.plan_format.specs.PlanText.{Declared, fault_at, declared_before, declared_from, declarations, headed_from, headed, read_of, IsLeftAfter}
+use Rattle.plan_format.specs.declared.read.Parts.{Parts}
+use Rattle.plan_format.specs.PlanGrammar.{IsBegun, header, blank, declares, IsPlanText, Says}
+use Rattle.plan_format.specs.PlanFaults.{IsFirstFault, IsFaultOf}
+use Rattle.plan_format.specs.PlanReading.{Progress, begun, at_line, HasRead, Brings, Reads, ReadsLines, HasSizes}
+use Rattle.plan_format.proofs.StepLemmas.{one_more}
+use Rattle.plan_format.proofs.GrammarLemmas.{says_one}
+use Rattle.plan_format.proofs.FaultLemmas.{fault_is_none}
+
+-- what is left of a text after its first lines, as many as `count`
+pub record IsLeftAfter (bytes : List ℕ) (count : ℕ) (rest : List ℕ) : Type 0 where
+  pub within : count + length rest ≤ length bytes
+  pub sizes : (more : ℕ) → size_of_lines (more + count) bytes ≡ size_of_lines more rest + (length bytes - length rest)
 
 pub after_nothing : (bytes : List ℕ) → IsLeftAfter bytes 0 bytes
 after_nothing bytes = record {
@@ -41,42 +51,98 @@ size_before bytes count rest after =
     let whole : size_of_lines count bytes ≡ size_of_lines 0 rest + (length bytes - length rest) = subst (λ (n : ℕ). size_of_lines n bytes ≡ size_of_lines 0 rest + (length bytes - length rest)) same (after.sizes 0) in
     omega (arith, size_of_none rest)
 
--- declarations after others, which have lines of their own
-abbrev pub after_others : List Part → List ℕ → Result Declared FormatFault → Result Declared FormatFault
-after_others parts numbers (Ok declared) = Ok (record declared { parts = parts ++ declared.parts; lines = numbers ++ declared.lines })
-after_others parts numbers (Err fault) = Err fault
+-- lines of the bytes were read, and this is left of them
+pub record AtLine (bytes rest : List ℕ) (read : Progress) : Type 0 where
+  pub before : List (List ℕ)
+  pub split : lines bytes ≡ before ++ lines rest
+  pub has : HasRead before read
+  pub left : IsLeftAfter bytes (length before) rest
 
-pub after_none : (said : Result Declared FormatFault) → said ≡ after_others [] [] said
-after_none (Ok declared) = refl
-after_none (Err fault) = refl
+pub at_first : (bytes : List ℕ) → HasRead [] begun → AtLine bytes bytes begun
+at_first bytes has = record { before = []; split = refl; has = has; left = after_nothing bytes }
 
-pub after_one_more : (parts : List Part) (numbers : List ℕ) (number : ℕ) (part : Part) (said : Result Declared FormatFault) → after_others parts numbers (declared_before number part said) ≡ after_others (parts ++ part ∷ []) (numbers ++ number ∷ []) said
-after_one_more parts numbers number part (Ok declared) =
-    let ps : (parts ++ part ∷ []) ++ declared.parts ≡ parts ++ part ∷ declared.parts = append_assoc parts (part ∷ []) declared.parts in
-    let ns : (numbers ++ number ∷ []) ++ declared.lines ≡ numbers ++ number ∷ declared.lines = append_assoc numbers (number ∷ []) declared.lines in
-    rw (ps, ns) refl
-after_one_more parts numbers number part (Err fault) = refl
+split_more : (bytes : List ℕ) (before : List (List ℕ)) (text : List ℕ) (rest others : List ℕ) → lines bytes ≡ before ++ lines rest → lines rest ≡ text ∷ lines others → lines bytes ≡ (before ++ text ∷ []) ++ lines others
+split_more bytes before text rest others split here =
+    split ∙ (ap (λ (ls : List (List ℕ)). before ++ ls) here ∙ sym (append_assoc before (text ∷ []) (lines others)))
 
--- the lines after the header, by the first of them
-pub declarations_step : (number : ℕ) (text : List (List ℕ)) (first : List ℕ) (others : List (List ℕ)) (read : Result PlanLine FormatKind) → text ≡ first ∷ others → plan_line (words first) ≡ read → declarations number text ≡ declared_from number read (declarations (number + 1) others)
-declarations_step number text first others read split here =
-    ap (declarations number) split ∙ ap (λ (r : Result PlanLine FormatKind). declared_from number r (declarations (number + 1) others)) here
+-- the first line of what is left
+pub record IsNextLine (rest text others : List ℕ) : Type 0 where
+  pub here : lines rest ≡ text ∷ lines others
+  pub shorter : length others < length rest
+  pub sizes : (count : ℕ) → size_of_lines (count + 1) rest ≡ size_of_lines count others + (length rest - length others)
 
--- the lines up to the header, by the first of them
-pub headed_step : (number : ℕ) (text : List (List ℕ)) (first : List ℕ) (others : List (List ℕ)) (read : Result PlanLine FormatKind) → text ≡ first ∷ others → plan_line (words first) ≡ read → headed number text ≡ headed_from number read (headed (number + 1) others) (declarations (number + 1) others)
-headed_step number text first others read split here =
-    ap (headed number) split ∙ ap (λ (r : Result PlanLine FormatKind). headed_from number r (headed (number + 1) others) (declarations (number + 1) others)) here
+-- one line more was read
+pub at_next : (bytes rest text others : List ℕ) (read more : Progress) (at : AtLine bytes rest read) → IsNextLine rest text others → HasRead (at.before ++ text ∷ []) more → AtLine bytes others more
+at_next bytes rest text others read more at next has = record {
+  before = at.before ++ text ∷ [];
+  split = split_more bytes at.before text rest others at.split next.here;
+  has = has;
+  left = subst (λ (n : ℕ). IsLeftAfter bytes n others) (one_more at.before text) (after_more bytes (length at.before) rest others at.left next.shorter next.sizes);
+}
 
--- a line that is neither blank nor the header
-pub headed_other : (number : ℕ) (read : Result PlanLine FormatKind) (blank header : Result Declared FormatFault) → (read ≡ Ok line.Blank → ⊥) → (read ≡ Ok line.Header → ⊥) → headed_from number read blank header ≡ fault_at number NoHeader
-headed_other number (Ok line.Blank) blank header filled other = absurd (filled refl)
-headed_other number (Ok line.Header) blank header filled other = absurd (other refl)
-headed_other number (Ok (line.Part part)) blank header filled other = refl
-headed_other number (Ok line.End) blank header filled other = refl
-headed_other number (Err kind) blank header filled other = refl
+-- the `end` line was read
+pub at_end_line : (bytes rest text others : List ℕ) (read more : Progress) (at : AtLine bytes rest read) → IsNextLine rest text others → IsPlanText (at.before ++ text ∷ []) more.parts more.lines → ReadsLines bytes more (Ok (length bytes - length others))
+at_end_line bytes rest text others read more at next plan =
+    let left : IsLeftAfter bytes (length (at.before ++ text ∷ [])) others = subst (λ (n : ℕ). IsLeftAfter bytes n others) (one_more at.before text) (after_more bytes (length at.before) rest others at.left next.shorter next.sizes) in
+    record {
+      text = at.before ++ text ∷ [];
+      after = lines others;
+      split = split_more bytes at.before text rest others at.split next.here;
+      plan = plan;
+      used = sym (size_before bytes (length (at.before ++ text ∷ [])) others left);
+    }
 
--- a text that comes to its end has said what its lines declared
-pub read_at_end : (bytes : List ℕ) (parts : List Part) (numbers : List ℕ) (number : ℕ) (rest : List ℕ) → IsLeftAfter bytes number rest → read_of bytes (after_others parts numbers (declared_from number (Ok line.End) (declarations (number + 1) (lines rest)))) ≡ Ok (record { parts = parts; lines = numbers; used = length bytes - length rest })
-read_at_end bytes parts numbers number rest after =
-    let size : size_of_lines number bytes ≡ length bytes - length rest = size_before bytes number rest after in
-    rw (append-nil parts, append-nil numbers, size) refl
+-- a line was refused
+pub at_refused : (bytes rest text others : List ℕ) (read more : Progress) (fault : WordFault) (number : ℕ) (at : AtLine bytes rest read) → IsNextLine rest text others → number ≡ read.count + 1 → Brings at.before text (Err fault) more → ReadsLines bytes more (Err (at_line number fault))
+at_refused bytes rest text others read more (word.Kind kind) number at next same brings =
+    let whole : lines bytes ≡ at.before ++ text ∷ lines others = at.split ∙ ap (λ (ls : List (List ℕ)). at.before ++ ls) next.here in
+    let place : length at.before + 1 ≡ number = ap (λ (n : ℕ). n + 1) (sym at.has.counted) ∙ sym same in
+    subst (λ (n : ℕ). IsFirstFault (lines bytes) (record { line = n; kind = kind })) place (subst (λ (ls : List (List ℕ)). IsFirstFault ls (record { line = length at.before + 1; kind = kind })) (sym whole) (brings (lines others)))
+at_refused bytes rest text others read more word.OutOfMemory number at next same brings = tt
+
+-- the input ends
+pub at_last : (bytes rest : List ℕ) (read : Progress) (at : AtLine bytes rest read) (fault : FormatFault) → lines rest ≡ [] → IsFirstFault at.before fault → IsFirstFault (lines bytes) fault
+at_last bytes rest read at fault none first =
+    let whole : lines bytes ≡ at.before = at.split ∙ (ap (λ (ls : List (List ℕ)). at.before ++ ls) none ∙ append-nil at.before) in
+    subst (λ (ls : List (List ℕ)). IsFirstFault ls fault) (sym whole) first
+
+-- the answer to a text that says something
+pub answer_every : (bytes : List ℕ) (answer : Result Parts TextFault) (read : Parts) → IfOk answer (Says bytes) → IfErr answer (IsFaultOf bytes) → Says bytes read → Reads answer read
+answer_every bytes (Ok one) read says faults also = says_one bytes one read says also
+answer_every bytes (Err (text.Format fault)) read says faults also = fault_is_none bytes fault read faults also
+answer_every bytes (Err text.OutOfMemory) read says faults also = tt
+
+record BegunSizes (text : List (List ℕ)) (parts : List Part) (numbers : List ℕ) : Type 0 where
+  numbered : length numbers ≡ length parts
+  few : length parts + 1 ≤ length text
+
+begun_sizes : (text : List (List ℕ)) (parts : List Part) (numbers : List ℕ) → IsBegun text parts numbers → BegunSizes text parts numbers
+begun_sizes text parts numbers (header blanks first all is) = record { numbered = refl; few = omega (arith, one_more blanks first) }
+begun_sizes text parts numbers (blank before next ps ns begins is) =
+    let sizes = begun_sizes before ps ns begins in
+    record { numbered = sizes.numbered; few = omega (arith, one_more before next, sizes.few) }
+begun_sizes text parts numbers (declares before next ps more ns begins declared) =
+    let sizes = begun_sizes before ps ns begins in
+    let one : length more ≡ 1 = ap length declared.1 in
+    let marks : length (map (λ (part : Part). length before + 1) more) ≡ length more = length-map more (λ (part : Part). length before + 1) in
+    let a = length-append ps more in
+    let b = length-append ns (map (λ (part : Part). length before + 1) more) in
+    record { numbered = omega (arith, sizes.numbered, marks, a, b); few = omega (arith, one_more before next, sizes.few, a, one) }
+
+pub says_sizes : (bytes : List ℕ) (read : Parts) → Says bytes read → HasSizes bytes read
+says_sizes bytes read says =
+    let sizes = begun_sizes says.plan.begun read.parts read.lines says.plan.begins in
+    let whole : length says.text ≡ length (says.plan.begun ++ says.plan.last ∷ []) = ap length says.plan.whole in
+    let all : length (lines bytes) ≡ length (says.text ++ says.after) = ap length says.split in
+    let both : length (says.text ++ says.after) ≡ length says.text + length says.after = length-append says.text says.after in
+    let lines_few : length (lines bytes) ≤ length bytes = lines-few bytes in
+    let size : size_of_lines (length says.text) bytes ≤ length bytes = size_of_lines-le (length says.text) bytes in
+    record {
+      numbered = sizes.numbered;
+      few = omega (arith, sizes.few, whole, one_more says.plan.begun says.plan.last, all, both, lines_few);
+      within = omega (arith, says.used, size);
+    }
+
+pub answer_sizes : (bytes : List ℕ) (answer : Result Parts TextFault) → IfOk answer (Says bytes) → IfOk answer (HasSizes bytes)
+answer_sizes bytes (Ok read) says = says_sizes bytes read says
+answer_sizes bytes (Err fault) says = tt

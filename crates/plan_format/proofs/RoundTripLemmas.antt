@@ -1,12 +1,13 @@
 -- A printed plan text is read back.
-use Rattle.std.proofs.Common.{◌≡◌, ℕ, ℤ, ◌<◌, ◌≤◌, ◌≤ℤ◌, pos, ◌+◌, true, List, [], ◌∷◌, ◌++◌, length, map, get_or, Ok, refl, ap, ◌∙◌, arith, codes, IsTrue, unsigned_abs, append_assoc, length-append}
+use Rattle.std.proofs.Common.{◌≡◌, ℕ, ℤ, ◌<◌, ◌≤◌, ◌≤ℤ◌, pos, ◌+◌, true, List, [], ◌∷◌, ◌++◌, length, map, get_or, refl, sym, ap, subst, ◌∙◌, arith, codes, IsTrue, unsigned_abs, append_assoc, length-append}
 use Rattle.std.specs.List.{All, AllByRecursion}
 use Rattle.std.specs.Fmt.{signed_decimal}
 use Rattle.std.proofs.lemmas.Bool.{leb-true, le-leb, ne_eqb}
-use Rattle.std.proofs.lemmas.List.{length-map}
-use Rattle.std.proofs.lemmas.List.Elements.{recursion_from_All, All-append, All-map}
+use Rattle.std.proofs.lemmas.List.{length-map, append-nil, map-append}
+use Rattle.std.proofs.lemmas.List.Elements.{recursion_from_All, All-nil, All-append, All-map}
 use Rattle.net_model.specs.Names.{is_name}
-use Rattle.net_model.specs.Network.{Plan, IsPlan, within_limit}
+use Rattle.net_model.specs.Limits.{within_limit, most_number}
+use Rattle.net_model.specs.Network.{Plan, IsPlan, HasPlanNumbers}
 use Rattle.net_model.specs.NetworkParts.{bound_part, link_part, parts_of}
 use Rattle.texts.specs.Words.{words}
 use Rattle.texts.specs.Lines.{lines}
@@ -14,22 +15,19 @@ use Rattle.texts.specs.Lines.{size_of_lines}
 use Rattle.texts.specs.Printing.{joined, printed}
 use Rattle.net_model.specs.declared.part.Part.{Part}
 use Rattle.net_model.specs.declared.part.Part.TheVariants as part
-use Rattle.net_model.specs.declared.part.TheConstants.{MOST_NUMBER}
 use Rattle.texts.proofs.LineLemmas.{size_of_lines-other, size_of_lines-end, size_of_lines-nil}
 use Rattle.texts.proofs.PrintingLemmas.{IsPrintable, IsPrintableLine, words-joined, plain-joined, lines-printed}
 use Rattle.net_model.proofs.SpellingLemmas.{printable_name, printable_integer}
 use Rattle.plan_format.specs.declared.plan_line.PlanLine.TheVariants as line
-use Rattle.plan_format.specs.PlanLines.{plan_line}
-use Rattle.plan_format.specs.PlanText.{declarations, declared_before, headed, plan_text, read_of}
+use Rattle.plan_format.specs.PlanGrammar.{IsLine, IsBegun, header, declares, IsPlanText}
 use Rattle.plan_format.specs.PlanParts.{part_words, IsSpelled, header_words, end_words}
 use Rattle.plan_format.specs.PlanPrinting.{plan_words, printed_plan, ReadsBack}
 use Rattle.net_model.proofs.PartsLemmas.{parts_build}
-use Rattle.plan_format.proofs.PartLemmas.{spelled_read, header_read, end_read}
-use Rattle.plan_format.proofs.ReadLemmas.{declarations_step, headed_step}
+use Rattle.plan_format.proofs.StepLemmas.{one_more}
 
 printable_number : (n : ℤ) → within_limit n ≡ true → IsPrintable (signed_decimal n)
 printable_number n within =
-    let few : unsigned_abs n ≤ MOST_NUMBER = leb-true (unsigned_abs n) MOST_NUMBER within in
+    let few : unsigned_abs n ≤ most_number = leb-true (unsigned_abs n) most_number within in
     printable_integer n (omega arith)
 
 literal_stnu : IsPrintable (codes "stnu")
@@ -72,19 +70,25 @@ abbrev pub numbers_from : ℕ → List Part → List ℕ
 numbers_from number [] = []
 numbers_from number (p ∷ parts) = number ∷ numbers_from (number + 1) parts
 
-line_back : (l : List (List ℕ)) → IsPrintableLine l → plan_line (words (joined l)) ≡ plan_line l
-line_back l printable = ap plan_line (words-joined l printable)
+line_back : (l : List (List ℕ)) → IsPrintableLine l → words (joined l) ≡ l
+line_back l printable = words-joined l printable
 
-declared_back : (number : ℕ) (parts : List Part) → AllByRecursion IsSpelled parts → declarations number (map joined (map part_words parts ++ end_words ∷ [])) ≡ Ok (record { parts = parts; lines = numbers_from number parts; end = number + length parts })
-declared_back number [] spelled =
-    let none : number + 0 ≡ number = omega arith in
-    rw none (declarations_step number (joined end_words ∷ []) (joined end_words) [] (Ok line.End) refl (line_back end_words printable_end ∙ end_read))
-declared_back number (p ∷ parts) spelled =
-    let others : List (List ℕ) = map joined (map part_words parts ++ end_words ∷ []) in
-    let last : number + 1 + length parts ≡ number + length (p ∷ parts) = omega arith in
-    declarations_step number (joined (part_words p) ∷ others) (joined (part_words p)) others (Ok (line.Part p)) refl (line_back (part_words p) (printable_part p spelled.0) ∙ spelled_read p spelled.0)
-    ∙ (ap (declared_before number p) (declared_back (number + 1) parts spelled.1)
-    ∙ ap (λ (n : ℕ). Ok (record { parts = p ∷ parts; lines = number ∷ numbers_from (number + 1) parts; end = n })) last)
+begun_is : (lines text : List (List ℕ)) (parts ps : List Part) (numbers ns : List ℕ) → lines ≡ text → parts ≡ ps → numbers ≡ ns → IsBegun lines parts numbers → IsBegun text ps ns
+begun_is lines text parts ps numbers ns e p n begun =
+    subst (λ (ls : List (List ℕ)). IsBegun ls ps ns) e (subst (λ (qs : List Part). IsBegun lines qs ns) p (subst (λ (ms : List ℕ). IsBegun lines parts ms) n begun))
+
+-- printed lines of parts after lines that have begun
+begun_with : (before : List (List ℕ)) (ps : List Part) (ns : List ℕ) (parts : List Part) → AllByRecursion IsSpelled parts → IsBegun before ps ns → IsBegun (before ++ map joined (map part_words parts)) (ps ++ parts) (ns ++ numbers_from (length before + 1) parts)
+begun_with before ps ns [] spelled begun = rw (append-nil before, append-nil ps, append-nil ns) begun
+begun_with before ps ns (p ∷ parts) spelled begun =
+    let text : List ℕ = joined (part_words p) in
+    let others : List (List ℕ) = map joined (map part_words parts) in
+    let number : ℕ = length before + 1 in
+    let is : IsLine (line.Part p) text = (line_back (part_words p) (printable_part p spelled.0), spelled.0) in
+    let one : IsBegun (before ++ text ∷ []) (ps ++ p ∷ []) (ns ++ number ∷ []) = declares before text ps (p ∷ []) ns begun (p, refl, is) in
+    let all = begun_with (before ++ text ∷ []) (ps ++ p ∷ []) (ns ++ number ∷ []) parts spelled.1 one in
+    let size : length (before ++ text ∷ []) + 1 ≡ number + 1 = ap (λ (n : ℕ). n + 1) (sym (one_more before text)) in
+    begun_is _ _ _ _ _ _ (append_assoc before (text ∷ []) others) (append_assoc ps (p ∷ []) parts) (append_assoc ns (number ∷ []) (numbers_from (length (before ++ text ∷ []) + 1) parts) ∙ ap (λ (n : ℕ). ns ++ number ∷ numbers_from n parts) size) all
 
 -- the bytes of a line and its line end
 size_of_line : (count : ℕ) (bytes rest : List ℕ) → AllByRecursion (λ byte. 31 < byte) bytes → size_of_lines (count + 1) (bytes ++ 10 ∷ rest) ≡ length bytes + 1 + size_of_lines count rest
@@ -104,17 +108,19 @@ size_of_printed (l ∷ text) printable =
     let here : size_of_lines (length text + 1) (joined l ++ 10 ∷ printed text) ≡ length (joined l) + 1 + size_of_lines (length text) (printed text) = size_of_line (length text) (joined l) (printed text) (plain-joined l printable.0) in
     rw (count, split) (omega (arith, here, size, size_of_printed text printable.1))
 
--- what the text of spelled parts says
-parts_said : (parts : List Part) → AllByRecursion IsSpelled parts → headed 1 (lines (printed (plan_words parts))) ≡ Ok (record { parts = parts; lines = numbers_from 2 parts; end = length (plan_words parts) })
-parts_said parts spelled =
-    let others : List (List ℕ) = map joined (map part_words parts ++ end_words ∷ []) in
-    let size : length (map part_words parts ++ end_words ∷ []) ≡ length (map part_words parts) + 1 = length-append (map part_words parts) (end_words ∷ []) in
-    let count : length (map part_words parts) ≡ length parts = length-map parts part_words in
-    let last : 2 + length parts ≡ length (plan_words parts) = omega arith in
-    ap (headed 1) (lines-printed (plan_words parts) (printable_plan parts spelled))
-    ∙ (headed_step 1 (joined header_words ∷ others) (joined header_words) others (Ok line.Header) refl (line_back header_words (literal_stnu, (literal_one, tt)) ∙ header_read)
-    ∙ (declared_back 2 parts spelled
-    ∙ ap (λ (n : ℕ). Ok (record { parts = parts; lines = numbers_from 2 parts; end = n })) last))
+-- the printed lines of parts that can be spelled are a plan text
+plan_printed : (parts : List Part) → AllByRecursion IsSpelled parts → IsPlanText (map joined (plan_words parts)) parts (numbers_from 2 parts)
+plan_printed parts spelled =
+    let first : List ℕ = joined header_words in
+    let heads : IsLine line.Header first = line_back header_words (literal_stnu, (literal_one, tt)) in
+    let begun : IsBegun (first ∷ []) [] [] = header [] first (All-nil (IsLine line.Blank)) heads in
+    record {
+      begun = first ∷ map joined (map part_words parts);
+      last = joined end_words;
+      whole = ap (λ (ls : List (List ℕ)). first ∷ ls) (map-append joined (map part_words parts) (end_words ∷ []));
+      begins = begun_with (first ∷ []) [] [] parts spelled begun;
+      ends = line_back end_words printable_end;
+    }
 
 -- the parts of a network can be spelled
 spelled_name : (net : Plan) → IsPlan net → (k : ℕ) → k < length net.points → IsTrue (is_name (get_or net.points k []))
@@ -123,30 +129,39 @@ spelled_name net plan k inside = plan.points_named k [] inside
 size_below : (low high : ℤ) → pos 1 ≤ℤ low → low ≤ℤ high → unsigned_abs low ≤ unsigned_abs high
 size_below low high positive interval = grind arith
 
-spelled_parts : (net : Plan) → IsPlan net → AllByRecursion IsSpelled (parts_of net)
-spelled_parts net plan =
+spelled_parts : (net : Plan) → IsPlan net → HasPlanNumbers net → AllByRecursion IsSpelled (parts_of net)
+spelled_parts net plan numbers =
     let points : All IsSpelled (map part.Point net.points) = All-map IsSpelled part.Point net.points plan.points_named in
     let bounds : All IsSpelled (map (bound_part net.points) net.bounds) = All-map IsSpelled (bound_part net.points) net.bounds (λ k d inside.
     (let b = plan.bounds_sound k d inside in
-    (b.named, spelled_name net plan _ b.from_point, spelled_name net plan _ b.to_point, b.within))) in
+    (b.named, spelled_name net plan _ b.from_point, spelled_name net plan _ b.to_point, numbers.bounds k d inside))) in
     let links : All IsSpelled (map (link_part net.points) net.links) = All-map IsSpelled (link_part net.points) net.links (λ k d inside.
     (let l = plan.links_sound k d inside in
-    let few = leb-true (unsigned_abs (get_or net.links k d).high) MOST_NUMBER l.within in
+    let few = leb-true (unsigned_abs (get_or net.links k d).high) most_number (numbers.links k d inside) in
     let smaller = size_below (get_or net.links k d).low (get_or net.links k d).high l.positive l.interval in
-    (spelled_name net plan _ l.from_point, le-leb (unsigned_abs (get_or net.links k d).low) MOST_NUMBER (omega (arith, few, smaller)), l.within, spelled_name net plan _ l.to_point))) in
+    (spelled_name net plan _ l.from_point, le-leb (unsigned_abs (get_or net.links k d).low) most_number (omega (arith, few, smaller)), numbers.links k d inside, spelled_name net plan _ l.to_point))) in
     recursion_from_All IsSpelled (parts_of net) (All-append IsSpelled (map part.Point net.points) (map (bound_part net.points) net.bounds ++ map (link_part net.points) net.links) points (All-append IsSpelled (map (bound_part net.points) net.bounds) (map (link_part net.points) net.links) bounds links))
 
 -- the printed text of a network is read back
-pub reads_back : (net : Plan) → IsPlan net → ReadsBack (printed_plan net) net
-unfolding printed_plan plan_text
-reads_back net plan =
+pub reads_back : (net : Plan) → IsPlan net → HasPlanNumbers net → ReadsBack (printed_plan net) net
+unfolding printed_plan
+reads_back net plan numbers =
     let parts : List Part = parts_of net in
-    let spelled = spelled_parts net plan in
+    let spelled = spelled_parts net plan numbers in
+    let printable = printable_plan parts spelled in
     let text : List ℕ = printed (plan_words parts) in
-    let size : size_of_lines (length (plan_words parts)) text ≡ length text = size_of_printed (plan_words parts) (printable_plan parts spelled) in
+    let all : List (List ℕ) = map joined (plan_words parts) in
+    let size : size_of_lines (length (plan_words parts)) text ≡ length text = size_of_printed (plan_words parts) printable in
+    let count : length all ≡ length (plan_words parts) = length-map (plan_words parts) joined in
     record {
       read = record { parts = parts; lines = numbers_from 2 parts; used = length text };
-      said = ap (read_of text) (parts_said parts spelled) ∙ ap (λ (n : ℕ). Ok (record { parts = parts; lines = numbers_from 2 parts; used = n })) size;
+      said = record {
+        text = all;
+        after = [];
+        split = lines-printed (plan_words parts) printable ∙ sym (append-nil all);
+        plan = plan_printed parts spelled;
+        used = sym size ∙ ap (λ (n : ℕ). size_of_lines n text) (sym count);
+      };
       whole = refl;
-      same = parts_build net plan;
+      same = parts_build net plan numbers;
     }

@@ -1,5 +1,7 @@
-pub mod PlanLines
-pub mod PlanText
 pub mod PlanParts
-pub mod PlanPrinting
+pub mod PlanLines
 pub mod PlanGrammar
+pub mod PlanFaults
+pub mod PlanReading
+pub mod PlanNetwork
+pub mod PlanPrinting

@@ -8,7 +8,7 @@ use Rattle.net_model.specs.declared.format.FormatKind.{FormatKind}
 use Rattle.net_model.specs.declared.format.FormatKind.TheVariants.{UnknownWord, WordCount}
 use Rattle.net_model.specs.declared.part.Part.{Part}
 use Rattle.net_model.specs.declared.part.Part.TheVariants as part
-use Rattle.net_model.specs.declared.part.TheConstants.{MOST_NUMBER}
+use Rattle.net_model.specs.Limits.{most_number}
 use Rattle.plan_format.specs.declared.plan_line.PlanLine.{PlanLine}
 use Rattle.plan_format.specs.declared.plan_line.PlanLine.TheVariants as line
 
@@ -25,7 +25,7 @@ bound_line (name ∷ from ∷ to ∷ most ∷ []) = do
   n ← name_of name
   x ← name_of from
   y ← name_of to
-  w ← integer_of MOST_NUMBER most
+  w ← integer_of most_number most
   Ok (part.Bound n x y w)
 bound_line others = Err WordCount
 
@@ -33,8 +33,8 @@ bound_line others = Err WordCount
 abbrev pub link_line : List (List ℕ) → Result Part FormatKind
 link_line (from ∷ low ∷ high ∷ to ∷ []) = do
   a ← name_of from
-  x ← integer_of MOST_NUMBER low
-  y ← integer_of MOST_NUMBER high
+  x ← integer_of most_number low
+  y ← integer_of most_number high
   c ← name_of to
   Ok (part.Link a x y c)
 link_line others = Err WordCount

@@ -2,7 +2,7 @@
 use Rattle.std.specs.Prelude.{◌≡◌, ℕ, true, List, [], ◌∷◌, codes, IsTrue}
 use Rattle.std.specs.Fmt.{signed_decimal}
 use Rattle.net_model.specs.Names.{is_name}
-use Rattle.net_model.specs.Network.{within_limit}
+use Rattle.net_model.specs.Limits.{within_limit}
 use Rattle.net_model.specs.declared.part.Part.{Part}
 use Rattle.net_model.specs.declared.part.Part.TheVariants as part
 

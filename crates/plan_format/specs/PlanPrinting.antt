@@ -6,7 +6,7 @@ use Rattle.net_model.specs.declared.part.Part.{Part}
 use Rattle.net_model.specs.NetworkParts.{parts_of}
 use Rattle.net_model.specs.Building.{built}
 use Rattle.plan_format.specs.declared.read.Parts.{Parts}
-use Rattle.plan_format.specs.PlanText.{plan_text}
+use Rattle.plan_format.specs.PlanGrammar.{Says}
 use Rattle.plan_format.specs.PlanParts.{part_words, header_words, end_words}
 
 -- the lines of a plan text that declares parts: the header, a line for each part, and `end`
@@ -17,9 +17,9 @@ plan_words parts = header_words ∷ (map part_words parts ++ end_words ∷ [])
 unfoldable pub printed_plan : Plan → List ℕ
 printed_plan net = printed (plan_words (parts_of net))
 
--- a text that is read back, whole, to parts that build the network
+-- a text that reads back, whole, to parts that build the network
 pub record ReadsBack (text : List ℕ) (net : Plan) : Type 0 where
   pub read : Parts
-  pub said : plan_text text ≡ Ok read
+  pub said : Says text read
   pub whole : read.used ≡ length text
   pub same : built read.parts ≡ Ok net

@@ -1,13 +1,16 @@
-//! Plan texts, version 1: their lines, reading a whole text, and printing a network as one.
+//! Plan texts, version 1: their lines, reading a text line by line or whole, and printing a network as one.
 #![tactic(auto)]
 
+mod declaration;
 mod plan_line;
 mod print;
 mod read;
+mod reader;
+mod section;
 
+pub use declaration::DeclarationFault;
 pub use plan_line::{PlanLine, read_plan_line};
 pub use print::print_plan;
 pub use read::{Parts, read_plan};
-
-#[cfg(test)]
-mod tests;
+pub use reader::{MOST_LINES, PlanReader};
+pub use section::PlanSection;

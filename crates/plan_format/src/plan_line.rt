@@ -1,10 +1,11 @@
 //! One line of a plan text.
 
-ghost use Rattle.std.specs.Prelude.{◌≡◌, IfOk};
-ghost use Rattle.std.specs.Result.{result_map_both};
+ghost use Rattle.std.specs.Prelude.{◌≡◌, IfErr, IfOk};
 ghost use Rattle.net_model.specs.Numbers.{integer_of};
 ghost use Rattle.texts.specs.Words.{words};
 ghost use Rattle.plan_format.specs.declared.plan_line.PlanLine.{PlanLine};
+ghost use Rattle.net_model.specs.Limits.{most_number};
+ghost use Rattle.plan_format.specs.PlanFaults.{IsFaultOfLine};
 ghost use Rattle.plan_format.specs.PlanGrammar.{IsLine};
 ghost use Rattle.plan_format.specs.PlanLines.{plan_line, line_of, header_line, point_line, bound_line, link_line, end_line};
 
@@ -27,9 +28,9 @@ pub enum PlanLine {
 /// of the words from left to right. A line whose first word is `stnu` is the header `stnu 1` or `UnknownWord`. It takes
 /// no memory, so `OutOfMemory` never comes.
 pub fn read_plan_line(line: &[u8]) -> Result<PlanLine, WordFault>
-    ensures reads { result ≡ result_map_both (λ read. read) (λ kind. WordFault.Kind kind) (plan_line (words line.now)) }
     ensures grammar { IfOk result (λ read. IsLine read line.now) }
     ensures every { (read : PlanLine) → IsLine read line.now → result ≡ Ok read }
+    ensures fault { IfErr result (IsFaultOfLine line.now) }
 {
     Ok(plan_line(line)?)
 }
@@ -135,7 +136,7 @@ fn end_line(rest: &[u8]) -> Result<PlanLine, FormatKind>
 
 /// A number of a plan.
 fn number(word: &[u8]) -> Result<Weight, FormatKind>
-    ensures { result ≡ integer_of MOST_NUMBER word.now }
+    ensures { result ≡ integer_of most_number word.now }
 {
     text::integer(word, MOST_NUMBER)
 }

@@ -2,21 +2,22 @@
 
 ghost use Rattle.std.specs.Prelude.{◌≡◌, ◌++◌, ◌<◌, IfOk, OnOk, length};
 ghost use Rattle.std.specs.List.{flat_map};
-ghost use Rattle.net_model.specs.Network.{IsBound, IsLink};
+ghost use Rattle.net_model.specs.Network.{HasPlanNumbers, IsBound, IsLink};
 ghost use Rattle.texts.specs.Printing.{printed_line};
 ghost use Rattle.net_model.specs.NetworkParts.{bound_part, link_part, point_name};
 ghost use Rattle.plan_format.specs.PlanParts.{part_words};
 ghost use Rattle.plan_format.specs.PlanPrinting.{ReadsBack, printed_plan};
 
-use texts::push_line;
 use net_model::{Bound, Link, Name, Network, Part, PointId};
 use std::alloc::{AllocError, Global};
+use texts::push_line;
 
 /// The plan text of a network: the header, the points, the bounds and the links, each list in its order, and `end`,
-/// with one blank between words and a line end after each line. It reads back to the same three lists. `AllocError` comes
-/// only for want of memory.
+/// with one blank between words and a line end after each line. It reads back to the same three lists. The numbers of the
+/// network are at most 1,000,000,000 in size, as those of a built network are. `AllocError` comes only for want of memory.
 #[tactic(auto, unfolding(crate::specs::PlanPrinting::printed_plan))]
 pub fn print_plan(alloc: Global, net: &Network) -> Result<Vec<u8>, AllocError>
+    requires { HasPlanNumbers net.now }
     ensures text { IfOk result (λ text. text.items ≡ printed_plan net.now) }
     ensures read_back { IfOk result (λ text. ReadsBack text.items net.now) }
 {

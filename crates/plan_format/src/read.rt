@@ -1,14 +1,15 @@
 //! Reading a whole plan text.
 
-ghost use Rattle.std.specs.Prelude.{◌≡◌, ◌+◌, ◌-◌, ◌<◌, ◌≤◌, ◌^◌, ◌∷◌, ◌++◌, [], length, IfErr, IfOk, OnOk, MatchResult};
-ghost use Rattle.texts.specs.Lines.{lines};
+ghost use Rattle.std.specs.Prelude.{◌≡◌, ◌<◌, ◌^◌, length, IfErr, IfOk};
 ghost use Rattle.plan_format.specs.declared.read.Parts.{Parts};
-ghost use Rattle.plan_format.specs.PlanGrammar.{IsFaultOf, Says};
-ghost use Rattle.plan_format.specs.PlanText.{IsLeftAfter, Reads, declarations, headed, plan_text, read_of};
+ghost use Rattle.plan_format.specs.PlanFaults.{IsFaultOf};
+ghost use Rattle.plan_format.specs.PlanGrammar.{Says};
+ghost use Rattle.plan_format.specs.PlanReading.{HasSizes, Reads, ReadsLines, at_line, begun};
 
-use crate::plan_line::{PlanLine, plan_line};
-use net_model::{FormatFault, FormatKind, Items, Part, TextFault, text};
-use std::alloc::{AllocError, Global};
+use crate::plan_line::PlanLine;
+use crate::reader::PlanReader;
+use net_model::{FormatFault, Items, Part, TextFault, WordFault};
+use std::alloc::Global;
 
 /// What a plan text declares.
 #[derive(Debug, Drop)]
@@ -28,13 +29,10 @@ pub struct Parts {
 /// for want of memory. There are fewer than 2^31 bytes.
 pub fn read_plan(alloc: Global, bytes: &[u8]) -> Result<Parts, TextFault>
     requires { length bytes.now < 2 ^ 31 }
-    ensures reads { Reads result (plan_text bytes.now) }
     ensures grammar { IfOk result (Says bytes.now) }
-    ensures every { (read : Parts) → Says bytes.now read → Reads result (Ok read) }
+    ensures every { (read : Parts) → Says bytes.now read → Reads result read }
     ensures fault { IfErr result (IsFaultOf bytes.now) }
-    ensures numbered { IfOk result (λ read. length read.lines ≡ length read.parts) }
-    ensures few { IfOk result (λ read. length read.parts < length bytes.now) }
-    ensures within { IfOk result (λ read. read.used ≤ length bytes.now) }
+    ensures sizes { IfOk result (HasSizes bytes.now) }
 {
     read_text(alloc, bytes)
 }
@@ -42,79 +40,43 @@ pub fn read_plan(alloc: Global, bytes: &[u8]) -> Result<Parts, TextFault>
 /// Reads the lines of a plan text, one after another.
 fn read_text(alloc: Global, bytes: &[u8]) -> Result<Parts, TextFault>
     requires { length bytes.now < 2 ^ 31 }
-    ensures { Reads result (plan_text bytes.now) }
+    ensures grammar { IfOk result (Says bytes.now) }
+    ensures fault { IfErr result (IsFaultOf bytes.now) }
 {
-    let (count, rest) = after_header(bytes)?;
-    read_declarations(alloc, bytes, count, rest)
+    let mut reader = PlanReader::new(alloc);
+    let used = read_lines(&mut reader, bytes)?;
+    let (parts, lines) = reader.into_parts();
+    Ok(Parts {
+        parts: Items::new(parts),
+        lines: Items::new(lines),
+        used,
+    })
 }
 
-/// The number of lines up to the header, and what stands after them.
-fn after_header(bytes: &[u8]) -> Result<(u32, &[u8]), FormatFault>
-    requires { length bytes.now < 2 ^ 31 }
-    ensures header { MatchResult result (λ found. headed 1 (lines bytes.now) ≡ declarations (found.0 + 1) (lines found.1.now)) (λ fault. headed 1 (lines bytes.now) ≡ Err fault) }
-    ensures rest { IfOk result (λ found. IsLeftAfter bytes.now found.0 found.1.now) }
+/// Reads the lines of a plan text up to its `end` line: the number of bytes up to there.
+fn read_lines(reader: &mut PlanReader, bytes: &[u8]) -> Result<usize, TextFault>
+    requires few { length bytes.now < 2 ^ 31 }
+    requires begins { reader.old ≡ begun }
+    ensures { ReadsLines bytes.now reader.new result }
 {
-    let mut count = 0;
     let mut rest = bytes;
-    while let Some((line, after)) = texts::next_line(rest) {
-        count += 1;
-        rest = after;
-        match plan_line(line) {
-            Ok(PlanLine::Blank) => {}
-            Ok(PlanLine::Header) => return Ok((count, rest)),
-            _ => return Err(fault(count, FormatKind::NoHeader)),
+    while let Some((line, others)) = texts::next_line(rest) {
+        rest = others;
+        match reader.read_line(line) {
+            Ok(PlanLine::End) => return Ok(bytes.len() - rest.len()),
+            Ok(_) => {}
+            Err(fault) => return Err(at_line(reader.count() + 1, fault)),
         }
     }
-    Err(fault(count + 1, FormatKind::NoHeader))
+    Err(reader.fault_at_end().into())
 }
 
-/// What the lines after the header declare.
-fn read_declarations(
-    alloc: Global,
-    bytes: &[u8],
-    count: u32,
-    rest: &[u8],
-) -> Result<Parts, TextFault>
-    requires room { length bytes.now < 2 ^ 31 }
-    requires rest { IsLeftAfter bytes.now count rest.now }
-    ensures { Reads result (read_of bytes.now (declarations (count + 1) (lines rest.now))) }
+/// The fault of a text whose line has a fault.
+fn at_line(line: u32, fault: WordFault) -> TextFault
+    ensures { result ≡ at_line line fault }
 {
-    let mut parts = Vec::new(alloc);
-    let mut lines = Vec::new(alloc);
-    let mut number = count;
-    let mut rest = rest;
-    while let Some((line, after)) = texts::next_line(rest) {
-        number += 1;
-        rest = after;
-        match plan_line(line) {
-            Ok(PlanLine::Blank) => {}
-            Ok(PlanLine::Part(part)) => {
-                push(&mut parts, part)?;
-                push(&mut lines, number)?;
-            }
-            Ok(PlanLine::End) => {
-                return Ok(Parts {
-                    parts: Items::new(parts),
-                    lines: Items::new(lines),
-                    used: bytes.len() - rest.len(),
-                });
-            }
-            Ok(PlanLine::Header) => return Err(fault(number, FormatKind::UnknownWord).into()),
-            Err(kind) => return Err(fault(number, kind).into()),
-        }
+    match fault {
+        WordFault::Kind(kind) => TextFault::Format(FormatFault { line, kind }),
+        WordFault::OutOfMemory => TextFault::OutOfMemory,
     }
-    Err(fault(number + 1, FormatKind::NoEnd).into())
-}
-
-fn push<T: Drop>(items: &mut Vec<T>, item: T) -> Result<(), AllocError>
-    ensures { OnOk result (items.new.items ≡ items.old.items ++ item ∷ []) }
-{
-    items.push(item)?;
-    Ok(())
-}
-
-fn fault(line: u32, kind: FormatKind) -> FormatFault
-    ensures { result ≡ record { line = line; kind = kind } }
-{
-    FormatFault { line, kind }
 }

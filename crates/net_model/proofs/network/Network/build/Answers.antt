@@ -1,9 +1,8 @@
-use Rattle.std.proofs.Common.{◌≡◌, subst, sym, ap, ◌∙◌, Ok, IfOk, Result, List, [], drop}
+use Rattle.std.proofs.Common.{◌≡◌, subst, sym, ap, ◌∙◌, Ok, IfOk, Result, [], drop}
 use Rattle.std.proofs.lemmas.List.{drop_all}
 use Rattle.net_model.specs.Network.{Plan, HasPlanNumbers}
 use Rattle.net_model.specs.Building.{built, with_parts}
 use Rattle.net_model.specs.declared.fault.BuildFault.{BuildFault}
-use Rattle.net_model.specs.declared.part.Part.{Part}
 use Rattle.net_model.proofs.PlanNumbers.{built_numbers}
 use Rattle.net_model.proofs.network.Network.build.Goals as goal
 

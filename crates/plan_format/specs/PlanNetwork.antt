@@ -1,0 +1,52 @@
+-- The network that the lines of a text declare. This project's own choice.
+use Rattle.std.specs.Prelude.{◌≡◌, ℕ, ◌+◌, List, ◌++◌, Some, None, slice_get, Result, Ok, Err}
+use Rattle.net_model.specs.Network.{Plan}
+use Rattle.net_model.specs.Building.{built, place_of}
+use Rattle.net_model.specs.declared.fault.BuildFault.{BuildFault}
+use Rattle.net_model.specs.declared.part.Part.{Part}
+use Rattle.plan_format.specs.declared.declaration.DeclarationFault.{DeclarationFault}
+use Rattle.plan_format.specs.declared.declaration.DeclarationFault.TheVariants as declaration
+use Rattle.plan_format.specs.PlanGrammar.{IsPlanText}
+
+-- the lines begin with a plan text that declares the network, and the rest comes after its `end` line
+pub record DeclaresNetwork (lines : List (List ℕ)) (net : Plan) (rest : List (List ℕ)) : Type 0 where
+  pub plan : List (List ℕ)
+  pub parts : List Part
+  pub numbers : List ℕ
+  pub whole : lines ≡ plan ++ rest
+  pub is_plan : IsPlanText plan parts numbers
+  pub builds : built parts ≡ Ok net
+
+-- of these parts, each with the number of its line, the first one that is refused stands in this line, for this cause
+pub record IsRefusedPart (parts : List Part) (numbers : List ℕ) (line : ℕ) (fault : BuildFault) : Type 0 where
+  pub index : ℕ
+  pub refused : built parts ≡ Err fault
+  pub place : place_of fault ≡ Some (index + 1)
+  pub at_line : slice_get numbers index ≡ Some line
+
+-- a fault is told with the number of the line of its part, unless it has no place
+abbrev pub TellsLine : DeclarationFault → List ℕ → BuildFault → Type 0
+TellsLine (declaration.Refused line told) numbers fault = (told ≡ fault) × (index : ℕ) × (place_of fault ≡ Some (index + 1)) × (slice_get numbers index ≡ Some line)
+TellsLine declaration.OutOfMemory numbers fault = place_of fault ≡ None
+
+-- the lines begin with a plan text of which a part is refused: the first such part stands in this line
+pub record RefusesPart (lines : List (List ℕ)) (line : ℕ) (fault : BuildFault) : Type 0 where
+  pub plan : List (List ℕ)
+  pub rest : List (List ℕ)
+  pub parts : List Part
+  pub numbers : List ℕ
+  pub whole : lines ≡ plan ++ rest
+  pub is_plan : IsPlanText plan parts numbers
+  pub part : IsRefusedPart parts numbers line fault
+
+-- the answer is what the parts build, unless memory ran out
+abbrev pub BuildsParts : Result Plan DeclarationFault → List Part → List ℕ → Type 0
+BuildsParts (Ok net) parts numbers = built parts ≡ Ok net
+BuildsParts (Err (declaration.Refused line fault)) parts numbers = IsRefusedPart parts numbers line fault
+BuildsParts (Err declaration.OutOfMemory) parts numbers = Unit {0}
+
+-- the answer is what the lines declare, unless memory ran out
+abbrev pub Answers : Result Plan DeclarationFault → List (List ℕ) → List (List ℕ) → Type 0
+Answers (Ok net) lines rest = DeclaresNetwork lines net rest
+Answers (Err (declaration.Refused line fault)) lines rest = RefusesPart lines line fault
+Answers (Err declaration.OutOfMemory) lines rest = Unit {0}

@@ -1,0 +1,109 @@
+-- A plan text of which lines are read one after another. This project's own choice.
+use Rattle.std.specs.Prelude.{◌≡◌, ◌≤◌, ℕ, ◌+◌, List, [], ◌∷◌, ◌++◌, length, Result, Ok, Err}
+use Rattle.std.specs.List.{All}
+use Rattle.net_model.specs.declared.format.FormatKind.{FormatKind}
+use Rattle.net_model.specs.declared.format.FormatKind.TheVariants.{UnknownWord, NoHeader, NoEnd}
+use Rattle.net_model.specs.declared.format.WordFault.{WordFault}
+use Rattle.net_model.specs.declared.format.WordFault.TheVariants as word
+use Rattle.net_model.specs.declared.format.TextFault.{TextFault}
+use Rattle.net_model.specs.declared.format.TextFault.TheVariants as text
+use Rattle.net_model.specs.declared.part.Part.{Part}
+use Rattle.plan_format.specs.declared.plan_line.PlanLine.{PlanLine}
+use Rattle.plan_format.specs.declared.plan_line.PlanLine.TheVariants as line
+use Rattle.plan_format.specs.declared.section.PlanSection.{PlanSection}
+use Rattle.plan_format.specs.declared.section.PlanSection.TheVariants as section
+use Rattle.plan_format.specs.declared.read.Parts.{Parts}
+use Rattle.plan_format.specs.PlanLines.{plan_line}
+use Rattle.plan_format.specs.PlanGrammar.{IsLine, IsBegun, IsPlanText, Says}
+use Rattle.plan_format.specs.PlanFaults.{IsFirstFault, IsFaultOf}
+
+-- how many lines of one text may be read
+abbrev pub most_lines : ℕ
+most_lines = 2147483648
+
+-- what was read: the section that is reached, the parts, the number of the line of each, and how many lines there were
+pub record Progress : Type 0 where
+  pub section : PlanSection
+  pub parts : List Part
+  pub lines : List ℕ
+  pub count : ℕ
+
+-- before the first line
+abbrev pub begun : Progress
+begun = record { section = section.Header; parts = []; lines = []; count = 0 }
+
+-- a line in a section, where `read` is what the line is alone
+abbrev pub in_section : PlanSection → Result PlanLine FormatKind → Result PlanLine FormatKind
+in_section section.Header (Ok line.Blank) = Ok line.Blank
+in_section section.Header (Ok line.Header) = Ok line.Header
+in_section section.Header (Ok (line.Part part)) = Err NoHeader
+in_section section.Header (Ok line.End) = Err NoHeader
+in_section section.Header (Err kind) = Err NoHeader
+in_section section.Declarations (Ok line.Blank) = Ok line.Blank
+in_section section.Declarations (Ok line.Header) = Err UnknownWord
+in_section section.Declarations (Ok (line.Part part)) = Ok (line.Part part)
+in_section section.Declarations (Ok line.End) = Ok line.End
+in_section section.Declarations (Err kind) = Err kind
+
+-- a line in a section, by its words
+abbrev pub line_in : PlanSection → List (List ℕ) → Result PlanLine FormatKind
+line_in section words = in_section section (plan_line words)
+
+-- with one line more
+abbrev pub advanced : Progress → PlanLine → Progress
+advanced read line.Blank = record read { count = read.count + 1 }
+advanced read line.Header = record read { section = section.Declarations; count = read.count + 1 }
+advanced read (line.Part part) = record read { parts = read.parts ++ part ∷ []; lines = read.lines ++ (read.count + 1) ∷ []; count = read.count + 1 }
+advanced read line.End = record read { count = read.count + 1 }
+
+-- the fault of a text that ends in a section
+abbrev pub missing : PlanSection → FormatKind
+missing section.Header = NoHeader
+missing section.Declarations = NoEnd
+
+-- the answer is what the line says, unless memory ran out
+abbrev pub SaysLine : Result PlanLine WordFault → Result PlanLine FormatKind → Type 0
+SaysLine (Ok said) read = read ≡ Ok said
+SaysLine (Err (word.Kind kind)) read = read ≡ Err kind
+SaysLine (Err word.OutOfMemory) read = Unit {0}
+
+-- what lines of a section are, by the grammar: blank ones before the header, or a text that has begun
+abbrev pub AreLinesOf : PlanSection → List (List ℕ) → List Part → List ℕ → Type 0
+AreLinesOf section.Header lines parts numbers = All (IsLine line.Blank) lines × (parts ≡ []) × (numbers ≡ [])
+AreLinesOf section.Declarations lines parts numbers = IsBegun lines parts numbers
+
+-- these lines were read, with which a plan text may begin, and this is what they declare
+pub record HasRead (lines : List (List ℕ)) (read : Progress) : Type 0 where
+  pub counted : read.count ≡ length lines
+  pub declared : AreLinesOf read.section lines read.parts read.lines
+
+-- what one line more brings: its text goes on, or has ended, or has its first fault there
+abbrev pub Brings : List (List ℕ) → List ℕ → Result PlanLine WordFault → Progress → Type 0
+Brings before next (Ok line.Blank) read = HasRead (before ++ next ∷ []) read
+Brings before next (Ok line.Header) read = HasRead (before ++ next ∷ []) read
+Brings before next (Ok (line.Part part)) read = HasRead (before ++ next ∷ []) read
+Brings before next (Ok line.End) read = IsPlanText (before ++ next ∷ []) read.parts read.lines
+Brings before next (Err (word.Kind kind)) read = (more : List (List ℕ)) → IsFirstFault (before ++ next ∷ more) (record { line = length before + 1; kind = kind })
+Brings before next (Err word.OutOfMemory) read = Unit {0}
+
+-- the fault of a text whose line has a fault
+abbrev pub at_line : ℕ → WordFault → TextFault
+at_line number (word.Kind kind) = text.Format (record { line = number; kind = kind })
+at_line number word.OutOfMemory = text.OutOfMemory
+
+-- lines of the bytes were read up to the `end` line, or to the first fault
+abbrev pub ReadsLines : List ℕ → Progress → Result ℕ TextFault → Type 0
+ReadsLines bytes read (Ok used) = Says bytes (record { parts = read.parts; lines = read.lines; used = used })
+ReadsLines bytes read (Err fault) = IsFaultOf bytes fault
+
+-- the answer is this one, unless memory ran out
+abbrev pub Reads : Result Parts TextFault → Parts → Type 0
+Reads (Ok read) said = read ≡ said
+Reads (Err (text.Format fault)) said = ⊥
+Reads (Err text.OutOfMemory) said = Unit {0}
+
+-- how many parts are read of so many bytes
+pub record HasSizes (bytes : List ℕ) (read : Parts) : Type 0 where
+  pub numbered : length read.lines ≡ length read.parts
+  pub few : length read.parts + 1 ≤ length bytes
+  pub within : read.used ≤ length bytes

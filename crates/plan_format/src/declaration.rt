@@ -1,0 +1,47 @@
+//! The network of the parts that a plan text declares.
+
+ghost use Rattle.std.specs.Prelude.{◌≡◌, ℕ, ◌<◌, ◌≤◌, ◌^◌, length, IfOk};
+ghost use Rattle.net_model.specs.Building.{place_of};
+ghost use Rattle.net_model.specs.Network.{IsPlan, HasPlanNumbers};
+ghost use Rattle.plan_format.specs.PlanNetwork.{BuildsParts, TellsLine};
+
+use net_model::{BuildFault, Network, Part};
+use std::alloc::Global;
+
+/// Why the declarations of a plan text give no network.
+#[derive(Clone, Copy, Debug, PartialEq, Eq, Hash)]
+pub enum DeclarationFault {
+    /// A part is refused: the number of its line, and why, with the place of the part.
+    Refused(u32, BuildFault),
+    /// There was no memory.
+    OutOfMemory,
+}
+
+/// The network of parts, each with the number of its line, or the first part that is refused.
+pub(crate) fn build(
+    alloc: Global,
+    parts: &[Part],
+    lines: &[u32],
+) -> Result<Network, DeclarationFault>
+    requires few { length parts.now < 2 ^ 32 }
+    requires numbered { length lines.now ≡ length parts.now }
+    ensures builds { BuildsParts result parts.now lines.now }
+    ensures sound { IfOk result IsPlan }
+    ensures numbers { IfOk result HasPlanNumbers }
+{
+    match Network::build(alloc, parts) {
+        Ok(net) => Ok(net),
+        Err(fault) => Err(refused(lines, fault)),
+    }
+}
+
+/// The fault of a refused part, with the number of its line.
+fn refused(lines: &[u32], fault: BuildFault) -> DeclarationFault
+    requires { (place : ℕ) → place_of fault ≡ Some place → (0 < place) × (place ≤ length lines.now) }
+    ensures { TellsLine result lines.now fault }
+{
+    match fault.place() {
+        Some(place) => DeclarationFault::Refused(lines[place as usize - 1], fault),
+        None => DeclarationFault::OutOfMemory,
+    }
+}
