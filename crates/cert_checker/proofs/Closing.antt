@@ -1,5 +1,5 @@
 -- The walk of a refutation that passes is a closed walk of negative total over the edges of its lines.
-use Rattle.std.proofs.Common.{◌≡◌, ℕ, ℤ, pos, ◌+ℤ◌, ◌<ℤ◌, ◌+◌, List, [], ◌∷◌, length, Option, Some, None, Ok, refl, ap, sym, subst}
+use Rattle.std.proofs.Common.{◌≡◌, ℕ, ℤ, pos, ◌+ℤ◌, ◌<ℤ◌, ◌+◌, List, [], ◌∷◌, length, Option, Some, None, Ok, Err, refl, ap, sym, subst}
 use Rattle.std.specs.Prelude.{int_lt}
 use Rattle.std.specs.List.{AllByRecursion, Contains, cons_option}
 use Rattle.std.specs.Str.{bytes_eq}
@@ -8,11 +8,16 @@ use Rattle.net_model.specs.Network.{Plan, IsPlan}
 use Rattle.strategy_model.specs.Control.{IsControllable}
 use Rattle.strategy_model.specs.Edges.{IsWalk, IsNegativeLoop, total}
 use Rattle.strategy_model.specs.Laws.{RulesKeepEdges, RefutationsExcludeStrategies}
+use Rattle.cert_format.specs.declared.certificate.Certificate.{Certificate}
+use Rattle.cert_format.specs.declared.certificate.Certificate.TheVariants.{Refutation}
 use Rattle.cert_format.specs.declared.line.CertLine.{CertLine}
 use Rattle.cert_checker.specs.Lines.{unless, line_at}
-use Rattle.cert_checker.specs.Walk.{refusal, steps_known, returns_to, is_negative_walk, total_weight, walked, walk_passes}
-use Rattle.cert_checker.specs.Judgement.{lines_pass, refutation_passes}
+use Rattle.cert_checker.specs.Walk.{WalkPasses, refusal, steps_known, returns_to, is_negative_walk, total_weight, walked, walk_passes}
+use Rattle.cert_checker.specs.Judgement.{lines_pass, refutation_passes, judged, judgement_of}
+use Rattle.cert_checker.specs.Laws.{AcceptedExcludes}
 use Rattle.cert_checker.specs.declared.judgement.CertFault.TheVariants.{WalkBroken, WalkNotNegative}
+use Rattle.cert_checker.specs.declared.judgement.Judgement.TheVariants.{Accepted}
+use Rattle.cert_checker.specs.declared.judgement.Claim.TheVariants.{NotControllable}
 use Rattle.cert_checker.proofs.Inversion.{bind_ok, unless_ok, negative_ok, contains_line}
 use Rattle.cert_checker.proofs.Naming.{edge_of, point_of, point_of_same}
 use Rattle.cert_checker.proofs.Following.{edges_of}
@@ -62,3 +67,15 @@ module _ (net : Plan) where
       let loop = walk_ok lines walk closed in
       let steps = edges_of net (walked lines walk) in
       exclude net (edges_of net lines) steps plan (derivation net plan keep lines pass) (All-from_recursion (Contains (edges_of net lines)) steps (steps_among lines walk)) loop controllable
+
+accepted_passes : (passes : WalkPasses) → judged passes ≡ Accepted NotControllable → passes ≡ Ok tt
+accepted_passes (Ok passed) accepted = refl
+accepted_passes (Err refused) accepted = absurd (cc)
+
+excludes_by : RulesKeepEdges → RefutationsExcludeStrategies → (net : Plan) (certificate : Certificate) → IsPlan net → judgement_of net certificate ≡ Accepted NotControllable → IsControllable net → ⊥
+excludes_by keep exclude net (Refutation lines walk) plan accepted =
+    refutation_excludes net plan keep exclude lines walk (accepted_passes (refutation_passes net lines walk) accepted)
+
+-- an accepted refutation excludes every strategy that controls the network
+pub accepted_excludes : RulesKeepEdges → RefutationsExcludeStrategies → AcceptedExcludes
+accepted_excludes keep exclude = excludes_by keep exclude

@@ -1,18 +1,21 @@
 -- The lines before the one at which a refutation is refused pass.
 use Rattle.std.proofs.Common.{◌≡◌, ℕ, ◌+◌, ◌-◌, zero, suc, List, [], ◌∷◌, ◌++◌, length, take, Ok, Err, refl, ap, ◌∙◌, arith}
 use Rattle.std.proofs.lemmas.List.{length_push}
-use Rattle.net_model.specs.Network.{Plan}
+use Rattle.net_model.specs.Network.{Plan, IsPlan}
+use Rattle.strategy_model.specs.Laws.{RulesKeepEdges, DerivationsAreTrue}
+use Rattle.cert_format.specs.declared.certificate.Certificate.{Certificate}
 use Rattle.cert_format.specs.declared.certificate.Certificate.TheVariants.{Refutation}
 use Rattle.cert_format.specs.declared.line.CertLine.{CertLine}
 use Rattle.cert_checker.specs.Lines.{Passes, ◌>>=◌, line_passes}
 use Rattle.cert_checker.specs.Walk.{WalkPasses, refusal, walk_passes}
-use Rattle.cert_checker.specs.Judgement.{at_number, lines_pass, refutation_passes, judgement_of}
-use Rattle.cert_checker.specs.Truth.{passed_lines}
+use Rattle.cert_checker.specs.Judgement.{at_number, lines_pass, refutation_passes, judged, judgement_of}
+use Rattle.cert_checker.specs.Truth.{AreTrue, passed_lines}
 use Rattle.cert_checker.specs.declared.judgement.Refusal.{Refusal}
 use Rattle.cert_checker.specs.declared.judgement.Judgement.TheVariants.{Accepted, Refused}
 use Rattle.cert_checker.specs.declared.judgement.Claim.TheVariants.{NotControllable}
 use Rattle.cert_checker.proofs.Passing.{goes_on}
-use Rattle.cert_checker.proofs.Deriving.{first_passes}
+use Rattle.cert_checker.specs.Laws.{PassedLinesAreTrue}
+use Rattle.cert_checker.proofs.Deriving.{first_passes, lines_are_true}
 
 -- all lines pass, and so do those in front
 front_passes : (net : Plan) (earlier lines : List CertLine) (count : ℕ) → lines_pass net earlier lines ≡ Ok tt → lines_pass net earlier (take count lines) ≡ Ok tt
@@ -57,7 +60,7 @@ all_pass : (net : Plan) (lines : List CertLine) (walk : WalkPasses) (rules : Wal
 all_pass net lines walk (Ok passed) is passes = is
 all_pass net lines walk (Err first) is passes = absurd (cc)
 
-passed_of : (net : Plan) (lines : List CertLine) (walk : List ℕ) (passes : WalkPasses) → refutation_passes net lines walk ≡ passes → lines_pass net [] (passed_lines (Refutation lines walk) (elim passes [ Ok passed ↦ Accepted NotControllable | Err refused ↦ Refused refused.line refused.why ])) ≡ Ok tt
+passed_of : (net : Plan) (lines : List CertLine) (walk : List ℕ) (passes : WalkPasses) → refutation_passes net lines walk ≡ passes → lines_pass net [] (passed_lines (Refutation lines walk) (judged passes)) ≡ Ok tt
 unfolding refutation_passes
 passed_of net lines walk (Ok passed) is = all_pass net lines (walk_passes lines walk) (lines_pass net [] lines) refl is
 passed_of net lines walk (Err refused) is = before_refused net lines (walk_passes lines walk) (lines_pass net [] lines) refl refused is
@@ -65,3 +68,10 @@ passed_of net lines walk (Err refused) is = before_refused net lines (walk_passe
 -- the lines that a judgement passes
 pub passed_lines_pass : (net : Plan) (lines : List CertLine) (walk : List ℕ) → lines_pass net [] (passed_lines (Refutation lines walk) (judgement_of net (Refutation lines walk))) ≡ Ok tt
 passed_lines_pass net lines walk = passed_of net lines walk (refutation_passes net lines walk) refl
+
+pub all_passed_true : RulesKeepEdges → DerivationsAreTrue → PassedLinesAreTrue
+all_passed_true keep derivations = λ net certificate plan. passed_true net keep derivations plan certificate
+  where
+    passed_true : (net : Plan) → RulesKeepEdges → DerivationsAreTrue → IsPlan net → (certificate : Certificate) → AreTrue net (passed_lines certificate (judgement_of net certificate))
+    passed_true net keep derivations plan (Refutation lines walk) =
+        lines_are_true net plan keep derivations (passed_lines (Refutation lines walk) (judgement_of net (Refutation lines walk))) (passed_lines_pass net lines walk)

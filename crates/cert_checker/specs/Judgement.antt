@@ -28,7 +28,15 @@ refutation_passes net lines walk = do
   rules ← lines_pass net [] lines
   walk_passes lines walk
 
+-- a certificate that is a refutation
+abbrev pub IsRefutation : Certificate → Type 0
+IsRefutation (Refutation lines walk) = Unit {0}
+
+-- the judgement by whether a refutation passes
+abbrev pub judged : WalkPasses → Judgement
+judged (Ok passed) = Accepted NotControllable
+judged (Err refusal) = Refused refusal.line refusal.why
+
 -- the judgement of a certificate
 abbrev pub judgement_of : Plan → Certificate → Judgement
-judgement_of net (Refutation lines walk) =
-    elim (refutation_passes net lines walk) [ Ok passed ↦ Accepted NotControllable | Err refusal ↦ Refused refusal.line refusal.why ]
+judgement_of net (Refutation lines walk) = judged (refutation_passes net lines walk)

@@ -3,3 +3,4 @@ pub mod Walk
 pub mod Judgement
 pub mod Truth
 pub mod JudgementText
+pub mod Laws

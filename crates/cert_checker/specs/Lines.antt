@@ -4,6 +4,7 @@ use Rattle.std.specs.Prelude.{ℕ, ℤ, pos, ◌-ℤ◌, ◌+ℤ◌, ◌==◌, �
 use Rattle.std.specs.Int.{int_max}
 use Rattle.std.specs.Option.{option_and_then, option_map_or}
 use Rattle.std.specs.Str.{bytes_eq}
+use Rattle.net_model.specs.Limits.{most_weight}
 use Rattle.net_model.specs.Network.{Plan, point_named, bound_named, activation}
 use Rattle.net_model.specs.declared.ids.PointId.{PointId}
 use Rattle.net_model.specs.declared.part.Bound.{Bound}
@@ -83,9 +84,9 @@ unfoldable pub names_known : Plan → CertLine → Bool
 names_known net line =
     is_some (point_named net line.from) && is_some (point_named net line.to) && item_known net line.kind && label_known net line.label
 
--- a weight of at most 10^12 in size
+-- a weight within the limit of those that are judged
 abbrev pub in_range : ℤ → Bool
-in_range weight = nat_le (unsigned_abs weight) 1000000000000
+in_range weight = nat_le (unsigned_abs weight) most_weight
 
 -- the line of a number from 1
 abbrev pub line_at : {A : Type 0} → List A → ℕ → Option A

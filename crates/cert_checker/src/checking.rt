@@ -1,15 +1,15 @@
 ghost use Rattle.std.specs.Prelude.{◌≡◌, IfOk, IsOk, Ok, []};
 ghost use Rattle.strategy_model.specs.Control.{IsControllable};
-ghost use Rattle.cert_checker.specs.Judgement.{lines_pass, refutation_passes, judgement_of};
+ghost use Rattle.cert_checker.specs.Judgement.{IsRefutation, lines_pass, refutation_passes, judgement_of};
 ghost use Rattle.cert_checker.specs.Truth.{AreTrue, passed_lines};
 
 use crate::judgement::{Claim, Judgement, Refusal};
+use crate::laws;
 use crate::rules::line_passes;
 use crate::walk::walk_passes;
 use cert_format::{CertLine, Certificate};
 use net_model::Network;
 use std::alloc::AllocError;
-use strategy_model::laws;
 
 /// The judgement of a certificate of a network: it is accepted, or refused at its first line that does not pass. An
 /// accepted refutation shows that no strategy controls the network (Morris and Muscettola 2005, in this project's form).
@@ -18,27 +18,29 @@ use strategy_model::laws;
 /// rule gives; then each step of the walk, whether it is closed, and its total. For a refutation it takes no memory, and the
 /// answer is always `Ok`.
 pub fn judge(net: &Network, cert: &Certificate) -> Result<Judgement, AllocError>
-    ensures ok { IsOk result }
+    ensures ok { IsRefutation cert.now → IsOk result }
     ensures judged { IfOk result (λ judgement. judgement ≡ judgement_of net.now cert.now) }
 
     // What a certificate says is so, whoever wrote it.
     ensures true_lines { IfOk result (λ judgement. AreTrue net.now (passed_lines cert.now judgement)) }
     ensures excludes { result ≡ Ok (Judgement.Accepted Claim.NotControllable) → ¬ IsControllable net.now }
 {
-    match cert {
-        Certificate::Refutation { lines, walk } => {
-            Ok(refutation(net, lines.as_slice(), walk.as_slice()))
-        }
-    }
+    laws::passed_lines_are_true();
+    laws::accepted_excludes();
+    net.points();
+    judgement_of(net, cert)
 }
 
-fn refutation(net: &Network, lines: &[CertLine], walk: &[u64]) -> Judgement
-    ensures judged { result ≡ judgement_of net.now (Certificate.Refutation lines.now walk.now) }
-    ensures true_lines { AreTrue net.now (passed_lines (Certificate.Refutation lines.now walk.now) result) }
-    ensures excludes { result ≡ Judgement.Accepted Claim.NotControllable → ¬ IsControllable net.now }
+/// The judgement of a certificate, whatever it is of.
+fn judgement_of(net: &Network, cert: &Certificate) -> Result<Judgement, AllocError>
+    ensures ok { IsRefutation cert.now → IsOk result }
+    ensures judged { IfOk result (λ judgement. judgement ≡ judgement_of net.now cert.now) }
 {
-    refutation_laws(net, lines, walk);
-    judge_refutation(net, lines, walk)
+    match cert {
+        Certificate::Refutation { lines, walk } => {
+            Ok(judge_refutation(net, lines.as_slice(), walk.as_slice()))
+        }
+    }
 }
 
 fn judge_refutation(net: &Network, lines: &[CertLine], walk: &[u64]) -> Judgement
@@ -51,17 +53,6 @@ fn judge_refutation(net: &Network, lines: &[CertLine], walk: &[u64]) -> Judgemen
             why: refusal.why,
         },
     }
-}
-
-/// What the laws of the rules and of closed walks say of a refutation.
-fn refutation_laws(net: &Network, lines: &[CertLine], walk: &[u64])
-    ensures true_lines { (judgement : Judgement) → judgement ≡ judgement_of net.now (Certificate.Refutation lines.now walk.now) → AreTrue net.now (passed_lines (Certificate.Refutation lines.now walk.now) judgement) }
-    ensures excludes { refutation_passes net.now lines.now walk.now ≡ Ok tt → ¬ IsControllable net.now }
-{
-    laws::rules_keep_edges();
-    laws::derivations_are_true();
-    laws::refutations_exclude_strategies();
-    net.points();
 }
 
 #[tactic(auto, unfolding(crate::specs::Judgement::refutation_passes))]

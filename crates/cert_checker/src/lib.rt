@@ -3,10 +3,9 @@
 
 mod checking;
 mod judgement;
+pub mod laws;
 mod lookup;
 mod rules;
-#[cfg(test)]
-mod tests;
 mod walk;
 
 pub use checking::judge;

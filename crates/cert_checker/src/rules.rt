@@ -11,8 +11,8 @@ use crate::lookup::{
 use cert_format::{CertLine, LineKind};
 use net_model::{Link, Name, Network, PointId, Weight};
 
-/// The greatest size of a weight.
-const GREATEST_WEIGHT: u64 = 1_000_000_000_000;
+/// The greatest size of a weight that is judged, in whole moments.
+const MOST_WEIGHT: u64 = 1_000_000_000_000;
 
 /// A rule line, by the lines before it.
 #[tactic(auto, unfolding(crate::specs::Lines::line_passes))]
@@ -54,7 +54,7 @@ fn unless(holds: bool, why: CertFault) -> Result<(), CertFault>
 fn is_in_range(weight: Weight) -> bool
     ensures { result ≡ in_range weight }
 {
-    weight.unsigned_abs() <= GREATEST_WEIGHT
+    weight.unsigned_abs() <= MOST_WEIGHT
 }
 
 /// The weight of a line is at least the least that its rule gives.

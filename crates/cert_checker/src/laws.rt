@@ -1,0 +1,21 @@
+//! Laws about the judgement of certificates, each the contract of a function without parameters.
+
+ghost use Rattle.cert_checker.specs.Laws.{AcceptedExcludes, PassedLinesAreTrue};
+
+use strategy_model::laws;
+
+/// Each rule line that passes is true of every strategy that controls the network.
+pub fn passed_lines_are_true()
+    ensures { PassedLinesAreTrue }
+{
+    laws::rules_keep_edges();
+    laws::derivations_are_true();
+}
+
+/// An accepted refutation excludes every strategy that controls the network, whoever wrote it.
+pub fn accepted_excludes()
+    ensures { AcceptedExcludes }
+{
+    laws::rules_keep_edges();
+    laws::refutations_exclude_strategies();
+}
