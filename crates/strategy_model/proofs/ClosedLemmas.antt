@@ -1,16 +1,14 @@
 -- What stands in a closed list of edges.
-use Rattle.std.proofs.Common.{◌≡◌, ◌≢◌, ℕ, ℤ, pos, negsuc, ◌≤ℤ◌, ◌<ℤ◌, ◌+ℤ◌, ◌-ℤ◌, ◌==◌, ◌&&◌, not, Bool, true, false, cond, List, Option, Some, None, refl, ap, sym, ◌∙◌, subst, arith, is_some, is_none, IsTrue}
-use Rattle.std.specs.Prelude.{slice_get, int_lt}
+use Rattle.std.proofs.Common.{◌≡◌, ◌≢◌, ℕ, ℤ, pos, ◌≤ℤ◌, ◌<ℤ◌, ◌+ℤ◌, ◌-ℤ◌, ◌==◌, true, false, List, Some, None, refl, ap, subst, arith}
+use Rattle.std.specs.Prelude.{slice_get}
 use Rattle.std.specs.Int.{int_max}
-use Rattle.std.specs.Option.{option_and_then, option_map_or}
 use Rattle.std.specs.List.{Contains}
 use Rattle.std.proofs.lemmas.Int.{ints, int_max_is}
 use Rattle.std.proofs.lemmas.Bool.{eq-eqb, ne_eqb}
-use Rattle.std.proofs.lemmas.Option.{same_Some}
 use Rattle.std.proofs.lemmas.List.Elements.{All-contains}
 use Rattle.net_model.specs.Network.{Plan}
 use Rattle.net_model.specs.Edges.{IsLinkOf, IsLabelled, IsEdge}
-use Rattle.net_model.specs.Rules.{Follows, by_bound, by_link, by_no_case, by_upper_case, by_lower_case, by_cross_case, by_removal, is_ordinary, is_labelled, is_labelled_by, meet, is_negative, joined_weight, no_case, upper_case, goes_on_from, moved_to_activation, lower_case, cross_case, removal, bound_edge, link_edge}
+use Rattle.net_model.specs.Rules.{by_bound, by_link, by_no_case, by_upper_case, by_lower_case, by_cross_case, by_removal, is_ordinary, is_labelled, is_labelled_by, is_negative, joined_weight, no_case, upper_case, moved_to_activation, lower_case, cross_case, removal, bound_edge, link_edge}
 use Rattle.net_model.specs.declared.ids.PointId.{PointId}
 use Rattle.net_model.specs.declared.ids.LinkId.{LinkId}
 use Rattle.net_model.specs.declared.part.Bound.{Bound}

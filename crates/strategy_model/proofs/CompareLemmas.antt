@@ -25,7 +25,7 @@ completion_follows_activation net strategy situation schedule name link duration
     lasting net plan situation schedule strategy [] 0 played (follow_at_first net situation) name.0 link duration declared lasts
 
 -- the moment of a number beyond the points is 0
-beyond : (net : Plan) (first second : List ℕ) → length first ≡ length net.points → length second ≡ length net.points → (p : PointId) → length net.points ≤ p.0 → slice_index first p.0 ≡ slice_index second p.0
+pub beyond : (net : Plan) (first second : List ℕ) → length first ≡ length net.points → length second ≡ length net.points → (p : PointId) → length net.points ≤ p.0 → slice_index first p.0 ≡ slice_index second p.0
 beyond net first second first_length second_length p past =
     get_or_past first p.0 0 (omega (arith, first_length)) ∙ sym (get_or_past second p.0 0 (omega (arith, second_length)))
 
@@ -104,7 +104,7 @@ activation_agrees a b d e d_positive e_positive agree agree_back =
     elim (cases_lt a (b + e)) [ inl sooner ↦ agree (omega arith) | inr later ↦ agree_back (omega arith) ]
 
 -- a duration of a link is at least 1
-at_least_1 : (net : Plan) (link : Link) (duration : ℕ) → IsLink net link → IsDuration link duration → 1 ≤ duration
+pub at_least_1 : (net : Plan) (link : Link) (duration : ℕ) → IsLink net link → IsDuration link duration → 1 ≤ duration
 at_least_1 net link duration sound fits =
     let positive = sound.positive in
     let low = fits.0 in

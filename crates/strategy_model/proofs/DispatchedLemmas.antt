@@ -1,16 +1,13 @@
 -- The schedule of lower bounds and waits satisfies the network.
-use Rattle.std.proofs.Common.{◌≡◌, ◌⊎◌, ℕ, ℤ, pos, negsuc, ◌<◌, ◌<ℤ◌, ◌≤ℤ◌, ◌+ℤ◌, ◌-ℤ◌, List, Some, length, get_or, refl, ap, sym, ◌∙◌, subst, arith, inl, inr}
+use Rattle.std.proofs.Common.{◌≡◌, ◌⊎◌, ℕ, ℤ, pos, negsuc, ◌<ℤ◌, ◌≤ℤ◌, ◌-ℤ◌, List, Some, get_or, refl, ap, sym, ◌∙◌, arith, inl, inr}
 use Rattle.std.specs.Prelude.{slice_get}
-use Rattle.std.specs.List.{All, Contains}
 use Rattle.std.proofs.lemmas.Int.{ints}
 use Rattle.std.proofs.lemmas.Option.{none-some, slice_get-get_or}
 use Rattle.net_model.specs.Network.{Plan, IsPlan}
-use Rattle.net_model.specs.Rules.{bound_edge}
-use Rattle.net_model.specs.declared.ids.LinkId.{LinkId}
 use Rattle.net_model.specs.declared.part.Bound.{Bound}
 use Rattle.net_model.specs.declared.part.Edge.{Edge}
-use Rattle.strategy_model.specs.Situations.{IsSituation, Satisfies, Keeps, moment_in}
-use Rattle.strategy_model.specs.Dispatch.{Stands, IsClosed, IsDispatched}
+use Rattle.strategy_model.specs.Situations.{IsSituation, Keeps, moment_in}
+use Rattle.strategy_model.specs.Dispatch.{IsClosed, IsDispatched}
 use Rattle.strategy_model.specs.DispatchLaws.{DispatchedSatisfy}
 use Rattle.strategy_model.proofs.ClosedLemmas.{stands_bound}
 use Rattle.strategy_model.proofs.ViolationLemmas.{none_violated}

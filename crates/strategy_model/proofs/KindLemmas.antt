@@ -1,6 +1,6 @@
 -- A point of a network is executable or the contingent point of a link.
-use Rattle.std.proofs.Common.{◌≡◌, ◌⊎◌, ℕ, ◌<◌, ◌≤◌, Bool, true, false, cond, List, Option, Some, None, length, get_or, is_some, is_none, position, refl, ap, sym, ◌∙◌, subst, inl, inr, arith}
-use Rattle.std.specs.Prelude.{◌==◌, slice_get, IsNone, nat_lt}
+use Rattle.std.proofs.Common.{◌≡◌, ◌⊎◌, ℕ, Bool, true, false, cond, Option, Some, None, length, get_or, is_some, is_none, refl, ap, sym, ◌∙◌, subst, inl, inr, arith}
+use Rattle.std.specs.Prelude.{◌==◌, nat_lt}
 use Rattle.std.specs.Option.{option_map}
 use Rattle.std.specs.List.{position_or_len}
 use Rattle.std.proofs.lemmas.Bool.{cases_lt, le-ltb, eqb-true, true≢false}
@@ -20,8 +20,8 @@ pub record Ending (net : Plan) (point : PointId) : Type 0 where
   pub declared : IsLinkOf net name link
   pub ends : link.to ≡ point
 
-pub kind : (net : Plan) (point : PointId) → IsPoint net point → IsExecutable net point ⊎ Ending net point
-kind net point within =
+pub kind_of_any : (net : Plan) (point : PointId) → (activation net point ≡ None) ⊎ Ending net point
+kind_of_any net point =
     elim (cases_lt place (length net.links)) [
       | inl inside ↦ elim (slice_get_cases net.links place).1 [
         | inl (link, there, found, here) ↦
@@ -32,8 +32,7 @@ kind net point within =
       ]
       | inr past ↦
           let outside : nat_lt place (length net.links) ≡ false = le-ltb place (length net.links) past in
-          let none : activation net point ≡ None = ap (λ (b : Bool). option_map (λ k. let name : LinkId = record { 0 = k } in name) (cond b (Some place) None)) outside in
-          inl (within, ap is_some none)
+          inl (ap (λ (b : Bool). option_map (λ k. let name : LinkId = record { 0 = k } in name) (cond b (Some place) None)) outside)
     ]
   where
     ends : Link → Bool
@@ -42,13 +41,20 @@ kind net point within =
     place : ℕ
     place = position_or_len ends net.links
 
+pub kind : (net : Plan) (point : PointId) → IsPoint net point → IsExecutable net point ⊎ Ending net point
+kind net point within =
+    elim (kind_of_any net point) [ inl none ↦ inl (within, ap is_some none) | inr ending ↦ inr ending ]
+
 none_from_test : {A : Type 0} (o : Option A) → is_some o ≡ false → is_none o ≡ true
 none_from_test None none = refl
 none_from_test (Some x) none = absurd (true≢false none)
 
+-- a point in which a link ends has its number
+pub ending_known : (net : Plan) (point : PointId) → Ending net point → is_none (activation net point) ≡ false
+ending_known net point ending =
+    subst (λ (p : PointId). is_none (activation net p) ≡ false) ending.ends (contingent net ending.name.0 ending.link ending.declared)
+
 -- no link ends in an executable point
 pub not_ending : (net : Plan) (point : PointId) → IsExecutable net point → Ending net point → ⊥
 not_ending net point executable ending =
-    let none : is_none (activation net ending.link.to) ≡ false = contingent net ending.name.0 ending.link ending.declared in
-    let here : is_none (activation net point) ≡ false = subst (λ (p : PointId). is_none (activation net p) ≡ false) ending.ends none in
-    true≢false (sym (none_from_test (activation net point) executable.1) ∙ here)
+    true≢false (sym (none_from_test (activation net point) executable.1) ∙ ending_known net point ending)

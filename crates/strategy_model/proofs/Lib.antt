@@ -18,3 +18,8 @@ pub mod ViolationLemmas
 pub mod DispatchedLemmas
 pub mod LowerLemmas
 pub mod SeenLemmas
+pub mod SituationLemmas
+pub mod KnownLemmas
+pub mod UnfoldLemmas
+pub mod CompletenessLemmas
+pub mod AheadLemmas

@@ -1,5 +1,5 @@
 -- The schedule of lower bounds and waits: the moments of points along an order.
-use Rattle.std.proofs.Common.{◌≡◌, ◌⊎◌, ℕ, zero, suc, ◌+◌, ◌<◌, ◌≤◌, ◌&&◌, Bool, true, false, cond, min, max, unsigned_abs, List, [], ◌∷◌, Option, Some, None, length, map, get_or, refl, ap, sym, ◌∙◌, subst, arith, inl, inr, IsTrue}
+use Rattle.std.proofs.Common.{◌≡◌, ◌⊎◌, ℕ, zero, suc, ◌+◌, ◌<◌, ◌≤◌, ◌&&◌, Bool, true, false, cond, min, max, unsigned_abs, List, [], ◌∷◌, Option, Some, None, length, map, get_or, refl, ap, sym, ◌∙◌, subst, arith, inl, inr}
 use Rattle.std.specs.Prelude.{slice_get}
 use Rattle.std.specs.Option.{option_map_or, option_map}
 use Rattle.std.specs.List.{All, AllByRecursion, Contains, slice_index}
@@ -14,9 +14,9 @@ use Rattle.net_model.specs.declared.ids.PointId.{PointId}
 use Rattle.net_model.specs.declared.ids.LinkId.{LinkId}
 use Rattle.net_model.specs.declared.part.Edge.{Edge}
 use Rattle.net_model.specs.declared.part.Link.{Link}
-use Rattle.strategy_model.specs.Situations.{IsSituation, IsDuration, moment_in}
+use Rattle.strategy_model.specs.Situations.{IsSituation, moment_in}
 use Rattle.strategy_model.specs.Plays.{same_point, points_of}
-use Rattle.strategy_model.specs.Dispatch.{IsClosed, IsOrder, HoldsBack, ComesAtOnce, IsDispatched, awaited, moment_after, completion_in}
+use Rattle.strategy_model.specs.Dispatch.{IsClosed, IsOrder, HoldsBack, ComesAtOnce, IsDispatched, awaited, completion_in}
 use Rattle.strategy_model.specs.DispatchLaws.{DispatchedExist}
 use Rattle.strategy_model.proofs.MomentLemmas.{pick, same_from_test, test_from_same, point_at}
 use Rattle.strategy_model.proofs.StepLemmas.{points_length}
@@ -24,7 +24,7 @@ use Rattle.strategy_model.proofs.PlayLemmas.{link_sound, one_link}
 use Rattle.strategy_model.proofs.CompareLemmas.{duration_of}
 use Rattle.strategy_model.proofs.ClosedLemmas.{edge_sound, label_sound}
 use Rattle.strategy_model.proofs.OrderLemmas.{rank, rank_within, falls_to, falls_to_activation}
-use Rattle.strategy_model.proofs.KindLemmas.{Ending, not_ending}
+use Rattle.strategy_model.proofs.KindLemmas.{not_ending}
 use Rattle.strategy_model.proofs.ViolationLemmas.{bound_awaited, wait_awaited, completion_is}
 
 -- an edge that holds a point back
@@ -60,6 +60,10 @@ next_value net edges situation moment point =
 abbrev value : Plan → List Edge → List ℕ → ℕ → PointId → ℕ
 value net edges situation zero point = 0
 value net edges situation (suc limit) point = next_value net edges situation (value net edges situation limit) point
+
+-- the schedule of lower bounds and waits in a situation
+pub lower_schedule : Plan → List Edge → List PointId → List ℕ → List ℕ
+lower_schedule net edges order situation = map (value net edges situation (suc (length order))) (points_of net)
 
 -- ---- the moments decide
 latest_same : (situation : List ℕ) (first second : PointId → ℕ) (point : PointId) (edges : List Edge) → AllByRecursion (λ edge. binds point edge ≡ true → first edge.to ≡ second edge.to) edges → latest situation first point edges ≡ latest situation second point edges
@@ -202,23 +206,22 @@ module _ (net : Plan) (edges : List Edge) (order : List PointId) (situation : Li
       next_same (value net edges situation limit) (value net edges situation other) point (λ before lower. stable limit other before (omega (arith, lower, within)) (omega (arith, lower, within_other)))
 
   -- the moment of each point
-  moment : PointId → ℕ
+  abbrev moment : PointId → ℕ
   moment = value net edges situation (suc (length order))
 
   in_order : (point : PointId) → IsPoint net point → rank order point < length order
   in_order point within = rank_within order point (ordered.complete point within)
 
   moment_is_next : (point : PointId) → IsPoint net point → moment point ≡ next_value net edges situation moment point
-  unfolding moment
   moment_is_next point within =
       let inside = in_order point within in
       next_same (value net edges situation (length order)) moment point (λ before lower. stable (length order) (suc (length order)) before (omega (arith, lower, inside)) (omega (arith, lower, inside)))
 
-  schedule : List ℕ
-  schedule = map moment (points_of net)
+  abbrev schedule : List ℕ
+  schedule = lower_schedule net edges order situation
 
   schedule_at : (point : PointId) → IsPoint net point → moment_in schedule point ≡ moment point
-  unfolding schedule
+  unfolding lower_schedule
   schedule_at point within =
       get_or_from_slice_get schedule point.0 (moment point) 0 (slice_get-map moment (points_of net) point.0 ∙ ap (option_map moment) (point_at net point within))
 
@@ -283,10 +286,10 @@ module _ (net : Plan) (edges : List Edge) (order : List PointId) (situation : Li
       let is = schedule_at point executable.0 ∙ moment_is_latest point executable in
       record {
         not_before = λ edge holds.
-          let all = All-from_recursion (λ edge. binds point edge ≡ true → moment edge.to + delay situation edge ≤ latest situation moment point edges) edges (not_above situation moment point (latest situation moment point edges) edges (omega arith)) in
-          let below = All-contains (λ edge. binds point edge ≡ true → moment edge.to + delay situation edge ≤ latest situation moment point edges) edges edge all holds.among (to_test point edge holds) in
-          let asks = awaits edge holds.among in
-          omega (arith, is, below, asks);
+            let all = All-from_recursion (λ edge. binds point edge ≡ true → moment edge.to + delay situation edge ≤ latest situation moment point edges) edges (not_above situation moment point (latest situation moment point edges) edges (omega arith)) in
+            let below = All-contains (λ edge. binds point edge ≡ true → moment edge.to + delay situation edge ≤ latest situation moment point edges) edges edge all holds.among (to_test point edge holds) in
+            let asks = awaits edge holds.among in
+            omega (arith, is, below, asks);
         reached = elim (reached situation moment point edges) [
           | inl none ↦ inl (is ∙ none)
           | inr reaches ↦ inr (reaches.edge, by_test point reaches.edge reaches.among reaches.binding, awaits reaches.edge reaches.among ∙ reaches.is ∙ sym is)
@@ -294,15 +297,20 @@ module _ (net : Plan) (edges : List Edge) (order : List PointId) (situation : Li
       }
 
   is_dispatched : IsDispatched net edges situation schedule
-  unfolding schedule
+  unfolding lower_schedule
   is_dispatched = record {
     complete = length-map (points_of net) moment ∙ points_length net;
     executable = comes_at_once;
     contingent = λ name link duration declared its.
-      let sound = link_sound net plan name.0 link declared in
-      schedule_at link.to sound.to_point ∙ ends_after name link duration declared its ∙ ap (λ (m : ℕ). m + duration) (sym (schedule_at link.from sound.from_point));
+        let sound = link_sound net plan name.0 link declared in
+        schedule_at link.to sound.to_point ∙ ends_after name link duration declared its ∙ ap (λ (m : ℕ). m + duration) (sym (schedule_at link.from sound.from_point));
   }
+
+pub lower_is_dispatched : (net : Plan) (edges : List Edge) (order : List PointId) (situation : List ℕ) → IsPlan net → IsClosed net edges → IsOrder net edges order → IsSituation net situation → IsDispatched net edges situation (lower_schedule net edges order situation)
+unfolding lower_schedule
+lower_is_dispatched net edges order situation plan closed ordered is_situation =
+    is_dispatched net edges order situation plan closed ordered is_situation
 
 pub dispatched_exist : DispatchedExist
 dispatched_exist net edges order situation plan closed ordered is_situation =
-    (schedule net edges order situation plan closed ordered is_situation, is_dispatched net edges order situation plan closed ordered is_situation)
+    (lower_schedule net edges order situation, lower_is_dispatched net edges order situation plan closed ordered is_situation)

@@ -1,22 +1,20 @@
 -- The place of a point in an order: along every negative edge, labelled or not, it falls.
-use Rattle.std.proofs.Common.{◌≡◌, ℕ, pos, ◌<◌, ◌≤◌, ◌<ℤ◌, ◌-ℤ◌, List, Option, Some, None, length, get_or, refl, ap, sym, ◌∙◌, subst, arith, IsTrue, true, inl, inr}
+use Rattle.std.proofs.Common.{◌≡◌, ℕ, pos, ◌<◌, ◌<ℤ◌, List, Option, Some, None, length, get_or, refl, ap, sym, ◌∙◌, arith, true, inl, inr}
 use Rattle.std.specs.Prelude.{slice_get}
-use Rattle.std.specs.Int.{int_max}
 use Rattle.std.specs.List.{Contains, position_or_len}
 use Rattle.std.proofs.lemmas.Int.{ints, int_max_is}
 use Rattle.std.proofs.lemmas.Bool.{cases_lt, both_ways}
 use Rattle.std.proofs.lemmas.Option.{slice_get-get_or}
 use Rattle.std.proofs.lemmas.List.Sums.{fails_before_first, passes_at_first}
-use Rattle.net_model.specs.Network.{Plan, IsPlan, IsPoint}
+use Rattle.net_model.specs.Network.{Plan, IsPlan}
 use Rattle.net_model.specs.Edges.{IsLinkOf}
-use Rattle.net_model.specs.Rules.{is_ordinary, is_negative, link_edge}
+use Rattle.net_model.specs.Rules.{is_ordinary}
 use Rattle.net_model.specs.declared.ids.PointId.{PointId}
 use Rattle.net_model.specs.declared.ids.LinkId.{LinkId}
 use Rattle.net_model.specs.declared.part.Edge.{Edge}
 use Rattle.net_model.specs.declared.part.Link.{Link}
 use Rattle.strategy_model.specs.Plays.{same_point}
-use Rattle.strategy_model.specs.Edges.{IsNegativeOrdinary}
-use Rattle.strategy_model.specs.Dispatch.{Stands, IsClosed, IsOrder, HoldsBack}
+use Rattle.strategy_model.specs.Dispatch.{IsClosed, IsOrder, HoldsBack}
 use Rattle.strategy_model.proofs.MomentLemmas.{same_from_test, test_from_same}
 use Rattle.strategy_model.proofs.PlayLemmas.{link_sound}
 use Rattle.strategy_model.proofs.ExactLemmas.{below_zero}

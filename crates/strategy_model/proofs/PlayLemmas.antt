@@ -20,7 +20,7 @@ pub known_stays : (so_far : Moments) (t : ℕ) (seen acts : List PointId) (p : P
 known_stays so_far t seen acts p m known =
     found_first (so_far ++ at_moment t seen) (at_moment t acts) p m (found_first so_far (at_moment t seen) p m known)
 
-unknown_later : (so_far : Moments) (t : ℕ) (seen acts : List PointId) (p : PointId) → moment_of so_far p ≡ None → moment_of (and_moment so_far t seen acts) p ≡ moment_of (at_moment t seen ++ at_moment t acts) p
+pub unknown_later : (so_far : Moments) (t : ℕ) (seen acts : List PointId) (p : PointId) → moment_of so_far p ≡ None → moment_of (and_moment so_far t seen acts) p ≡ moment_of (at_moment t seen ++ at_moment t acts) p
 unknown_later so_far t seen acts p missing =
     ap (λ (ms : Moments). moment_of ms p) (append_assoc so_far (at_moment t seen) (at_moment t acts)) ∙ found_later so_far (at_moment t seen ++ at_moment t acts) p missing
 
@@ -82,7 +82,7 @@ goes_on net situation schedule =
     along net situation schedule (GoesOn net schedule) (goes_on_at_end net schedule) (λ so_far t acts may. goes_on_before net schedule so_far t (completed net situation so_far t) acts)
 
 -- a link that completes at t has its activation its duration before
-completes_means : (so_far : Moments) (t : ℕ) (link : Link) (duration : ℕ) → completes so_far t link duration ≡ true → (a : ℕ) × (moment_of so_far link.from ≡ Some a) × (a + duration ≡ t)
+pub completes_means : (so_far : Moments) (t : ℕ) (link : Link) (duration : ℕ) → completes so_far t link duration ≡ true → (a : ℕ) × (moment_of so_far link.from ≡ Some a) × (a + duration ≡ t)
 completes_means so_far t link duration done = go (moment_of so_far link.from) refl done
   where
     go : (o : Option ℕ) → moment_of so_far link.from ≡ o → elim o [ Some a ↦ (a + duration) == t | None ↦ false ] ≡ true → (a : ℕ) × (moment_of so_far link.from ≡ Some a) × (a + duration ≡ t)
@@ -90,11 +90,11 @@ completes_means so_far t link duration done = go (moment_of so_far link.from) re
     go (Some a) is done = (a, is, eqb-true (a + duration) t done)
 
 -- a point that is completed is the end of a link that completes
-abbrev Completion : Moments → ℕ → List Link → List ℕ → PointId → Type 0
+abbrev pub Completion : Moments → ℕ → List Link → List ℕ → PointId → Type 0
 Completion so_far t links durations point =
     (i : ℕ) × (link : Link) × (duration : ℕ) × (slice_get links i ≡ Some link) × (slice_get durations i ≡ Some duration) × (same_point link.to point ≡ true) × (completes so_far t link duration ≡ true)
 
-completed_means : (so_far : Moments) (t : ℕ) (links : List Link) (durations : List ℕ) (point : PointId) → is_completed so_far t links durations point ≡ true → Completion so_far t links durations point
+pub completed_means : (so_far : Moments) (t : ℕ) (links : List Link) (durations : List ℕ) (point : PointId) → is_completed so_far t links durations point ≡ true → Completion so_far t links durations point
 completed_means so_far t [] durations point done = absurd (false≢true done)
 completed_means so_far t (link ∷ links) [] point done = absurd (false≢true done)
 completed_means so_far t (link ∷ links) (duration ∷ durations) point done =

@@ -1,5 +1,5 @@
 -- Each rule keeps truth of a strategy that controls the network.
-use Rattle.std.proofs.Common.{◌≡◌, ◌≢◌, ℕ, zero, suc, pos, length, take, get_or, add-one, ◌<◌, ◌≤◌, ◌+ℤ◌, ◌-ℤ◌, ◌≤ℤ◌, ◌<ℤ◌, List, Option, Some, None, inl, inr, sym, ap, subst, ◌∙◌, arith, nat_abs}
+use Rattle.std.proofs.Common.{◌≡◌, ◌≢◌, ℕ, zero, suc, pos, length, take, get_or, add-one, ◌<◌, ◌≤◌, ◌+ℤ◌, ◌≤ℤ◌, ◌<ℤ◌, List, Option, Some, None, inl, inr, sym, ap, subst, ◌∙◌, arith, nat_abs}
 use Rattle.std.specs.Prelude.{slice_get}
 use Rattle.std.specs.List.{All, AllByRecursion, Contains}
 use Rattle.std.proofs.Math.Seq.{take-length}
@@ -52,7 +52,7 @@ joined schedule first second edge holds_first holds_second meet from to looser =
     omega (arith, ints, holds_first, holds_second, same_meet, same_from, same_to, looser)
 
 -- an ordinary edge asks for no longest duration
-free : (net : Plan) (situation : List ℕ) (label : Option LinkId) → label ≡ None → TakesLongest net situation label
+pub free : (net : Plan) (situation : List ℕ) (label : Option LinkId) → label ≡ None → TakesLongest net situation label
 free net situation label ordinary = subst (TakesLongest net situation) (sym ordinary) tt
 
 -- labels that are one ask for one longest duration

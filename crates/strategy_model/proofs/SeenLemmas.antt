@@ -1,7 +1,5 @@
 -- The schedule of lower bounds and waits depends at each moment on the completions up to it alone.
-use Rattle.std.proofs.Common.{◌≡◌, ℕ, zero, suc, ◌+◌, ◌<◌, ◌≤◌, min, List, Option, Some, None, length, refl, ap, sym, ◌∙◌, arith, inl, inr}
-use Rattle.std.specs.Prelude.{slice_get}
-use Rattle.std.specs.List.{AllZip, slice_index}
+use Rattle.std.proofs.Common.{◌≡◌, ℕ, zero, suc, ◌<◌, ◌≤◌, List, Option, Some, None, refl, ap, sym, ◌∙◌, arith, inl, inr}
 use Rattle.std.proofs.lemmas.Bool.{cases_lt}
 use Rattle.net_model.specs.Network.{Plan, IsPlan, IsPoint, IsExecutable}
 use Rattle.net_model.specs.Edges.{IsLinkOf}
@@ -71,9 +69,9 @@ module _ (net : Plan) (edges : List Edge) (order : List PointId) (plan : IsPlan 
   sooner_in situation first second is_situation is_first is_second (suc limit) point within is_point =
       elim (kind net point is_point) [
         | inl executable ↦ no_later net edges second point (moment_in first point) (is_second.executable point executable) (λ edge holds.
-          let falls = falls_to net edges order plan closed ordered point edge holds in
-          let sooner = sooner_in situation first second is_situation is_first is_second limit edge.to (omega (arith, falls, within)) (edge_sound net edges closed edge holds.among).to_point in
-          held_no_longer first second point edge holds ((is_first.executable point executable).not_before edge holds) (λ by_then. sooner) (λ name link declared ends by_then.
+            let falls = falls_to net edges order plan closed ordered point edge holds in
+            let sooner = sooner_in situation first second is_situation is_first is_second limit edge.to (omega (arith, falls, within)) (edge_sound net edges closed edge holds.among).to_point in
+            held_no_longer first second point edge holds ((is_first.executable point executable).not_before edge holds) (λ by_then. sooner) (λ name link declared ends by_then.
             let (duration, its, fits) = duration_of net.links situation name.0 link is_situation declared in
             let lasts = is_first.contingent name link duration declared its in
             let lasts_second = is_second.contingent name link duration declared its in

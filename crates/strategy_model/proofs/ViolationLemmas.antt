@@ -1,22 +1,21 @@
 -- No edge of a closed list is violated by the schedule of lower bounds and waits: from a violated edge a rule gives one of
 -- a lower measure.
-use Rattle.std.proofs.Common.{◌≡◌, ◌≢◌, ◌⊎◌, ℕ, zero, suc, ℤ, pos, negsuc, ◌+◌, ◌*◌, ◌<◌, ◌≤◌, ◌<ℤ◌, ◌≤ℤ◌, ◌+ℤ◌, ◌-ℤ◌, min, unsigned_abs, List, Option, Some, None, refl, ap, sym, ◌∙◌, subst, arith, inl, inr}
+use Rattle.std.proofs.Common.{◌≡◌, ◌⊎◌, ℕ, zero, suc, ℤ, pos, negsuc, ◌+◌, ◌*◌, ◌<◌, ◌≤◌, ◌<ℤ◌, ◌≤ℤ◌, ◌+ℤ◌, ◌-ℤ◌, min, unsigned_abs, List, Option, Some, None, refl, ap, sym, ◌∙◌, arith, inl, inr}
 use Rattle.std.specs.Prelude.{slice_get}
 use Rattle.std.specs.Int.{int_max}
 use Rattle.std.specs.Option.{option_map_or}
 use Rattle.std.specs.List.{Contains}
 use Rattle.std.proofs.lemmas.Int.{ints, int_max_is}
-use Rattle.std.proofs.lemmas.Bool.{cases_lt, cases_eq}
+use Rattle.std.proofs.lemmas.Bool.{cases_eq}
 use Rattle.std.proofs.lemmas.Option.{none-some, same_Some}
 use Rattle.net_model.specs.Network.{Plan, IsPlan, IsExecutable}
 use Rattle.net_model.specs.Edges.{IsLinkOf}
-use Rattle.net_model.specs.Rules.{is_negative, moved_to_activation, link_edge}
-use Rattle.net_model.specs.declared.ids.PointId.{PointId}
+use Rattle.net_model.specs.Rules.{moved_to_activation}
 use Rattle.net_model.specs.declared.ids.LinkId.{LinkId}
 use Rattle.net_model.specs.declared.part.Edge.{Edge}
 use Rattle.net_model.specs.declared.part.Link.{Link}
 use Rattle.strategy_model.specs.Situations.{IsSituation, IsDuration, moment_in}
-use Rattle.strategy_model.specs.Dispatch.{Stands, IsClosed, HoldsBack, ComesAtOnce, IsDispatched, awaited, moment_after, completion_in}
+use Rattle.strategy_model.specs.Dispatch.{Stands, IsClosed, HoldsBack, IsDispatched, awaited, moment_after, completion_in}
 use Rattle.strategy_model.proofs.PlayLemmas.{link_sound}
 use Rattle.strategy_model.proofs.CompareLemmas.{duration_of}
 use Rattle.strategy_model.proofs.ExactLemmas.{below_zero}
@@ -161,8 +160,8 @@ module _ (net : Plan) (edges : List Edge) (situation schedule : List ℕ) (plan 
         impossible made (stands_upper_case net edges closed edge next name among next_among ordinary labelled meets negative from_zero) (omega (arith, marked, falls, low)) (record {
           late = omega (arith, ints, asks, late);
           sooner = λ label its.
-            let same : completion_in net schedule label ≡ completion_in net schedule name = ap (completion_in net schedule) (same_Some label name (sym its ∙ labelled)) in
-            omega (arith, ints, same, before, late, from_zero);
+              let same : completion_in net schedule label ≡ completion_in net schedule name = ap (completion_in net schedule) (same_Some label name (sym its ∙ labelled)) in
+              omega (arith, ints, same, before, late, from_zero);
         })
 
     -- an ordinary edge from 0 on whose end is held back by another edge

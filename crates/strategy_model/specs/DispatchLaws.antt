@@ -1,12 +1,12 @@
 -- What closed lists of edges with an order give.
-use Rattle.std.specs.Prelude.{◌≡◌, ◌⊎◌, ℕ, ◌≤◌, List, Some}
-use Rattle.std.specs.List.{All, Contains}
+use Rattle.std.specs.Prelude.{◌≡◌, ℕ, List, Some}
+use Rattle.std.specs.List.{All}
 use Rattle.net_model.specs.Network.{Plan, IsPlan}
 use Rattle.net_model.specs.declared.ids.PointId.{PointId}
 use Rattle.net_model.specs.declared.part.Edge.{Edge}
 use Rattle.strategy_model.specs.Situations.{IsSituation, Satisfies}
 use Rattle.strategy_model.specs.Plays.{play}
-use Rattle.strategy_model.specs.Control.{Controls, IsControllable, IsEarliest}
+use Rattle.strategy_model.specs.Control.{Controls, IsEarliest}
 use Rattle.strategy_model.specs.Edges.{HoldsOf}
 use Rattle.strategy_model.specs.Dispatch.{IsClosed, IsOrder, IsDispatched, Dispatches, SameCompletions, SameExecutions, IsDynamic}
 use Rattle.strategy_model.specs.declared.tree.Tree.{Tree}

@@ -2,6 +2,8 @@
 
 ghost use Rattle.strategy_model.specs.Laws.{CompletionFollowsActivation, PlaysAgree, BoundKeepsTruth, LinkKeepsTruth, NoCaseKeepsTruth, UpperCaseKeepsTruth, LowerCaseKeepsTruth, CrossCaseKeepsTruth, RemovalKeepsTruth, RulesKeepTruth, DerivationsAreTrue, RulesKeepEdges, LoopsExcludeSchedules, LoopsExcludeStrategies, RefutationsExcludeStrategies, LoopsOfBoundsExcludeSchedules, LoopsOfBoundsExcludeStrategies, AtMostOneEarliest, ExactRulesKeepTruth, ExactDerivationsHaveEdges, ExactDerivationsAreTrue, NegativeCyclesExcludeStrategies};
 
+pub mod dispatch;
+
 /// In a play each contingent point comes its link's duration after its activation point.
 pub fn completion_follows_activation()
     ensures { CompletionFollowsActivation }

@@ -1,0 +1,100 @@
+-- Where the edges of a closed list are true of every strategy that controls the network, no such strategy is ahead of the
+-- schedule of lower bounds and waits.
+use Rattle.std.proofs.Common.{◌≡◌, ℕ, zero, suc, ◌<◌, ◌≤◌, List, [], Option, Some, None, refl, ap, sym, ◌∙◌, arith, inl, inr}
+use Rattle.std.specs.List.{All}
+use Rattle.std.proofs.lemmas.Bool.{cases_lt}
+use Rattle.std.proofs.lemmas.Int.{ints}
+use Rattle.std.proofs.lemmas.List.Elements.{All-contains}
+use Rattle.net_model.specs.Network.{Plan, IsPlan, IsPoint}
+use Rattle.net_model.specs.declared.ids.PointId.{PointId}
+use Rattle.net_model.specs.declared.ids.LinkId.{LinkId}
+use Rattle.net_model.specs.declared.part.Edge.{Edge}
+use Rattle.strategy_model.specs.Situations.{IsSituation, moment_in}
+use Rattle.strategy_model.specs.Plays.{play}
+use Rattle.strategy_model.specs.Control.{Controls}
+use Rattle.strategy_model.specs.Edges.{HoldsIn, HoldsOf}
+use Rattle.strategy_model.specs.Dispatch.{IsClosed, IsOrder, HoldsBack, IsDispatched, awaited}
+use Rattle.strategy_model.specs.DispatchLaws.{DispatchedAreEarliest}
+use Rattle.strategy_model.specs.declared.tree.Tree.{Tree}
+use Rattle.strategy_model.proofs.PlayLemmas.{link_sound}
+use Rattle.strategy_model.proofs.AgreeLemmas.{played_length}
+use Rattle.strategy_model.proofs.CompareLemmas.{completion_follows_activation, duration_of}
+use Rattle.strategy_model.proofs.RuleLemmas.{free, wait_kept}
+use Rattle.strategy_model.proofs.EarliestLemmas.{place_by_place}
+use Rattle.strategy_model.proofs.ExactLemmas.{below_zero}
+use Rattle.strategy_model.proofs.ClosedLemmas.{edge_sound, label_sound}
+use Rattle.strategy_model.proofs.OrderLemmas.{rank, falls_to, falls_to_activation}
+use Rattle.strategy_model.proofs.KindLemmas.{kind}
+use Rattle.strategy_model.proofs.ViolationLemmas.{size_of, bound_awaited, wait_awaited, completion_is}
+use Rattle.strategy_model.proofs.SeenLemmas.{no_later, dispatched_are_one}
+use Rattle.strategy_model.proofs.CompletenessLemmas.{closed_lists_give_strategies}
+
+module _ (net : Plan) (edges : List Edge) (order : List PointId) (plan : IsPlan net) (closed : IsClosed net edges) (ordered : IsOrder net edges order) (situation schedule : List ℕ) (is_situation : IsSituation net situation) (dispatched : IsDispatched net edges situation schedule) (strategy : Tree) (controls : Controls strategy net) (all : All (HoldsOf net strategy) edges) (other : List ℕ) (played : play strategy net situation ≡ Some other) where
+  -- a point of the play isn't held back longer by an edge whose end comes no sooner in the play
+  held : (point : PointId) (edge : Edge) → HoldsBack edges point edge → moment_in schedule edge.to ≤ moment_in other edge.to → awaited net schedule edge ≤ moment_in other point
+  held point edge holds later = by edge.label refl
+    where
+      true_edge : HoldsOf net strategy edge
+      true_edge = All-contains (HoldsOf net strategy) edges edge all holds.among
+
+      at : moment_in other edge.from ≡ moment_in other point
+      at = ap (moment_in other) holds.begins
+
+      by : (label : Option LinkId) → edge.label ≡ label → awaited net schedule edge ≤ moment_in other point
+      by None ordinary =
+          let size = size_of edge.weight (below_zero edge holds.negative) in
+          let asks = bound_awaited net schedule edge ordinary in
+          let keeps : HoldsIn other edge = true_edge situation other is_situation (free net situation edge.label ordinary) played in
+          omega (arith, ints, size, asks, keeps, later, at)
+      by (Some name) labelled =
+          let size = size_of edge.weight (below_zero edge holds.negative) in
+          let asks = wait_awaited net schedule edge name labelled in
+          let (link, declared, ends) = label_sound net edges closed edge name holds.among labelled in
+          let completion = completion_is net schedule name link declared in
+          let (duration, its, fits) = duration_of net.links situation name.0 link is_situation declared in
+          let lasts = dispatched.contingent name link duration declared its in
+          let lasts_other = completion_follows_activation net strategy situation other name link duration plan played declared its in
+          let from : moment_in schedule edge.to ≡ moment_in schedule link.from = ap (moment_in schedule) ends in
+          let from_other : moment_in other edge.to ≡ moment_in other link.from = ap (moment_in other) ends in
+          elim (cases_lt (moment_in other edge.from) (moment_in other link.to)) [
+            | inl before ↦
+                let keeps : HoldsIn other edge = wait_kept net strategy name link edge situation other plan controls true_edge labelled declared ends is_situation played before in
+                omega (arith, ints, size, asks, keeps, later, at)
+            | inr after ↦ omega (arith, asks, completion, lasts, lasts_other, from, from_other, later, after, at)
+          ]
+
+  -- no point comes sooner in the play
+  not_ahead : (limit : ℕ) (point : PointId) → rank order point < limit → IsPoint net point → moment_in schedule point ≤ moment_in other point
+  not_ahead zero point within is_point = absurd (omega (arith, within))
+  not_ahead (suc limit) point within is_point =
+      elim (kind net point is_point) [
+        | inl executable ↦ no_later net edges schedule point (moment_in other point) (dispatched.executable point executable) (λ edge holds.
+            let falls = falls_to net edges order plan closed ordered point edge holds in
+            held point edge holds (not_ahead limit edge.to (omega (arith, falls, within)) (edge_sound net edges closed edge holds.among).to_point))
+        | inr ending ↦
+            let link = ending.link in
+            let (duration, its, fits) = duration_of net.links situation ending.name.0 link is_situation ending.declared in
+            let lasts = dispatched.contingent ending.name link duration ending.declared its in
+            let lasts_other = completion_follows_activation net strategy situation other ending.name link duration plan played ending.declared its in
+            let at : moment_in schedule link.to ≡ moment_in schedule point = ap (moment_in schedule) ending.ends in
+            let at_other : moment_in other link.to ≡ moment_in other point = ap (moment_in other) ending.ends in
+            let falls = falls_to_activation net edges order plan closed ordered ending.name link ending.declared in
+            let same_place : rank order link.to ≡ rank order point = ap (rank order) ending.ends in
+            let rest = not_ahead limit link.from (omega (arith, falls, same_place, within)) (link_sound net plan ending.name.0 link ending.declared).from_point in
+            omega (arith, lasts, lasts_other, at, at_other, rest)
+      ]
+
+pub dispatched_are_earliest : DispatchedAreEarliest
+dispatched_are_earliest net edges order situation schedule plan closed ordered all is_situation dispatched =
+    let (strategy, controls, dispatches) = closed_lists_give_strategies net edges order plan closed ordered in
+    let (made, played, is_made) = dispatches situation is_situation in
+    let same : made ≡ schedule = dispatched_are_one net edges order situation made schedule plan closed ordered is_situation is_made dispatched in
+    record {
+      is_situation = is_situation;
+      strategy = strategy;
+      controls = controls;
+      played = played ∙ ap (λ (s : List ℕ). Some s) same;
+      earliest = λ other its controls_too played_too.
+          let size = played_length net situation its other [] 0 played_too in
+          place_by_place schedule its (dispatched.complete ∙ sym size) (λ k within. not_ahead net edges order plan closed ordered situation schedule is_situation dispatched other controls_too (all other controls_too) its played_too (suc (rank order (record { 0 = k }))) (record { 0 = k }) (omega arith) (let long = dispatched.complete in omega (arith, within, long)));
+    }

@@ -1,0 +1,40 @@
+//! Laws about closed lists of edges and the schedules of lower bounds and waits that they give.
+
+ghost use Rattle.strategy_model.specs.DispatchLaws.{ClosedListsGiveStrategies, DispatchedSatisfy, DispatchedExist, DispatchedAreOne, DispatchedSeeAlone, DispatchedAreEarliest, DynamicRulesArePlayed};
+
+/// A closed list of edges with an order gives a strategy that controls the network and plays the schedule of lower bounds
+/// and waits in every situation.
+pub fn closed_lists_give_strategies()
+    ensures { ClosedListsGiveStrategies }
+{}
+
+/// The schedule of lower bounds and waits of a closed list satisfies the network.
+pub fn dispatched_satisfy()
+    ensures { DispatchedSatisfy }
+{}
+
+/// A closed list of edges with an order has a schedule of lower bounds and waits in every situation.
+pub fn dispatched_exist()
+    ensures { DispatchedExist }
+{}
+
+/// In a situation it has one alone.
+pub fn dispatched_are_one()
+    ensures { DispatchedAreOne }
+{}
+
+/// What the schedule of lower bounds and waits executes up to a moment depends on the completions up to it alone.
+pub fn dispatched_see_alone()
+    ensures { DispatchedSeeAlone }
+{}
+
+/// Where the edges of the list are true of every strategy that controls the network, the schedule of lower bounds and
+/// waits is the earliest.
+pub fn dispatched_are_earliest()
+    ensures { DispatchedAreEarliest }
+{}
+
+/// Every dynamic rule is what some strategy plays.
+pub fn dynamic_rules_are_played()
+    ensures { DynamicRulesArePlayed }
+{}
