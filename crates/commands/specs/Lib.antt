@@ -9,3 +9,6 @@ pub mod Calls
 pub mod Serves
 pub mod Single
 pub mod Reading
+pub mod Asked
+pub mod Pairs
+pub mod Phases

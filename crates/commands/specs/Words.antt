@@ -1,7 +1,8 @@
 -- The words of a line that is printed, and what the buffer of an answer holds. This project's own choice.
-use Rattle.std.specs.Prelude.{ℕ, List, map, length}
+use Rattle.std.specs.Prelude.{ℕ, List, map}
 use Rattle.std.specs.Fmt.{decimal, signed_decimal}
-use Rattle.texts.specs.Printing.{printed_line}
+use Rattle.std.specs.List.{flat_map}
+use Rattle.texts.specs.Printing.{after_blank, printed_line}
 use Rattle.commands.specs.declared.words.Word.{Word}
 use Rattle.commands.specs.declared.words.Word.TheVariants.{Text, Number, Signed, Name}
 
@@ -11,6 +12,10 @@ word_text (Text text) = text.now
 word_text (Number number) = decimal number
 word_text (Signed number) = signed_decimal number
 word_text (Name bytes) = bytes.now
+
+-- these words, each after a blank
+abbrev pub words_after : List Word → List ℕ
+words_after words = flat_map after_blank (map word_text words)
 
 -- the line of these words: one blank between, and a line end
 abbrev pub line_of : List Word → List ℕ

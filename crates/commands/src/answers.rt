@@ -2,7 +2,7 @@
 
 ghost use Rattle.std.specs.Prelude.{◌≡◌, ◌+◌, ◌≤◌, ◌++◌, [], length, IfOk, OnOk, is_ok, if◌then◌else◌};
 ghost use Rattle.commands.specs.Limits.{least_room};
-ghost use Rattle.commands.specs.Words.{line_of, word_text};
+ghost use Rattle.commands.specs.Words.{line_of, word_text, words_after};
 
 use crate::words::Word;
 use itoa::Buffer;
@@ -73,6 +73,56 @@ impl Answer {
         ensures text { self.new.text ≡ self.old.text ++ line_of words.now }
         ensures capacity { self.old.capacity ≤ self.new.capacity }
     {
-        let _ = words;
+        if let Some((first, others)) = words.split_first() {
+            self.put_word(*first);
+            self.put_others(others);
+        }
+        self.put_bytes(b"\n");
+    }
+
+    /// Puts a line of these words in place of what stood there, without memory: that of a refusal.
+    pub fn refuse(&mut self, words: &[Word])
+        requires { length (line_of words.now) ≤ least_room }
+        ensures text { self.new.text ≡ line_of words.now }
+        ensures capacity { self.old.capacity ≤ self.new.capacity }
+    {
+        let _ = &self.bytes;
+        self.clear();
+        self.put_line(words);
+    }
+
+    /// Puts these words, for which there is room, each after a blank.
+    fn put_others(&mut self, words: &[Word])
+        requires { length self.old.text + length (words_after words.now) ≤ self.old.capacity }
+        ensures text { self.new.text ≡ self.old.text ++ words_after words.now }
+        ensures capacity { self.old.capacity ≤ self.new.capacity }
+    {
+        for word in words {
+            self.put_bytes(b" ");
+            self.put_word(*word);
+        }
+    }
+
+    /// Puts a word, for which there is room.
+    fn put_word(&mut self, word: Word)
+        requires { length self.old.text + length (word_text word) ≤ self.old.capacity }
+        ensures text { self.new.text ≡ self.old.text ++ word_text word.entry }
+        ensures capacity { self.old.capacity ≤ self.new.capacity }
+    {
+        match word {
+            Word::Text(text) => self.put_bytes(text.as_bytes()),
+            Word::Name(name) => self.put_bytes(name),
+            Word::Number(number) => self.put_bytes(Buffer::new().format(number).as_bytes()),
+            Word::Signed(number) => self.put_bytes(Buffer::new().format(number).as_bytes()),
+        }
+    }
+
+    /// Puts bytes, for which there is room.
+    fn put_bytes(&mut self, bytes: &[u8])
+        requires { length self.old.text + length bytes.now ≤ self.old.capacity }
+        ensures text { self.new.text ≡ self.old.text ++ bytes.now }
+        ensures capacity { self.old.capacity ≤ self.new.capacity }
+    {
+        self.bytes.extend_from_slice(bytes).unwrap();
     }
 }
