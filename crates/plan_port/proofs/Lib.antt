@@ -1,5 +1,5 @@
 pub mod Talks
 pub mod Windows
-pub mod Decisions
+pub mod FirstLines
 pub mod Readings
-pub mod Counting
+pub mod Answering

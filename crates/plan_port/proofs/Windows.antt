@@ -1,14 +1,12 @@
 -- The bytes of a window after a take after them, and the place of a line end in them.
-use Rattle.std.proofs.Common.{◌≡◌, ℕ, ◌+◌, ◌-◌, ◌<◌, ◌≤◌, Bool, true, false, cond, nat_lt, List, [], ◌∷◌, ◌++◌, length, take, drop, slice_range, Some, None, refl, sym, ap, ◌∙◌, arith, eq-eqb}
+use Rattle.std.proofs.Common.{◌≡◌, ℕ, ◌+◌, ◌-◌, ◌≤◌, Bool, true, false, cond, nat_lt, List, [], ◌++◌, length, take, drop, slice_range, Some, None, refl, sym, ap, ◌∙◌, arith, eq-eqb}
 use Rattle.std.specs.Option.{option_map}
-use Rattle.std.specs.List.{position, position_or_len, concat, All}
-use Rattle.std.proofs.lemmas.List.{append-nil, take_at, drop_at, take-append-le, drop-append-le, drop-take, drop-drop, length-take-le, length-drop, length-append, length-take}
-use Rattle.std.proofs.lemmas.List.Elements.{All-nil, All-cons}
+use Rattle.std.specs.List.{position, position_or_len}
+use Rattle.std.proofs.lemmas.List.{take_at, drop_at, take-append-le, drop-append-le, drop-take, drop-drop, length-take-le, length-drop, length-append, length-take}
 use Rattle.std.proofs.lemmas.List.Folds.{prefix_len-append}
 use Rattle.std.proofs.lemmas.List.Sums.{prefix_len-le-length}
 use Rattle.std.proofs.lemmas.Option.{none-some}
-use Rattle.plan_port.specs.Talk.{pieces_given}
-use Rattle.plan_port.specs.Reading.{GivesPieces}
+use Rattle.plan_port.specs.Talk.{bytes_given}
 use Rattle.plan_port.specs.declared.ports.Took.{Took}
 use Rattle.plan_port.specs.declared.ports.Took.TheVariants.{Bytes, End, Failed}
 use Rattle.std.proofs.lemmas.Slice.{between_is, take-put_mid_below}
@@ -82,18 +80,11 @@ module _ (p : ℕ → Bool) where
   pub none_from_position : (xs : List ℕ) → None ≡ position p xs → position_or_len p xs ≡ length xs
   none_from_position xs e = none_from_test (nat_lt (position_or_len p xs) (length xs)) (position_or_len p xs) (length xs) refl (prefix_len-le-length _ xs) e
 
--- one piece
-pub one_piece : (bytes : List ℕ) → concat (bytes ∷ []) ≡ bytes
-one_piece bytes = append-nil bytes
-
-pub filled_one : (bytes : List ℕ) → 0 < length bytes → All (λ (piece : List ℕ). 0 < length piece) (bytes ∷ [])
-filled_one bytes h = All-cons (λ (piece : List ℕ). 0 < length piece) bytes [] h (All-nil (λ (piece : List ℕ). 0 < length piece))
-
--- a take that gave no bytes gave no piece
-pub takes_nothing : (took : Took) (into : List ℕ) → ((n : ℕ) → took ≡ Bytes n → ⊥) → (pieces_given took into ≡ []) × GivesPieces took (pieces_given took into)
-takes_nothing (Bytes n) into h = absurd (h n refl)
-takes_nothing End into h = (refl, refl)
-takes_nothing Failed into h = (refl, refl)
+-- a take that gave no bytes gave none
+pub gives_nothing : (took : Took) (into : List ℕ) → ((n : ℕ) → took ≡ Bytes n → ⊥) → bytes_given took into ≡ []
+gives_nothing (Bytes n) into h = absurd (h n refl)
+gives_nothing End into h = refl
+gives_nothing Failed into h = refl
 
 -- a line end that was found after the part that has none
 pub found : (p : ℕ → Bool) (items : List ℕ) (s m e place : ℕ) → s ≤ m → m ≤ e → e ≤ length items → position_or_len p (slice_range items s m) ≡ m - s → Some place ≡ position p (slice_range items m e) → Some (m - s + place) ≡ position p (slice_range items s e)
@@ -117,9 +108,6 @@ not_found p items s m e le le' within none is =
       ap (λ o. option_map (λ i. length (slice_range items s m) + i) o) is ∙ sym after ∙ ap (λ (l : List ℕ). position p l) whole,
       ap (λ (l : List ℕ). position_or_len p l) (sym whole) ∙ place ∙ omega arith,
     )
-
-pub filled_none : (pieces : List (List ℕ)) → pieces ≡ [] → All (λ (piece : List ℕ). 0 < length piece) pieces
-filled_none pieces is = λ k d h. absurd (omega (arith, ap (λ (l : List (List ℕ)). length l) is))
 
 -- what is empty in one list of bytes is empty in each
 pub empty_range : (xs ys : List ℕ) (i j : ℕ) → i ≤ j → j ≤ length xs → slice_range xs i j ≡ [] → slice_range ys i j ≡ []

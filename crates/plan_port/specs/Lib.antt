@@ -1,3 +1,4 @@
+pub mod Limits
 pub mod Talk
 pub mod Writing
 pub mod Lines

@@ -1,7 +1,7 @@
--- A port in memory.
-use Rattle.std.specs.Prelude.{◌≡◌, ◌⊎◌, ℕ, ◌+◌, ◌-◌, ◌<◌, min, Bool, true, false, ◌==◌, if◌then◌else◌, List, [], ◌∷◌, length, take, drop, slice_index}
+-- A port in memory. This project's own choice.
+use Rattle.std.specs.Prelude.{◌≡◌, ◌⊎◌, ℕ, ◌-◌, ◌<◌, min, Bool, true, false, ◌==◌, if◌then◌else◌, List, [], ◌∷◌, length, take, drop, Some, slice_index}
 use Rattle.std.specs.List.{list_any}
-use Rattle.plan_port.specs.Talk.{Talk, with_pieces, with_put}
+use Rattle.plan_port.specs.Talk.{Talk, Seen, silence, raised, with_pieces, with_put, with_failed_take, with_failed_put}
 use Rattle.plan_port.specs.declared.ports.Took.{Took}
 use Rattle.plan_port.specs.declared.ports.Took.TheVariants.{Bytes, End, Failed}
 use Rattle.plan_port.specs.declared.ports.Sent.{Sent}
@@ -20,11 +20,16 @@ pub record Memory : Type 0 where
   pub read_faults : ℕ
   pub write_faults : ℕ
 
+-- what contracts see of it: all that they see of any port
+abbrev pub seen_of : Memory → Seen
+seen_of port =
+    record { talk = Some port.talk; left = Some port.left; read_faults = port.read_faults; write_faults = port.write_faults }
+
 -- a port over which nothing was said
 abbrev pub unused : (input cuts failing_takes failing_puts : List ℕ) → Memory
 unused input cuts failing_takes failing_puts =
     record {
-      talk = record { taken = []; put = [] };
+      talk = silence;
       left = input;
       cuts = cuts;
       failing_takes = failing_takes;
@@ -34,10 +39,6 @@ unused input cuts failing_takes failing_puts =
       read_faults = 0;
       write_faults = 0;
     }
-
--- a count with one more, up to the last value of a u64
-abbrev pub raised : ℕ → ℕ
-raised count = min (count + 1) 18446744073709551615
 
 -- the call with this number is listed
 abbrev pub is_listed : List ℕ → ℕ → Bool
@@ -52,6 +53,16 @@ limit cuts number place =
 abbrev pub after_piece : Memory → ℕ → Memory
 after_piece port size =
     record port { talk = with_pieces port.talk (take size port.left ∷ []); left = drop size port.left }
+
+-- the port after a take that failed
+abbrev pub after_failed_take : Memory → Memory
+after_failed_take port =
+    record port { talk = with_failed_take port.talk; read_faults = raised port.read_faults }
+
+-- the port after a put that failed
+abbrev pub after_failed_put : Memory → Memory
+after_failed_put port =
+    record port { talk = with_failed_put port.talk; write_faults = raised port.write_faults }
 
 -- a take is the one with the next number. It fails where that is listed, or where there is no memory to keep its piece.
 -- Else it gives the most that its cut, the place and what is left allow, from the front of what is left.
@@ -69,7 +80,7 @@ TakesNext old new End into =
 TakesNext old new Failed into =
     let number = raised old.takes in
     ((is_listed old.failing_takes number ≡ true) ⊎ (0 < length old.left))
-    × (new ≡ record old { takes = number; read_faults = raised old.read_faults })
+    × (new ≡ after_failed_take (record old { takes = number }))
 
 -- a put is the one with the next number. It fails where that is listed, or where there is no memory to keep the piece.
 -- Else it writes the whole piece.
@@ -79,5 +90,4 @@ PutsNext old new (Wrote size) piece =
     (is_listed old.failing_puts number ≡ false)
     × (size ≡ length piece)
     × (new ≡ record old { talk = with_put old.talk piece; puts = number })
-PutsNext old new _ piece =
-    new ≡ record old { puts = raised old.puts; write_faults = raised old.write_faults }
+PutsNext old new _ piece = new ≡ after_failed_put (record old { puts = raised old.puts })

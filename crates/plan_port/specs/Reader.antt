@@ -1,8 +1,10 @@
 -- A reader of lines, as its callers see it. This project's own choice.
-use Rattle.std.specs.Prelude.{◌≡◌, ℕ, ◌+◌, ◌-◌, ◌<◌, ◌≤◌, Bool, true, false, if◌then◌else◌, List, [], ◌∷◌, ◌++◌, length, take, All, Option, Some, None, is_some, IfSome}
+use Rattle.std.specs.Prelude.{◌≡◌, ℕ, ◌+◌, ◌-◌, ◌<◌, ◌≤◌, Bool, true, false, ◌||◌, if◌then◌else◌, List, [], ◌∷◌, ◌++◌, length, take, drop, All, Option, Some, None, is_some, IfSome}
 use Rattle.std.specs.List.{concat}
-use Rattle.plan_port.specs.Talk.{Talk, AddsPieces, LosesFront}
-use Rattle.plan_port.specs.Lines.{Decision, Undecided, Whole, Long, Much, decision, next, NextText, NextEnd, NextTooLong, NextTooMuch}
+use Rattle.texts.specs.Lines.{InputLine, input_lines, line_size}
+use Rattle.plan_port.specs.Talk.{Seen, Talk, WhereTold, LosesFront, with_pieces, with_failed_take, raised}
+use Rattle.plan_port.specs.Lines.{Coming, Comes, coming, DecideNothing}
+use Rattle.plan_port.specs.Lines.{TooLong as LongLine, TooMuch as MuchInput}
 use Rattle.plan_port.specs.declared.lines.Line.{Line}
 use Rattle.plan_port.specs.declared.lines.Line.TheVariants.{Text, End, TooLong, TooMuch, ReadFault}
 
@@ -44,66 +46,10 @@ abbrev pub fresh : ℕ → Reader
 fresh most =
     record { text = []; kept = []; number = 0; before = 0; most = most; ended = false; stopped = None }
 
--- the reader with these pieces kept as well, and its input ended or not
-abbrev pub with_pieces_kept : Reader → List (List ℕ) → Bool → Reader
-with_pieces_kept reader pieces ended =
-    record reader { text = []; kept = reader.kept ++ concat pieces; ended = ended }
-
--- a reader took these pieces from a port, each while the bytes before it decided nothing
-pub record Takes (longest : ℕ) (old new : Reader) (pieces : List (List ℕ)) (talk_before talk_after : Option Talk) (left_before left_after : Option (List ℕ)) : Type 0 where
-  pub reader : new ≡ with_pieces_kept old pieces new.ended
-  pub talk : AddsPieces talk_before talk_after pieces
-  pub left : LosesFront left_before left_after (concat pieces)
-  pub filled : All (λ piece. 0 < length piece) pieces
-  pub undecided : (k : ℕ) → k < length pieces → decision longest (room old) (old.kept ++ concat (take k pieces)) ≡ Undecided
-  pub none_after_end : old.ended ≡ true → (pieces ≡ []) × (new.ended ≡ true)
-  pub all_at_end : old.ended ≡ false → new.ended ≡ true → IfSome left_after (λ bytes. bytes ≡ [])
-
--- the answer at the end of the input: these bytes are the last line, or there is none
-abbrev pub last_answer : List ℕ → Line
-last_answer [] = End
-last_answer (byte ∷ bytes) = Text
-
--- the answer by what the kept bytes decide; undecided bytes are the last line, or a take failed
-abbrev pub answer_by : Decision → ℕ → Reader → Line
-answer_by (Whole text rest) longest reader = Text
-answer_by Long longest reader = TooLong longest
-answer_by Much longest reader = TooMuch reader.most
-answer_by Undecided longest reader = if reader.ended then last_answer reader.kept else ReadFault
-
--- the answer of a reader that has taken all that it needs
-abbrev pub answer : ℕ → Reader → Line
-answer longest reader = answer_by (decision longest (room reader) reader.kept) longest reader
-
--- the reader after it gave this line, which took so many bytes of the input
-abbrev pub gives_line : Reader → (text rest : List ℕ) → ℕ → Reader
-gives_line reader text rest count =
-    record reader { text = text; kept = rest; number = reader.number + 1; before = reader.before + count }
-
--- the reader after it gave these bytes as the last line, if there are any
-abbrev pub gives_last : Reader → List ℕ → Reader
-gives_last reader [] = reader
-gives_last reader (byte ∷ bytes) = gives_line reader (byte ∷ bytes) [] (length (byte ∷ bytes))
-
--- the reader after it stopped with this answer
-abbrev pub stops_with : Reader → Line → Reader
-stops_with reader line = record reader { stopped = Some line }
-
--- the same, where that answer refuses the line that was begun
-abbrev pub begins_and_stops : Reader → Line → Reader
-begins_and_stops reader line = record reader { number = reader.number + 1; stopped = Some line }
-
--- the reader after the answer, by what the kept bytes decide
-abbrev pub after_by : Decision → ℕ → Reader → Reader
-after_by (Whole text rest) longest reader = gives_line reader text rest (length text + 1)
-after_by Long longest reader = begins_and_stops reader (TooLong longest)
-after_by Much longest reader = begins_and_stops reader (TooMuch reader.most)
-after_by Undecided longest reader =
-    if reader.ended then gives_last reader reader.kept else stops_with reader ReadFault
-
--- the reader after that answer
-abbrev pub after_answer : ℕ → Reader → Reader
-after_answer longest reader = after_by (decision longest (room reader) reader.kept) longest reader
+-- the answer says that a take failed
+abbrev pub is_read_fault : Line → Bool
+is_read_fault ReadFault = true
+is_read_fault _ = false
 
 -- whether the answer begins a line: it gives one, or refuses one
 abbrev pub lines_begun : Line → ℕ
@@ -118,12 +64,98 @@ NamesLimit (TooLong limit) longest most = limit ≡ longest
 NamesLimit (TooMuch limit) longest most = limit ≡ most
 NamesLimit _ longest most = Unit {0}
 
--- the answer is the next line of all bytes that were left, and the new reader goes on with the rest
-abbrev pub GivesNext : ℕ → Reader → Reader → Line → List ℕ → List ℕ → Type 0
-GivesNext longest old new Text before after =
-    next longest (room old) (remaining old before) ≡ NextText new.text (remaining new after)
-GivesNext longest old new End before after =
-    (next longest (room old) (remaining old before) ≡ NextEnd) × (remaining new after ≡ [])
-GivesNext longest old new (TooLong _) before after = next longest (room old) (remaining old before) ≡ NextTooLong
-GivesNext longest old new (TooMuch _) before after = next longest (room old) (remaining old before) ≡ NextTooMuch
-GivesNext longest old new _ before after = Unit {0}
+-- the reader with these pieces kept as well, and its input ended or not
+abbrev pub with_pieces_kept : Reader → List (List ℕ) → Bool → Reader
+with_pieces_kept reader pieces ended =
+    record reader { text = []; kept = reader.kept ++ concat pieces; ended = ended }
+
+-- the talk after some takes, the last of which failed or not
+abbrev pub after_takes : List (List ℕ) → (failed : Bool) → Talk → Talk
+after_takes pieces failed talk =
+    if failed then with_failed_take (with_pieces talk pieces) else with_pieces talk pieces
+
+-- a count of failed takes after some takes, the last of which failed or not
+abbrev pub counted_takes : (failed : Bool) → ℕ → ℕ
+counted_takes failed count = if failed then raised count else count
+
+-- a reader took these pieces from a port, each while the bytes before it decided nothing, and it learned only then that the
+-- input had ended. Only the last take may have failed.
+pub record Takes (longest : ℕ) (old full : Reader) (pieces : List (List ℕ)) (failed : Bool) (before after : Seen) : Type 0 where
+  pub reader : full ≡ with_pieces_kept old pieces full.ended
+  pub talk : WhereTold before.talk after.talk (λ was is. is ≡ after_takes pieces failed was)
+  pub left : LosesFront before.left after.left (concat pieces)
+  pub filled : All (λ piece. 0 < length piece) pieces
+  pub undecided : (k : ℕ) → k < length pieces → DecideNothing longest (room old) (old.kept ++ concat (take k pieces))
+  pub none_after_end : old.ended ≡ true → (pieces ≡ []) × (full.ended ≡ true)
+  pub all_at_end : old.ended ≡ false → full.ended ≡ true → IfSome after.left (λ bytes. bytes ≡ [])
+  pub none_at_end : old.ended ≡ false → full.ended ≡ true → DecideNothing longest (room full) full.kept
+  pub read_faults : after.read_faults ≡ counted_takes failed before.read_faults
+  pub write_faults : after.write_faults ≡ before.write_faults
+
+-- the answer to a line that is judged so. One without its end is a line only where the input has ended; else a take failed.
+abbrev pub answer_by : Coming → ℕ → Reader → InputLine → Line
+answer_by Comes longest reader line = if line.ended || reader.ended then Text else ReadFault
+answer_by LongLine longest reader line = TooLong longest
+answer_by MuchInput longest reader line = TooMuch reader.most
+
+-- the answer by the lines that the reader holds
+abbrev pub answer_to : ℕ → Reader → List InputLine → Line
+answer_to longest reader [] = if reader.ended then End else ReadFault
+answer_to longest reader (line ∷ others) = answer_by (coming longest (room reader) line) longest reader line
+
+-- the answer of a reader that has taken all that it needs
+abbrev pub answer : ℕ → Reader → Line
+answer longest reader = answer_to longest reader (input_lines reader.kept)
+
+-- the reader without the first of the lines that it holds, which it gave out where the answer is a text
+abbrev pub without_line : Line → List InputLine → Reader → Reader
+without_line Text (line ∷ others) reader =
+    record reader { text = line.text; kept = drop (line_size line) reader.kept; before = reader.before + line_size line }
+without_line _ _ reader = reader
+
+-- the reader after that answer
+abbrev pub after_answer : Line → Reader → Reader
+after_answer line reader =
+    record (without_line line (input_lines reader.kept) reader) { number = reader.number + lines_begun line; stopped = stop_of line }
+
+-- what a reader did that had not stopped: it took the pieces that it needed and no more, the answer is what the bytes that it
+-- then held decide, and it goes on with the others. Where a take failed, it holds bytes that decide nothing.
+pub record ReadsNext (longest : ℕ) (old new : Reader) (line : Line) (before after : Seen) : Type 0 where
+  pub pieces : List (List ℕ)
+  pub full : Reader
+  pub takes : Takes longest old full pieces (is_read_fault line) before after
+  pub answered : line ≡ answer longest full
+  pub goes_on : new ≡ after_answer line full
+  pub number : new.number ≡ old.number + lines_begun line
+  pub most : new.most ≡ old.most
+  pub stopped : new.stopped ≡ stop_of line
+  pub limit : NamesLimit line longest old.most
+  pub at_end : line ≡ End → (new.ended ≡ true) × (new.kept ≡ [])
+  pub cut_off : line ≡ ReadFault → (new.ended ≡ false) × DecideNothing longest (room new) new.kept
+
+-- this is what comes of the first of these lines
+abbrev pub FirstIs : Coming → (longest room : ℕ) → List InputLine → Type 0
+FirstIs how longest room [] = ⊥
+FirstIs how longest room (line ∷ others) = coming longest room line ≡ how
+
+-- the new reader goes on with the lines after this one, which it gave
+pub record GivesLine (longest : ℕ) (old new : Reader) (before after : List ℕ) (line : InputLine) : Type 0 where
+  pub lines : input_lines (remaining old before) ≡ line ∷ input_lines (remaining new after)
+  pub comes : coming longest (room old) line ≡ Comes
+  pub text : new.text ≡ line.text
+  pub place : new.before ≡ old.before + line_size line
+
+-- the answer is what comes of the first line of all bytes that were left
+abbrev pub GivesFirst : ℕ → Reader → Reader → Line → (before after : List ℕ) → Type 0
+GivesFirst longest old new Text before after = (line : InputLine) × GivesLine longest old new before after line
+GivesFirst longest old new End before after =
+    (input_lines (remaining old before) ≡ []) × (remaining new after ≡ [])
+GivesFirst longest old new (TooLong _) before after = FirstIs LongLine longest (room old) (input_lines (remaining old before))
+GivesFirst longest old new (TooMuch _) before after = FirstIs MuchInput longest (room old) (input_lines (remaining old before))
+GivesFirst longest old new _ before after = remaining new after ≡ remaining old before
+
+-- the answer is what comes of the first line of all bytes that were left, and no byte is lost: those before the kept ones and
+-- those still to be given are as many as before
+pub record GivesNext (longest : ℕ) (old new : Reader) (line : Line) (before after : List ℕ) : Type 0 where
+  pub first : GivesFirst longest old new line before after
+  pub whole : new.before + length (remaining new after) ≡ old.before + length (remaining old before)

@@ -1,56 +1,75 @@
 -- The steps of a reader. No public clause cites this module.
-use Rattle.std.specs.Prelude.{◌≡◌, ℕ, ◌<◌, Bool, true, false, nat_lt, nat_le, ◌&&◌, ◌||◌, if◌then◌else◌, List, [], length, All, Option, IfSome}
-use Rattle.std.specs.List.{concat}
-use Rattle.plan_port.specs.Talk.{Talk, AddsPieces, LosesFront}
-use Rattle.plan_port.specs.Lines.{Decision, Undecided, Whole, Long, Much, decision}
+use Rattle.std.specs.Prelude.{ℕ, ◌+◌, Bool, true, false, nat_lt, nat_le, ◌&&◌, ◌||◌, ◌==◌, if◌then◌else◌, List, [], ◌∷◌, ◌++◌, length, take}
+use Rattle.texts.specs.Lines.{InputLine, input_lines}
+use Rattle.plan_port.specs.Lines.{Coming, Comes, TooLong, TooMuch, coming}
 use Rattle.plan_port.specs.Reader.{Reader, room}
 use Rattle.plan_port.specs.declared.lines.Outcome.{Outcome}
 use Rattle.plan_port.specs.declared.lines.Outcome.TheVariants.{Decided, Fault}
 use Rattle.plan_port.specs.declared.ports.Took.{Took}
-use Rattle.plan_port.specs.declared.ports.Took.TheVariants.{Bytes, End}
+use Rattle.plan_port.specs.declared.ports.Took.TheVariants.{Bytes, End, Failed}
 use Rattle.plan_port.specs.declared.lines.Verdict.{Verdict}
 use Rattle.plan_port.specs.declared.lines.Verdict.TheVariants.{Unclear, Line, BeyondLine, BeyondInput}
 
--- a decision without its bytes: of a whole line only the length
-abbrev pub verdict_of : Decision → Verdict
-verdict_of Undecided = Unclear
-verdict_of (Whole text rest) = Line (length text)
-verdict_of Long = BeyondLine
-verdict_of Much = BeyondInput
+-- a line ends at byte 10
+abbrev pub ends_line : ℕ → Bool
+ends_line byte = byte == 10
 
 -- the verdict on a line of this length so far, whose end has come or not
-abbrev pub verdict : ℕ → Bool → ℕ → ℕ → Verdict
-verdict length closed longest room =
-    if nat_lt longest length && nat_le longest room then BeyondLine
-    else (if nat_lt room length || (closed && nat_le room length) then BeyondInput
-    else (if closed then Line length else Unclear))
+abbrev pub verdict_on : (size : ℕ) → (closed : Bool) → (longest room : ℕ) → Verdict
+verdict_on size closed longest room =
+    if nat_lt longest size && nat_le longest room then BeyondLine
+    else (if nat_lt room size || (closed && nat_le room size) then BeyondInput
+    else (if closed then Line size else Unclear))
 
--- how many pieces, of what total length, a take gives
-abbrev pub GivesPieces : Took → List (List ℕ) → Type 0
-GivesPieces (Bytes n) pieces = (0 < n) × (length pieces ≡ 1) × (length (concat pieces) ≡ n)
-GivesPieces _ pieces = pieces ≡ []
+-- the verdict on a line by what comes of it
+abbrev pub verdict_by : Coming → InputLine → Verdict
+verdict_by Comes line = if line.ended then Line (length line.text) else Unclear
+verdict_by TooLong line = BeyondLine
+verdict_by TooMuch line = BeyondInput
 
--- one take over a port gave these pieces
-pub record TakesOnce (took : Took) (pieces : List (List ℕ)) (talk_before talk_after : Option Talk) (left_before left_after : Option (List ℕ)) : Type 0 where
-  pub talk : AddsPieces talk_before talk_after pieces
-  pub left : LosesFront left_before left_after (concat pieces)
-  pub given : GivesPieces took pieces
-  pub filled : All (λ piece. 0 < length piece) pieces
-  pub at_end : took ≡ End → IfSome left_after (λ bytes. bytes ≡ [])
+-- the verdict on the first of these lines
+abbrev pub verdict_to : (longest room : ℕ) → List InputLine → Verdict
+verdict_to longest room [] = Unclear
+verdict_to longest room (line ∷ others) = verdict_by (coming longest room line) line
+
+-- the verdict on the first line of these bytes
+abbrev pub verdict : (longest room : ℕ) → List ℕ → Verdict
+verdict longest room bytes = verdict_to longest room (input_lines bytes)
+
+-- the outcome of the taking by the verdict on the bytes held and whether the input has ended
+abbrev pub outcome_by : Verdict → Bool → Outcome
+outcome_by Unclear false = Fault
+outcome_by verdict ended = Decided verdict
+
+-- how the taking for a line ended, by the reader that it leaves
+abbrev pub outcome_of : ℕ → Reader → Outcome
+outcome_of longest reader = outcome_by (verdict longest (room reader) reader.kept) reader.ended
+
+-- the outcome is that a take failed
+abbrev pub is_fault : Outcome → Bool
+is_fault Fault = true
+is_fault _ = false
+
+-- whether a take failed
+abbrev pub has_failed : Took → Bool
+has_failed Failed = true
+has_failed _ = false
 
 -- whether the input has ended after a take
 abbrev pub ended_after : Took → Bool → Bool
 ended_after End ended = true
 ended_after _ ended = ended
 
--- the outcome by what the kept bytes decide and whether the input has ended
-abbrev pub outcome_by : Decision → Bool → Outcome
-outcome_by Undecided false = Fault
-outcome_by Undecided true = Decided Unclear
-outcome_by (Whole text rest) ended = Decided (Line (length text))
-outcome_by Long ended = Decided BeyondLine
-outcome_by Much ended = Decided BeyondInput
+-- the bytes that a take gave into a slice, as pieces: one, or none
+abbrev pub pieces_given : Took → List ℕ → List (List ℕ)
+pieces_given (Bytes n) into = take n into ∷ []
+pieces_given _ into = []
 
--- how the taking for a line ended, by the reader that it leaves
-abbrev pub outcome_of : ℕ → Reader → Outcome
-outcome_of longest reader = outcome_by (decision longest (room reader) reader.kept) reader.ended
+-- the reader with these bytes kept as well, and its input ended or not
+abbrev pub with_bytes_kept : Reader → List ℕ → Bool → Reader
+with_bytes_kept reader bytes ended = record reader { text = []; kept = reader.kept ++ bytes; ended = ended }
+
+-- the reader after it gave this line, which took so many bytes of the input
+abbrev pub gives_line : Reader → (text rest : List ℕ) → ℕ → Reader
+gives_line reader text rest count =
+    record reader { text = text; kept = rest; number = reader.number + 1; before = reader.before + count }

@@ -1,14 +1,28 @@
--- What a writing of some bytes did.
-use Rattle.std.specs.Prelude.{ℕ, ◌<◌, List, take}
+-- What a writing of some bytes did. This project's own choice.
+use Rattle.std.specs.Prelude.{◌≡◌, ℕ, ◌<◌, List, length, take}
+use Rattle.plan_port.specs.Talk.{Seen, Talk, WhereTold, with_put, with_failed_put, raised}
 use Rattle.plan_port.specs.declared.writing.Written.{Written}
 use Rattle.plan_port.specs.declared.writing.Written.TheVariants.{All, Part}
 
--- the bytes that were put
-abbrev pub bytes_put : Written → List ℕ → List ℕ
-bytes_put All bytes = bytes
-bytes_put (Part count) bytes = take count bytes
+-- a part is less than the whole
+abbrev pub IsPartOf : Written → ℕ → Type 0
+IsPartOf All size = Unit {0}
+IsPartOf (Part count) size = count < size
 
--- where only a part was put, it is less than the whole, and there is this cause
-abbrev pub IsPart : Written → ℕ → Type 0 → Type 0
-IsPart All size Cause = Unit {0}
-IsPart (Part count) size Cause = (count < size) × Cause
+-- the talk after a writing: it gained the bytes put, and where not all were put, the last thing in it is a put that failed
+abbrev pub after_writing : Written → List ℕ → Talk → Talk
+after_writing All bytes talk = with_put talk bytes
+after_writing (Part count) bytes talk = with_failed_put (with_put talk (take count bytes))
+
+-- the count of failed puts after a writing
+abbrev pub counted_writing : Written → ℕ → ℕ
+counted_writing All count = count
+counted_writing (Part _) count = raised count
+
+-- what a writing did: it put all bytes, or the first ones until one put failed, which was not tried again
+pub record Writes (old new : Seen) (written : Written) (bytes : List ℕ) : Type 0 where
+  pub part : IsPartOf written (length bytes)
+  pub talk : WhereTold old.talk new.talk (λ before after. after ≡ after_writing written bytes before)
+  pub left : new.left ≡ old.left
+  pub read_faults : new.read_faults ≡ old.read_faults
+  pub write_faults : new.write_faults ≡ counted_writing written old.write_faults

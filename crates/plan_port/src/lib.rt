@@ -1,15 +1,15 @@
 //! The outside of the program: a port that gives and takes bytes, a reader of lines over it, and writing to it.
 #![tactic(auto)]
 
+mod limits;
 mod lines;
 mod memory;
 mod ports;
 mod standard;
-#[cfg(test)]
-mod tests;
 mod window;
 mod writing;
 
+pub use limits::{MOST_LINE, MOST_READ, limits_are_defined};
 pub use lines::{Line, LineReader};
 pub use memory::MemoryPort;
 pub use ports::{Port, Sent, Took};

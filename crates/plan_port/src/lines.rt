@@ -1,9 +1,9 @@
 //! The lines of an input that comes over a port.
-ghost use Rattle.std.specs.Prelude.{◌≡◌, ◌≢◌, ℕ, ◌+◌, ◌<◌, ◌≤◌, ◌^◌, true, false, List, [], length, take, drop, Some, None, IfOk, IfSome, IfNone, is_some};
-ghost use Rattle.plan_port.specs.Talk.{Rose};
-ghost use Rattle.plan_port.specs.Lines.{decision};
-ghost use Rattle.plan_port.specs.Reader.{Reader, IsReader, Takes, GivesNext, fresh, room, remaining, stop_of, answer, after_answer, with_pieces_kept, gives_line, gives_last, last_answer, stops_with, begins_and_stops, lines_begun, NamesLimit};
-ghost use Rattle.plan_port.specs.Reading.{TakesOnce, verdict, verdict_of, outcome_of, ended_after};
+ghost use Rattle.std.specs.Prelude.{◌≡◌, ◌≢◌, ℕ, ◌+◌, ◌<◌, ◌≤◌, ◌^◌, true, false, List, [], length, take, drop, Some, None, IfOk, IfSome, IfNone};
+ghost use Rattle.plan_port.specs.Limits.{most_line, most_read};
+ghost use Rattle.plan_port.specs.Talk.{TakesOnce, WhereTold, bytes_given};
+ghost use Rattle.plan_port.specs.Reader.{Reader, IsReader, Takes, ReadsNext, GivesNext, fresh, room, stop_of, answer, after_answer, with_pieces_kept};
+ghost use Rattle.plan_port.specs.Reading.{verdict, verdict_on, outcome_of, is_fault, ended_after, with_bytes_kept, gives_line};
 
 use crate::ports::{Port, Took};
 use crate::window::Window;
@@ -24,7 +24,7 @@ pub enum Line {
     TooMuch(u64),
     /// A take failed before the next line was decided.
     ReadFault,
-    /// There was no memory for the line. It never comes for lines of at most 65,536 bytes.
+    /// There was no memory for the line. It never comes for lines of at most [`MOST_LINE`] bytes.
     OutOfMemory,
 }
 
@@ -60,7 +60,7 @@ pub(crate) enum Outcome {
 /// The verdict on a line that has this many bytes so far and whose end has come or not.
 fn judge(size: u64, is_closed: bool, longest: u64, room: u64) -> Verdict
     requires { size < 2 ^ 63 }
-    ensures { result ≡ verdict size is_closed longest room }
+    ensures { result ≡ verdict_on size is_closed longest room }
 {
     if longest < size && longest <= room {
         Verdict::BeyondLine
@@ -73,7 +73,7 @@ fn judge(size: u64, is_closed: bool, longest: u64, room: u64) -> Verdict
     }
 }
 
-/// A reader of the lines of an input. It holds at most 65,537 bytes, reserved when it is made.
+/// A reader of the lines of an input. It holds at most `MOST_LINE` bytes and one more, reserved when it is made.
 #[derive(Drop)]
 pub struct LineReader {
     window: Window,
@@ -85,7 +85,8 @@ pub struct LineReader {
 }
 
 impl Model for LineReader {
-    ghost use Rattle.std.specs.Prelude.{◌<◌};
+    ghost use Rattle.std.specs.Prelude.{◌≤◌};
+    ghost use Rattle.plan_port.specs.Limits.{most_read};
     ghost use Rattle.plan_port.specs.Reader.{Reader, IsReader};
 
     ghost Value = { Reader };
@@ -100,7 +101,7 @@ impl Model for LineReader {
       stopped = r.stopped;
     } };
 
-    ghost invariant = { λ r. (r.most < 2147483648) × IsReader (record {
+    ghost invariant = { λ r. (r.most ≤ most_read) × IsReader (record {
       text = r.window.text;
       kept = r.window.kept;
       number = r.number;
@@ -112,10 +113,10 @@ impl Model for LineReader {
 }
 
 impl LineReader {
-    /// A reader of an input that may have `most` bytes, fewer than 2^31, of which nothing was asked. `AllocError` comes
-    /// only for want of memory, and then nothing was made.
+    /// A reader of an input that may have `most` bytes, at most `MOST_READ`, of which nothing was asked. `AllocError`
+    /// comes only for want of memory, and then nothing was made.
     pub fn new(alloc: Global, most: u64) -> Result<LineReader, AllocError>
-        requires { most < 2 ^ 31 }
+        requires { most ≤ most_read }
         ensures { IfOk result (λ reader. reader ≡ fresh most) }
     {
         Ok(LineReader {
@@ -142,44 +143,27 @@ impl LineReader {
         self.number
     }
 
-    /// Reads the next line of the input that comes over the port, of at most `longest` bytes, which is 65,536 or less
+    /// Reads the next line of the input that comes over the port, of at most `longest` bytes, which is `MOST_LINE` or less
     /// and does not count the line end. It takes no memory, so `OutOfMemory` never comes. It takes from the port
     /// only while no whole line is kept, and judges the bytes one by one in their order, however they are cut:
     /// `TooLong` at byte `longest + 1` of the line, where that is among the first `most + 1` bytes of the input;
-    /// else `TooMuch` where byte `most + 1` of the input belongs to the line or is its end. `ReadFault` comes where
-    /// a take failed before that. These three are answered again by every later call, which takes nothing. `End`
-    /// comes where the input has ended and nothing is kept of it.
+    /// else `TooMuch` where byte `most + 1` of the input belongs to the line or is its end. `ReadFault` comes exactly where
+    /// a take failed before that, the last one that was made. These three are answered again by every later call, which
+    /// takes nothing. `End` comes where the input has ended and nothing is kept of it.
     pub fn next_line<P: Port>(&mut self, port: &mut P, longest: u32) -> Line
-        requires { longest ≤ 65536 }
+        requires { longest ≤ most_line }
         ensures repeated { IfSome self.old.stopped (λ line. (result ≡ line) × (self.new ≡ self.old) × (port.new ≡ port.old)) }
-        ensures stopped { self.new.stopped ≡ stop_of result }
-        ensures reads { IfNone self.old.stopped ((pieces : List (List ℕ)) × (full : Reader)
-            × Takes longest self.old full pieces (P.talk port.old) (P.talk port.new) (P.left port.old) (P.left port.new)
-            × (result ≡ answer longest full) × (self.new ≡ after_answer longest full)) }
-        ensures line { IfNone self.old.stopped (IfSome (P.left port.old) (λ before. IfSome (P.left port.new)
-            (λ after. GivesNext longest self.old self.new result before after))) }
-        // No byte is lost: those before the kept ones and those still to be given are the same number.
-        ensures whole { IfNone self.old.stopped (IfSome (P.left port.old) (λ before. IfSome (P.left port.new)
-            (λ after. self.new.before + length (remaining self.new after) ≡ self.old.before + length (remaining self.old before)))) }
-        ensures fault { IfNone self.old.stopped (result ≡ Line.ReadFault
-            → Rose (P.read_faults port.old) (P.read_faults port.new)) }
-        ensures counted { P.read_faults port.old < P.read_faults port.new → result ≡ Line.ReadFault }
-        ensures told { is_some (P.left port.new) ≡ is_some (P.left port.old) }
-        ensures read_faults { P.read_faults port.old ≤ P.read_faults port.new }
-        ensures write_faults { P.write_faults port.new ≡ P.write_faults port.old }
+        ensures reads { IfNone self.old.stopped (ReadsNext longest self.old self.new result (P.seen port.old) (P.seen port.new)) }
+        ensures line { IfNone self.old.stopped (WhereTold (P.seen port.old).left (P.seen port.new).left
+            (λ before after. GivesNext longest self.old self.new result before after)) }
         ensures valid { IsReader self.new }
-        ensures most { self.new.most ≡ self.old.most }
-        ensures number { IfNone self.old.stopped (self.new.number ≡ self.old.number + lines_begun result) }
-        ensures limit { IfNone self.old.stopped (NamesLimit result longest self.old.most) }
-        ensures text { result ≡ Line.Text → (self.old.before < self.new.before) × (self.new.number ≡ self.old.number + 1) }
-        ensures end_of_input { result ≡ Line.End → (self.new.ended ≡ true) × (self.new.kept ≡ []) × (self.new.number ≡ self.old.number) }
         ensures memory { result ≢ Line.OutOfMemory }
     {
         if let Some(line) = self.stopped() {
             return line;
         }
         let outcome = self.take_until_decided(port, longest);
-        self.give(outcome, longest)
+        self.answer(outcome, longest)
     }
 
     fn stopped(&self) -> Option<Line>
@@ -203,7 +187,7 @@ impl LineReader {
 
     /// What the kept bytes decide.
     fn decide(&mut self, longest: u32) -> Verdict
-        ensures value { result ≡ verdict_of (decision longest (room self.old) self.old.kept) }
+        ensures value { result ≡ verdict longest (room self.old) self.old.kept }
         ensures same { self.new ≡ self.old }
     {
         let room = self.most - self.before;
@@ -215,14 +199,9 @@ impl LineReader {
 
     /// Takes once from the port.
     fn fill<P: Port>(&mut self, port: &mut P) -> Took
-        requires { length self.old.kept < 65537 }
-        ensures took { (pieces : List (List ℕ))
-            × TakesOnce result pieces (P.talk port.old) (P.talk port.new) (P.left port.old) (P.left port.new)
-            × (self.new ≡ with_pieces_kept self.old pieces (ended_after result self.old.ended)) }
-        ensures failed { result ≡ Took.Failed → Rose (P.read_faults port.old) (P.read_faults port.new) }
-        ensures counted { P.read_faults port.old < P.read_faults port.new → result ≡ Took.Failed }
-        ensures read_faults { P.read_faults port.old ≤ P.read_faults port.new }
-        ensures write_faults { P.write_faults port.new ≡ P.write_faults port.old }
+        requires { length self.old.kept ≤ most_line }
+        ensures { (into : List ℕ) × TakesOnce (P.seen port.old) (P.seen port.new) result into
+            × (self.new ≡ with_bytes_kept self.old (bytes_given result into) (ended_after result self.old.ended)) }
     {
         let took = self.window.take_from(port);
         if took == Took::End {
@@ -233,14 +212,10 @@ impl LineReader {
 
     /// Takes from the port until the kept bytes decide the next line, the input ends or a take fails.
     fn take_until_decided<P: Port>(&mut self, port: &mut P, longest: u32) -> Outcome
-        requires { longest ≤ 65536 }
+        requires { longest ≤ most_line }
         ensures takes { (pieces : List (List ℕ))
-            × Takes longest self.old self.new pieces (P.talk port.old) (P.talk port.new) (P.left port.old) (P.left port.new) }
+            × Takes longest self.old self.new pieces (is_fault result) (P.seen port.old) (P.seen port.new) }
         ensures outcome { result ≡ outcome_of longest self.new }
-        ensures fault { result ≡ Outcome.Fault → Rose (P.read_faults port.old) (P.read_faults port.new) }
-        ensures counted { P.read_faults port.old < P.read_faults port.new → result ≡ Outcome.Fault }
-        ensures read_faults { P.read_faults port.old ≤ P.read_faults port.new }
-        ensures write_faults { P.write_faults port.new ≡ P.write_faults port.old }
     {
         self.forget_text();
         loop {
@@ -256,20 +231,34 @@ impl LineReader {
     }
 
     /// The answer after the taking.
-    fn give(&mut self, outcome: Outcome, longest: u32) -> Line
+    fn answer(&mut self, outcome: Outcome, longest: u32) -> Line
         requires running { self.old.stopped ≡ None }
         requires outcome { outcome ≡ outcome_of longest self.old }
         ensures answer { result ≡ answer longest self.old }
-        ensures after { self.new ≡ after_answer longest self.old }
+        ensures after { self.new ≡ after_answer result self.old }
+        ensures valid { IsReader self.new }
+    {
+        match outcome {
+            Outcome::Decided(verdict) => self.give(verdict, longest),
+            Outcome::Fault => self.fail(),
+        }
+    }
+
+    /// The answer by the verdict on what is kept.
+    fn give(&mut self, judged: Verdict, longest: u32) -> Line
+        requires running { self.old.stopped ≡ None }
+        requires judged { judged ≡ verdict longest (room self.old) self.old.kept }
+        requires ended { judged ≡ Verdict.Unclear → self.old.ended ≡ true }
+        ensures answer { result ≡ answer longest self.old }
+        ensures after { self.new ≡ after_answer result self.old }
         ensures valid { IsReader self.new }
     {
         let most = self.most;
-        match outcome {
-            Outcome::Decided(Verdict::Line(size)) => self.give_line(size),
-            Outcome::Decided(Verdict::Unclear) => self.give_last(),
-            Outcome::Decided(Verdict::BeyondLine) => self.refuse(Line::TooLong(longest)),
-            Outcome::Decided(Verdict::BeyondInput) => self.refuse(Line::TooMuch(most)),
-            Outcome::Fault => self.fail(),
+        match judged {
+            Verdict::Line(size) => self.give_line(size),
+            Verdict::Unclear => self.give_last(),
+            Verdict::BeyondLine => self.refuse(Line::TooLong(longest)),
+            Verdict::BeyondInput => self.refuse(Line::TooMuch(most)),
         }
     }
 
@@ -292,8 +281,9 @@ impl LineReader {
     fn give_last(&mut self) -> Line
         requires running { self.old.stopped ≡ None }
         requires within { self.old.before + length self.old.kept ≤ self.old.most }
-        ensures answer { result ≡ last_answer self.old.kept }
-        ensures after { self.new ≡ gives_last self.old self.old.kept }
+        ensures end { self.old.kept ≡ [] → (result ≡ Line.End) × (self.new ≡ self.old) }
+        ensures text { 0 < length self.old.kept → (result ≡ Line.Text)
+            × (self.new ≡ gives_line self.old self.old.kept [] (length self.old.kept)) }
         ensures valid { IsReader self.new }
     {
         let size = self.window.size();
@@ -311,7 +301,7 @@ impl LineReader {
         requires running { self.old.stopped ≡ None }
         requires stops { stop_of line ≡ Some line }
         ensures answer { result ≡ line }
-        ensures after { self.new ≡ begins_and_stops self.old line }
+        ensures after { self.new ≡ record self.old { number = self.old.number + 1; stopped = Some line } }
         ensures valid { IsReader self.new }
     {
         self.number += 1;
@@ -323,7 +313,7 @@ impl LineReader {
     fn fail(&mut self) -> Line
         requires running { self.old.stopped ≡ None }
         ensures answer { result ≡ Line.ReadFault }
-        ensures after { self.new ≡ stops_with self.old Line.ReadFault }
+        ensures after { self.new ≡ record self.old { stopped = Some Line.ReadFault } }
         ensures valid { IsReader self.new }
     {
         self.stopped = Some(Line::ReadFault);

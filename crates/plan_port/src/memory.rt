@@ -1,8 +1,7 @@
 //! A port in memory, whose takes can be cut short and whose calls can be made to fail.
-ghost use Rattle.std.specs.Prelude.{◌≡◌, ◌+◌, ◌<◌, ◌≤◌, [], length, min, take, drop, Some, IfSome, OnOk, OnErr};
-ghost use Rattle.std.specs.List.{concat};
-ghost use Rattle.plan_port.specs.Talk.{AddsPieces, AddsPut, LosesFront, Rose, TakesWithin, WritesWithin, pieces_given, bytes_written, with_put};
-ghost use Rattle.plan_port.specs.Memory.{Memory, unused, raised, is_listed, limit, after_piece, TakesNext, PutsNext};
+ghost use Rattle.std.specs.Prelude.{◌≡◌, ◌+◌, ◌<◌, ◌≤◌, [], length, min, take, drop, OnOk, OnErr};
+ghost use Rattle.plan_port.specs.Talk.{TakesOnce, PutsOnce, raised, with_put};
+ghost use Rattle.plan_port.specs.Memory.{Memory, seen_of, unused, is_listed, limit, after_piece, after_failed_take, after_failed_put, TakesNext, PutsNext};
 
 use crate::ports::{Port, Sent, Took};
 use std::alloc::{AllocError, Global};
@@ -14,6 +13,13 @@ pub(crate) struct TakenPiece {
     start: usize,
     end: usize,
     put_before: usize,
+}
+
+// How many pieces had been taken, and how many bytes put.
+#[derive(Clone, Copy, Debug)]
+pub(crate) struct Reached {
+    taken: usize,
+    put: usize,
 }
 
 /// A port over bytes in memory. It tells what was said over it and what is left.
@@ -32,12 +38,15 @@ pub struct MemoryPort {
     puts: u64,
     taken: Vec<TakenPiece>,
     output: Vec<u8>,
+    failed_take: Option<Reached>,
+    failed_put: Option<Reached>,
     read_faults: u64,
     write_faults: u64,
 }
 
 impl Model for MemoryPort {
     ghost use Rattle.std.specs.Prelude.{◌≤◌, map, drop, slice_range, length};
+    ghost use Rattle.std.specs.Option.{option_map};
     ghost use Rattle.plan_port.specs.Memory.{Memory};
 
     ghost Value = { Memory };
@@ -46,6 +55,8 @@ impl Model for MemoryPort {
       talk = record {
         taken = map (λ t. record { bytes = slice_range p.input.items t.start t.end; put_before = t.put_before }) p.taken.items;
         put = p.output.items;
+        failed_take = option_map (λ at. record { taken = at.taken; put = at.put }) p.failed_take;
+        failed_put = option_map (λ at. record { taken = at.taken; put = at.put }) p.failed_put;
       };
       left = drop p.position p.input.items;
       cuts = p.cuts.items;
@@ -81,6 +92,8 @@ impl MemoryPort {
             puts: 0,
             taken: Vec::new(alloc),
             output: Vec::new(alloc),
+            failed_take: None,
+            failed_put: None,
             read_faults: 0,
             write_faults: 0,
         }
@@ -91,6 +104,17 @@ impl MemoryPort {
         ensures { result.now ≡ self.now.talk.put }
     {
         &self.output
+    }
+
+    /// How far the talk has come.
+    fn reached(&self) -> Reached
+        ensures taken { result.taken ≡ length self.now.talk.taken }
+        ensures put { result.put ≡ length self.now.talk.put }
+    {
+        Reached {
+            taken: self.taken.len(),
+            put: self.output.len(),
+        }
     }
 
     /// Counts a take. Whether it is one that fails.
@@ -104,9 +128,9 @@ impl MemoryPort {
 
     fn fail_take(&mut self) -> Took
         ensures failed { result ≡ Took.Failed }
-        ensures counted { self.new ≡ record self.old { read_faults = raised self.old.read_faults } }
-        ensures grows { self.old.read_faults ≤ self.new.read_faults }
+        ensures counted { self.new ≡ after_failed_take self.old }
     {
+        self.failed_take = Some(self.reached());
         self.read_faults = self.read_faults.saturating_add(1);
         Took::Failed
     }
@@ -151,9 +175,9 @@ impl MemoryPort {
 
     fn fail_put(&mut self) -> Sent
         ensures failed { result ≡ Sent.Failed }
-        ensures counted { self.new ≡ record self.old { write_faults = raised self.old.write_faults } }
-        ensures grows { self.old.write_faults ≤ self.new.write_faults }
+        ensures counted { self.new ≡ after_failed_put self.old }
     {
+        self.failed_put = Some(self.reached());
         self.write_faults = self.write_faults.saturating_add(1);
         Sent::Failed
     }
@@ -169,7 +193,6 @@ impl MemoryPort {
     fn take_next(&mut self, into: &mut [u8]) -> Took
         requires { 0 < length into.old }
         ensures next { TakesNext self.old self.new result into.new }
-        ensures grows { self.old.read_faults ≤ self.new.read_faults }
     {
         if self.begin_take() {
             return self.fail_take();
@@ -186,7 +209,6 @@ impl MemoryPort {
 
     fn put_next(&mut self, piece: &[u8]) -> Sent
         ensures next { PutsNext self.old self.new result piece.now }
-        ensures grows { self.old.write_faults ≤ self.new.write_faults }
     {
         if self.begin_put() {
             return self.fail_put();
@@ -199,25 +221,14 @@ impl MemoryPort {
 }
 
 impl Port for MemoryPort {
-    ghost talk = { λ port. Some port.talk };
+    ghost use Rattle.plan_port.specs.Memory.{seen_of};
 
-    ghost left = { λ port. Some port.left };
-
-    ghost read_faults = { λ port. port.read_faults };
-
-    ghost write_faults = { λ port. port.write_faults };
+    ghost seen = { λ port. seen_of port };
 
     fn take(&mut self, into: &mut [u8]) -> Took
         requires { 0 < length into.old }
         ensures next { TakesNext self.old self.new result into.new }
-        ensures count { TakesWithin result (length into.new) }
-        ensures talk { AddsPieces (Some self.old.talk) (Some self.new.talk) (pieces_given result into.new) }
-        ensures left { LosesFront (Some self.old.left) (Some self.new.left) (concat (pieces_given result into.new)) }
-        ensures at_end { result ≡ Took.End → IfSome (Some self.new.left) (λ bytes. bytes ≡ []) }
-        ensures failed { result ≡ Took.Failed → Rose self.old.read_faults self.new.read_faults }
-        ensures counted { self.old.read_faults < self.new.read_faults → result ≡ Took.Failed }
-        ensures read_faults { self.old.read_faults ≤ self.new.read_faults }
-        ensures write_faults { self.new.write_faults ≡ self.old.write_faults }
+        ensures once { TakesOnce (seen_of self.old) (seen_of self.new) result into.new }
     {
         self.take_next(into)
     }
@@ -225,13 +236,7 @@ impl Port for MemoryPort {
     fn put(&mut self, piece: &[u8]) -> Sent
         requires { 0 < length piece.now }
         ensures next { PutsNext self.old self.new result piece.now }
-        ensures count { WritesWithin result (length piece.now) }
-        ensures talk { AddsPut (Some self.old.talk) (Some self.new.talk) (bytes_written result piece.now) }
-        ensures left { Some self.new.left ≡ Some self.old.left }
-        ensures failed { result ≡ Sent.Failed → Rose self.old.write_faults self.new.write_faults }
-        ensures counted { self.old.write_faults < self.new.write_faults → result ≡ Sent.Failed }
-        ensures read_faults { self.new.read_faults ≡ self.old.read_faults }
-        ensures write_faults { self.old.write_faults ≤ self.new.write_faults }
+        ensures once { PutsOnce (seen_of self.old) (seen_of self.new) result piece.now }
     {
         self.put_next(piece)
     }

@@ -1,5 +1,6 @@
 //! The port over standard input and output.
 ghost use Rattle.std.specs.Prelude.{◌≡◌};
+ghost use Rattle.plan_port.specs.Talk.{untold};
 
 use crate::ports::{Port, Sent, Took};
 use std::io::{Input, Print, Read};
@@ -16,8 +17,7 @@ pub struct StdPort<'a, R: Input + Print> {
 impl<'a, R: Input + Print> StdPort<'a, R> {
     /// A port that has had no fault.
     pub fn new(runtime: &'a R) -> StdPort<'a, R>
-        ensures read_faults { ⟦<StdPort<'a, R> as Port>⟧.read_faults result ≡ 0 }
-        ensures write_faults { ⟦<StdPort<'a, R> as Port>⟧.write_faults result ≡ 0 }
+        ensures { ⟦<StdPort<'a, R> as Port>⟧.seen result ≡ untold 0 0 }
     {
         StdPort {
             input: runtime.reader(),
@@ -40,15 +40,9 @@ impl<R: Input + Print> Drop for StdPort<'_, R> {
 }
 
 impl<R: Input + Print> Port for StdPort<'_, R> {
-    ghost use Rattle.std.specs.Prelude.{None};
+    ghost use Rattle.plan_port.specs.Talk.{untold};
 
-    ghost talk = { λ port. None };
-
-    ghost left = { λ port. None };
-
-    ghost read_faults = { λ port. port.read_faults };
-
-    ghost write_faults = { λ port. port.write_faults };
+    ghost seen = { λ port. untold port.read_faults port.write_faults };
 
     fn take(&mut self, into: &mut [u8]) -> Took {
         match self.input.read(into) {

@@ -1,16 +1,17 @@
 //! The bytes that a reader holds: the last line given, and those taken and not given out.
 ghost use Rattle.std.specs.Prelude.{◌≡◌, ℕ, ◌+◌, ◌<◌, ◌≤◌, List, [], ◌++◌, length, take, drop, IfOk, IfSome};
-ghost use Rattle.std.specs.List.{position, concat};
-ghost use Rattle.plan_port.specs.Talk.{Rose};
-ghost use Rattle.plan_port.specs.Lines.{ends_line};
-ghost use Rattle.plan_port.specs.Reading.{TakesOnce};
+ghost use Rattle.std.specs.List.{position};
+ghost use Rattle.plan_port.specs.Limits.{most_line};
+ghost use Rattle.plan_port.specs.Talk.{TakesOnce, bytes_given};
+ghost use Rattle.plan_port.specs.Reading.{ends_line};
 
+use crate::limits::MOST_LINE;
 use crate::ports::{Port, Took};
 use std::alloc::{AllocError, Global};
 use std::marker::Model;
 
 /// A line of the greatest length, and one byte that shows that it is longer.
-const CAPACITY: usize = 65_537;
+const CAPACITY: usize = MOST_LINE as usize + 1;
 
 #[derive(Drop)]
 pub(crate) struct Window {
@@ -24,22 +25,23 @@ pub(crate) struct Window {
 }
 
 impl Model for Window {
-    ghost use Rattle.std.specs.Prelude.{◌≡◌, ◌≤◌, ◌-◌, slice_range, vec_len};
+    ghost use Rattle.std.specs.Prelude.{◌≡◌, ◌≤◌, ◌+◌, ◌-◌, slice_range, vec_len};
     ghost use Rattle.std.specs.List.{position_or_len};
     ghost use Rattle.plan_port.specs.Held.{Held};
-    ghost use Rattle.plan_port.specs.Lines.{ends_line};
+    ghost use Rattle.plan_port.specs.Limits.{most_line};
+    ghost use Rattle.plan_port.specs.Reading.{ends_line};
 
     ghost Value = { Held };
 
     ghost view = { λ w. record {
       text = slice_range w.bytes.items w.text_start w.text_end;
       kept = slice_range w.bytes.items w.start w.end;
-      free = 65537 - w.end;
+      free = most_line + 1 - w.end;
     } };
 
-    ghost invariant = { λ w. (vec_len w.bytes ≡ 65537)
-        × (w.text_start ≤ w.text_end) × (w.text_end ≤ 65537)
-        × (w.start ≤ w.searched) × (w.searched ≤ w.end) × (w.end ≤ 65537)
+    ghost invariant = { λ w. (vec_len w.bytes ≡ most_line + 1)
+        × (w.text_start ≤ w.text_end) × (w.text_end ≤ most_line + 1)
+        × (w.start ≤ w.searched) × (w.searched ≤ w.end) × (w.end ≤ most_line + 1)
         × (position_or_len ends_line (slice_range w.bytes.items w.start w.searched) ≡ w.searched - w.start) };
 }
 
@@ -67,7 +69,7 @@ impl Window {
     /// How many bytes are kept.
     pub(crate) fn size(&self) -> usize
         ensures value { result ≡ length self.now.kept }
-        ensures small { result ≤ 65537 }
+        ensures small { result ≤ most_line + 1 }
     {
         self.end - self.start
     }
@@ -75,7 +77,7 @@ impl Window {
     /// Where the first line of the kept bytes ends, if its end has come.
     pub(crate) fn find_line_end(&mut self) -> Option<usize>
         ensures place { result ≡ position ends_line self.old.kept }
-        ensures small { IfSome result (λ place. place < 65537) }
+        ensures small { IfSome result (λ place. place ≤ most_line) }
         ensures same { self.new ≡ self.old }
     {
         let unsearched = &self.bytes[self.searched..self.end];
@@ -125,7 +127,7 @@ impl Window {
         requires { self.old.text ≡ [] }
         ensures text { self.new.text ≡ [] }
         ensures kept { self.new.kept ≡ self.old.kept }
-        ensures free { self.new.free + length self.new.kept ≡ 65537 }
+        ensures free { self.new.free + length self.new.kept ≡ most_line + 1 }
     {
         let (start, end) = (self.start, self.end);
         self.bytes.copy_within(start..end, 0);
@@ -138,15 +140,10 @@ impl Window {
 
     /// Takes once from the port, after the kept bytes. The last line is forgotten, since its place may be needed.
     pub(crate) fn take_from<P: Port>(&mut self, port: &mut P) -> Took
-        requires { length self.old.kept < 65537 }
-        ensures took { (pieces : List (List ℕ))
-            × TakesOnce result pieces (P.talk port.old) (P.talk port.new) (P.left port.old) (P.left port.new)
-            × (self.new.kept ≡ self.old.kept ++ concat pieces) }
+        requires { length self.old.kept ≤ most_line }
+        ensures took { (into : List ℕ) × TakesOnce (P.seen port.old) (P.seen port.new) result into
+            × (self.new.kept ≡ self.old.kept ++ bytes_given result into) }
         ensures text { self.new.text ≡ [] }
-        ensures failed { result ≡ Took.Failed → Rose (P.read_faults port.old) (P.read_faults port.new) }
-        ensures counted { P.read_faults port.old < P.read_faults port.new → result ≡ Took.Failed }
-        ensures read_faults { P.read_faults port.old ≤ P.read_faults port.new }
-        ensures write_faults { P.write_faults port.new ≡ P.write_faults port.old }
     {
         self.forget_text();
         if self.start == self.end || self.end == CAPACITY {
@@ -158,14 +155,9 @@ impl Window {
     /// The same where there is place.
     fn fill<P: Port>(&mut self, port: &mut P) -> Took
         requires { 0 < self.old.free }
-        ensures took { (pieces : List (List ℕ))
-            × TakesOnce result pieces (P.talk port.old) (P.talk port.new) (P.left port.old) (P.left port.new)
-            × (self.new.kept ≡ self.old.kept ++ concat pieces) }
+        ensures took { (into : List ℕ) × TakesOnce (P.seen port.old) (P.seen port.new) result into
+            × (self.new.kept ≡ self.old.kept ++ bytes_given result into) }
         ensures text { self.old.text ≡ [] → self.new.text ≡ [] }
-        ensures failed { result ≡ Took.Failed → Rose (P.read_faults port.old) (P.read_faults port.new) }
-        ensures counted { P.read_faults port.old < P.read_faults port.new → result ≡ Took.Failed }
-        ensures read_faults { P.read_faults port.old ≤ P.read_faults port.new }
-        ensures write_faults { P.write_faults port.new ≡ P.write_faults port.old }
     {
         let end = self.end;
         let took = port.take(&mut self.bytes[end..]);

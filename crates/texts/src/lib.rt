@@ -1,6 +1,7 @@
 //! What all texts share: their lines, the words of a line, and lines that are printed.
 #![tactic(auto)]
 
+pub mod laws;
 mod lines;
 mod printing;
 mod words;

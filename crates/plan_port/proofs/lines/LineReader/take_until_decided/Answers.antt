@@ -1,36 +1,49 @@
-use Rattle.std.proofs.Common.{◌≡◌, ◌<◌, ◌≤◌, length, sym, ap, subst, refl, ◌∙◌, arith}
-use Rattle.plan_port.specs.Lines.{Undecided, decision}
+use Rattle.std.proofs.Common.{◌≡◌, ◌<◌, ◌≤◌, ◌++◌, [], false, length, sym, ap, subst, refl, ◌∙◌, arith}
+use Rattle.plan_port.specs.Limits.{most_line}
+use Rattle.plan_port.specs.Lines.{DecideNothing}
 use Rattle.plan_port.specs.Reader.{Reader, room, Takes}
-use Rattle.plan_port.proofs.Decisions.{unclear, undecided_small}
-use Rattle.plan_port.proofs.Readings.{Takes-more, nearer, not_failed, distance}
+use Rattle.plan_port.specs.Reading.{has_failed, pieces_given}
+use Rattle.plan_port.proofs.FirstLines.{decide_nothing, nothing_is_small}
+use Rattle.plan_port.proofs.Readings.{Takes-none, Takes-more, nearer, not_failed, not_has_failed, distance}
 use Rattle.plan_port.proofs.lines.LineReader.take_until_decided.Goals as goal
+
+pub loop-self-init : goal.loop-self-init
+loop-self-init g c = ([], subst (λ (r : Reader). Takes c.args.longest c.args.self.now r [] false (g.P.Port.seen c.args.port.now) (g.P.Port.seen c.args.port.now)) (sym c.forget_text.ensures) (Takes-none c.args.longest c.args.self.now (g.P.Port.seen c.args.port.now)))
+
+pub fill-requires : goal.fill-requires
+fill-requires g c =
+    let longest = c.args.longest in
+    let before = c.loop-self.self in
+    let decides : DecideNothing longest (room before) before.kept = decide_nothing longest (room before) before.kept (sym c.decide-verdict.ensures.value ∙ c.if-is_clear.ensures.unclear refl) in
+    let small : length before.kept ≤ longest = (nothing_is_small longest (room before) before.kept decides).0 in
+    omega (arith, small, c.requires, ap (λ (r : Reader). length r.kept) c.decide-verdict.ensures.same)
 
 pub loop-self-smaller : goal.loop-self-smaller
 loop-self-smaller g c =
+    let longest = c.args.longest in
+    let before = c.loop-self.self in
     let mid = c.decide-verdict.new.self in
     let same = c.decide-verdict.ensures.same in
-    let clear = c.if-is_clear.ensures.unclear refl in
-    let was : decision c.args.longest (room c.loop-self.self) c.loop-self.self.kept ≡ Undecided = unclear _ (sym c.decide-verdict.ensures.value ∙ clear) in
-    let small = undecided_small c.args.longest (room c.loop-self.self) c.loop-self.self.kept was in
-    let size : length mid.kept ≤ 65536 = omega (arith, ap (λ (r : Reader). length r.kept) same) in
-    let took = c.fill.ensures.took in
-    let falls = nearer mid c.fill.new.self c.fill.result took.0 (not_failed c.fill.result c.in-Bytes.is) took.1.given (sym c.if-has_ended.ensures) size took.2 in
+    let decides : DecideNothing longest (room before) before.kept = decide_nothing longest (room before) before.kept (sym c.decide-verdict.ensures.value ∙ c.if-is_clear.ensures.unclear refl) in
+    let small : length before.kept ≤ longest = (nothing_is_small longest (room before) before.kept decides).0 in
+    let size : length mid.kept ≤ most_line = omega (arith, small, c.requires, ap (λ (r : Reader). length r.kept) same) in
+    let took = c.fill.ensures in
+    let falls = nearer mid c.fill.new.self c.fill.result took.0 (g.P.Port.seen c.loop-self.port) (g.P.Port.seen c.fill.new.port) (not_failed c.fill.result c.in-Bytes.is) took.1 (sym c.if-has_ended.ensures) size took.2 in
     subst (λ (r : Reader). distance c.fill.new.self < distance r) same falls
 
 pub loop-self-preserved : goal.loop-self-preserved
 loop-self-preserved g c =
+    let longest = c.args.longest in
+    let before = c.loop-self.self in
     let mid = c.decide-verdict.new.self in
     let same = c.decide-verdict.ensures.same in
     let inv = c.loop-self.invariant in
-    let clear = c.if-is_clear.ensures.unclear refl in
-    let was : decision c.args.longest (room c.loop-self.self) c.loop-self.self.kept ≡ Undecided = unclear _ (sym c.decide-verdict.ensures.value ∙ clear) in
-    let undecided : decision c.args.longest (room mid) mid.kept ≡ Undecided = subst (λ (r : Reader). decision c.args.longest (room r) r.kept ≡ Undecided) (sym same) was in
-    let took = c.fill.ensures.took in
-    let before = subst (λ (r : Reader). Takes c.args.longest c.args.self.now r inv.takes.0 (g.P.Port.talk c.args.port.now) (g.P.Port.talk c.loop-self.port) (g.P.Port.left c.args.port.now) (g.P.Port.left c.loop-self.port)) (sym same) inv.takes.1 in
-    let more = Takes-more c.args.longest c.args.self.now mid c.fill.new.self c.fill.result inv.takes.0 took.0 (g.P.Port.talk c.args.port.now) (g.P.Port.talk c.loop-self.port) (g.P.Port.talk c.fill.new.port) (g.P.Port.left c.args.port.now) (g.P.Port.left c.loop-self.port) (g.P.Port.left c.fill.new.port) before took.1 (sym c.if-has_ended.ensures) undecided took.2 in
-    let same_reads : ¬ (g.P.Port.read_faults c.loop-self.port < g.P.Port.read_faults c.fill.new.port) = λ risen. not_failed c.fill.result c.in-Bytes.is (c.fill.ensures.counted risen) in
-    record {
-      takes = (_, more);
-      reads = omega (arith, c.fill.ensures.read_faults, same_reads, inv.reads);
-      writes = c.fill.ensures.write_faults ∙ inv.writes;
-    }
+    let a = g.P.Port.seen c.args.port.now in
+    let b = g.P.Port.seen c.loop-self.port in
+    let was : DecideNothing longest (room before) before.kept = decide_nothing longest (room before) before.kept (sym c.decide-verdict.ensures.value ∙ c.if-is_clear.ensures.unclear refl) in
+    let decides : DecideNothing longest (room mid) mid.kept = subst (λ (r : Reader). DecideNothing longest (room r) r.kept) (sym same) was in
+    let took = c.fill.ensures in
+    let earlier = subst (λ (r : Reader). Takes longest c.args.self.now r inv.0 false a b) (sym same) inv.1 in
+    let more = Takes-more longest c.args.self.now mid c.fill.new.self c.fill.result took.0 inv.0 a b (g.P.Port.seen c.fill.new.port) earlier took.1 (sym c.if-has_ended.ensures) decides took.2 in
+    let kept : has_failed c.fill.result ≡ false = not_has_failed c.fill.result (not_failed c.fill.result c.in-Bytes.is) in
+    (inv.0 ++ pieces_given c.fill.result took.0, subst (λ f. Takes longest c.args.self.now c.fill.new.self (inv.0 ++ pieces_given c.fill.result took.0) f a (g.P.Port.seen c.fill.new.port)) kept more)

@@ -1,6 +1,6 @@
 use Rattle.std.proofs.Common.{ℕ, List, ap, ◌∙◌, arith}
 use Rattle.std.specs.List.{position, slice_range}
-use Rattle.plan_port.specs.Lines.{ends_line}
+use Rattle.plan_port.specs.Reading.{ends_line}
 use Rattle.plan_port.specs.Held.{Held}
 use Rattle.plan_port.proofs.Windows.{found, not_found}
 use Rattle.plan_port.proofs.window.Window.find_line_end.Goals as goal

@@ -1,0 +1,15 @@
+//! The greatest sizes of what comes over a port. They are this project's own choice.
+ghost use Rattle.std.specs.Prelude.{◌≡◌};
+ghost use Rattle.plan_port.specs.Limits.{most_line, most_read};
+
+/// The greatest number of bytes of a line for which a reader needs no memory.
+pub const MOST_LINE: u32 = 65_536;
+
+/// The greatest number of bytes that a reader may allow its input.
+pub const MOST_READ: u64 = 2_147_483_647;
+
+/// The limits of the code are those of the definitions.
+pub fn limits_are_defined()
+    ensures line { MOST_LINE ≡ most_line }
+    ensures read { MOST_READ ≡ most_read }
+{}
