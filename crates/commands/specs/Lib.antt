@@ -1,0 +1,14 @@
+pub mod Limits
+pub mod Endings
+pub mod Words
+pub mod Machine
+pub mod Runs
+pub mod Breaks
+pub mod Prompt
+pub mod Calls
+pub mod Serves
+pub mod Single
+pub mod Reading
+pub mod Asked
+pub mod Pairs
+pub mod Phases

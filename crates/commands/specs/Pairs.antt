@@ -1,0 +1,49 @@
+-- A text, and after it another. This project's own choice.
+use Rattle.std.specs.Prelude.{ℕ, List}
+use Rattle.commands.specs.Reading.{Reader, Outcome, Given, Faulty, reading}
+use Rattle.commands.specs.declared.machines.Stop.{Stop}
+use Rattle.commands.specs.declared.reading.Step.{Step}
+use Rattle.commands.specs.declared.reading.Step.TheVariants.{Goes, Gives, Refused}
+use Rattle.commands.specs.declared.pairs.Then.{Then}
+use Rattle.commands.specs.declared.pairs.Then.TheVariants.{First, Second}
+
+module _ {A V B W F : Type 0} where
+  -- after a line of the first text, where the second begins so
+  abbrev pub first_step : B → Step A V F → Step (Then A V B) (V × W) F
+  first_step second (Goes text) = Goes (First text second)
+  first_step second (Gives value) = Goes (Second value second)
+  first_step second (Refused fault) = Refused fault
+
+  -- after a line of the second text, where the first said this
+  abbrev pub second_step : V → Step B W F → Step (Then A V B) (V × W) F
+  second_step value (Goes text) = Goes (Second value text)
+  second_step value (Gives other) = Gives (value, other)
+  second_step value (Refused fault) = Refused fault
+
+  module _ (first : Reader A V F) (second : Reader B W F) where
+    abbrev pub longest_of : Then A V B → ℕ
+    longest_of (First text other) = first.longest text
+    longest_of (Second value text) = second.longest text
+
+    abbrev pub reads_of : Then A V B → ℕ → List ℕ → Step (Then A V B) (V × W) F
+    reads_of (First text other) number line = first_step other (first.reads text number line)
+    reads_of (Second value text) number line = second_step value (second.reads text number line)
+
+    abbrev pub stops_of : Then A V B → ℕ → Stop → F
+    stops_of (First text other) number stop = first.stops text number stop
+    stops_of (Second value text) number stop = second.stops text number stop
+
+    -- the reader of the first text, and after it of the second
+    abbrev pub then_reader : Reader (Then A V B) (V × W) F
+    then_reader = record { longest = longest_of; reads = reads_of; stops = stops_of }
+
+    -- the two values, where the first is known
+    abbrev pub with_first : V → Outcome W F → Outcome (V × W) F
+    with_first value (Given other number room rest) = Given (value, other) number room rest
+    with_first value (Faulty fault) = Faulty fault
+
+    -- the second text is read over the lines that are left after the first
+    abbrev pub then_reading : B → Outcome V F → Outcome (V × W) F
+    then_reading other (Given value number room rest) =
+        with_first value (reading second (record { state = other; number = number; room = room }) rest)
+    then_reading other (Faulty fault) = Faulty fault

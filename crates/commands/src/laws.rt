@@ -1,0 +1,54 @@
+//! Laws about commands, each the contract of a function without parameters.
+
+ghost use Rattle.std.specs.Prelude.{◌≡◌, ℕ, List, []};
+ghost use Rattle.texts.specs.Lines.{InputLine, input_lines};
+ghost use Rattle.commands.specs.Runs.{Here, Runs, begins};
+ghost use Rattle.commands.specs.Single.{IsSingle};
+ghost use Rattle.commands.specs.Reading.{reading};
+ghost use Rattle.commands.specs.Asked.{asked_machine, AnswersOutcome};
+ghost use Rattle.commands.specs.Pairs.{then_reader, then_reading};
+ghost use Rattle.commands.specs.Phases.{WantsNone, planned_machine, FollowsOutcome};
+ghost use Rattle.commands.specs.Breaks.{BreaksForMemory};
+ghost use Rattle.plan_port.specs.Talk.{Piece};
+ghost use Rattle.commands.specs.declared.endings.End.{End};
+
+use crate::asking::Question;
+use crate::machines::Command;
+use crate::pairs::Then;
+use crate::phases::{Begin, Planned};
+use crate::reading::Text;
+
+/// A command that has at most one reply has at most one run over an input.
+pub fn single_runs<C: Command>()
+    ensures { IsSingle C.machine → (start : C) (input a b : List ℕ) (x y : End)
+        → Runs C.machine start input a x → Runs C.machine start input b y → (a ≡ b) × (x ≡ y) }
+{}
+
+/// A run of a command that reads a text puts the answer to what the text says, or the line of its first fault.
+pub fn asked_runs<T: Text, Q: Question<T::Value>>()
+    ensures { (question : Q) (text : T) (input put : List ℕ) (end : End)
+        → Runs (asked_machine Q.answers T.reader T.Fault.refusing) (record { question = question; text = text }) input put end
+        → AnswersOutcome Q.answers T.reader T.Fault.refusing question (reading T.reader (begins text) (input_lines input)) put end }
+{}
+
+/// The reading of a text and another is that of the first, and then that of the second over the lines that are left.
+pub fn pair_reads<A: Text, B: Text<Fault = A::Fault>>()
+    ensures { (first : A) (second : B) (lines : List InputLine)
+        → reading (then_reader A.reader B.reader) (begins (Then.First first second)) lines
+        ≡ then_reading A.reader B.reader second (reading A.reader (begins first) lines) }
+{}
+
+/// A run of a command that reads a text and then serves a phase is the reading of the text, and then a run of the phase over
+/// the lines that are left.
+pub fn planned_runs<T: Text, B: Begin<T::Value>>()
+    ensures { (start : B) (text : T) (input put : List ℕ) (end : End)
+        → Runs (planned_machine B.begins T.reader T.Fault.refusing B.Phase.machine) (Planned.Reading start text) input put end
+        → FollowsOutcome B.begins T.reader T.Fault.refusing B.Phase.machine start (reading T.reader (begins text) (input_lines input)) put end }
+{}
+
+/// Where the phase wants no memory, a run that breaks off for want of it has put nothing.
+pub fn planned_wants<T: Text, B: Begin<T::Value>>()
+    ensures { WantsNone B.Phase.machine → (start : B) (text : T) (input behind put : List ℕ) (pieces : List Piece)
+        → BreaksForMemory (planned_machine B.begins T.reader T.Fault.refusing B.Phase.machine) (Planned.Reading start text) input behind put pieces
+        → put ≡ [] }
+{}

@@ -1,0 +1,24 @@
+//! Commands: what each answers to the lines of its input, and how a run serves it over a port.
+#![tactic(auto)]
+
+mod answers;
+mod asking;
+mod endings;
+mod laws;
+mod machines;
+mod pairs;
+mod phases;
+mod reading;
+mod refusals;
+mod words;
+
+pub use answers::{Answer, LEAST_ROOM};
+pub use asking::{Asked, Question, refuse};
+pub use endings::{End, Status};
+pub use laws::{asked_runs, pair_reads, planned_runs, planned_wants, single_runs};
+pub use machines::{Command, Onward, Stop};
+pub use pairs::Then;
+pub use phases::{Begin, Planned};
+pub use reading::{Step, Text};
+pub use refusals::Refusal;
+pub use words::Word;

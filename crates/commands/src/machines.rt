@@ -1,0 +1,61 @@
+//! A command as a machine that takes the lines of its input one by one.
+
+ghost use Rattle.std.specs.Prelude.{◌≡◌, ℕ, ◌≤◌, List, [], IfOk, OnErr};
+ghost use Rattle.plan_port.specs.Limits.{most_line};
+ghost use Rattle.commands.specs.Machine.{Machine, HasRoom};
+
+use crate::answers::Answer;
+use crate::endings::End;
+use std::alloc::{AllocError, Global};
+
+/// Why no more lines come.
+#[derive(Clone, Copy, Debug, PartialEq, Eq)]
+pub enum Stop {
+    /// The next line is longer than it may be.
+    LineTooLong,
+    /// The input has more bytes than it may have.
+    InputTooMuch,
+    /// The input ended.
+    InputEnded,
+}
+
+/// How a run goes on after the answer to a line.
+#[derive(Drop)]
+pub enum Onward<C> {
+    /// More lines are read, by this state of the command.
+    Goes(C),
+    /// The run ends.
+    Ends(End),
+}
+
+/// A command of the program, as a machine that takes the lines of its input one by one. A value of the type is a state of it.
+pub trait Command: Drop {
+    /// What the command means.
+    ghost machine: { Machine Self };
+
+    /// How many bytes the next line may have, its end not among them. No state passes what the reader of lines holds.
+    fn longest(&self) -> u32
+        ensures value { result ≡ machine.longest self.now }
+        ensures held { result ≤ most_line };
+
+    /// Answers a line, by its number, from 1, and its bytes: the answer is put into the buffer, which is empty and has the
+    /// room that this state needs. `AllocError` comes only for want of memory, and only from a state that may want it.
+    fn take_line(
+        self,
+        alloc: Global,
+        answer: &mut Answer,
+        number: u32,
+        line: &[u8],
+    ) -> Result<Onward<Self>, AllocError>
+        requires fresh { answer.old.text ≡ [] }
+        requires room { machine.room self ≤ answer.old.capacity }
+        ensures takes { IfOk result (λ onward. machine.takes self number line.now answer.new.text onward) }
+        ensures room { IfOk result (λ onward. HasRoom machine onward answer.new.capacity) }
+        ensures wants { OnErr result (machine.may_want self) };
+
+    /// Puts the answer where no line comes, by the number of the line that was begun, into the buffer, which is empty. It takes
+    /// no memory.
+    fn stop(&self, answer: &mut Answer, number: u32, stop: Stop) -> End
+        requires { answer.old.text ≡ [] }
+        ensures { machine.stops self.now number stop answer.new.text result };
+}

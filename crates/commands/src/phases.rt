@@ -1,0 +1,95 @@
+//! Commands that read a text and then answer line by line, by a phase that begins from what the text says.
+
+ghost use Rattle.std.specs.Prelude.{◌≡◌, ℕ, ◌≤◌, List, [], IfOk};
+ghost use Rattle.commands.specs.Machine.{HasRoom};
+ghost use Rattle.commands.specs.Phases.{planned_machine, wrapped};
+ghost use Rattle.commands.specs.declared.machines.Onward.{Onward};
+
+use crate::answers::Answer;
+use crate::asking::refuse;
+use crate::endings::End;
+use crate::machines::{Command, Onward, Stop};
+use crate::reading::{Step, Text};
+use crate::refusals::Refusal;
+use std::alloc::{AllocError, Global};
+
+/// How a phase begins from a value of a type.
+pub trait Begin<V>: Drop {
+    /// The phase that begins.
+    type Phase: Command;
+
+    /// To a value this is put, and so the run goes on: by a first state of the phase, or it ends.
+    ghost begins: { Self → V → List ℕ → Onward Self.Phase → Type 0 };
+
+    /// Begins the phase: puts its first answer into the buffer, which is empty, and reserves the room there that its state
+    /// needs. `AllocError` comes only for want of memory.
+    fn begin(
+        self,
+        alloc: Global,
+        answer: &mut Answer,
+        value: V,
+    ) -> Result<Onward<Self::Phase>, AllocError>
+        requires { answer.old.text ≡ [] }
+        ensures begins { IfOk result (λ onward. begins self value answer.new.text onward) }
+        ensures room { IfOk result (λ onward. HasRoom Self.Phase.machine onward answer.new.capacity) };
+}
+
+/// A command that reads a text and then serves the phase that begins from what it says.
+#[derive(Drop)]
+pub enum Planned<B, T, P> {
+    /// The text is read, and so the phase will begin.
+    Reading(B, T),
+    /// The phase answers.
+    Serving(P),
+}
+
+impl<T: Text, B: Begin<T::Value>> Command for Planned<B, T, B::Phase> {
+    ghost machine = { planned_machine B.begins T.reader T.Fault.refusing B.Phase.machine };
+
+    fn longest(&self) -> u32 {
+        match self {
+            Planned::Reading(_, text) => text.longest(),
+            Planned::Serving(state) => state.longest(),
+        }
+    }
+
+    fn take_line(
+        self,
+        alloc: Global,
+        answer: &mut Answer,
+        number: u32,
+        line: &[u8],
+    ) -> Result<Onward<Planned<B, T, B::Phase>>, AllocError> {
+        match self {
+            Planned::Serving(state) => {
+                Ok(serving(state.take_line(alloc, answer, number, line)?))
+            }
+            Planned::Reading(start, text) => match text.read_line(alloc, number, line)? {
+                Step::Goes(text) => Ok(Onward::Goes(Planned::Reading(start, text))),
+                Step::Gives(value) => Ok(serving(start.begin(alloc, answer, value)?)),
+                Step::Refused(fault) => Ok(refuse(answer, fault)),
+            },
+        }
+    }
+
+    fn stop(&self, answer: &mut Answer, number: u32, stop: Stop) -> End {
+        match self {
+            Planned::Serving(state) => state.stop(answer, number, stop),
+            Planned::Reading(_, text) => {
+                let fault = text.stop(number, stop);
+                fault.put(answer);
+                fault.end()
+            }
+        }
+    }
+}
+
+/// A command goes on as its phase does.
+fn serving<B, T, P>(onward: Onward<P>) -> Onward<Planned<B, T, P>>
+    ensures { result ≡ wrapped Planned.Serving onward }
+{
+    match onward {
+        Onward::Goes(state) => Onward::Goes(Planned::Serving(state)),
+        Onward::Ends(end) => Onward::Ends(end),
+    }
+}

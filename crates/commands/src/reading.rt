@@ -1,0 +1,50 @@
+//! Texts that are read line by line.
+
+ghost use Rattle.std.specs.Prelude.{◌≡◌, ◌≤◌, IfOk};
+ghost use Rattle.plan_port.specs.Limits.{most_line};
+ghost use Rattle.commands.specs.Reading.{Reader};
+
+use crate::machines::Stop;
+use crate::refusals::Refusal;
+use std::alloc::{AllocError, Global};
+
+/// What a line of a text brings.
+#[derive(Drop)]
+pub enum Step<S, V, F> {
+    /// The text goes on, and this is how far it was read.
+    Goes(S),
+    /// The text ended, and this is what it says.
+    Gives(V),
+    /// The line is refused.
+    Refused(F),
+}
+
+/// A text that is read line by line: a value of the type says how far it was read.
+pub trait Text: Drop {
+    /// What the text says.
+    type Value: Drop;
+
+    /// Why a line of the text is refused.
+    type Fault: Refusal;
+
+    /// What the reading means.
+    ghost reader: { Reader Self Self.Value Self.Fault };
+
+    /// How many bytes the next line may have, its end not among them.
+    fn longest(&self) -> u32
+        ensures value { result ≡ reader.longest self.now }
+        ensures held { result ≤ most_line };
+
+    /// Reads a line, by its number, from 1, and its bytes. `AllocError` comes only for want of memory.
+    fn read_line(
+        self,
+        alloc: Global,
+        number: u32,
+        line: &[u8],
+    ) -> Result<Step<Self, Self::Value, Self::Fault>, AllocError>
+        ensures { IfOk result (λ step. step ≡ reader.reads self number line.now) };
+
+    /// The fault where no line comes, by the number of the line that was begun.
+    fn stop(&self, number: u32, stop: Stop) -> Self::Fault
+        ensures { result ≡ reader.stops self.now number stop };
+}
