@@ -3,6 +3,7 @@ mod FirstLeast
 mod RuleSteps
 mod Consequences
 mod Slots
+mod RowLaw
 pub mod Lists
 pub mod KeyOrder
 pub mod KeyLists
