@@ -2,7 +2,7 @@
 use Rattle.std.proofs.Common.{◌≡◌, ◌≢◌, ℕ, zero, suc, ◌+◌, ◌<◌, ◌≤◌, ℤ, pos, ◌≤ℤ◌, ◌<ℤ◌, ◌==◌, ◌&&◌, Bool, true, false, cond, ◌⊎◌, List, [], ◌∷◌, ◌++◌, length, map, fold, get_or, Option, Some, None, refl, ap, sym, subst, ◌∙◌, inl, inr, arith}
 use Rattle.std.specs.Prelude.{slice_get, slice_set, int_lt, MatchOption}
 use Rattle.std.specs.Option.{option_map, option_map_or}
-use Rattle.std.specs.List.{Contains, All}
+use Rattle.std.specs.List.{Contains, All, AllByRecursion}
 use Rattle.std.proofs.lemmas.Bool.{eqb-true}
 use Rattle.std.proofs.lemmas.Bool.Decides.{nat_tests}
 use Rattle.std.proofs.lemmas.Option.{slice_get-map, same_Some}
@@ -18,7 +18,7 @@ use Rattle.net_model.specs.Rules.{no_case, upper_case, lower_case, cross_case, r
 use Rattle.closure_model.specs.Keys.{Key, key_of, edge_of, row_keys, Shape, IsKey, IsLabelAt, shape_of}
 use Rattle.closure_model.specs.Least.{weight_at, IsFirstLeast, HasNoWeight}
 use Rattle.closure_model.specs.Tables.{Graph, HasEdge, HasAtMost, weight_of, IsGraph, IsFor}
-use Rattle.closure_model.specs.ReferenceRow.{is_slot_of, has_above, offered, edge_in, open_weight, IsInRow, of_table, by_no_case, by_upper_case, by_lower_case, by_cross_case, by_removal, consequences, slots_after, IsAllSettled, IsNextSlot}
+use Rattle.closure_model.specs.ReferenceRow.{is_slot_of, has_above, offered, edge_in, open_weight, IsInRow, of_table, by_no_case, by_upper_case, by_lower_case, by_cross_case, by_removal, consequences, slots_after, first_slots, Making, fell, settled_at, settled_times, settled_row, reference_row, with_made, IsLeastRow, next_slot, IsAllSettled, IsNextSlot}
 use Rattle.closure_model.specs.declared.rows.Made.{Made}
 use Rattle.closure_model.specs.declared.rows.Slot.{Slot}
 use Rattle.closure_model.specs.declared.rows.Why.{Why}
@@ -26,6 +26,8 @@ use Rattle.closure_model.proofs.Weights.{same_weight, le_then, lt_then, le_then_
 use Rattle.closure_model.proofs.RuleSteps.{Lengthens, GivesLess, at_weight, no_case_lengthens, upper_case_lengthens, lower_case_lengthens, cross_case_lengthens, removal_lengthens, no_case_of_less, upper_case_of_less, lower_case_of_less, cross_case_of_less, removal_of_less}
 use Rattle.closure_model.proofs.Consequences.{IsConsequence, removed, moved, crossed, joined, joined_labelled, consequence_is, Follows, removal_stands, lower_case_stands, cross_case_stands, no_case_stands, upper_case_stands}
 use Rattle.closure_model.proofs.Slots.{set_same, set_other, map_set_kept, some_of_map, key_in, slot_of_key, Change, stays, takes, was_slot, slot_after, change_key, change_settled, above, IsMet, met_after, met_after_all, offer_met, offered_keys}
+use Rattle.closure_model.proofs.KeyLists.{row_keys_owned, row_keys_whole}
+use Rattle.closure_model.proofs.BaseLemmas.{slice_get-contained}
 use Rattle.closure_model.proofs.Lists.{Contains-head, Contains-tail, Contains-cases, Contains-none}
 
 module _ (net : Plan) (table : Graph) (to : PointId) (plan : IsPlan net) (fits : IsFor net table) (sound : IsGraph table) where
@@ -385,3 +387,180 @@ module _ (net : Plan) (table : Graph) (to : PointId) (plan : IsPlan net) (fits :
             le_then weight low more (after.around.below one_place one weight one_here one_is one_has) (after.around.from_there two_place two more two_here two_is two_has);
           closed = settling_closed partly next;
         }
+
+  -- ---- the row as the table has it
+  abbrev pub slot_from : Key → Slot
+  slot_from key = record { from = key.from; label = key.label; weight = weight_of table key; why = None; settled = false }
+
+  owned : (k : ℕ) (key : Key) → slice_get (row_keys table.shape to) k ≡ Some key → key.to ≡ to
+  owned k key at = at_place (row_keys table.shape to) (row_keys_owned table.shape to) k at
+    where
+      at_place : (keys : List Key) → AllByRecursion (λ (key : Key). key.to ≡ to) keys → (k : ℕ) → slice_get keys k ≡ Some key → key.to ≡ to
+      at_place [] all k at = absurd cc
+      at_place (x ∷ xs) all zero at = let same : x ≡ key = cc in subst (λ (key : Key). key.to ≡ to) same all.0
+      at_place (x ∷ xs) all (suc k) at = at_place xs all.1 k at
+
+  first_keys : map (key_in to) (map slot_from (row_keys table.shape to)) ≡ row_keys table.shape to
+  first_keys = keys (row_keys table.shape to) (row_keys_owned table.shape to)
+    where
+      keys : (list : List Key) → AllByRecursion (λ (key : Key). key.to ≡ to) list → map (key_in to) (map slot_from list) ≡ list
+      keys [] all = refl
+      keys (x ∷ xs) all = let rest = keys xs all.1 in let here : to ≡ x.to = sym all.0 in λ i. record { to = here i; from = x.from; label = x.label } ∷ rest i
+
+  -- a slot as the table has it, and its key
+  pub record IsFirstSlot (slot : Slot) : Type 0 where
+    pub key : Key
+    pub ends : key.to ≡ to
+    pub is : slot_from key ≡ slot
+
+  first_slot : (place : ℕ) (slot : Slot) → slice_get (first_slots table to) place ≡ Some slot → IsFirstSlot slot
+  first_slot place slot here =
+      let (key, at, is) = some_of_map slot_from (slice_get (row_keys table.shape to) place) slot (sym (slice_get-map slot_from (row_keys table.shape to) place) ∙ here) in
+      record { key = key; ends = owned place key at; is = is }
+
+  key_of_first : (slot : Slot) (first : IsFirstSlot slot) → key_in to slot ≡ first.key
+  key_of_first slot first = ap (key_in to) (sym first.is) ∙ (let ends = sym first.ends in λ i. record { to = ends i; from = first.key.from; label = first.key.label })
+
+  weight_of_first : (slot : Slot) (first : IsFirstSlot slot) → slot.weight ≡ weight_of table (key_in to slot)
+  weight_of_first slot first = ap (λ (s : Slot). s.weight) (sym first.is) ∙ ap (weight_of table) (sym (key_of_first slot first))
+
+  first_derivable : (place : ℕ) (slot : Slot) (weight : ℤ) → slice_get (first_slots table to) place ≡ Some slot → slot.weight ≡ Some weight → IsInRow net table to (edge_in to slot weight)
+  first_derivable place slot weight here has = of_table (edge_in to slot weight) (sym (weight_of_first slot (first_slot place slot here)) ∙ has) refl
+
+  first_met : (edge : Edge) → HasEdge table edge → edge.to ≡ to → IsMet to (first_slots table to) edge
+  first_met edge has ends =
+      let inside : Contains (row_keys table.shape to) (key_of edge) = subst (λ (p : PointId). Contains (row_keys table.shape p) (key_of edge)) ends (row_keys_whole table.shape (key_of edge) (sound.keys edge has)) in
+      let (place, at) = slice_get-contained (row_keys table.shape to) (key_of edge) inside in
+      record {
+        place = place; slot = slot_from (key_of edge); weight = edge.weight;
+        here = slice_get-map slot_from (row_keys table.shape to) place ∙ ap (option_map slot_from) at;
+        of_key = λ i. record { to = sym ends i; from = edge.from; label = edge.label };
+        has = has;
+        less = le_refl edge.weight;
+      }
+
+  first_partly : IsPartly (first_slots table to)
+  first_partly = record {
+    row = record {
+      keys = first_keys;
+      derivable = first_derivable;
+      table_met = first_met;
+      unfallen = λ place slot here none. weight_of_first slot (first_slot place slot here);
+      fallen = λ place slot why here some. absurd (never_fell slot (first_slot place slot here) why some);
+    };
+    has = λ place slot here is. absurd (never_settled slot (first_slot place slot here) is);
+    ordered = λ place other one two weight more one_here two_here is one_has is_not two_has. absurd (never_settled one (first_slot place one one_here) is);
+    closed = λ place slot weight here is has made inside. absurd (never_settled slot (first_slot place slot here) is);
+  }
+    where
+      never_fell : (slot : Slot) → IsFirstSlot slot → (why : Why) → slot.why ≡ Some why → ⊥
+      never_fell slot first why some = let none : None ≡ slot.why = ap (λ (s : Slot). s.why) first.is in absurd cc
+      never_settled : (slot : Slot) → IsFirstSlot slot → slot.settled ≡ true → ⊥
+      never_settled slot first is = let not : false ≡ slot.settled = ap (λ (s : Slot). s.settled) first.is in absurd cc
+
+  -- ---- all is settled
+  module _ (slots : List Slot) (partly : IsPartly slots) (all : IsAllSettled slots) where
+    is_settled : (place : ℕ) (slot : Slot) (weight : ℤ) → slice_get slots place ≡ Some slot → slot.weight ≡ Some weight → slot.settled ≡ true
+    is_settled place slot weight here has = by slot.settled refl
+      where
+        by : (b : Bool) → slot.settled ≡ b → slot.settled ≡ true
+        by true is = is
+        by false is = let still_open : weight_at open_weight slots place ≡ Some weight = open_weight_at slots place slot weight here is has in let none = all place in absurd cc
+
+    -- what follows from a premise that is met is met
+    met_by : (premise edge : Edge) → IsMet to slots premise → ((weight : ℤ) → weight ≤ℤ premise.weight → (given : Option Edge) × GivesLess given edge × ((less : Edge) → given ≡ Some less → Follows net table (at_weight premise weight) less)) → IsMet to slots edge
+    met_by premise edge met gives =
+        let (given, less, follows) = gives met.weight met.less in
+        let (made, inside, is) = follows (at_weight edge less.weight) less.gives in
+        let same : edge_in to met.slot met.weight ≡ at_weight premise met.weight = ap (λ (k : Key). edge_of k met.weight) met.of_key in
+        let found = partly.closed met.place met.slot met.weight met.here (is_settled met.place met.slot met.weight met.here met.has) met.has made (subst (λ (e : Edge). Contains (consequences net table e) made) (sym same) inside) in
+        record {
+          place = found.place; slot = found.slot; weight = found.weight; here = found.here;
+          of_key = found.of_key ∙ ap key_of is;
+          has = found.has;
+          less = le_then found.weight less.weight edge.weight (subst (λ (e : Edge). found.weight ≤ℤ e.weight) is found.less) less.less;
+        }
+
+    pub all_met : (edge : Edge) → IsInRow net table to edge → IsMet to slots edge
+    all_met _ (of_table edge has ends) = partly.row.table_met edge has ends
+    all_met _ (by_no_case first second edge has derived is) =
+        met_by second edge (all_met second derived) (λ weight less. (no_case first (at_weight second weight), no_case_of_less first second edge weight less (no_case_gives first second edge is), λ e given. no_case_stands net table (at_weight second weight) sound first e has given))
+    all_met _ (by_upper_case first second edge has derived is) =
+        met_by second edge (all_met second derived) (λ weight less. (upper_case first (at_weight second weight), upper_case_of_less first second edge weight less (upper_case_gives first second edge is), λ e given. upper_case_stands net table (at_weight second weight) sound first e has given))
+    all_met _ (by_lower_case name second edge derived is) =
+        met_by second edge (all_met second derived) (λ weight less. (lower_case net name (at_weight second weight), lower_case_of_less net name second edge weight less (lower_case_gives net name second edge is), λ e given. lower_case_stands net table (at_weight second weight) plan name e given))
+    all_met _ (by_cross_case name second edge derived is) =
+        met_by second edge (all_met second derived) (λ weight less. (cross_case net name (at_weight second weight), cross_case_of_less net name second edge weight less (cross_case_gives net name second edge is), λ e given. cross_case_stands net table (at_weight second weight) plan name e given))
+    all_met _ (by_removal premise edge derived is) =
+        met_by premise edge (all_met premise derived) (λ weight less. (removal net (at_weight premise weight), removal_of_less net premise edge weight less (removal_gives net premise edge is), λ e given. removal_stands net table (at_weight premise weight) e given))
+
+  -- ---- what fell
+  -- an edge that fell is that of a settled slot
+  pub record IsFromSlot (slots : List Slot) (one : Made) : Type 0 where
+    pub place : ℕ
+    pub slot : Slot
+    pub weight : ℤ
+    pub here : slice_get slots place ≡ Some slot
+    pub settled : slot.settled ≡ true
+    pub why : slot.why ≡ Some one.why
+    pub has : slot.weight ≡ Some weight
+    pub is : edge_in to slot weight ≡ one.edge
+
+  pub record IsMaking (making : Making) : Type 0 where
+    pub partly : IsPartly making.slots
+    pub listed : (place : ℕ) (slot : Slot) (why : Why) (weight : ℤ) → slice_get making.slots place ≡ Some slot → slot.settled ≡ true → slot.why ≡ Some why → slot.weight ≡ Some weight → Contains making.made (record { edge = edge_in to slot weight; why = why })
+    pub each : (one : Made) → Contains making.made one → IsFromSlot making.slots one
+
+  fell_from : (slot : Slot) (low : ℤ) (one : Made) → Contains (fell to slot low) one → (slot.why ≡ Some one.why) × (edge_in to slot low ≡ one.edge)
+  fell_from slot low one inside = by slot.why refl inside
+    where
+      by : (o : Option Why) → slot.why ≡ o → Contains (option_map_or (λ why. record { edge = edge_in to slot low; why = why } ∷ []) o []) one → (slot.why ≡ Some one.why) × (edge_in to slot low ≡ one.edge)
+      by None none inside = absurd (Contains-none one inside)
+      by (Some why) some (zero, within, at) = (some ∙ ap (λ (m : Made). Some m.why) at, ap (λ (m : Made). m.edge) at)
+      by (Some why) some (suc k, within, at) = absurd (omega arith)
+
+  fell_listed : (slot : Slot) (low : ℤ) (why : Why) → slot.why ≡ Some why → Contains (fell to slot low) (record { edge = edge_in to slot low; why = why })
+  fell_listed slot low why some = rw some (0, omega arith, refl)
+
+  module _ (making : Making) (is : IsMaking making) (place : ℕ) (slot : Slot) (low : ℤ) (here : slice_get making.slots place ≡ Some slot) (is_open : slot.settled ≡ false) (has : slot.weight ≡ Some low) (next : IsNextSlot making.slots (place, low)) where
+    abbrev later : Making
+    later = record { slots = slots_after net table to making.slots place slot low; made = making.made ++ fell to slot low }
+
+    later_after : IsAfter low (mark making.slots place slot low here is_open has) later.slots
+    later_after = settling_after making.slots place slot low here is_open has is.partly next
+
+    later_listed : (other : ℕ) (after : Slot) (why : Why) (weight : ℤ) → slice_get later.slots other ≡ Some after → after.settled ≡ true → after.why ≡ Some why → after.weight ≡ Some weight → Contains later.made (record { edge = edge_in to after weight; why = why })
+    later_listed other after why weight there settled some has_it = by (was_marked making.slots place slot low here is_open has other after (later_after.back other after there settled))
+      where
+        by : ((other ≡ place) × (marked slot ≡ after)) ⊎ ((other ≢ place) × (slice_get making.slots other ≡ Some after)) → Contains later.made (record { edge = edge_in to after weight; why = why })
+        by (inl (same, one)) =
+            let weights : low ≡ weight = same_weight low weight (sym has ∙ (ap (λ (s : Slot). s.weight) one ∙ has_it)) in
+            let edges : edge_in to slot low ≡ edge_in to after weight = ap (edge_in to slot) weights ∙ ap (λ (s : Slot). edge_in to s weight) one in
+            let fell' : Contains (fell to slot low) (record { edge = edge_in to slot low; why = why }) = fell_listed slot low why (ap (λ (s : Slot). s.why) one ∙ some) in
+            Contains-append_right making.made (fell to slot low) (record { edge = edge_in to after weight; why = why }) (subst (λ (e : Edge). Contains {X = Made} (fell to slot low) (record { edge = e; why = why })) edges fell')
+        by (inr (apart, at)) = Contains-append_left making.made (fell to slot low) (record { edge = edge_in to after weight; why = why }) (is.listed other after why weight at settled some has_it)
+
+    later_each : (one : Made) → Contains later.made one → IsFromSlot later.slots one
+    later_each one inside = by (Contains-append_cases making.made (fell to slot low) one inside)
+      where
+        by : Contains making.made one ⊎ Contains (fell to slot low) one → IsFromSlot later.slots one
+        by (inl old) =
+            let from = is.each one old in
+            let apart : from.place ≢ place = λ same. (let at : slice_get making.slots place ≡ Some from.slot = subst (λ (k : ℕ). slice_get making.slots k ≡ Some from.slot) same from.here in
+              let one_slot : slot ≡ from.slot = same_Some slot from.slot (sym here ∙ at) in
+              let open' : from.slot.settled ≡ false = ap (λ (s : Slot). s.settled) (sym one_slot) ∙ is_open in let settled = from.settled in absurd cc) in
+            record {
+              place = from.place; slot = from.slot; weight = from.weight;
+              here = later_after.kept from.place from.slot (set_other making.slots place from.place (marked slot) apart ∙ from.here) from.settled;
+              settled = from.settled; why = from.why; has = from.has; is = from.is;
+            }
+        by (inr new) =
+            let (why, same) = fell_from slot low one new in
+            record {
+              place = place; slot = marked slot; weight = low;
+              here = later_after.kept place (marked slot) (set_same making.slots place slot (marked slot) here) refl;
+              settled = refl; why = why; has = has; is = same;
+            }
+
+    later_making : IsMaking later
+    later_making = record { partly = settling_partly making.slots place slot low here is_open has is.partly next; listed = later_listed; each = later_each }
