@@ -4,6 +4,7 @@ mod RuleSteps
 mod Consequences
 mod Slots
 mod RowLaw
+pub mod RowSteps
 pub mod Lists
 pub mod KeyOrder
 pub mod KeyLists
