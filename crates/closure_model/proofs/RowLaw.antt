@@ -18,7 +18,7 @@ use Rattle.net_model.specs.Rules.{no_case, upper_case, lower_case, cross_case, r
 use Rattle.closure_model.specs.Keys.{Key, key_of, edge_of, row_keys, Shape, IsKey, IsLabelAt, shape_of}
 use Rattle.closure_model.specs.Least.{weight_at, IsFirstLeast, HasNoWeight}
 use Rattle.closure_model.specs.Tables.{Graph, HasEdge, HasAtMost, weight_of, IsGraph, IsFor}
-use Rattle.closure_model.specs.ReferenceRow.{is_slot_of, has_above, offered, edge_in, open_weight, IsInRow, of_table, by_no_case, by_upper_case, by_lower_case, by_cross_case, by_removal, consequences, slots_after, first_slots, Making, fell, settled_at, settled_times, settled_row, reference_row, with_made, IsLeastRow, next_slot, IsAllSettled, IsNextSlot}
+use Rattle.closure_model.specs.ReferenceRow.{is_slot_of, has_above, offered, edge_in, open_weight, IsInRow, of_table, by_no_case, by_upper_case, by_lower_case, by_cross_case, by_removal, consequences, slots_after, first_slots, Making, fell, settled_at, settled_times, settled_row, reference_row, with_made, IsLeastRow, IsBelow, next_slot, IsAllSettled, IsNextSlot}
 use Rattle.closure_model.specs.declared.rows.Made.{Made}
 use Rattle.closure_model.specs.declared.rows.Slot.{Slot}
 use Rattle.closure_model.specs.declared.rows.Why.{Why}
@@ -26,9 +26,13 @@ use Rattle.closure_model.proofs.Weights.{same_weight, le_then, lt_then, le_then_
 use Rattle.closure_model.proofs.RuleSteps.{Lengthens, GivesLess, at_weight, no_case_lengthens, upper_case_lengthens, lower_case_lengthens, cross_case_lengthens, removal_lengthens, no_case_of_less, upper_case_of_less, lower_case_of_less, cross_case_of_less, removal_of_less}
 use Rattle.closure_model.proofs.Consequences.{IsConsequence, removed, moved, crossed, joined, joined_labelled, consequence_is, Follows, removal_stands, lower_case_stands, cross_case_stands, no_case_stands, upper_case_stands}
 use Rattle.closure_model.proofs.Slots.{set_same, set_other, map_set_kept, some_of_map, key_in, slot_of_key, Change, stays, takes, was_slot, slot_after, change_key, change_settled, above, IsMet, met_after, met_after_all, offer_met, offered_keys}
+use Rattle.closure_model.proofs.FirstLeast.{FirstIs, first_least-is}
+use Rattle.closure_model.proofs.RowSteps.{unsettled, length-unsettled, slot_there, after_slot, unsettled-after, settled_times-none, settled_times-some}
+use Rattle.closure_model.proofs.TableLemmas.{all_lowered-at_most, all_lowered-has, all_lowered-cases, at_most_below, at_most_from, at_most_gives}
+use Rattle.std.proofs.Math.ListN.{length-map}
 use Rattle.closure_model.proofs.KeyLists.{row_keys_owned, row_keys_whole}
 use Rattle.closure_model.proofs.BaseLemmas.{slice_get-contained}
-use Rattle.closure_model.proofs.Lists.{Contains-head, Contains-tail, Contains-cases, Contains-none}
+use Rattle.closure_model.proofs.Lists.{Contains-head, Contains-map, Contains-map_from, Contains-tail, Contains-cases, Contains-none}
 
 module _ (net : Plan) (table : Graph) (to : PointId) (plan : IsPlan net) (fits : IsFor net table) (sound : IsGraph table) where
   -- ---- the links of the network
@@ -564,3 +568,96 @@ module _ (net : Plan) (table : Graph) (to : PointId) (plan : IsPlan net) (fits :
 
     later_making : IsMaking later
     later_making = record { partly = settling_partly making.slots place slot low here is_open has is.partly next; listed = later_listed; each = later_each }
+
+  -- ---- the whole row
+  -- the row between two settlings, with what is known of the next
+  run_from : (times : ℕ) (making : Making) (next : Option (ℕ × ℤ)) → next_slot making.slots ≡ next → FirstIs open_weight making.slots next → unsettled making.slots ≤ times → IsMaking making
+      → ((less : ℕ) → suc less ≡ times → (after : Making) → unsettled after.slots ≤ less → IsMaking after → IsMaking (settled_times net table to less after) × IsAllSettled (settled_times net table to less after).slots)
+      → IsMaking (settled_times net table to times making) × IsAllSettled (settled_times net table to times making).slots
+  run_from times making None none first enough is rest =
+      let same = settled_times-none net table to times making none in
+      (subst IsMaking (sym same) is, subst (λ (m : Making). IsAllSettled m.slots) (sym same) first)
+  run_from zero making (Some next) some first enough is rest =
+      let there = slot_there making.slots next first.here in
+      let fewer = unsettled-after net table to making next there.slot there.here there.is_open in
+      absurd (omega arith)
+  run_from (suc times) making (Some next) some first enough is rest =
+      let there = slot_there making.slots next first.here in
+      let fewer = unsettled-after net table to making next there.slot there.here there.is_open in
+      let after : Making = after_slot net table to making next there.slot in
+      let (making_is, all) = rest times refl after (omega arith) (later_making making is next.0 there.slot next.1 there.here there.is_open there.has first) in
+      let same = settled_times-some net table to times making next there.slot some there.here in
+      (subst IsMaking (sym same) making_is, subst (λ (m : Making). IsAllSettled m.slots) (sym same) all)
+
+  run : (times : ℕ) (making : Making) → unsettled making.slots ≤ times → IsMaking making → IsMaking (settled_times net table to times making) × IsAllSettled (settled_times net table to times making).slots
+  run zero making enough is = run_from zero making (next_slot making.slots) refl (first_least-is open_weight making.slots) enough is (λ less same. absurd (omega arith))
+  run (suc times) making enough is =
+      run_from (suc times) making (next_slot making.slots) refl (first_least-is open_weight making.slots) enough is (λ less same after fewer made. again less same after fewer made (λ after fewer made. run times after fewer made))
+    where
+      again : (less : ℕ) → suc less ≡ suc times → (after : Making) → unsettled after.slots ≤ less → IsMaking after
+          → ((after : Making) → unsettled after.slots ≤ times → IsMaking after → IsMaking (settled_times net table to times after) × IsAllSettled (settled_times net table to times after).slots)
+          → IsMaking (settled_times net table to less after) × IsAllSettled (settled_times net table to less after).slots
+      again less same after fewer made given =
+          let one : times ≡ less = omega arith in
+          subst (λ (n : ℕ). IsMaking (settled_times net table to n after) × IsAllSettled (settled_times net table to n after).slots) one (given after (omega arith) made)
+
+  first_making : IsMaking (record { slots = first_slots table to; made = [] })
+  first_making = record { partly = first_partly; listed = λ place slot why weight here is some has. absurd (never place slot here is); each = λ one inside. absurd (Contains-none one inside) }
+    where
+      never : (place : ℕ) (slot : Slot) → slice_get (first_slots table to) place ≡ Some slot → slot.settled ≡ true → ⊥
+      never place slot here is = let first = first_slot place slot here in let not : false ≡ slot.settled = ap (λ (s : Slot). s.settled) first.is in absurd cc
+
+  whole : IsMaking (settled_row net table to) × IsAllSettled (settled_row net table to).slots
+  whole =
+      let few = length-unsettled (first_slots table to) in
+      let long = length-map (row_keys table.shape to) slot_from in
+      run (length (row_keys table.shape to)) (record { slots = first_slots table to; made = [] }) (omega arith) first_making
+
+  after : Graph
+  after = with_made table (reference_row net table to)
+
+  row_derivable : (edge : Edge) → HasEdge after edge → edge.to ≡ to → IsInRow net table to edge
+  unfolding after
+  row_derivable edge has ends = by (all_lowered-cases table (map (λ (one : Made). one.edge) (reference_row net table to)) edge has)
+    where
+      by : Contains (map (λ (one : Made). one.edge) (reference_row net table to)) edge ⊎ HasEdge table edge → IsInRow net table to edge
+      by (inr old) = of_table edge old ends
+      by (inl new) =
+          let (one, inside, is) = Contains-map_from (λ (one : Made). one.edge) (reference_row net table to) edge new in
+          let (making, all) = whole in
+          let from = making.each one inside in
+          subst (IsInRow net table to) (from.is ∙ is) (making.partly.row.derivable from.place from.slot from.weight from.here from.has)
+
+  row_least : (edge : Edge) → IsInRow net table to edge → HasAtMost after edge
+  unfolding after
+  row_least edge derived = let (making, all) = whole in let met = all_met (settled_row net table to).slots making.partly all edge derived in by met met.slot.why refl
+    where
+      by : (met : IsMet to (settled_row net table to).slots edge) → (o : Option Why) → met.slot.why ≡ o → HasAtMost (with_made table (reference_row net table to)) edge
+      by met None none =
+          let (making, all) = whole in
+          let old : weight_of table (key_of edge) ≡ Some met.weight = ap (weight_of table) (sym met.of_key) ∙ (sym (making.partly.row.unfallen met.place met.slot met.here none) ∙ met.has) in
+          at_most_below (with_made table (reference_row net table to)) table edge (all_lowered-at_most table (map (λ (one : Made). one.edge) (reference_row net table to))) (at_most_from table edge met.weight old met.less)
+      by met (Some why) some =
+          let (making, all) = whole in
+          let settled = is_settled (settled_row net table to).slots making.partly all met.place met.slot met.weight met.here met.has in
+          let one : Made = record { edge = edge_in to met.slot met.weight; why = why } in
+          let inside : Contains (reference_row net table to) one = making.listed met.place met.slot why met.weight met.here settled some met.has in
+          let there : HasAtMost (with_made table (reference_row net table to)) (edge_in to met.slot met.weight) = all_lowered-has table (map (λ (one : Made). one.edge) (reference_row net table to)) (edge_in to met.slot met.weight) (Contains-map (λ (one : Made). one.edge) (reference_row net table to) one inside) in
+          let (weight, has, less) = at_most_gives (with_made table (reference_row net table to)) (edge_in to met.slot met.weight) there in
+          at_most_from (with_made table (reference_row net table to)) edge weight (ap (weight_of (with_made table (reference_row net table to))) (sym met.of_key) ∙ has) (le_then weight met.weight edge.weight less met.less)
+
+  pub row_is_least : IsLeastRow net table to (with_made table (reference_row net table to))
+  unfolding after
+  row_is_least = record { derivable = row_derivable; least = row_least }
+
+  row_ends : (one : Made) → Contains (reference_row net table to) one → one.edge.to ≡ to
+  row_ends one inside = let (making, all) = whole in ap (λ (e : Edge). e.to) (sym (making.each one inside).is)
+
+  row_falls : (one : Made) → Contains (reference_row net table to) one → IsBelow table one.edge
+  row_falls one inside old has =
+      let (making, all) = whole in
+      let from = making.each one inside in
+      let (weight, is, below) = making.partly.row.fallen from.place from.slot one.why from.here from.why in
+      let weights : weight ≡ one.edge.weight = same_weight weight from.weight (sym is ∙ from.has) ∙ ap (λ (e : Edge). e.weight) from.is in
+      let key : key_of one.edge ≡ key_in to from.slot = ap key_of (sym from.is) in
+      subst (λ (w : ℤ). w <ℤ old) weights (below old (ap (weight_of table) (sym key) ∙ has))
