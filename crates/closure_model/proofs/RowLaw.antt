@@ -2,11 +2,13 @@
 use Rattle.std.proofs.Common.{◌≡◌, ◌≢◌, ℕ, zero, suc, ◌+◌, ◌<◌, ◌≤◌, ℤ, pos, ◌≤ℤ◌, ◌<ℤ◌, ◌==◌, ◌&&◌, Bool, true, false, cond, ◌⊎◌, List, [], ◌∷◌, ◌++◌, length, map, fold, get_or, Option, Some, None, refl, ap, sym, subst, ◌∙◌, inl, inr, arith}
 use Rattle.std.specs.Prelude.{slice_get, slice_set, int_lt, MatchOption}
 use Rattle.std.specs.Option.{option_map, option_map_or}
-use Rattle.std.specs.List.{Contains, All, AllByRecursion}
+use Rattle.std.specs.List.{Contains, All, AllPairs, AllByRecursion}
+use Rattle.std.proofs.lemmas.List.{append-nil}
+use Rattle.std.proofs.lemmas.List.Quantifiers.{all_pairs_push}
 use Rattle.std.proofs.lemmas.Bool.{eqb-true}
 use Rattle.std.proofs.lemmas.Bool.Decides.{nat_tests}
 use Rattle.std.proofs.lemmas.Option.{slice_get-map, same_Some}
-use Rattle.std.proofs.lemmas.List.Elements.{All-contains, Contains-append_cases, Contains-append_left, Contains-append_right}
+use Rattle.std.proofs.lemmas.List.Elements.{All-contains, Contains-get_or, Contains-append_cases, Contains-append_left, Contains-append_right}
 use Rattle.net_model.specs.Network.{Plan, IsPlan, IsLink}
 use Rattle.net_model.specs.Edges.{IsLinkOf}
 use Rattle.net_model.specs.declared.ids.LinkId.{LinkId}
@@ -18,7 +20,7 @@ use Rattle.net_model.specs.Rules.{no_case, upper_case, lower_case, cross_case, r
 use Rattle.closure_model.specs.Keys.{Key, key_of, edge_of, row_keys, Shape, IsKey, IsLabelAt, shape_of}
 use Rattle.closure_model.specs.Least.{weight_at, IsFirstLeast, HasNoWeight}
 use Rattle.closure_model.specs.Tables.{Graph, HasEdge, HasAtMost, weight_of, IsGraph, IsFor}
-use Rattle.closure_model.specs.ReferenceRow.{is_slot_of, has_above, offered, edge_in, open_weight, IsInRow, of_table, by_no_case, by_upper_case, by_lower_case, by_cross_case, by_removal, consequences, slots_after, first_slots, Making, fell, settled_at, settled_times, settled_row, reference_row, with_made, IsLeastRow, IsBelow, next_slot, IsAllSettled, IsNextSlot}
+use Rattle.closure_model.specs.ReferenceRow.{is_slot_of, has_above, offered, edge_in, open_weight, IsInRow, of_table, by_no_case, by_upper_case, by_lower_case, by_cross_case, by_removal, consequences, slots_after, first_slots, Making, fell, settled_at, settled_times, settled_row, reference_row, with_made, IsLeastRow, IsBelow, IsRowOf, RowsAreLeast, next_slot, IsAllSettled, IsNextSlot}
 use Rattle.closure_model.specs.declared.rows.Made.{Made}
 use Rattle.closure_model.specs.declared.rows.Slot.{Slot}
 use Rattle.closure_model.specs.declared.rows.Why.{Why}
@@ -30,9 +32,30 @@ use Rattle.closure_model.proofs.FirstLeast.{FirstIs, first_least-is}
 use Rattle.closure_model.proofs.RowSteps.{unsettled, length-unsettled, slot_there, after_slot, unsettled-after, settled_times-none, settled_times-some}
 use Rattle.closure_model.proofs.TableLemmas.{all_lowered-at_most, all_lowered-has, all_lowered-cases, at_most_below, at_most_from, at_most_gives}
 use Rattle.std.proofs.Math.ListN.{length-map}
-use Rattle.closure_model.proofs.KeyLists.{row_keys_owned, row_keys_whole}
-use Rattle.closure_model.proofs.BaseLemmas.{slice_get-contained}
+use Rattle.closure_model.proofs.KeyLists.{row_keys_owned, row_keys_whole, row_keys_rise, Rises}
+use Rattle.closure_model.proofs.KeyOrder.{key_itself}
+use Rattle.std.specs.declared.cmp.Ordering.TheVariants.{Less, Equal}
+use Rattle.closure_model.specs.Keys.{key_cmp}
+use Rattle.closure_model.proofs.BaseLemmas.{slice_get-contained, all_contained}
 use Rattle.closure_model.proofs.Lists.{Contains-head, Contains-map, Contains-map_from, Contains-tail, Contains-cases, Contains-none}
+
+-- no later key is the first one
+not_later : (x : Key) (xs : List Key) → AllByRecursion (λ (l : Key). key_cmp x l ≡ Less) xs → (j : ℕ) (key : Key) → x ≡ key → slice_get xs j ≡ Some key → ⊥
+not_later x [] all j key is at = absurd cc
+not_later x (y ∷ ys) all zero key is at =
+    let same : y ≡ x = same_Some y key at ∙ sym is in
+    let equal : key_cmp x x ≡ Equal = key_itself x in
+    let less : key_cmp x x ≡ Less = subst (λ (k : Key). key_cmp x k ≡ Less) same all.0 in
+    absurd cc
+not_later x (y ∷ ys) all (suc j) key is at = not_later x ys all.1 j key is at
+
+-- in a list of keys that rises a key stands at one place
+only_place : (keys : List Key) → Rises keys → (i j : ℕ) (key : Key) → slice_get keys i ≡ Some key → slice_get keys j ≡ Some key → i ≡ j
+only_place [] rises i j key one two = absurd cc
+only_place (x ∷ xs) rises zero zero key one two = refl
+only_place (x ∷ xs) rises zero (suc j) key one two = absurd (not_later x xs rises.0 j key (same_Some x key one) two)
+only_place (x ∷ xs) rises (suc i) zero key one two = absurd (not_later x xs rises.0 i key (same_Some x key two) one)
+only_place (x ∷ xs) rises (suc i) (suc j) key one two = ap suc (only_place xs rises.1 i j key one two)
 
 module _ (net : Plan) (table : Graph) (to : PointId) (plan : IsPlan net) (fits : IsFor net table) (sound : IsGraph table) where
   -- ---- the links of the network
@@ -510,10 +533,19 @@ module _ (net : Plan) (table : Graph) (to : PointId) (plan : IsPlan net) (fits :
     pub has : slot.weight ≡ Some weight
     pub is : edge_in to slot weight ≡ one.edge
 
+  -- two edges that fell are of different keys; and the first is no heavier than the second
+  abbrev pub IsApart : Made → Made → Type 0
+  IsApart one other = key_of one.edge ≢ key_of other.edge
+
+  abbrev pub IsNotAbove : Made → Made → Type 0
+  IsNotAbove one other = one.edge.weight ≤ℤ other.edge.weight
+
   pub record IsMaking (making : Making) : Type 0 where
     pub partly : IsPartly making.slots
     pub listed : (place : ℕ) (slot : Slot) (why : Why) (weight : ℤ) → slice_get making.slots place ≡ Some slot → slot.settled ≡ true → slot.why ≡ Some why → slot.weight ≡ Some weight → Contains making.made (record { edge = edge_in to slot weight; why = why })
     pub each : (one : Made) → Contains making.made one → IsFromSlot making.slots one
+    pub once : AllPairs IsApart making.made
+    pub in_order : AllPairs IsNotAbove making.made
 
   fell_from : (slot : Slot) (low : ℤ) (one : Made) → Contains (fell to slot low) one → (slot.why ≡ Some one.why) × (edge_in to slot low ≡ one.edge)
   fell_from slot low one inside = by slot.why refl inside
@@ -566,8 +598,41 @@ module _ (net : Plan) (table : Graph) (to : PointId) (plan : IsPlan net) (fits :
               settled = refl; why = why; has = has; is = same;
             }
 
+    -- an edge that fell before is of another key, and no heavier
+    old_apart : (one : Made) → Contains making.made one → key_of one.edge ≢ key_of (edge_in to slot low)
+    old_apart one inside same =
+        let from = is.each one inside in
+        let keys = is.partly.row.keys in
+        let old_key : slice_get (row_keys table.shape to) from.place ≡ Some (key_in to from.slot) = ap (λ (ks : List Key). slice_get ks from.place) (sym keys) ∙ (slice_get-map (key_in to) making.slots from.place ∙ ap (option_map (key_in to)) from.here) in
+        let new_key : slice_get (row_keys table.shape to) place ≡ Some (key_in to slot) = ap (λ (ks : List Key). slice_get ks place) (sym keys) ∙ (slice_get-map (key_in to) making.slots place ∙ ap (option_map (key_in to)) here) in
+        let equal : key_in to from.slot ≡ key_in to slot = ap key_of from.is ∙ same in
+        let places : from.place ≡ place = only_place (row_keys table.shape to) (row_keys_rise table.shape to) from.place place (key_in to from.slot) old_key (new_key ∙ ap Some (sym equal)) in
+        let at : slice_get making.slots place ≡ Some from.slot = subst (λ (k : ℕ). slice_get making.slots k ≡ Some from.slot) places from.here in
+        let one_slot : slot ≡ from.slot = same_Some slot from.slot (sym here ∙ at) in
+        let open' : from.slot.settled ≡ false = ap (λ (s : Slot). s.settled) (sym one_slot) ∙ is_open in
+        let settled = from.settled in
+        absurd cc
+
+    old_not_above : (one : Made) → Contains making.made one → one.edge.weight ≤ℤ low
+    old_not_above one inside =
+        let from = is.each one inside in
+        subst (λ (w : ℤ). w ≤ℤ low) (ap (λ (e : Edge). e.weight) from.is) (is.partly.ordered from.place place from.slot slot from.weight low from.here here from.settled from.has is_open has)
+
+    later_pairs : (R : Made → Made → Type 0) → AllPairs R making.made → ((one : Made) (why : Why) → Contains making.made one → R one (record { edge = edge_in to slot low; why = why })) → AllPairs R later.made
+    later_pairs R pairs each = by slot.why
+      where
+        by : (o : Option Why) → AllPairs R (making.made ++ option_map_or (λ why. record { edge = edge_in to slot low; why = why } ∷ []) o [])
+        by None = subst (AllPairs R) (sym (append-nil making.made)) pairs
+        by (Some why) = all_pairs_push R making.made (record { edge = edge_in to slot low; why = why }) pairs (λ k d inside. each (get_or making.made k d) why (Contains-get_or making.made k d inside))
+
     later_making : IsMaking later
-    later_making = record { partly = settling_partly making.slots place slot low here is_open has is.partly next; listed = later_listed; each = later_each }
+    later_making = record {
+      partly = settling_partly making.slots place slot low here is_open has is.partly next;
+      listed = later_listed;
+      each = later_each;
+      once = later_pairs IsApart is.once (λ one why inside. old_apart one inside);
+      in_order = later_pairs IsNotAbove is.in_order (λ one why inside. old_not_above one inside);
+    }
 
   -- ---- the whole row
   -- the row between two settlings, with what is known of the next
@@ -602,7 +667,7 @@ module _ (net : Plan) (table : Graph) (to : PointId) (plan : IsPlan net) (fits :
           subst (λ (n : ℕ). IsMaking (settled_times net table to n after) × IsAllSettled (settled_times net table to n after).slots) one (given after (omega arith) made)
 
   first_making : IsMaking (record { slots = first_slots table to; made = [] })
-  first_making = record { partly = first_partly; listed = λ place slot why weight here is some has. absurd (never place slot here is); each = λ one inside. absurd (Contains-none one inside) }
+  first_making = record { partly = first_partly; listed = λ place slot why weight here is some has. absurd (never place slot here is); each = λ one inside. absurd (Contains-none one inside); once = λ i j d before inside. absurd (omega arith); in_order = λ i j d before inside. absurd (omega arith) }
     where
       never : (place : ℕ) (slot : Slot) → slice_get (first_slots table to) place ≡ Some slot → slot.settled ≡ true → ⊥
       never place slot here is = let first = first_slot place slot here in let not : false ≡ slot.settled = ap (λ (s : Slot). s.settled) first.is in absurd cc
@@ -661,3 +726,21 @@ module _ (net : Plan) (table : Graph) (to : PointId) (plan : IsPlan net) (fits :
       let weights : weight ≡ one.edge.weight = same_weight weight from.weight (sym is ∙ from.has) ∙ ap (λ (e : Edge). e.weight) from.is in
       let key : key_of one.edge ≡ key_in to from.slot = ap key_of (sym from.is) in
       subst (λ (w : ℤ). w <ℤ old) weights (below old (ap (weight_of table) (sym key) ∙ has))
+
+  once_all : AllPairs IsApart (reference_row net table to)
+  once_all = let (making, all) = whole in making.once
+
+  in_order_all : AllPairs IsNotAbove (reference_row net table to)
+  in_order_all = let (making, all) = whole in making.in_order
+
+  pub row_result : IsRowOf net table to (reference_row net table to)
+  row_result = record {
+    least = row_is_least;
+    ends = all_contained (λ (one : Made). one.edge.to ≡ to) (reference_row net table to) row_ends;
+    falls = all_contained (λ (one : Made). IsBelow table one.edge) (reference_row net table to) row_falls;
+    once = once_all;
+    in_order = in_order_all;
+  }
+
+pub rows_are_least : RowsAreLeast
+rows_are_least net table to plan fits sound = row_result net table to plan fits sound
