@@ -11,3 +11,6 @@ pub mod KeyLists
 pub mod Entries
 pub mod TableLemmas
 pub mod BaseLemmas
+pub mod Tabulated
+pub mod Listed
+pub mod SoundTables

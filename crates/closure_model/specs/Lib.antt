@@ -7,3 +7,4 @@ pub mod Derivable
 pub mod Closure
 pub mod Derivations
 pub mod TableLaws
+pub mod Codes

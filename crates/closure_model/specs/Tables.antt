@@ -2,8 +2,8 @@
 -- the one of least weight.
 use Rattle.std.specs.Prelude.{◌≡◌, ◌==◌, ℕ, ℤ, ◌≤ℤ◌, ◌≤◌, ◌<◌, int_le, unsigned_abs, Bool, false, List, ◌++◌, length, map, filter, fold, Option, Some, IsSomeAnd, if◌then◌else◌}
 use Rattle.std.specs.FinMap as map_of
-use Rattle.std.specs.List.{All, Contains, enumerate_from}
-use Rattle.std.specs.Option.{option_map_or}
+use Rattle.std.specs.List.{All, Contains, enumerate_from, filter_map}
+use Rattle.std.specs.Option.{option_map, option_map_or}
 use Rattle.net_model.specs.Limits.{most_points, most_links, most_weight}
 use Rattle.net_model.specs.Network.{Plan}
 use Rattle.net_model.specs.Rules.{bound_edge, link_edge, Follows}
@@ -32,6 +32,10 @@ edges_of graph = map (λ entry. edge_of entry.0 entry.1) (map_of.entries graph.w
 -- the edges of the row of a target, in the order of their keys
 abbrev pub row_of : Graph → PointId → List Edge
 row_of graph to = filter (λ edge. edge.to.0 == to.0) (edges_of graph)
+
+-- the edges that a table has at some keys, in the order of these
+abbrev pub edges_at : Graph → List Key → List Edge
+edges_at graph keys = filter_map (λ key. option_map (edge_of key) (weight_of graph key)) keys
 
 -- the table in which the key of an edge has its weight, and every other key what it had
 abbrev pub with_edge : Graph → Edge → Graph

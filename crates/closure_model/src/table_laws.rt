@@ -1,6 +1,6 @@
 //! Laws about keys and tables, each the contract of a function without parameters.
 
-ghost use Rattle.closure_model.specs.TableLaws.{AllKeysAreListed, EdgesAreListed, TablesHoldTheLeast, BaseTableIsWeakest, ClosedTablesHaveTheBase};
+ghost use Rattle.closure_model.specs.TableLaws.{AllKeysAreListed, EdgesAreListed, RowsAreListed, TablesHoldTheLeast, BaseTableIsWeakest, ClosedTablesHaveTheBase};
 
 /// The keys that there are stand in the list of all keys, in their order, each once.
 pub fn all_keys_are_listed()
@@ -10,6 +10,11 @@ pub fn all_keys_are_listed()
 /// The listed edges of a table are those that it has.
 pub fn edges_are_listed()
     ensures { EdgesAreListed }
+{}
+
+/// The edges of a sound table, and those of each of its rows, are what it has at the keys in their order.
+pub fn rows_are_listed()
+    ensures { RowsAreListed }
 {}
 
 /// The table of a list of edges has exactly the least of each key.
