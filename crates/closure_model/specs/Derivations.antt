@@ -1,6 +1,6 @@
 -- Derivation lists (Morris and Muscettola 2005, in this project's form): edges in the order of making, each with its rule and
 -- with premises that stand earlier, and what a node rests on.
-use Rattle.std.specs.Prelude.{◌≡◌, ℕ, ◌<◌, ◌≤ℤ◌, ◌<ℤ◌, List, [], ◌∷◌, ◌++◌, map, take, Option, Some, None, slice_get}
+use Rattle.std.specs.Prelude.{◌≡◌, ◌≢◌, ℕ, ◌<◌, ◌≤ℤ◌, ◌<ℤ◌, List, [], ◌∷◌, ◌++◌, map, take, Option, Some, None, MatchOption, slice_get}
 use Rattle.std.specs.Option.{option_map, option_and_then}
 use Rattle.std.specs.List.{Contains, All, AllPairs, enumerate_from}
 use Rattle.net_model.specs.Network.{Plan}
@@ -97,6 +97,14 @@ pub record IsNodeOf (nodes : List Node) (key : Key) (id : NodeId) : Type 0 where
   pub of_key : key_of node.edge ≡ key
   pub least : (other : NodeId) (m : Node) → node_at nodes other ≡ Some m → key_of m.edge ≡ key → node.edge.weight ≤ℤ m.edge.weight
   pub first : (other : NodeId) (m : Node) → node_at nodes other ≡ Some m → key_of m.edge ≡ key → other.0 < id.0 → node.edge.weight <ℤ m.edge.weight
+
+-- a key has no node
+abbrev pub HasNoNode : List Node → Key → Type 0
+HasNoNode nodes key = (id : NodeId) (node : Node) → node_at nodes id ≡ Some node → key_of node.edge ≢ key
+
+-- the node of a key, if it has nodes
+abbrev pub IsNewest : List Node → Key → Option NodeId → Type 0
+IsNewest nodes key found = MatchOption found (HasNoNode nodes key) (IsNodeOf nodes key)
 
 -- the nodes of bounds and links, each list in its order
 abbrev pub base_nodes : Plan → List Node

@@ -8,3 +8,5 @@ pub mod Closure
 pub mod Derivations
 pub mod TableLaws
 pub mod Codes
+pub mod ClosureLaws
+pub mod DerivationLaws

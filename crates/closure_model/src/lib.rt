@@ -3,6 +3,7 @@
 #![tactic(auto)]
 
 mod derivation;
+pub mod laws;
 mod rows;
 pub mod table_laws;
 
