@@ -3,6 +3,8 @@ mod FirstLeast
 mod RuleSteps
 mod Consequences
 mod Slots
+mod RowLaw
+pub mod RowSteps
 pub mod Lists
 pub mod KeyOrder
 pub mod KeyLists

@@ -86,7 +86,7 @@ pub data Change (made : Made) (slot after : Slot) : Type 0 where
 abbrev pub offered_one : Made → Slot → Slot
 offered_one made slot = cond (is_slot_of made.edge slot) (taken made slot) slot
 
-offered_change : (made : Made) (slot : Slot) → Change made slot (offered_one made slot)
+pub offered_change : (made : Made) (slot : Slot) → Change made slot (offered_one made slot)
 offered_change made slot = by (is_slot_of made.edge slot) refl (has_above slot made.edge.weight) refl
   where
     by : (b : Bool) → is_slot_of made.edge slot ≡ b → (c : Bool) → has_above slot made.edge.weight ≡ c → Change made slot (cond b (cond c (record slot { weight = Some made.edge.weight; why = Some made.why }) slot) slot)

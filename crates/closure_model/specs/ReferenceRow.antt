@@ -1,17 +1,17 @@
 -- The reference row: the least row of a target against a table. The keys of the row are settled one after another, always the one
 -- of least weight (Dijkstra 1959; backwards from a target as in Morris 2014). What decides between equal weights is this project's
 -- own choice.
-use Rattle.std.specs.Prelude.{◌≡◌, ◌==◌, ◌&&◌, ℕ, suc, zero, ℤ, int_lt, Bool, true, false, List, [], ◌∷◌, ◌++◌, length, map, fold, slice_get, slice_set, Option, Some, None, if◌then◌else◌}
+use Rattle.std.specs.Prelude.{◌≡◌, ◌≢◌, ◌==◌, ◌&&◌, ℕ, suc, zero, ℤ, ◌≤ℤ◌, ◌<ℤ◌, ◌≤◌, int_lt, unsigned_abs, Bool, true, false, List, [], ◌∷◌, ◌++◌, length, map, fold, slice_get, slice_set, Option, Some, None, if◌then◌else◌}
 use Rattle.std.specs.Option.{option_map, option_map_or}
-use Rattle.std.specs.List.{filter_map, flat_map}
-use Rattle.net_model.specs.Network.{Plan, activation}
+use Rattle.std.specs.List.{All, AllPairs, filter_map, flat_map}
+use Rattle.net_model.specs.Network.{Plan, IsPlan, activation, greatest}
 use Rattle.net_model.specs.Rules.{no_case, upper_case, lower_case, cross_case, removal}
 use Rattle.net_model.specs.declared.ids.LinkId.{LinkId}
 use Rattle.net_model.specs.declared.ids.PointId.{PointId}
 use Rattle.net_model.specs.declared.part.Edge.{Edge}
-use Rattle.closure_model.specs.Keys.{Key, edge_of, ordinary_key, row_keys, all_points}
+use Rattle.closure_model.specs.Keys.{Key, key_of, edge_of, ordinary_key, row_keys, all_points}
 use Rattle.closure_model.specs.Least.{first_least, IsFirstLeast, HasNoWeight}
-use Rattle.closure_model.specs.Tables.{Graph, weight_of, lowered, HasEdge, HasAtMost}
+use Rattle.closure_model.specs.Tables.{Graph, weight_of, lowered, HasEdge, HasAtMost, IsGraph, IsFor}
 use Rattle.closure_model.specs.declared.rows.Made.{Made}
 use Rattle.closure_model.specs.declared.rows.Slot.{Slot}
 use Rattle.closure_model.specs.declared.rows.Why.{Why}
@@ -135,6 +135,35 @@ pub data IsInRow (net : Plan) (table : Graph) (to : PointId) : Edge → Type 0 w
 pub record IsLeastRow (net : Plan) (table : Graph) (to : PointId) (after : Graph) : Type 0 where
   pub derivable : (edge : Edge) → HasEdge after edge → edge.to ≡ to → IsInRow net table to edge
   pub least : (edge : Edge) → IsInRow net table to edge → HasAtMost after edge
+
+-- an edge is lighter than the one of its key that a table has, or the table has none
+abbrev pub IsBelow : Graph → Edge → Type 0
+IsBelow table edge = (weight : ℤ) → weight_of table (key_of edge) ≡ Some weight → edge.weight <ℤ weight
+
+-- what falls in the row of a target: put into the table it gives the least row; each edge ends in the target and falls; each key
+-- falls once; and the weights do not fall from one to the next
+pub record IsRowOf (net : Plan) (table : Graph) (to : PointId) (made : List Made) : Type 0 where
+  pub least : IsLeastRow net table to (with_made table made)
+  pub ends : All (λ (one : Made). one.edge.to ≡ to) made
+  pub falls : All (λ (one : Made). IsBelow table one.edge) made
+  pub once : AllPairs (λ (one other : Made). key_of one.edge ≢ key_of other.edge) made
+  pub in_order : AllPairs (λ (one other : Made). one.edge.weight ≤ℤ other.edge.weight) made
+
+-- The reference row is the least row.
+abbrev pub RowsAreLeast : Type 0
+RowsAreLeast = (net : Plan) (table : Graph) (to : PointId) → IsPlan net → IsFor net table → IsGraph table → IsRowOf net table to (reference_row net table to)
+
+-- a weight from -M to M, where M is the greatest number of a network
+abbrev pub IsWithin : Plan → ℤ → Type 0
+IsWithin net weight = unsigned_abs weight ≤ greatest net
+
+-- the weights of a table are from -M to M
+abbrev pub HasWeightsWithin : Plan → Graph → Type 0
+HasWeightsWithin net table = (edge : Edge) → HasEdge table edge → IsWithin net edge.weight
+
+-- Whatever is derivable in a row is from -M to M where the weights of the table are.
+abbrev pub RowsStayWithin : Type 0
+RowsStayWithin = (net : Plan) (table : Graph) (to : PointId) → IsPlan net → HasWeightsWithin net table → (edge : Edge) → IsInRow net table to edge → IsWithin net edge.weight
 
 -- no slot can be settled
 abbrev pub IsAllSettled : List Slot → Type 0
