@@ -4,6 +4,7 @@ use Rattle.net_model.specs.Network.{Plan, point_named, bound_named, activation, 
 use Rattle.net_model.specs.declared.ids.PointId.{PointId}
 use Rattle.net_model.specs.declared.part.Part.{Part}
 use Rattle.net_model.specs.declared.part.Part.TheVariants.{Point, Bound, Link}
+use Rattle.net_model.specs.declared.part.Which.{Which}
 use Rattle.net_model.specs.declared.part.Which.TheVariants.{Points, Links, Bounds, Number}
 use Rattle.net_model.specs.Limits.{most_points, most_links, most_bounds, within_limit}
 use Rattle.net_model.specs.declared.fault.PartFault.{PartFault}
@@ -79,6 +80,13 @@ place_of (build.LinkToItself place) = Some place
 place_of (build.BadInterval place) = Some place
 place_of (build.Limit which place) = Some place
 place_of build.OutOfMemory = None
+
+-- the word by which a quantity is printed
+abbrev pub which_word : Which → List ℕ
+which_word Points = codes "points"
+which_word Links = codes "links"
+which_word Bounds = codes "bounds"
+which_word Number = codes "number"
 
 -- the word by which a fault is printed
 abbrev pub word_of : BuildFault → List ℕ

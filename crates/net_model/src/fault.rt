@@ -36,7 +36,22 @@ pub enum BuildFault {
 
 impl BuildFault {
     ghost use Rattle.std.specs.Prelude.{◌≡◌};
-    ghost use Rattle.net_model.specs.Building.{place_of};
+    ghost use Rattle.net_model.specs.Building.{place_of, word_of};
+
+    /// The word as which it is printed.
+    pub fn word(self) -> &'static str
+        ensures { result.now ≡ word_of self }
+    {
+        match self {
+            BuildFault::DuplicateName(_) => "duplicate-name",
+            BuildFault::UnknownName(_) => "unknown-name",
+            BuildFault::TwoLinksOnPoint(_) => "two-links-on-point",
+            BuildFault::LinkToItself(_) => "link-to-itself",
+            BuildFault::BadInterval(_) => "bad-interval",
+            BuildFault::Limit(..) => "limit",
+            BuildFault::OutOfMemory => "out of memory",
+        }
+    }
 
     /// The place of the part that is refused, from 1, or `None` exactly where there was no memory.
     pub fn place(self) -> Option<u32>
@@ -61,15 +76,7 @@ impl fmt::Display for BuildFault {
     ghost output = { λ fault. Some (word_of fault) };
 
     fn fmt<W: fmt::Write>(&self, f: &mut fmt::Formatter<W>) -> fmt::Result {
-        f.write_str(match self {
-            BuildFault::DuplicateName(_) => "duplicate-name",
-            BuildFault::UnknownName(_) => "unknown-name",
-            BuildFault::TwoLinksOnPoint(_) => "two-links-on-point",
-            BuildFault::LinkToItself(_) => "link-to-itself",
-            BuildFault::BadInterval(_) => "bad-interval",
-            BuildFault::Limit(..) => "limit",
-            BuildFault::OutOfMemory => "out of memory",
-        })
+        f.write_str(self.word())
     }
 }
 

@@ -23,14 +23,15 @@ pub enum FormatKind {
     UnknownName,
 }
 
-impl fmt::Display for FormatKind {
-    ghost use Rattle.std.specs.Prelude.{Some};
+impl FormatKind {
+    ghost use Rattle.std.specs.Prelude.{◌≡◌};
     ghost use Rattle.net_model.specs.Formats.{format_word};
 
-    ghost output = { λ kind. Some (format_word kind) };
-
-    fn fmt<W: fmt::Write>(&self, f: &mut fmt::Formatter<W>) -> fmt::Result {
-        f.write_str(match self {
+    /// The word as which it is printed.
+    pub fn word(self) -> &'static str
+        ensures { result.now ≡ format_word self }
+    {
+        match self {
             FormatKind::UnknownWord => "unknown-word",
             FormatKind::WordCount => "word-count",
             FormatKind::BadName => "bad-name",
@@ -39,7 +40,18 @@ impl fmt::Display for FormatKind {
             FormatKind::NoHeader => "no-header",
             FormatKind::NoEnd => "no-end",
             FormatKind::UnknownName => "unknown-name",
-        })
+        }
+    }
+}
+
+impl fmt::Display for FormatKind {
+    ghost use Rattle.std.specs.Prelude.{Some};
+    ghost use Rattle.net_model.specs.Formats.{format_word};
+
+    ghost output = { λ kind. Some (format_word kind) };
+
+    fn fmt<W: fmt::Write>(&self, f: &mut fmt::Formatter<W>) -> fmt::Result {
+        f.write_str(self.word())
     }
 }
 

@@ -53,3 +53,20 @@ pub enum Which {
     /// The size of a number, at most 1,000,000,000.
     Number,
 }
+
+impl Which {
+    ghost use Rattle.std.specs.Prelude.{◌≡◌};
+    ghost use Rattle.net_model.specs.Building.{which_word};
+
+    /// The word as which it is printed.
+    pub fn word(self) -> &'static str
+        ensures { result.now ≡ which_word self }
+    {
+        match self {
+            Which::Points => "points",
+            Which::Links => "links",
+            Which::Bounds => "bounds",
+            Which::Number => "number",
+        }
+    }
+}

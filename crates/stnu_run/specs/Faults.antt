@@ -1,51 +1,64 @@
--- The line that is printed for the first refusal of an input, and the status. This project's own choice.
-use Rattle.std.specs.Prelude.{ℕ, List, [], ◌∷◌, ◌++◌, codes}
+-- The line that is printed for the first refusal of an input, and how it ends the run. This project's own choice.
+use Rattle.std.specs.Prelude.{ℕ, List, [], ◌∷◌, codes}
 use Rattle.std.specs.Fmt.{decimal}
+use Rattle.texts.specs.Printing.{printed_line}
 use Rattle.net_model.specs.Formats.{format_word}
-use Rattle.net_model.specs.declared.format.FormatKind.TheVariants as kind
-use Rattle.stnu_run.specs.declared.status.Status.{Status}
-use Rattle.stnu_run.specs.declared.fault.Fault.{Fault}
-use Rattle.stnu_run.specs.declared.fault.Fault.TheVariants.{Format, Plan, Limit}
-use Rattle.stnu_run.specs.declared.fault.PlanFault.{PlanFault}
-use Rattle.stnu_run.specs.declared.fault.PlanFault.TheVariants.{DuplicateName, UnknownName, TwoLinksOnPoint, LinkToItself, BadInterval}
-use Rattle.stnu_run.specs.declared.fault.Quantity.{Quantity}
-use Rattle.stnu_run.specs.declared.fault.Quantity.TheVariants.{Points, Links, Bounds, Number, Line, Total}
+use Rattle.net_model.specs.Building.{word_of, which_word}
+use Rattle.net_model.specs.declared.format.FormatKind.{FormatKind}
+use Rattle.net_model.specs.declared.format.FormatKind.TheVariants.{NumberLimit}
+use Rattle.net_model.specs.declared.fault.BuildFault.TheVariants as part
+use Rattle.commands.specs.Reading.{Refusing}
+use Rattle.commands.specs.declared.endings.End.{End}
+use Rattle.commands.specs.declared.endings.End.TheVariants as end
+use Rattle.commands.specs.declared.machines.Stop.{Stop}
+use Rattle.commands.specs.declared.machines.Stop.TheVariants as stop
+use Rattle.stnu_run.specs.declared.faults.Fault.{Fault}
+use Rattle.stnu_run.specs.declared.faults.Fault.TheVariants.{Format, Part, LineTooLong, InputTooMuch}
 
-abbrev pub plan_word : PlanFault → List ℕ
-plan_word DuplicateName = codes "duplicate-name"
-plan_word UnknownName = codes "unknown-name"
-plan_word TwoLinksOnPoint = codes "two-links-on-point"
-plan_word LinkToItself = codes "link-to-itself"
-plan_word BadInterval = codes "bad-interval"
+-- the class of a fault
+abbrev pub fault_class : Fault → List ℕ
+fault_class (Format number NumberLimit) = codes "limit"
+fault_class (Format number kind) = codes "format"
+fault_class (Part number (part.Limit which place)) = codes "limit"
+fault_class (Part number fault) = codes "plan"
+fault_class (LineTooLong number) = codes "limit"
+fault_class (InputTooMuch number) = codes "limit"
 
-abbrev pub quantity_word : Quantity → List ℕ
-quantity_word Points = codes "points"
-quantity_word Links = codes "links"
-quantity_word Bounds = codes "bounds"
-quantity_word Number = codes "number"
-quantity_word Line = codes "line"
-quantity_word Total = codes "total"
+-- the number of its line
+abbrev pub fault_number : Fault → ℕ
+fault_number (Format number kind) = number
+fault_number (Part number fault) = number
+fault_number (LineTooLong number) = number
+fault_number (InputTooMuch number) = number
 
--- the class of the fault, the number of the line, and a word
-abbrev pub fault_text : Fault → List ℕ
-fault_text (Format line kind.NumberLimit) = codes "limit " ++ decimal line ++ codes " number"
-fault_text (Format line kind) = codes "format " ++ decimal line ++ codes " " ++ format_word kind
-fault_text (Plan line fault) = codes "plan " ++ decimal line ++ codes " " ++ plan_word fault
-fault_text (Limit line quantity) = codes "limit " ++ decimal line ++ codes " " ++ quantity_word quantity
+-- the word that says what is wrong with the line
+abbrev pub fault_word : Fault → List ℕ
+fault_word (Format number NumberLimit) = codes "number"
+fault_word (Format number kind) = format_word kind
+fault_word (Part number (part.Limit which place)) = which_word which
+fault_word (Part number fault) = word_of fault
+fault_word (LineTooLong number) = codes "line"
+fault_word (InputTooMuch number) = codes "total"
 
+-- the line that is printed: `error`, the class of the fault, the number of its line, and the word
 abbrev pub fault_line : Fault → List ℕ
-fault_line fault = codes "error " ++ fault_text fault ++ 10 ∷ []
+fault_line fault = printed_line (codes "error" ∷ fault_class fault ∷ decimal (fault_number fault) ∷ fault_word fault ∷ [])
 
-abbrev pub fault_status : Fault → Status
-fault_status (Format line kind.NumberLimit) = record { 0 = 4 }
-fault_status (Format line kind) = record { 0 = 3 }
-fault_status (Plan line fault) = record { 0 = 3 }
-fault_status (Limit line quantity) = record { 0 = 4 }
+-- a passed limit ends the run as such, and every other fault as a fault
+abbrev pub fault_end : Fault → End
+fault_end (Format number NumberLimit) = end.Limit
+fault_end (Format number kind) = end.Fault
+fault_end (Part number (part.Limit which place)) = end.Limit
+fault_end (Part number fault) = end.Fault
+fault_end (LineTooLong number) = end.Limit
+fault_end (InputTooMuch number) = end.Limit
 
--- the line that is printed where a read failed
-abbrev pub read_fault_line : List ℕ
-read_fault_line = codes "error read" ++ 10 ∷ []
+-- what is printed for a fault, and how it ends the run
+abbrev pub refusing : Refusing Fault
+refusing = record { line = fault_line; end = fault_end }
 
--- the line that is printed where the words are those of no command
-abbrev pub words_line : List ℕ
-words_line = codes "error words" ++ 10 ∷ []
+-- the fault where no line comes, with the one of a text that ends too soon
+abbrev pub stop_fault : ℕ → Stop → FormatKind → Fault
+stop_fault number stop.LineTooLong missing = LineTooLong number
+stop_fault number stop.InputTooMuch missing = InputTooMuch number
+stop_fault number stop.InputEnded missing = Format number missing

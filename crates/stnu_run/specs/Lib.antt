@@ -1,11 +1,7 @@
 pub mod Faults
-pub mod Runs
-pub mod Prompt
-pub mod TurnTalk
-pub mod Turns
-pub mod PlanReading
+pub mod PlanText
+pub mod CertificateTexts
 pub mod Judging
 pub mod Words
-pub mod ToJudge
-pub mod Breaks
-pub mod DefinedRun
+pub mod Promises
+pub mod Programs

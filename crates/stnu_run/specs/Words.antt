@@ -5,6 +5,6 @@ use Rattle.stnu_run.specs.declared.words.Task.{Task}
 use Rattle.stnu_run.specs.declared.words.Task.TheVariants.{Judge}
 
 -- the task of the words, of which the first is the program's name
-abbrev pub command_of : List (List ℕ) → Option Task
-command_of (program ∷ command ∷ []) = if bytes_eq command (codes "judge") then Some Judge else None
-command_of others = None
+abbrev pub task_named : List (List ℕ) → Option Task
+task_named (program ∷ command ∷ []) = if bytes_eq command (codes "judge") then Some Judge else None
+task_named others = None

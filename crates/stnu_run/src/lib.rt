@@ -1,0 +1,13 @@
+//! What the program does: its words, its commands, and the run that serves them over a port.
+#![tactic(auto)]
+
+mod certificate_text;
+mod faults;
+mod judging;
+mod plan_text;
+// mod run;
+mod status;
+mod words;
+
+// pub use run::run;
+pub use status::Status;
