@@ -1,5 +1,14 @@
-//! What the texts are read as and how they are printed: examples, tried as tests.
+//! Examples of names, networks and texts: tests alone. A table is one text with a row a line: an input, ` => ` and the
+//! answer. In a plan text `|` stands for a line end.
 #![tactic(auto)]
 
 #[cfg(test)]
 mod certificates;
+#[cfg(test)]
+mod names;
+#[cfg(test)]
+mod networks;
+#[cfg(test)]
+mod plans;
+#[cfg(test)]
+mod rows;

@@ -25,6 +25,10 @@ most_size = 2000000000
 abbrev pub most_weight : ℕ
 most_weight = 1000000000000
 
+-- how many lines of one text are read
+abbrev pub most_lines : ℕ
+most_lines = 2147483648
+
 -- a number that a plan may have
 abbrev pub within_limit : ℤ → Bool
 within_limit number = nat_le (unsigned_abs number) most_number

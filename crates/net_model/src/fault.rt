@@ -4,7 +4,7 @@ use std::error::Error;
 use std::fmt;
 
 /// Why a part is refused.
-#[derive(Clone, Copy, Debug, PartialEq, Eq, Hash)]
+#[derive(Clone, Copy)]
 pub(crate) enum PartFault {
     DuplicateName,
     UnknownName,

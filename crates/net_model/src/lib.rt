@@ -10,15 +10,15 @@ mod limits;
 mod name;
 mod network;
 mod part;
-#[cfg(test)]
-mod tests;
 pub mod text;
 
 pub use fault::BuildFault;
 pub use format::{FormatFault, FormatKind, TextFault, WordFault};
 pub use ids::{BoundId, LinkId, PointId, Weight};
 pub use items::Items;
-pub use limits::{MOST_BOUNDS, MOST_LINKS, MOST_NUMBER, MOST_POINTS, limits_are_defined};
+pub use limits::{
+    MOST_BOUNDS, MOST_LINES, MOST_LINKS, MOST_NUMBER, MOST_POINTS, limits_are_defined,
+};
 pub use name::{Name, NameFault};
 pub use network::Network;
 pub use part::{Bound, Edge, Link, Part, Which};

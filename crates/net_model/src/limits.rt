@@ -1,7 +1,7 @@
 //! The greatest counts and sizes of a network. They are this project's own choice.
 
 ghost use Rattle.std.specs.Prelude.{◌≡◌};
-ghost use Rattle.net_model.specs.Limits.{most_points, most_links, most_bounds, most_number};
+ghost use Rattle.net_model.specs.Limits.{most_points, most_links, most_bounds, most_number, most_lines};
 
 /// The greatest number of points of a network.
 pub const MOST_POINTS: usize = 1_000;
@@ -15,10 +15,14 @@ pub const MOST_BOUNDS: usize = 20_000;
 /// The greatest size of a number of a plan, in whole moments.
 pub const MOST_NUMBER: u64 = 1_000_000_000;
 
+/// The greatest number of lines of one text.
+pub const MOST_LINES: u32 = 2_147_483_648;
+
 /// The limits of the code are those of the definitions.
 pub fn limits_are_defined()
     ensures points { MOST_POINTS ≡ most_points }
     ensures links { MOST_LINKS ≡ most_links }
     ensures bounds { MOST_BOUNDS ≡ most_bounds }
     ensures number { MOST_NUMBER ≡ most_number }
+    ensures lines { MOST_LINES ≡ most_lines }
 {}

@@ -1,8 +1,8 @@
-ghost use Rattle.std.specs.Prelude.{◌≡◌, ◌<◌, ◌^◌, ◌↔◌, ◌==◌, ◌≤◌, [], ◌∷◌, ◌++◌, length, fold, map, filter, max, unsigned_abs, pos, IfOk, IsTrue};
+ghost use Rattle.std.specs.Prelude.{◌≡◌, ◌<◌, ◌^◌, ◌↔◌, ◌==◌, ◌≤◌, [], ◌∷◌, ◌++◌, length, fold, map, filter, max, unsigned_abs, pos, IfOk, IsTrue, MatchResult};
 ghost use Rattle.std.specs.List.{enumerate_from};
 ghost use Rattle.net_model.specs.Network.{IsPlan, IsPoint, IsContingent, IsBound, IsLink, point_named, bound_named, activation, links_from, greatest, empty, HasPlanNumbers};
 ghost use Rattle.net_model.specs.Limits.{most_points, most_links, most_bounds, within_limit};
-ghost use Rattle.net_model.specs.Building.{Builds, Adds, built, with_part, with_point, with_bound, with_link, named};
+ghost use Rattle.net_model.specs.Building.{Builds, Adds, built, with_part, with_point, with_bound, with_link, with_parts, named};
 
 use crate::fault::{BuildFault, PartFault};
 use crate::ids::{BoundId, LinkId, PointId, Weight};
@@ -52,16 +52,14 @@ impl Network {
         ensures numbers { IfOk result HasPlanNumbers }
     {
         let mut net = Network::empty(alloc);
-        let mut place = 0;
-        for part in parts {
-            place += 1;
-            if let Err(fault) = net.add(part) {
-                return Err(fault.at(place));
+        match net.add_all(parts) {
+            Ok(()) => {
+                // The proof reads here that the network is sound.
+                let _ = &net.points;
+                Ok(net)
             }
+            Err(fault) => Err(fault),
         }
-        // The proof reads here that the network is sound.
-        let _ = &net.points;
-        Ok(net)
     }
 
     /// The points by their names; the number of a point is its place.
@@ -172,6 +170,21 @@ impl Network {
         ensures { result ≡ named self.now name.now }
     {
         self.named_point(name).ok_or(PartFault::UnknownName)
+    }
+
+    /// Takes parts in, one after another, up to the first that is refused.
+    fn add_all(&mut self, parts: &[Part]) -> Result<(), BuildFault>
+        requires { length parts.now < 2 ^ 32 }
+        ensures { MatchResult result (λ _. with_parts 0 self.old parts.now ≡ Ok self.new) (λ fault. Builds (Err fault) (with_parts 0 self.old parts.now)) }
+    {
+        let mut place = 0;
+        for part in parts {
+            place += 1;
+            if let Err(fault) = self.add(part) {
+                return Err(fault.at(place));
+            }
+        }
+        Ok(())
     }
 
     /// Takes one more part in. A refusal and want of memory change nothing.

@@ -134,6 +134,38 @@ departs (first ∷ others) kind read =
       | inr other ↦ line_departs first others kind other.1
     ]
 
+misfit_one : (place : Place) (word : List ℕ) (a b : FormatKind) → Misfits place word a → Misfits place word b → a ≡ b
+misfit_one of_name word a b x y = x.1 ∙ sym y.1
+misfit_one of_number word a b (inl x) (inl y) = x.1 ∙ sym y.1
+misfit_one of_number word a b (inl x) (inr y) = absurd (let none = x.0 in let some = y.0 in cc)
+misfit_one of_number word a b (inr x) (inl y) = absurd (let some = x.0 in let none = y.0 in cc)
+misfit_one of_number word a b (inr x) (inr y) = x.2 ∙ sym y.2
+
+fits_or_not : (place : Place) (word : List ℕ) (kind : FormatKind) → Fits place word → Misfits place word kind → ⊥
+fits_or_not of_name word kind fits x = let some = fits in let none = x.0 in absurd (cc)
+fits_or_not of_number word kind fits (inl x) = let some = fits.0 in let none = x.0 in absurd (cc)
+fits_or_not of_number word kind fits (inr x) = absurd (omega (arith, fits.1, x.1))
+
+first_one : (places : List Place) (words : List (List ℕ)) (a b : FormatKind) → FirstMisfits places words a → FirstMisfits places words b → a ≡ b
+first_one [] words a b x y = absurd x
+first_one (place ∷ places) [] a b x y = absurd x
+first_one (place ∷ places) (word ∷ words) a b (inl x) (inl y) = misfit_one place word a b x y
+first_one (place ∷ places) (word ∷ words) a b (inl x) (inr y) = absurd (fits_or_not place word a y.0 x)
+first_one (place ∷ places) (word ∷ words) a b (inr x) (inl y) = absurd (fits_or_not place word b x.0 y)
+first_one (place ∷ places) (word ∷ words) a b (inr x) (inr y) = first_one places words a b x.1 y.1
+
+departs_from_one : (form : Option (List Place)) (others : List (List ℕ)) (a b : FormatKind) → DepartsFrom form others a → DepartsFrom form others b → a ≡ b
+departs_from_one None others a b x y = x ∙ sym y
+departs_from_one (Some places) others a b (inl x) (inl y) = x.1 ∙ sym y.1
+departs_from_one (Some places) others a b (inl x) (inr y) = absurd (x.0 y.0)
+departs_from_one (Some places) others a b (inr x) (inl y) = absurd (y.0 x.0)
+departs_from_one (Some places) others a b (inr x) (inr y) = first_one places others a b x.1 y.1
+
+-- a line departs from its form for one cause
+pub departs_one : (words : List (List ℕ)) (a b : FormatKind) → Departs words a → Departs words b → a ≡ b
+departs_one [] a b x y = absurd x
+departs_one (first ∷ others) a b x y = departs_from_one (places_after first) others a b x y
+
 passed : (words : List (List ℕ)) (kind : FormatKind) → plan_line words ≡ Err kind → are_passed_over words ≡ true → ⊥
 passed words kind read blank = never line.Blank kind (sym (blank_read words blank) ∙ read)
 

@@ -5,7 +5,7 @@ use Rattle.std.proofs.lemmas.List.{append-nil}
 use Rattle.texts.specs.Words.{words}
 use Rattle.texts.specs.Lines.{lines}
 use Rattle.net_model.specs.declared.format.FormatKind.{FormatKind}
-use Rattle.net_model.specs.declared.format.FormatKind.TheVariants.{UnknownWord, NoHeader}
+use Rattle.net_model.specs.declared.format.FormatKind.TheVariants.{UnknownWord, NoHeader, NoEnd}
 use Rattle.net_model.specs.declared.format.FormatFault.{FormatFault}
 use Rattle.net_model.specs.declared.format.WordFault.{WordFault}
 use Rattle.net_model.specs.declared.format.WordFault.TheVariants as word
@@ -17,19 +17,19 @@ use Rattle.plan_format.specs.declared.section.PlanSection.TheVariants as section
 use Rattle.plan_format.specs.declared.read.Parts.{Parts}
 use Rattle.plan_format.specs.PlanLines.{plan_line}
 use Rattle.plan_format.specs.PlanGrammar.{Says}
-use Rattle.plan_format.specs.PlanFaults.{Departs, MayBegin, IsRefused, Stops, IsFirstFault}
-use Rattle.plan_format.specs.PlanReading.{Progress, begun, in_section, line_in, advanced, missing, AreLinesOf, HasRead, Brings}
+use Rattle.plan_format.specs.PlanFaults.{Departs, CanBecomePlan, ExcludesPlan, Stops, IsFirstFault}
+use Rattle.plan_format.specs.PlanReading.{Progress, begun, in_section, line_in, advanced, missing, IsReached, IsFront, Brings}
 use Rattle.plan_format.proofs.PartLemmas.{read_is}
-use Rattle.plan_format.proofs.DepartureLemmas.{departs}
+use Rattle.plan_format.proofs.DepartureLemmas.{departs, departs_one}
 use Rattle.plan_format.proofs.StepLemmas.{reached, advance, goes_on, may_begin}
 use Rattle.plan_format.proofs.GrammarLemmas.{Declared, read_from, step, has_read, plan_read, says_read}
 
 -- no plan text begins with lines that were read and a line that is refused
-no_plan : (before : List (List ℕ)) (read : Progress) (next : List ℕ) (kind : FormatKind) → HasRead before read → line_in read.section (words next) ≡ Err kind → MayBegin (before ++ next ∷ []) → ⊥
+no_plan : (before : List (List ℕ)) (read : Progress) (next : List ℕ) (kind : FormatKind) → IsFront before read → line_in read.section (words next) ≡ Err kind → CanBecomePlan (before ++ next ∷ []) → ⊥
 no_plan before read next kind has refused (more, parts, numbers, plan) =
     let text : List (List ℕ) = (before ++ next ∷ []) ++ more in
     let good = plan_read text text [] parts numbers (sym (append-nil text)) plan in
-    let bad : read_from begun text ≡ Err kind = ap (read_from begun) (append_assoc before (next ∷ []) more) ∙ (has_read before (next ∷ more) read has ∙ step read next more (Err kind) refused) in
+    let bad : read_from begun text ≡ Err (record { line = read.count + 1; kind = kind }) = ap (read_from begun) (append_assoc before (next ∷ []) more) ∙ (has_read before (next ∷ more) read has ∙ step read next more (Err kind) refused) in
     absurd (cc)
 
 headless : (read : Result PlanLine FormatKind) (kind : FormatKind) → in_section section.Header read ≡ Err kind → kind ≡ NoHeader
@@ -48,13 +48,13 @@ departs_by next (Ok (line.Part part)) kind is refused = absurd (cc)
 departs_by next (Ok line.End) kind is refused = absurd (cc)
 departs_by next (Err k) kind is refused = departs (words next) kind (is ∙ refused)
 
-stops_by : (s : PlanSection) (before : List (List ℕ)) (parts : List Part) (numbers : List ℕ) (next : List ℕ) (more : List (List ℕ)) (kind : FormatKind) → AreLinesOf s before parts numbers → line_in s (words next) ≡ Err kind → Stops before (next ∷ more) kind
+stops_by : (s : PlanSection) (before : List (List ℕ)) (parts : List Part) (numbers : List ℕ) (next : List ℕ) (more : List (List ℕ)) (kind : FormatKind) → IsReached s before parts numbers → line_in s (words next) ≡ Err kind → Stops before (next ∷ more) kind
 stops_by section.Header before parts numbers next more kind are refused = inl (are.0, headless (plan_line (words next)) kind refused)
 stops_by section.Declarations before parts numbers next more kind begins refused =
     inr (parts, numbers, begins, departs_by next (plan_line (words next)) kind refl refused)
 
 -- a line that is refused has the first fault of its text
-pub fault_in_line : (before : List (List ℕ)) (read : Progress) (next : List ℕ) (kind : FormatKind) → HasRead before read → line_in read.section (words next) ≡ Err kind → (more : List (List ℕ)) → IsFirstFault (before ++ next ∷ more) (record { line = length before + 1; kind = kind })
+pub fault_in_line : (before : List (List ℕ)) (read : Progress) (next : List ℕ) (kind : FormatKind) → IsFront before read → line_in read.section (words next) ≡ Err kind → (more : List (List ℕ)) → IsFirstFault (before ++ next ∷ more) (record { line = length before + 1; kind = kind })
 fault_in_line before read next kind has refused more = record {
   before = before;
   rest = next ∷ more;
@@ -66,19 +66,19 @@ fault_in_line before read next kind has refused more = record {
 }
 
 -- the answer to a line that is refused
-pub refused_brings : (before : List (List ℕ)) (next : List ℕ) (read more : Progress) (kind : FormatKind) (answer : Result PlanLine WordFault) → line_in read.section (words next) ≡ Err kind → IsErr answer → IsErrAnd answer (λ (fault : WordFault). fault ≡ word.Kind kind) → HasRead before read → Brings before next answer more
+pub refused_brings : (before : List (List ℕ)) (next : List ℕ) (read more : Progress) (kind : FormatKind) (answer : Result PlanLine WordFault) → line_in read.section (words next) ≡ Err kind → IsErr answer → IsErrAnd answer (λ (fault : WordFault). fault ≡ word.Kind kind) → IsFront before read → Brings before next answer more
 refused_brings before next read more kind (Ok said) refused err is has = absurd (cc)
 refused_brings before next read more kind (Err (word.Kind k)) refused err is has = λ others.
     let same : k ≡ kind = cc in
     subst (λ (f : FormatKind). IsFirstFault (before ++ next ∷ others) (record { line = length before + 1; kind = f })) (sym same) (fault_in_line before read next kind has refused others)
 refused_brings before next read more kind (Err word.OutOfMemory) refused err is has = tt
 
-ends_by : (s : PlanSection) (before : List (List ℕ)) (parts : List Part) (numbers : List ℕ) → AreLinesOf s before parts numbers → Stops before [] (missing s)
+ends_by : (s : PlanSection) (before : List (List ℕ)) (parts : List Part) (numbers : List ℕ) → IsReached s before parts numbers → Stops before [] (missing s)
 ends_by section.Header before parts numbers are = inl (are.0, refl)
 ends_by section.Declarations before parts numbers begins = inr (parts, numbers, begins, refl)
 
 -- a text that ends too soon has its first fault after its last line
-pub fault_after : (before : List (List ℕ)) (read : Progress) → HasRead before read → IsFirstFault before (record { line = read.count + 1; kind = missing read.section })
+pub fault_after : (before : List (List ℕ)) (read : Progress) → IsFront before read → IsFirstFault before (record { line = read.count + 1; kind = missing read.section })
 fault_after before read has = record {
   before = before;
   rest = [];
@@ -90,26 +90,47 @@ fault_after before read has = record {
 }
 
 -- lines before a fault were read
-read_before : (before rest : List (List ℕ)) (kind : FormatKind) → Stops before rest kind → (read : Progress) × HasRead before read
+abbrev read_before : (before rest : List (List ℕ)) (kind : FormatKind) → Stops before rest kind → (read : Progress) × IsFront before read
 read_before before rest kind (inl none) = (reached section.Header [] [] (length before), record { counted = refl; declared = (none.0, refl, refl) })
 read_before before rest kind (inr some) = (reached section.Declarations some.0 some.1 (length before), record { counted = refl; declared = some.2 })
 
-refused_line : (before : List (List ℕ)) (next : List ℕ) (others : List (List ℕ)) (read : Progress) (said : Result PlanLine FormatKind) (declared : Declared) → HasRead before read → line_in read.section (words next) ≡ said → (MayBegin (before ++ next ∷ []) → ⊥) → read_from read (next ∷ others) ≡ Ok declared → ⊥
-refused_line before next others read (Ok said) declared has is refused good =
-    refused (may_begin before next said (advanced read said) (advance before next said read is has))
-refused_line before next others read (Err kind) declared has is refused good =
-    let bad : read_from read (next ∷ others) ≡ Err kind = step read next others (Err kind) is in
-    absurd (cc)
+told_at : (answer : Result Declared FormatFault) (line : ℕ) (kind : FormatKind) (fault : FormatFault) → answer ≡ Err (record { line = line; kind = kind }) → fault.line ≡ line → fault.kind ≡ kind → answer ≡ Err fault
+told_at answer line kind fault told at is =
+    told ∙ (ap (λ (n : ℕ). Err (record { line = n; kind = kind })) (sym at) ∙ ap (λ (k : FormatKind). Err (record { line = fault.line; kind = k })) (sym is))
 
-not_read : (before rest : List (List ℕ)) (read : Progress) (declared : Declared) → HasRead before read → IsRefused before rest → read_from read rest ≡ Ok declared → ⊥
-not_read before [] read declared has refused good = absurd (cc)
-not_read before (next ∷ others) read declared has refused good =
-    refused_line before next others read (line_in read.section (words next)) declared has refl refused good
+-- what is read of a line that cannot come is its fault
+refused_line : (before : List (List ℕ)) (next : List ℕ) (others : List (List ℕ)) (read : Progress) (said : Result PlanLine FormatKind) (fault : FormatFault) → IsFront before read → line_in read.section (words next) ≡ said → (CanBecomePlan (before ++ next ∷ []) → ⊥) → fault.line ≡ read.count + 1 → ((kind : FormatKind) → line_in read.section (words next) ≡ Err kind → fault.kind ≡ kind) → read_from read (next ∷ others) ≡ Err fault
+refused_line before next others read (Ok said) fault has is refused at kind =
+    absurd (refused (may_begin before next said (advanced read said) (advance before next said read is has)))
+refused_line before next others read (Err k) fault has is refused at kind =
+    told_at (read_from read (next ∷ others)) (read.count + 1) k fault (step read next others (Err k) is) at (kind k is)
+
+fault_of_rest : (before rest : List (List ℕ)) (fault : FormatFault) → fault.line ≡ length before + 1 → ExcludesPlan before rest → (stops : Stops before rest fault.kind) → read_from (read_before before rest fault.kind stops).0 rest ≡ Err fault
+fault_of_rest before [] fault at refused (inl none) = told_at _ (length before + 1) NoHeader fault refl at none.1
+fault_of_rest before (next ∷ others) fault at refused (inl none) =
+    let front = read_before before (next ∷ others) fault.kind (inl none) in
+    refused_line before next others front.0 (line_in front.0.section (words next)) fault front.1 refl refused at (λ kind is. none.1 ∙ sym (headless (plan_line (words next)) kind is))
+fault_of_rest before [] fault at refused (inr some) = told_at _ (length before + 1) NoEnd fault refl at some.3
+fault_of_rest before (next ∷ others) fault at refused (inr some) =
+    let front = read_before before (next ∷ others) fault.kind (inr some) in
+    refused_line before next others front.0 (line_in front.0.section (words next)) fault front.1 refl refused at (λ kind is. departs_one (words next) fault.kind kind some.3 (departs_by next (plan_line (words next)) kind refl is))
+
+-- the first fault of a text is what is read of it
+pub fault_is : (text : List (List ℕ)) (fault : FormatFault) → IsFirstFault text fault → read_from begun text ≡ Err fault
+fault_is text fault first =
+    let front = read_before first.before first.rest fault.kind first.stops in
+    ap (read_from begun) first.whole ∙ (has_read first.before first.rest front.0 front.1 ∙ fault_of_rest first.before first.rest fault first.at_line first.refused first.stops)
+
+-- a text has one first fault at most
+pub fault_one : (text : List (List ℕ)) (fault other : FormatFault) → IsFirstFault text fault → IsFirstFault text other → fault ≡ other
+fault_one text fault other first also =
+    let one = fault_is text fault first in
+    let two = fault_is text other also in
+    cc
 
 -- a text with a fault is no plan text
 pub fault_is_none : (bytes : List ℕ) (fault : FormatFault) (read : Parts) → IsFirstFault (lines bytes) fault → Says bytes read → ⊥
 fault_is_none bytes fault read first says =
     let good = says_read bytes read says in
-    let before = read_before first.before first.rest fault.kind first.stops in
-    let same : read_from before.0 first.rest ≡ Ok good.0 = sym (has_read first.before first.rest before.0 before.1) ∙ (ap (read_from begun) (sym first.whole) ∙ good.1) in
-    not_read first.before first.rest before.0 good.0 before.1 first.refused same
+    let bad = fault_is (lines bytes) fault first in
+    absurd (cc)

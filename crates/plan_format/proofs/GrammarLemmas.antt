@@ -5,6 +5,7 @@ use Rattle.std.proofs.lemmas.List.Elements.{All-head, All-tail}
 use Rattle.texts.specs.Words.{words}
 use Rattle.texts.specs.Lines.{lines, size_of_lines}
 use Rattle.net_model.specs.declared.format.FormatKind.{FormatKind}
+use Rattle.net_model.specs.declared.format.FormatFault.{FormatFault}
 use Rattle.net_model.specs.declared.part.Part.{Part}
 use Rattle.plan_format.specs.declared.plan_line.PlanLine.{PlanLine}
 use Rattle.plan_format.specs.declared.plan_line.PlanLine.TheVariants as line
@@ -12,7 +13,7 @@ use Rattle.plan_format.specs.declared.section.PlanSection.{PlanSection}
 use Rattle.plan_format.specs.declared.section.PlanSection.TheVariants as section
 use Rattle.plan_format.specs.declared.read.Parts.{Parts}
 use Rattle.plan_format.specs.PlanGrammar.{IsLine, IsBegun, header, blank, declares, IsPlanText, Says}
-use Rattle.plan_format.specs.PlanReading.{Progress, begun, in_section, line_in, advanced, missing, HasRead}
+use Rattle.plan_format.specs.PlanReading.{Progress, begun, in_section, line_in, advanced, missing, IsFront}
 use Rattle.plan_format.proofs.PartLemmas.{is_read}
 use Rattle.plan_format.proofs.StepLemmas.{reached, one_more}
 
@@ -22,16 +23,16 @@ pub record Declared : Type 0 where
   pub lines : List ℕ
   pub end : ℕ
 
--- what the lines of a text declare, or the kind of their fault, by what the first of them says
-abbrev pub said_from : Progress → Result PlanLine FormatKind → (Progress → Result Declared FormatKind) → Result Declared FormatKind
+-- what the lines of a text declare, or their fault, by what the first of them says
+abbrev pub said_from : Progress → Result PlanLine FormatKind → (Progress → Result Declared FormatFault) → Result Declared FormatFault
 said_from read (Ok line.Blank) after = after (advanced read line.Blank)
 said_from read (Ok line.Header) after = after (advanced read line.Header)
 said_from read (Ok (line.Part part)) after = after (advanced read (line.Part part))
 said_from read (Ok line.End) after = Ok (record { parts = read.parts; lines = read.lines; end = read.count + 1 })
-said_from read (Err kind) after = Err kind
+said_from read (Err kind) after = Err (record { line = read.count + 1; kind = kind })
 
-abbrev pub read_from : Progress → List (List ℕ) → Result Declared FormatKind
-read_from read [] = Err (missing read.section)
+abbrev pub read_from : Progress → List (List ℕ) → Result Declared FormatFault
+read_from read [] = Err (record { line = read.count + 1; kind = missing read.section })
 read_from read (text ∷ others) = said_from read (line_in read.section (words text)) (λ more. read_from more others)
 
 -- by what the first line says
@@ -75,14 +76,14 @@ begun_read before parts numbers others (declares front text ps more ns begins de
     ∙ (declared_read front text others ps ns part declared.2
     ∙ ap (λ (n : ℕ). read_from (reached section.Declarations (ps ++ part ∷ []) (ns ++ (length front + 1) ∷ []) n) others) (one_more front text))))
 
-has_read_by : (s : PlanSection) (parts : List Part) (numbers : List ℕ) (count : ℕ) (before others : List (List ℕ)) → HasRead before (reached s parts numbers count) → read_from begun (before ++ others) ≡ read_from (reached s parts numbers count) others
+has_read_by : (s : PlanSection) (parts : List Part) (numbers : List ℕ) (count : ℕ) (before others : List (List ℕ)) → IsFront before (reached s parts numbers count) → read_from begun (before ++ others) ≡ read_from (reached s parts numbers count) others
 has_read_by section.Header parts numbers count before others has =
     rw (has.declared.1, has.declared.2) (blanks_read before others 0 count has.declared.0 (omega (arith, has.counted)))
 has_read_by section.Declarations parts numbers count before others has =
     rw has.counted (begun_read before parts numbers others has.declared)
 
 -- after lines that were read, the others are read
-pub has_read : (before others : List (List ℕ)) (read : Progress) → HasRead before read → read_from begun (before ++ others) ≡ read_from read others
+pub has_read : (before others : List (List ℕ)) (read : Progress) → IsFront before read → read_from begun (before ++ others) ≡ read_from read others
 has_read before others read has = has_read_by read.section read.parts read.lines read.count before others has
 
 -- a plan text is read

@@ -7,3 +7,4 @@ pub mod ReadLemmas
 pub mod PrintLemmas
 pub mod RoundTripLemmas
 pub mod DeclarationLemmas
+pub mod OneReadingLemmas

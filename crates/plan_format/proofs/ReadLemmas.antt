@@ -13,10 +13,10 @@ use Rattle.net_model.specs.declared.part.Part.{Part}
 use Rattle.plan_format.specs.declared.read.Parts.{Parts}
 use Rattle.plan_format.specs.PlanGrammar.{IsBegun, header, blank, declares, IsPlanText, Says}
 use Rattle.plan_format.specs.PlanFaults.{IsFirstFault, IsFaultOf}
-use Rattle.plan_format.specs.PlanReading.{Progress, begun, at_line, HasRead, Brings, Reads, ReadsLines, HasSizes}
+use Rattle.plan_format.specs.PlanReading.{Progress, begun, at_line, IsFront, Brings, Reads, Refuses, ReadsLines, HasSizes}
 use Rattle.plan_format.proofs.StepLemmas.{one_more}
 use Rattle.plan_format.proofs.GrammarLemmas.{says_one}
-use Rattle.plan_format.proofs.FaultLemmas.{fault_is_none}
+use Rattle.plan_format.proofs.FaultLemmas.{fault_is_none, fault_one}
 
 -- what is left of a text after its first lines, as many as `count`
 pub record IsLeftAfter (bytes : List ℕ) (count : ℕ) (rest : List ℕ) : Type 0 where
@@ -55,10 +55,10 @@ size_before bytes count rest after =
 pub record AtLine (bytes rest : List ℕ) (read : Progress) : Type 0 where
   pub before : List (List ℕ)
   pub split : lines bytes ≡ before ++ lines rest
-  pub has : HasRead before read
+  pub has : IsFront before read
   pub left : IsLeftAfter bytes (length before) rest
 
-pub at_first : (bytes : List ℕ) → HasRead [] begun → AtLine bytes bytes begun
+pub at_first : (bytes : List ℕ) → IsFront [] begun → AtLine bytes bytes begun
 at_first bytes has = record { before = []; split = refl; has = has; left = after_nothing bytes }
 
 split_more : (bytes : List ℕ) (before : List (List ℕ)) (text : List ℕ) (rest others : List ℕ) → lines bytes ≡ before ++ lines rest → lines rest ≡ text ∷ lines others → lines bytes ≡ (before ++ text ∷ []) ++ lines others
@@ -72,7 +72,7 @@ pub record IsNextLine (rest text others : List ℕ) : Type 0 where
   pub sizes : (count : ℕ) → size_of_lines (count + 1) rest ≡ size_of_lines count others + (length rest - length others)
 
 -- one line more was read
-pub at_next : (bytes rest text others : List ℕ) (read more : Progress) (at : AtLine bytes rest read) → IsNextLine rest text others → HasRead (at.before ++ text ∷ []) more → AtLine bytes others more
+pub at_next : (bytes rest text others : List ℕ) (read more : Progress) (at : AtLine bytes rest read) → IsNextLine rest text others → IsFront (at.before ++ text ∷ []) more → AtLine bytes others more
 at_next bytes rest text others read more at next has = record {
   before = at.before ++ text ∷ [];
   split = split_more bytes at.before text rest others at.split next.here;
@@ -111,6 +111,12 @@ pub answer_every : (bytes : List ℕ) (answer : Result Parts TextFault) (read : 
 answer_every bytes (Ok one) read says faults also = says_one bytes one read says also
 answer_every bytes (Err (text.Format fault)) read says faults also = fault_is_none bytes fault read faults also
 answer_every bytes (Err text.OutOfMemory) read says faults also = tt
+
+-- the answer to a text that has a fault
+pub answer_fault : (bytes : List ℕ) (answer : Result Parts TextFault) (fault : FormatFault) → IfOk answer (Says bytes) → IfErr answer (IsFaultOf bytes) → IsFirstFault (lines bytes) fault → Refuses answer fault
+answer_fault bytes (Ok read) fault says faults first = fault_is_none bytes fault read first says
+answer_fault bytes (Err (text.Format told)) fault says faults first = fault_one (lines bytes) told fault faults first
+answer_fault bytes (Err text.OutOfMemory) fault says faults first = tt
 
 record BegunSizes (text : List (List ℕ)) (parts : List Part) (numbers : List ℕ) : Type 0 where
   numbered : length numbers ≡ length parts

@@ -12,8 +12,8 @@ use Rattle.plan_format.specs.declared.section.PlanSection.TheVariants as section
 use Rattle.plan_format.specs.PlanLines.{plan_line}
 use Rattle.plan_format.specs.PlanParts.{header_words, end_words}
 use Rattle.plan_format.specs.PlanGrammar.{IsLine, header, blank, declares, IsPlanText}
-use Rattle.plan_format.specs.PlanFaults.{MayBegin, GoesOn}
-use Rattle.plan_format.specs.PlanReading.{Progress, in_section, line_in, advanced, AreLinesOf, HasRead, Brings}
+use Rattle.plan_format.specs.PlanFaults.{CanBecomePlan, GoesOn}
+use Rattle.plan_format.specs.PlanReading.{Progress, in_section, line_in, advanced, IsReached, IsFront, Brings}
 use Rattle.plan_format.proofs.PartLemmas.{read_is}
 
 -- which lines come in a section
@@ -54,7 +54,7 @@ one_more before text = sym (length-append before (text ∷ []))
 counted_more : (count : ℕ) (before : List (List ℕ)) (text : List ℕ) → count ≡ length before → count + 1 ≡ length (before ++ text ∷ [])
 counted_more count before text same = ap (λ (n : ℕ). n + 1) same ∙ one_more before text
 
-advance_by : (s : PlanSection) (parts : List Part) (numbers : List ℕ) (count : ℕ) (before : List (List ℕ)) (text : List ℕ) (said : PlanLine) → MayCome s said → IsLine said text → HasRead before (reached s parts numbers count) → Brings before text (Ok said) (advanced (reached s parts numbers count) said)
+advance_by : (s : PlanSection) (parts : List Part) (numbers : List ℕ) (count : ℕ) (before : List (List ℕ)) (text : List ℕ) (said : PlanLine) → MayCome s said → IsLine said text → IsFront before (reached s parts numbers count) → Brings before text (Ok said) (advanced (reached s parts numbers count) said)
 advance_by section.Header parts numbers count before text line.Blank may is read = record {
   counted = counted_more count before text read.counted;
   declared = (All-append (IsLine line.Blank) before (text ∷ []) read.declared.0 (All-cons (IsLine line.Blank) text [] is (All-nil (IsLine line.Blank))), read.declared.1, read.declared.2);
@@ -83,7 +83,7 @@ advance_by section.Declarations parts numbers count before text line.End may is 
 }
 
 -- a line that comes in its section brings what it says
-pub advance : (before : List (List ℕ)) (text : List ℕ) (said : PlanLine) (read : Progress) → line_in read.section (words text) ≡ Ok said → HasRead before read → Brings before text (Ok said) (advanced read said)
+pub advance : (before : List (List ℕ)) (text : List ℕ) (said : PlanLine) (read : Progress) → line_in read.section (words text) ≡ Ok said → IsFront before read → Brings before text (Ok said) (advanced read said)
 advance before text said read is has =
     let may = came read.section (plan_line (words text)) said is in
     advance_by read.section read.parts read.lines read.count before text said may.1 (read_is (words text) said may.0) has
@@ -103,7 +103,7 @@ end_is : words end_line ≡ end_words
 unfolding end_line words
 end_is = refl
 
-goes_on_by : (s : PlanSection) (before : List (List ℕ)) (parts : List Part) (numbers : List ℕ) → AreLinesOf s before parts numbers → GoesOn before
+goes_on_by : (s : PlanSection) (before : List (List ℕ)) (parts : List Part) (numbers : List ℕ) → IsReached s before parts numbers → GoesOn before
 goes_on_by section.Header before parts numbers are = (
   header_line,
   (
@@ -136,15 +136,15 @@ goes_on_by section.Declarations before parts numbers begun = (
 )
 
 -- a plan text may go on after lines that were read
-pub goes_on : (before : List (List ℕ)) (read : Progress) → HasRead before read → GoesOn before
+pub goes_on : (before : List (List ℕ)) (read : Progress) → IsFront before read → GoesOn before
 goes_on before read has = goes_on_by read.section before read.parts read.lines has.declared
 
-shorter : (text : List (List ℕ)) (next : List ℕ) → MayBegin (text ++ next ∷ []) → MayBegin text
+shorter : (text : List (List ℕ)) (next : List ℕ) → CanBecomePlan (text ++ next ∷ []) → CanBecomePlan text
 shorter text next (more, parts, numbers, plan) =
     (next ∷ more, parts, numbers, subst (λ (ls : List (List ℕ)). IsPlanText ls parts numbers) (append_assoc text (next ∷ []) more) plan)
 
 -- a plan text may begin with lines that may be read
-pub may_begin : (before : List (List ℕ)) (text : List ℕ) (said : PlanLine) (read : Progress) → Brings before text (Ok said) read → MayBegin (before ++ text ∷ [])
+pub may_begin : (before : List (List ℕ)) (text : List ℕ) (said : PlanLine) (read : Progress) → Brings before text (Ok said) read → CanBecomePlan (before ++ text ∷ [])
 may_begin before text line.Blank read brings = let on = goes_on (before ++ text ∷ []) read brings in shorter (before ++ text ∷ []) on.0 on.1
 may_begin before text line.Header read brings = let on = goes_on (before ++ text ∷ []) read brings in shorter (before ++ text ∷ []) on.0 on.1
 may_begin before text (line.Part part) read brings = let on = goes_on (before ++ text ∷ []) read brings in shorter (before ++ text ∷ []) on.0 on.1

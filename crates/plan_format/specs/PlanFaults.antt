@@ -75,17 +75,17 @@ IsFaultOfLine line (word.Kind kind) = IsFaultAlone (words line) kind
 IsFaultOfLine line word.OutOfMemory = ⊥
 
 -- a plan text may begin with these lines
-abbrev pub MayBegin : List (List ℕ) → Type 0
-MayBegin text = (more : List (List ℕ)) × (parts : List Part) × (numbers : List ℕ) × IsPlanText (text ++ more) parts numbers
+abbrev pub CanBecomePlan : List (List ℕ) → Type 0
+CanBecomePlan text = (more : List (List ℕ)) × (parts : List Part) × (numbers : List ℕ) × IsPlanText (text ++ more) parts numbers
 
 -- a plan text may begin with these lines and one more
 abbrev pub GoesOn : List (List ℕ) → Type 0
-GoesOn text = (next : List ℕ) × MayBegin (text ++ next ∷ [])
+GoesOn text = (next : List ℕ) × CanBecomePlan (text ++ next ∷ [])
 
 -- no plan text begins with these lines and the first of the others, if there is one
-abbrev pub IsRefused : List (List ℕ) → List (List ℕ) → Type 0
-IsRefused before [] = Unit {0}
-IsRefused before (next ∷ others) = MayBegin (before ++ next ∷ []) → ⊥
+abbrev pub ExcludesPlan : List (List ℕ) → List (List ℕ) → Type 0
+ExcludesPlan before [] = Unit {0}
+ExcludesPlan before (next ∷ others) = CanBecomePlan (before ++ next ∷ []) → ⊥
 
 -- the fault of what comes after lines with the header: there is no line, or the next one departs from its form
 abbrev pub StopsAfterHeader : List (List ℕ) → FormatKind → Type 0
@@ -105,7 +105,7 @@ pub record IsFirstFault (text : List (List ℕ)) (fault : FormatFault) : Type 0 
   pub whole : text ≡ before ++ rest
   pub at_line : fault.line ≡ length before + 1
   pub possible : GoesOn before
-  pub refused : IsRefused before rest
+  pub refused : ExcludesPlan before rest
   pub stops : Stops before rest fault.kind
 
 -- a fault of the bytes, or want of memory

@@ -1,12 +1,20 @@
 -- The network that the lines of a text declare. This project's own choice.
-use Rattle.std.specs.Prelude.{◌≡◌, ℕ, ◌+◌, List, ◌++◌, Some, None, slice_get, Result, Ok, Err}
+use Rattle.std.specs.Prelude.{◌≡◌, ℕ, ◌+◌, List, ◌++◌, Some, None, slice_get, Result, Ok, Err, codes}
+use Rattle.std.specs.Fmt.{decimal}
 use Rattle.net_model.specs.Network.{Plan}
-use Rattle.net_model.specs.Building.{built, place_of}
+use Rattle.net_model.specs.Building.{built, place_of, word_of}
 use Rattle.net_model.specs.declared.fault.BuildFault.{BuildFault}
+use Rattle.net_model.specs.declared.format.FormatFault.{FormatFault}
 use Rattle.net_model.specs.declared.part.Part.{Part}
 use Rattle.plan_format.specs.declared.declaration.DeclarationFault.{DeclarationFault}
 use Rattle.plan_format.specs.declared.declaration.DeclarationFault.TheVariants as declaration
+use Rattle.plan_format.specs.PlanFaults.{IsFirstFault}
 use Rattle.plan_format.specs.PlanGrammar.{IsPlanText}
+
+-- how a fault is printed
+abbrev pub declaration_fault_text : DeclarationFault → List ℕ
+declaration_fault_text (declaration.Refused line fault) = word_of fault ++ codes " in line " ++ decimal line
+declaration_fault_text declaration.OutOfMemory = codes "out of memory"
 
 -- the lines begin with a plan text that declares the network, and the rest comes after its `end` line
 pub record DeclaresNetwork (lines : List (List ℕ)) (net : Plan) (rest : List (List ℕ)) : Type 0 where
@@ -50,3 +58,19 @@ abbrev pub Answers : Result Plan DeclarationFault → List (List ℕ) → List (
 Answers (Ok net) lines rest = DeclaresNetwork lines net rest
 Answers (Err (declaration.Refused line fault)) lines rest = RefusesPart lines line fault
 Answers (Err declaration.OutOfMemory) lines rest = Unit {0}
+
+-- what the lines of a text give: a network and the lines after it, or the first fault of a line, or the first part that is
+-- refused, with its line
+pub data Reading : Type 0 where
+  network : Plan → List (List ℕ) → Reading
+  faulty : FormatFault → Reading
+  refused : ℕ → BuildFault → Reading
+
+abbrev pub IsReading : List (List ℕ) → Reading → Type 0
+IsReading lines (network net rest) = DeclaresNetwork lines net rest
+IsReading lines (faulty fault) = IsFirstFault lines fault
+IsReading lines (refused line fault) = RefusesPart lines line fault
+
+-- the lines of a text give one thing at most
+abbrev pub GiveOneReading : Type 0
+GiveOneReading = (lines : List (List ℕ)) (reading other : Reading) → IsReading lines reading → IsReading lines other → reading ≡ other

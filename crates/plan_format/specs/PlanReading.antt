@@ -3,6 +3,7 @@ use Rattle.std.specs.Prelude.{◌≡◌, ◌≤◌, ℕ, ◌+◌, List, [], ◌�
 use Rattle.std.specs.List.{All}
 use Rattle.net_model.specs.declared.format.FormatKind.{FormatKind}
 use Rattle.net_model.specs.declared.format.FormatKind.TheVariants.{UnknownWord, NoHeader, NoEnd}
+use Rattle.net_model.specs.declared.format.FormatFault.{FormatFault}
 use Rattle.net_model.specs.declared.format.WordFault.{WordFault}
 use Rattle.net_model.specs.declared.format.WordFault.TheVariants as word
 use Rattle.net_model.specs.declared.format.TextFault.{TextFault}
@@ -16,10 +17,6 @@ use Rattle.plan_format.specs.declared.read.Parts.{Parts}
 use Rattle.plan_format.specs.PlanLines.{plan_line}
 use Rattle.plan_format.specs.PlanGrammar.{IsLine, IsBegun, IsPlanText, Says}
 use Rattle.plan_format.specs.PlanFaults.{IsFirstFault, IsFaultOf}
-
--- how many lines of one text may be read
-abbrev pub most_lines : ℕ
-most_lines = 2147483648
 
 -- what was read: the section that is reached, the parts, the number of the line of each, and how many lines there were
 pub record Progress : Type 0 where
@@ -68,20 +65,20 @@ SaysLine (Err (word.Kind kind)) read = read ≡ Err kind
 SaysLine (Err word.OutOfMemory) read = Unit {0}
 
 -- what lines of a section are, by the grammar: blank ones before the header, or a text that has begun
-abbrev pub AreLinesOf : PlanSection → List (List ℕ) → List Part → List ℕ → Type 0
-AreLinesOf section.Header lines parts numbers = All (IsLine line.Blank) lines × (parts ≡ []) × (numbers ≡ [])
-AreLinesOf section.Declarations lines parts numbers = IsBegun lines parts numbers
+abbrev pub IsReached : PlanSection → List (List ℕ) → List Part → List ℕ → Type 0
+IsReached section.Header lines parts numbers = All (IsLine line.Blank) lines × (parts ≡ []) × (numbers ≡ [])
+IsReached section.Declarations lines parts numbers = IsBegun lines parts numbers
 
 -- these lines were read, with which a plan text may begin, and this is what they declare
-pub record HasRead (lines : List (List ℕ)) (read : Progress) : Type 0 where
+pub record IsFront (lines : List (List ℕ)) (read : Progress) : Type 0 where
   pub counted : read.count ≡ length lines
-  pub declared : AreLinesOf read.section lines read.parts read.lines
+  pub declared : IsReached read.section lines read.parts read.lines
 
 -- what one line more brings: its text goes on, or has ended, or has its first fault there
 abbrev pub Brings : List (List ℕ) → List ℕ → Result PlanLine WordFault → Progress → Type 0
-Brings before next (Ok line.Blank) read = HasRead (before ++ next ∷ []) read
-Brings before next (Ok line.Header) read = HasRead (before ++ next ∷ []) read
-Brings before next (Ok (line.Part part)) read = HasRead (before ++ next ∷ []) read
+Brings before next (Ok line.Blank) read = IsFront (before ++ next ∷ []) read
+Brings before next (Ok line.Header) read = IsFront (before ++ next ∷ []) read
+Brings before next (Ok (line.Part part)) read = IsFront (before ++ next ∷ []) read
 Brings before next (Ok line.End) read = IsPlanText (before ++ next ∷ []) read.parts read.lines
 Brings before next (Err (word.Kind kind)) read = (more : List (List ℕ)) → IsFirstFault (before ++ next ∷ more) (record { line = length before + 1; kind = kind })
 Brings before next (Err word.OutOfMemory) read = Unit {0}
@@ -101,6 +98,12 @@ abbrev pub Reads : Result Parts TextFault → Parts → Type 0
 Reads (Ok read) said = read ≡ said
 Reads (Err (text.Format fault)) said = ⊥
 Reads (Err text.OutOfMemory) said = Unit {0}
+
+-- the answer is this fault, unless memory ran out
+abbrev pub Refuses : Result Parts TextFault → FormatFault → Type 0
+Refuses (Ok read) fault = ⊥
+Refuses (Err (text.Format told)) fault = told ≡ fault
+Refuses (Err text.OutOfMemory) fault = Unit {0}
 
 -- how many parts are read of so many bytes
 pub record HasSizes (bytes : List ℕ) (read : Parts) : Type 0 where

@@ -7,6 +7,8 @@ ghost use Rattle.plan_format.specs.PlanNetwork.{BuildsParts, TellsLine};
 
 use net_model::{BuildFault, Network, Part};
 use std::alloc::Global;
+use std::error::Error;
+use std::fmt;
 
 /// Why the declarations of a plan text give no network.
 #[derive(Clone, Copy, Debug, PartialEq, Eq, Hash)]
@@ -16,6 +18,22 @@ pub enum DeclarationFault {
     /// There was no memory.
     OutOfMemory,
 }
+
+impl fmt::Display for DeclarationFault {
+    ghost use Rattle.std.specs.Prelude.{Some};
+    ghost use Rattle.plan_format.specs.PlanNetwork.{declaration_fault_text};
+
+    ghost output = { λ fault. Some (declaration_fault_text fault) };
+
+    fn fmt<W: fmt::Write>(&self, f: &mut fmt::Formatter<W>) -> fmt::Result {
+        match self {
+            DeclarationFault::Refused(line, fault) => write!(f, "{fault} in line {line}"),
+            DeclarationFault::OutOfMemory => f.write_str("out of memory"),
+        }
+    }
+}
+
+impl Error for DeclarationFault {}
 
 /// The network of parts, each with the number of its line, or the first part that is refused.
 pub(crate) fn build(

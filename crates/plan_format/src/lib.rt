@@ -2,6 +2,7 @@
 #![tactic(auto)]
 
 mod declaration;
+pub mod laws;
 mod plan_line;
 mod print;
 mod read;
@@ -12,5 +13,5 @@ pub use declaration::DeclarationFault;
 pub use plan_line::{PlanLine, read_plan_line};
 pub use print::print_plan;
 pub use read::{Parts, read_plan};
-pub use reader::{MOST_LINES, PlanReader};
+pub use reader::PlanReader;
 pub use section::PlanSection;

@@ -1,10 +1,12 @@
 //! Reading a whole plan text.
 
 ghost use Rattle.std.specs.Prelude.{◌≡◌, ◌<◌, ◌^◌, length, IfErr, IfOk};
+ghost use Rattle.texts.specs.Lines.{lines};
+ghost use Rattle.net_model.specs.declared.format.FormatFault.{FormatFault};
 ghost use Rattle.plan_format.specs.declared.read.Parts.{Parts};
-ghost use Rattle.plan_format.specs.PlanFaults.{IsFaultOf};
+ghost use Rattle.plan_format.specs.PlanFaults.{IsFaultOf, IsFirstFault};
 ghost use Rattle.plan_format.specs.PlanGrammar.{Says};
-ghost use Rattle.plan_format.specs.PlanReading.{HasSizes, Reads, ReadsLines, at_line, begun};
+ghost use Rattle.plan_format.specs.PlanReading.{HasSizes, Reads, ReadsLines, Refuses, at_line, begun};
 
 use crate::plan_line::PlanLine;
 use crate::reader::PlanReader;
@@ -32,6 +34,7 @@ pub fn read_plan(alloc: Global, bytes: &[u8]) -> Result<Parts, TextFault>
     ensures grammar { IfOk result (Says bytes.now) }
     ensures every { (read : Parts) → Says bytes.now read → Reads result read }
     ensures fault { IfErr result (IsFaultOf bytes.now) }
+    ensures every_fault { (fault : FormatFault) → IsFirstFault (lines bytes.now) fault → Refuses result fault }
     ensures sizes { IfOk result (HasSizes bytes.now) }
 {
     read_text(alloc, bytes)

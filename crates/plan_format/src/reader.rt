@@ -7,12 +7,9 @@ ghost use Rattle.plan_format.specs.PlanReading.{in_section, line_in};
 use crate::declaration::{DeclarationFault, build};
 use crate::plan_line::{PlanLine, plan_line};
 use crate::section::PlanSection;
-use net_model::{FormatFault, FormatKind, Network, Part, WordFault};
+use net_model::{FormatFault, FormatKind, MOST_LINES, Network, Part, WordFault};
 use std::alloc::{AllocError, Global};
 use std::marker::Model;
-
-/// How many lines of one text a reader takes at most.
-pub const MOST_LINES: u32 = 2_147_483_648;
 
 /// A plan text of which lines are read one after another. Contracts see it as what was read: the section that is
 /// reached, the parts, the number of the line of each, and how many lines there were.
@@ -26,7 +23,8 @@ pub struct PlanReader {
 
 impl Model for PlanReader {
     ghost use Rattle.std.specs.Prelude.{◌≡◌, ◌≤◌, length};
-    ghost use Rattle.plan_format.specs.PlanReading.{Progress, most_lines};
+    ghost use Rattle.net_model.specs.Limits.{most_lines};
+    ghost use Rattle.plan_format.specs.PlanReading.{Progress};
 
     ghost Value = { Progress };
 
@@ -36,18 +34,19 @@ impl Model for PlanReader {
 }
 
 impl PlanReader {
-    ghost use Rattle.std.specs.Prelude.{◌≡◌, ◌<◌, ◌+◌, ℕ, List, ◌++◌, IfOk, OnErr};
+    ghost use Rattle.std.specs.Prelude.{◌≡◌, ◌↔◌, ◌<◌, ◌≤◌, ◌+◌, ℕ, List, ◌++◌, IfOk, IsTrue, OnErr, OnOk};
     ghost use Rattle.texts.specs.Words.{words};
+    ghost use Rattle.net_model.specs.Limits.{most_lines};
     ghost use Rattle.net_model.specs.Network.{IsPlan, HasPlanNumbers};
     ghost use Rattle.plan_format.specs.PlanGrammar.{IsPlanText};
     ghost use Rattle.plan_format.specs.PlanFaults.{IsFirstFault};
-    ghost use Rattle.plan_format.specs.PlanReading.{Brings, HasRead, SaysLine, advanced, begun, line_in, missing, most_lines};
+    ghost use Rattle.plan_format.specs.PlanReading.{Brings, IsFront, SaysLine, advanced, begun, line_in, missing};
     ghost use Rattle.plan_format.specs.PlanNetwork.{Answers, BuildsParts};
 
     /// Before the first line.
     pub fn new(alloc: Global) -> PlanReader
         ensures begun { result ≡ begun }
-        ensures nothing { HasRead [] result }
+        ensures nothing { IsFront [] result }
     {
         PlanReader {
             section: PlanSection::Header,
@@ -85,16 +84,23 @@ impl PlanReader {
         self.count
     }
 
+    /// Whether as many lines were read as one text may have.
+    pub fn is_full(&self) -> bool
+        ensures { IsTrue result ↔ most_lines ≤ self.now.count }
+    {
+        self.count >= MOST_LINES
+    }
+
     /// Reads the next line in its place and keeps what it declares. With `End` the plan has ended, and the caller reads
     /// nothing more. The fault of a line that cannot come is the first one of its text: `NoHeader` before the header,
     /// `UnknownWord` of a second one, and else that of `read_plan_line`. A refused line and want of memory change
-    /// nothing. Fewer than `MOST_LINES` lines were read.
+    /// nothing. The reader is not full.
     pub fn read_line(&mut self, line: &[u8]) -> Result<PlanLine, WordFault>
         requires room { self.old.count < most_lines }
         ensures said { SaysLine result (line_in self.old.section (words line.now)) }
         ensures kept { IfOk result (λ said. self.new ≡ advanced self.old said) }
         ensures refused { OnErr result (self.new ≡ self.old) }
-        ensures brings { (before : List (List ℕ)) → HasRead before self.old → Brings before line.now result self.new }
+        ensures brings { (before : List (List ℕ)) → IsFront before self.old → Brings before line.now result self.new }
     {
         let said = line_in(self.section, line)?;
         self.keep(&said)?;
@@ -120,7 +126,7 @@ impl PlanReader {
     /// number after the last line.
     pub fn fault_at_end(&self) -> FormatFault
         ensures fault { result ≡ record { line = self.now.count + 1; kind = missing self.now.section } }
-        ensures first { (before : List (List ℕ)) → HasRead before self.now → IsFirstFault before result }
+        ensures first { (before : List (List ℕ)) → IsFront before self.now → IsFirstFault before result }
     {
         FormatFault {
             line: self.count + 1,

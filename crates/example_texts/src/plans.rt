@@ -1,0 +1,232 @@
+use crate::rows::{cells, feed};
+use plan_format::{PlanLine, PlanReader, PlanSection, print_plan, read_plan, read_plan_line};
+use std::alloc::{AllocError, Global};
+use std::test::Fail;
+
+/// Lines that are read alone, and what each is.
+const LINES: &str = "\
+  #point A => blank
+\t\r => blank
+stnu 1 => header
+\tstnu  1\r => header
+point end => part
+bound b A A -1000000000 => part
+link A -5 1000000000 A => part
+\tend\r => end
+point => word-count
+point A # x => word-count
+bound b A B 1 2 => word-count
+bound 9 9 9 => word-count
+link A 1 2 => word-count
+end end => word-count
+foo => unknown-word
+Point A => unknown-word
+poin A => unknown-word
+ends => unknown-word
+delay 1 => unknown-word
+certificate 1 => unknown-word
+\x0bpoint A => unknown-word
+stnu => unknown-word
+stnu 2 => unknown-word
+stnu 01 => unknown-word
+stnu 1 x => unknown-word
+point a! => bad-name
+point aaaaaaaaaaaaaaaaaaaaaaaaaaaaaaaaa => bad-name
+bound b A! B 01 => bad-name
+bound b! A B 1000000001 => bad-name
+link A 1 2 9B => bad-name
+bound b A B 01 => bad-number
+bound b A B +1 => bad-number
+bound b A B -0 => bad-number
+bound b A B - => bad-number
+bound b A B 1e3 => bad-number
+link A x 1000000001 9B => bad-number
+bound b A B 1000000001 => number-limit
+bound b A B -1000000001 => number-limit
+bound b A B 99999999999999999999999999999999999999999999999999999999999999999999999999999 => number-limit
+link A 1000000001 5 9B => number-limit
+link A 5 -1000000001 9B => number-limit";
+
+/// What a line is, or its fault.
+fn shown_line(alloc: Global, line: &str) -> Result<String, AllocError> {
+    match read_plan_line(line.as_bytes()) {
+        Ok(PlanLine::Blank) => "blank".to_string(alloc),
+        Ok(PlanLine::Header) => "header".to_string(alloc),
+        Ok(PlanLine::Part(_)) => "part".to_string(alloc),
+        Ok(PlanLine::End) => "end".to_string(alloc),
+        Err(fault) => fault.to_string(alloc),
+    }
+}
+
+#[test]
+fn lines(rt: HostRuntime) -> Result<(), Fail> {
+    for row in LINES.split('\n') {
+        let (line, answer) = cells(row).ok_or("a row")?;
+        let shown = shown_line(rt.alloc(), line)?;
+        assert_eq!(rt; shown.as_str(), answer, "{line}");
+    }
+    Ok(())
+}
+
+/// Plan texts, and what is printed of the network that each declares, or the fault.
+const PLANS: &str = "\
+stnu 1|end => stnu 1|end|
+#| stnu 1|point\tA1|point C1|link A1 1 3 C1|bound b1 C1 A1 -2|point A2|bound end A2 A1 1000000000|end|foo => stnu 1|point A1|point C1|point A2|bound b1 C1 A1 -2|bound end A2 A1 1000000000|link A1 1 3 C1|end|
+stnu 1|point A|point B|bound b A B 0|bound A B B 5|end => stnu 1|point A|point B|bound b A B 0|bound A B B 5|end|
+point A|end => no-header in line 1
+|#|end => no-header in line 3
+stnu 1 x|end => no-header in line 1
+certificate 1|end => no-header in line 1
+point 9|end => no-header in line 1
+|stnu 1|point A => no-end in line 4
+stnu 1|point A|point A => no-end in line 4
+stnu 1|# stnu 1|stnu 1|end => unknown-word in line 3
+stnu 1|point A|point A|foo|end => unknown-word in line 4
+stnu 1|end x|end => word-count in line 2
+stnu 1||point 9|bound|end => bad-name in line 3
+stnu 1|bound b A B -0|end => bad-number in line 2
+stnu 1|link A 1 2000000000 B|end => number-limit in line 2
+stnu 1|point A|point A|end => duplicate-name in line 3
+stnu 1|point A||bound b A A 1|bound b X A 1|end => duplicate-name in line 5
+stnu 1|bound b A B 1|point A|point B|end => unknown-name in line 2
+stnu 1|point A|bound b A B 1|end => unknown-name in line 3
+stnu 1|point A|link X 1 2 A|end => unknown-name in line 3
+stnu 1|point A|link A 1 2 A|end => link-to-itself in line 3
+stnu 1|point A|point B|point C|link A 1 2 B|# x|link C 0 2 B|end => two-links-on-point in line 7
+stnu 1|point A|point B|link A 0 4 B|end => bad-interval in line 4
+stnu 1|point A|point B|link A 3 2 B|end => bad-interval in line 4";
+
+/// The plan text of the network that was read, with `|` for each line end, or why there is none.
+fn declared(alloc: Global, reader: &PlanReader) -> Result<Vec<u8>, AllocError> {
+    match reader.build(alloc) {
+        Ok(net) => {
+            let mut text = print_plan(alloc, &net)?;
+            exchange(&mut text, b'\n', b'|');
+            Ok(text)
+        }
+        Err(fault) => Ok(fault.to_string(alloc)?.into_bytes()),
+    }
+}
+
+fn exchange(text: &mut [u8], old: u8, new: u8) {
+    for byte in text.iter_mut() {
+        if *byte == old {
+            *byte = new;
+        }
+    }
+}
+
+/// What is told of a plan text that is read line by line.
+fn answer_by_line(alloc: Global, text: &str) -> Result<Vec<u8>, AllocError> {
+    let mut reader = PlanReader::new(alloc);
+    match feed(&mut reader, text) {
+        Ok(()) => declared(alloc, &reader),
+        Err(fault) => Ok(fault.to_string(alloc)?.into_bytes()),
+    }
+}
+
+#[test]
+fn plans(rt: HostRuntime) -> Result<(), Fail> {
+    for row in PLANS.split('\n') {
+        let (text, answer) = cells(row).ok_or("a row")?;
+        let told = answer_by_line(rt.alloc(), text)?;
+        assert_eq!(rt; told.as_slice(), answer.as_bytes(), "{text}");
+    }
+    Ok(())
+}
+
+/// Whole texts: their fault, or the lines of their parts and the bytes that were used.
+const TEXTS: &str = "\
+ => no-header in line 1
+| => no-header in line 2
+||# x| => no-header in line 4
+stnu 1 => no-end in line 2
+stnu 1| => no-end in line 2
+stnu 1|| => no-end in line 3
+stnu 1|point A|end x => word-count in line 3
+stnu 1|end => [] 10
+stnu 1|end|foo => [] 11
+stnu 1\r||point A\r|# x|point B|bound A A B 1||link A 1 2 B|  end  \r|foo => [3, 5, 6, 8] 66";
+
+/// The text of a row, with its line ends.
+fn with_line_ends(alloc: Global, row: &str) -> Result<Vec<u8>, AllocError> {
+    let mut text = row.as_bytes().to_vec(alloc)?;
+    exchange(&mut text, b'|', b'\n');
+    Ok(text)
+}
+
+/// The lines of the parts of a text and the bytes that were used, or the fault.
+fn answer_to_whole(alloc: Global, text: &[u8]) -> Result<String, AllocError> {
+    if text.len() > 1_000 {
+        return Err(AllocError);
+    }
+    match read_plan(alloc, text) {
+        Ok(read) => format!(in alloc; "{:?} {}", read.lines.as_slice(), read.used),
+        Err(fault) => fault.to_string(alloc),
+    }
+}
+
+#[test]
+fn whole_texts(rt: HostRuntime) -> Result<(), Fail> {
+    for row in TEXTS.split('\n') {
+        let (text, answer) = cells(row).ok_or("a row")?;
+        let bytes = with_line_ends(rt.alloc(), text)?;
+        let told = answer_to_whole(rt.alloc(), &bytes)?;
+        assert_eq!(rt; told.as_str(), answer, "{text}");
+    }
+    Ok(())
+}
+
+/// Gives a reader the header, a line for each of so many points, and the `end` line.
+fn feed_points(alloc: Global, reader: &mut PlanReader, count: u32) -> Result<(), Fail> {
+    feed_line(reader, "stnu 1")?;
+    for number in 0..count {
+        let line = format!(in alloc; "point p{number}")?;
+        feed_line(reader, line.as_str())?;
+    }
+    feed_line(reader, "end")
+}
+
+fn feed_line(reader: &mut PlanReader, line: &str) -> Result<(), Fail> {
+    if reader.is_full() {
+        return Err("too many lines".into());
+    }
+    reader.read_line(line.as_bytes())?;
+    Ok(())
+}
+
+/// How many points the network of a plan of so many points has, or why there is none.
+fn points(alloc: Global, count: u32) -> Result<String, Fail> {
+    let mut reader = PlanReader::new(alloc);
+    feed_points(alloc, &mut reader, count)?;
+    match reader.build(alloc) {
+        Ok(net) => Ok(net.points().len().to_string(alloc)?),
+        Err(fault) => Ok(fault.to_string(alloc)?),
+    }
+}
+
+#[test]
+fn largest_plan(rt: HostRuntime) -> Result<(), Fail> {
+    let accepted = points(rt.alloc(), 1_000)?;
+    assert_eq!(rt; accepted.as_str(), "1000");
+    let refused = points(rt.alloc(), 1_001)?;
+    assert_eq!(rt; refused.as_str(), "limit in line 1002");
+    Ok(())
+}
+
+fn look_at(rt: HostRuntime, reader: &PlanReader) {
+    assert_eq!(rt; reader.section(), PlanSection::Declarations);
+    assert_eq!(rt; reader.parts().len(), 1);
+    assert_eq!(rt; reader.lines(), [3].as_slice());
+    assert_eq!(rt; reader.count(), 3);
+}
+
+/// What was read so far; a refused line changes nothing.
+#[test]
+fn progress_of_a_reader(rt: HostRuntime) {
+    let mut reader = PlanReader::new(rt.alloc());
+    assert!(rt; feed(&mut reader, "stnu 1||point A").is_err());
+    look_at(rt, &reader);
+    assert!(rt; feed(&mut reader, "point 9").is_err());
+    look_at(rt, &reader);
+}

@@ -1,0 +1,42 @@
+use net_model::{FormatFault, Network, TextFault, WordFault};
+use plan_format::{PlanLine, PlanReader};
+use std::alloc::Global;
+use std::test::Fail;
+
+/// The input and the answer of a row.
+pub fn cells(row: &str) -> Option<(&str, &str)> {
+    row.split_once(" => ")
+}
+
+/// Gives the lines of a plan text to a reader, up to the `end` line or to the first fault.
+pub fn feed(reader: &mut PlanReader, text: &str) -> Result<(), TextFault> {
+    for line in text.split('|') {
+        if reader.is_full() {
+            return Err(TextFault::OutOfMemory);
+        }
+        match reader.read_line(line.as_bytes()) {
+            Ok(PlanLine::End) => return Ok(()),
+            Ok(_) => {}
+            Err(fault) => return Err(at_line(reader.count(), fault)),
+        }
+    }
+    Err(TextFault::Format(reader.fault_at_end()))
+}
+
+/// The fault of the line after so many lines.
+fn at_line(count: u32, fault: WordFault) -> TextFault {
+    match fault {
+        WordFault::Kind(kind) => TextFault::Format(FormatFault {
+            line: count.saturating_add(1),
+            kind,
+        }),
+        WordFault::OutOfMemory => TextFault::OutOfMemory,
+    }
+}
+
+/// The network of a plan text that has no fault.
+pub fn network(alloc: Global, text: &str) -> Result<Network, Fail> {
+    let mut reader = PlanReader::new(alloc);
+    feed(&mut reader, text)?;
+    Ok(reader.build(alloc)?)
+}
