@@ -3,7 +3,7 @@ use Rattle.std.proofs.Common.{List}
 use Rattle.net_model.specs.Network.{Plan, IsPlan}
 use Rattle.net_model.specs.declared.ids.PointId.{PointId}
 use Rattle.net_model.specs.declared.part.Edge.{Edge}
-use Rattle.strategy_model.specs.Dispatch.{IsClosed, IsOrder, IsDynamic}
+use Rattle.strategy_model.specs.Dispatch.{IsClosedList, IsOrder, IsDynamic}
 use Rattle.strategy_model.specs.DispatchLaws.{ClosedListsGiveStrategies}
 use Rattle.strategy_model.proofs.DispatchedLemmas.{dispatched_satisfy}
 use Rattle.strategy_model.proofs.LowerLemmas.{lower_schedule, lower_is_dispatched}
@@ -11,7 +11,7 @@ use Rattle.strategy_model.proofs.SeenLemmas.{dispatched_see_alone}
 use Rattle.strategy_model.proofs.UnfoldLemmas.{dynamic_rules_are_played}
 
 -- the schedules of lower bounds and waits are a dynamic rule
-pub lower_is_dynamic : (net : Plan) (edges : List Edge) (order : List PointId) → IsPlan net → IsClosed net edges → IsOrder net edges order → IsDynamic net (lower_schedule net edges order)
+pub lower_is_dynamic : (net : Plan) (edges : List Edge) (order : List PointId) → IsPlan net → IsClosedList net edges → IsOrder net edges order → IsDynamic net (lower_schedule net edges order)
 lower_is_dynamic net edges order plan closed ordered =
     record {
       complete = λ situation is_situation. (lower_is_dispatched net edges order situation plan closed ordered is_situation).complete;

@@ -23,3 +23,4 @@ pub mod KnownLemmas
 pub mod UnfoldLemmas
 pub mod CompletenessLemmas
 pub mod AheadLemmas
+pub mod InsertLemmas
