@@ -1,22 +1,22 @@
 -- A closed list of edges without a cycle of negative ordinary edges has an order: the points are inserted one by one.
-use Rattle.std.proofs.Common.{◌≡◌, ◌≢◌, ◌⊎◌, ℕ, zero, suc, pos, ◌+◌, ◌<◌, ◌≤◌, ◌<ℤ◌, ◌&&◌, ◌||◌, Bool, true, false, cond, List, [], ◌∷◌, Option, Some, None, length, map, get_or, is_none, refl, ap, sym, ◌∙◌, subst, arith, inl, inr, IsTrue}
+use Rattle.std.proofs.Common.{◌≡◌, ◌⊎◌, ℕ, zero, suc, pos, ◌+◌, ◌<◌, ◌≤◌, ◌<ℤ◌, ◌&&◌, Bool, true, false, cond, List, [], ◌∷◌, Some, length, map, is_none, refl, ap, sym, ◌∙◌, subst, arith, inl, inr}
 use Rattle.std.specs.Prelude.{slice_get}
-use Rattle.std.specs.List.{All, AllByRecursion, Contains, IsDistinct, list_any, range_with_len}
+use Rattle.std.specs.List.{AllByRecursion, Contains, IsDistinct, list_any, range_with_len}
 use Rattle.std.proofs.lemmas.Bool.{and_parts, and_from, or_cases, or_left, or_right, or_parts, true≢false, false_from_ne_true, ne_eqb, cases_lt}
 use Rattle.std.proofs.lemmas.Int.{ints}
 use Rattle.std.proofs.lemmas.Option.{none-some, same_Some, slice_get-get_or, get_or_from_slice_get, slice_get_within}
-use Rattle.std.proofs.lemmas.List.Elements.{All-from_recursion, recursion_from_All, Contains-append_right}
+use Rattle.std.proofs.lemmas.List.Elements.{All-from_recursion, Contains-append_right}
 use Rattle.std.proofs.lemmas.Map.Keys.{IsDistinct-cons, IsDistinct-head, IsDistinct-tail}
-use Rattle.net_model.specs.Network.{Plan, IsPlan, IsPoint}
+use Rattle.net_model.specs.Network.{Plan}
 use Rattle.net_model.specs.Rules.{is_ordinary, is_negative}
 use Rattle.net_model.specs.declared.ids.PointId.{PointId}
 use Rattle.net_model.specs.declared.part.Edge.{Edge}
 use Rattle.net_model.proofs.RuleLemmas.{none_is}
 use Rattle.strategy_model.specs.Plays.{same_point, points_of}
-use Rattle.strategy_model.specs.Edges.{IsNegativeOrdinary, IsNegativeCycle, HasNoNegativeCycle}
-use Rattle.strategy_model.specs.Dispatch.{Stands, IsClosedList, IsOrder}
+use Rattle.strategy_model.specs.Edges.{HasNoNegativeCycle}
+use Rattle.strategy_model.specs.Dispatch.{IsClosedList, IsOrder}
 use Rattle.strategy_model.specs.DispatchLaws.{ClosedListsHaveOrders}
-use Rattle.strategy_model.proofs.MomentLemmas.{same_from_test, test_from_same, same_from_number, point_at}
+use Rattle.strategy_model.proofs.MomentLemmas.{same_from_test, test_from_same, point_at}
 use Rattle.strategy_model.proofs.ExactLemmas.{below_zero}
 use Rattle.strategy_model.proofs.ClosedLemmas.{negative_holds, stands_over_both}
 use Rattle.strategy_model.proofs.SituationLemmas.{Among}

@@ -24,3 +24,4 @@ pub mod UnfoldLemmas
 pub mod CompletenessLemmas
 pub mod AheadLemmas
 pub mod InsertLemmas
+pub mod PlayedLemmas

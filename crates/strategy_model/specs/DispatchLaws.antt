@@ -42,6 +42,11 @@ abbrev pub DynamicRulesArePlayed : Type 0
 DynamicRulesArePlayed =
     (net : Plan) (schedule_of : List ℕ → List ℕ) → IsPlan net → IsDynamic net schedule_of → (strategy : Tree) × ((situation : List ℕ) → IsSituation net situation → play strategy net situation ≡ Some (schedule_of situation))
 
+-- and what a strategy plays in every situation is a dynamic rule
+abbrev pub PlayedRulesAreDynamic : Type 0
+PlayedRulesAreDynamic =
+    (net : Plan) (strategy : Tree) (schedule_of : List ℕ → List ℕ) → IsPlan net → ((situation : List ℕ) → IsSituation net situation → play strategy net situation ≡ Some (schedule_of situation)) → IsDynamic net schedule_of
+
 -- where the edges of the list are true of every strategy that controls the network, it is the earliest schedule
 abbrev pub DispatchedAreEarliest : Type 0
 DispatchedAreEarliest =
