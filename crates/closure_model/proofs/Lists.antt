@@ -1,0 +1,55 @@
+-- What holds of each element of a list that is made from others, and what such a list holds.
+use Rattle.std.proofs.Common.{◌≡◌, zero, suc, ◌⊎◌, List, [], ◌∷◌, ◌++◌, map, refl, ap, sym, subst, inl, inr, arith}
+use Rattle.std.specs.List.{AllByRecursion, Contains, flat_map}
+use Rattle.std.proofs.lemmas.List.Elements.{Contains-append_left, Contains-append_right}
+
+pub Contains-head : {X : Type 0} (x : X) (xs : List X) → Contains (x ∷ xs) x
+Contains-head x xs = (0, omega arith, refl)
+
+pub Contains-tail : {X : Type 0} (x : X) (xs : List X) (y : X) → Contains xs y → Contains (x ∷ xs) y
+Contains-tail x xs y (k, inside, at) = (suc k, omega arith, at)
+
+pub Contains-cases : {X : Type 0} (x : X) (xs : List X) (y : X) → Contains (x ∷ xs) y → (x ≡ y) ⊎ Contains xs y
+Contains-cases x xs y (zero, inside, at) = inl at
+Contains-cases x xs y (suc k, inside, at) = inr (k, omega arith, at)
+
+pub Contains-none : {X : Type 0} (y : X) → Contains [] y → ⊥
+Contains-none y (k, inside, at) = absurd (omega arith)
+
+pub Contains-map : {X Y : Type 0} (f : X → Y) (xs : List X) (x : X) → Contains xs x → Contains (map f xs) (f x)
+Contains-map f [] x inside = absurd (Contains-none x inside)
+Contains-map f (y ∷ ys) x (zero, inside, at) = (0, omega arith, ap f at)
+Contains-map f (y ∷ ys) x (suc k, inside, at) = Contains-tail (f y) (map f ys) (f x) (Contains-map f ys x (k, omega arith, at))
+
+pub Contains-map_from : {X Y : Type 0} (f : X → Y) (xs : List X) (y : Y) → Contains (map f xs) y → (x : X) × Contains xs x × (f x ≡ y)
+Contains-map_from f [] y inside = absurd (Contains-none y inside)
+Contains-map_from f (x ∷ xs) y (zero, inside, at) = (x, Contains-head x xs, at)
+Contains-map_from f (x ∷ xs) y (suc k, inside, at) =
+    let (z, there, is) = Contains-map_from f xs y (k, omega arith, at) in (z, Contains-tail x xs z there, is)
+
+pub Contains-flat_map : {X Y : Type 0} (f : X → List Y) (xs : List X) (x : X) (y : Y) → Contains xs x → Contains (f x) y → Contains (flat_map f xs) y
+Contains-flat_map f [] x y outer inner = absurd (Contains-none x outer)
+Contains-flat_map f (z ∷ zs) x y (zero, inside, at) inner = Contains-append_left (f z) (flat_map f zs) y (subst (λ w. Contains (f w) y) (sym at) inner)
+Contains-flat_map f (z ∷ zs) x y (suc k, inside, at) inner =
+    Contains-append_right (f z) (flat_map f zs) y (Contains-flat_map f zs x y (k, omega arith, at) inner)
+
+pub each-append : {X : Type 0} (P : X → Type 0) (xs ys : List X) → AllByRecursion P xs → AllByRecursion P ys → AllByRecursion P (xs ++ ys)
+each-append P [] ys here there = there
+each-append P (x ∷ xs) ys (one, more) there = (one, each-append P xs ys more there)
+
+pub each-weaker : {X : Type 0} (P Q : X → Type 0) → ((x : X) → P x → Q x) → (xs : List X) → AllByRecursion P xs → AllByRecursion Q xs
+each-weaker P Q weaker [] all = tt
+each-weaker P Q weaker (x ∷ xs) (one, more) = (weaker x one, each-weaker P Q weaker xs more)
+
+pub each-map : {X Y : Type 0} (P : Y → Type 0) (f : X → Y) (xs : List X) → AllByRecursion (λ x. P (f x)) xs → AllByRecursion P (map f xs)
+each-map P f [] all = tt
+each-map P f (x ∷ xs) (one, more) = (one, each-map P f xs more)
+
+pub each-every : {X : Type 0} (P : X → Type 0) → ((x : X) → P x) → (xs : List X) → AllByRecursion P xs
+each-every P every [] = tt
+each-every P every (x ∷ xs) = (every x, each-every P every xs)
+
+pub each-contained : {X : Type 0} (P : X → Type 0) (xs : List X) (x : X) → AllByRecursion P xs → Contains xs x → P x
+each-contained P [] x all inside = absurd (Contains-none x inside)
+each-contained P (y ∷ ys) x (one, more) (zero, inside, at) = subst P at one
+each-contained P (y ∷ ys) x (one, more) (suc k, inside, at) = each-contained P ys x more (k, omega arith, at)

@@ -1,0 +1,9 @@
+pub mod Keys
+pub mod Tables
+pub mod TableLaws
+pub mod Codes
+pub mod Derivable
+pub mod Closure
+pub mod Derivations
+pub mod ClosureLaws
+pub mod DerivationLaws
