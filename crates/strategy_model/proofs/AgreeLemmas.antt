@@ -38,7 +38,7 @@ played_length net situation schedule =
     along net situation schedule (λ so_far t. length schedule ≡ length net.points) (λ so_far t made. made_length net so_far schedule made) (λ so_far t acts may after. after)
 
 -- two choices by one test take one side
-both : {A : Type 0} (b : Bool) (x y v w : Option A) {p q : A} → cond b x y ≡ Some p → cond b v w ≡ Some q → ((x ≡ Some p) × (v ≡ Some q)) ⊎ ((y ≡ Some p) × (w ≡ Some q))
+pub both : {A : Type 0} (b : Bool) (x y v w : Option A) {p q : A} → cond b x y ≡ Some p → cond b v w ≡ Some q → ((x ≡ Some p) × (v ≡ Some q)) ⊎ ((y ≡ Some p) × (w ≡ Some q))
 both true x y v w here there = inl (here, there)
 both false x y v w here there = inr (here, there)
 

@@ -13,7 +13,7 @@ use Rattle.strategy_model.specs.Situations.{IsSituation, moment_in}
 use Rattle.strategy_model.specs.Plays.{play}
 use Rattle.strategy_model.specs.Control.{Controls}
 use Rattle.strategy_model.specs.Edges.{HoldsIn, HoldsOf}
-use Rattle.strategy_model.specs.Dispatch.{IsClosed, IsOrder, HoldsBack, IsDispatched, awaited}
+use Rattle.strategy_model.specs.Dispatch.{IsClosedList, IsOrder, HoldsBack, IsDispatched, awaited}
 use Rattle.strategy_model.specs.DispatchLaws.{DispatchedAreEarliest}
 use Rattle.strategy_model.specs.declared.tree.Tree.{Tree}
 use Rattle.strategy_model.proofs.PlayLemmas.{link_sound}
@@ -29,7 +29,7 @@ use Rattle.strategy_model.proofs.ViolationLemmas.{size_of, bound_awaited, wait_a
 use Rattle.strategy_model.proofs.SeenLemmas.{no_later, dispatched_are_one}
 use Rattle.strategy_model.proofs.CompletenessLemmas.{closed_lists_give_strategies}
 
-module _ (net : Plan) (edges : List Edge) (order : List PointId) (plan : IsPlan net) (closed : IsClosed net edges) (ordered : IsOrder net edges order) (situation schedule : List ℕ) (is_situation : IsSituation net situation) (dispatched : IsDispatched net edges situation schedule) (strategy : Tree) (controls : Controls strategy net) (all : All (HoldsOf net strategy) edges) (other : List ℕ) (played : play strategy net situation ≡ Some other) where
+module _ (net : Plan) (edges : List Edge) (order : List PointId) (plan : IsPlan net) (closed : IsClosedList net edges) (ordered : IsOrder net edges order) (situation schedule : List ℕ) (is_situation : IsSituation net situation) (dispatched : IsDispatched net edges situation schedule) (strategy : Tree) (controls : Controls strategy net) (all : All (HoldsOf net strategy) edges) (other : List ℕ) (played : play strategy net situation ≡ Some other) where
   -- a point of the play isn't held back longer by an edge whose end comes no sooner in the play
   held : (point : PointId) (edge : Edge) → HoldsBack edges point edge → moment_in schedule edge.to ≤ moment_in other edge.to → awaited net schedule edge ≤ moment_in other point
   held point edge holds later = by edge.label refl

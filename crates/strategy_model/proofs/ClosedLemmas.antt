@@ -1,5 +1,5 @@
 -- What stands in a closed list of edges.
-use Rattle.std.proofs.Common.{◌≡◌, ◌≢◌, ℕ, ℤ, pos, ◌≤ℤ◌, ◌<ℤ◌, ◌+ℤ◌, ◌-ℤ◌, ◌==◌, true, false, List, Some, None, refl, ap, subst, arith}
+use Rattle.std.proofs.Common.{◌≡◌, ◌≢◌, ℕ, ℤ, pos, ◌≤ℤ◌, ◌<ℤ◌, ◌+ℤ◌, ◌-ℤ◌, ◌==◌, true, false, List, Some, None, refl, ap, ◌∙◌, subst, arith}
 use Rattle.std.specs.Prelude.{slice_get}
 use Rattle.std.specs.Int.{int_max}
 use Rattle.std.specs.List.{Contains}
@@ -14,7 +14,7 @@ use Rattle.net_model.specs.declared.ids.LinkId.{LinkId}
 use Rattle.net_model.specs.declared.part.Bound.{Bound}
 use Rattle.net_model.specs.declared.part.Edge.{Edge}
 use Rattle.net_model.specs.declared.part.Link.{Link}
-use Rattle.strategy_model.specs.Dispatch.{Stands, IsClosed}
+use Rattle.strategy_model.specs.Dispatch.{Stands, IsClosedList}
 
 -- ---- tests that hold
 ordinary_holds : (edge : Edge) → edge.label ≡ None → is_ordinary edge ≡ true
@@ -36,6 +36,12 @@ other_label_holds name label edge labelled other =
 
 max_zero : (v u : ℤ) → pos 0 ≤ℤ v → int_max v (pos 0) +ℤ u ≡ v +ℤ u
 max_zero v u from = let same : int_max v (pos 0) ≡ v = grind (arith, ints, int_max_is) in rw same refl
+
+max_negative : (v u : ℤ) → v <ℤ pos 0 → int_max v (pos 0) +ℤ u ≡ u
+max_negative v u below = let same : int_max v (pos 0) ≡ pos 0 = grind (arith, ints, int_max_is) in ap (λ (w : ℤ). w +ℤ u) same ∙ from_zero u
+  where
+    from_zero : (u : ℤ) → pos 0 +ℤ u ≡ u
+    from_zero u = grind (arith, ints)
 
 -- ---- what the rules give
 no_case_applies : (first second : Edge) → first.label ≡ None → second.label ≡ None → first.to ≡ second.from → second.weight <ℤ pos 0 → no_case first second ≡ Some (record { from = first.from; to = second.to; label = None; weight = joined_weight first second })
@@ -63,7 +69,7 @@ unfolding removal
 removal_applies net name link premise declared labelled = rw (labelled, declared) refl
 
 -- ---- what stands in a closed list
-module _ (net : Plan) (edges : List Edge) (closed : IsClosed net edges) where
+module _ (net : Plan) (edges : List Edge) (closed : IsClosedList net edges) where
   pub stands_bound : (place : ℕ) (bound : Bound) → slice_get net.bounds place ≡ Some bound → Stands edges (bound_edge bound)
   stands_bound place bound declared = closed.closed (bound_edge bound) (by_bound place bound declared refl)
 
@@ -73,6 +79,11 @@ module _ (net : Plan) (edges : List Edge) (closed : IsClosed net edges) where
   pub stands_no_case : (first second : Edge) → Contains edges first → Contains edges second → first.label ≡ None → second.label ≡ None → first.to ≡ second.from → second.weight <ℤ pos 0 → pos 0 ≤ℤ first.weight → Stands edges (record { from = first.from; to = second.to; label = None; weight = first.weight +ℤ second.weight })
   stands_no_case first second one two first_ordinary second_ordinary meets negative from_zero =
       subst (λ (w : ℤ). Stands edges (record { from = first.from; to = second.to; label = None; weight = w })) (max_zero first.weight second.weight from_zero) (closed.closed (record { from = first.from; to = second.to; label = None; weight = joined_weight first second }) (by_no_case first second one two (no_case_applies first second first_ordinary second_ordinary meets negative)))
+
+  -- negative ordinary edges in a row give one over both
+  pub stands_over_both : (first second : Edge) → Contains edges first → Contains edges second → first.label ≡ None → second.label ≡ None → first.to ≡ second.from → first.weight <ℤ pos 0 → second.weight <ℤ pos 0 → Stands edges (record { from = first.from; to = second.to; label = None; weight = second.weight })
+  stands_over_both first second one two first_ordinary second_ordinary meets first_negative negative =
+      subst (λ (w : ℤ). Stands edges (record { from = first.from; to = second.to; label = None; weight = w })) (max_negative first.weight second.weight first_negative) (closed.closed (record { from = first.from; to = second.to; label = None; weight = joined_weight first second }) (by_no_case first second one two (no_case_applies first second first_ordinary second_ordinary meets negative)))
 
   pub stands_upper_case : (first second : Edge) (label : LinkId) → Contains edges first → Contains edges second → first.label ≡ None → second.label ≡ Some label → first.to ≡ second.from → second.weight <ℤ pos 0 → pos 0 ≤ℤ first.weight → Stands edges (record { from = first.from; to = second.to; label = second.label; weight = first.weight +ℤ second.weight })
   stands_upper_case first second label one two first_ordinary second_labelled meets negative from_zero =

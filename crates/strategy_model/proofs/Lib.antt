@@ -23,3 +23,5 @@ pub mod KnownLemmas
 pub mod UnfoldLemmas
 pub mod CompletenessLemmas
 pub mod AheadLemmas
+pub mod InsertLemmas
+pub mod PlayedLemmas

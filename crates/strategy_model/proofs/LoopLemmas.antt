@@ -45,7 +45,7 @@ loops_exclude_strategies net strategy edges plan all loop controls =
     loops_exclude schedule edges loop (true_edges_hold net strategy schedule plan played edges all)
 
 -- the edges of a walk over true edges are true
-walk_true : (net : Plan) (strategy : Tree) (edges walk : List Edge) → All (HoldsOf net strategy) edges → All (Contains edges) walk → All (HoldsOf net strategy) walk
+pub walk_true : (net : Plan) (strategy : Tree) (edges walk : List Edge) → All (HoldsOf net strategy) edges → All (Contains edges) walk → All (HoldsOf net strategy) walk
 walk_true net strategy edges walk all among =
     All-weaker (Contains edges) (HoldsOf net strategy) (λ edge here. All-contains (HoldsOf net strategy) edges edge all here) walk among
 

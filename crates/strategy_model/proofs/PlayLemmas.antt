@@ -56,7 +56,7 @@ goes_on_at_end net schedule so_far t made =
     }
 
 -- points that get moment t have it, the others none
-new_moment : (t : ℕ) (seen acts : List PointId) (p : PointId) (m : ℕ) → moment_of (at_moment t seen ++ at_moment t acts) p ≡ Some m → t ≡ m
+pub new_moment : (t : ℕ) (seen acts : List PointId) (p : PointId) (m : ℕ) → moment_of (at_moment t seen ++ at_moment t acts) p ≡ Some m → t ≡ m
 new_moment t seen acts p m found = go (moment_of (at_moment t seen) p) refl
   where
     go : (o : Option ℕ) → moment_of (at_moment t seen) p ≡ o → t ≡ m

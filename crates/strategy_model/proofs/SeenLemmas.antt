@@ -8,7 +8,7 @@ use Rattle.net_model.specs.declared.ids.LinkId.{LinkId}
 use Rattle.net_model.specs.declared.part.Edge.{Edge}
 use Rattle.net_model.specs.declared.part.Link.{Link}
 use Rattle.strategy_model.specs.Situations.{IsSituation, moment_in}
-use Rattle.strategy_model.specs.Dispatch.{IsClosed, IsOrder, HoldsBack, ComesAtOnce, IsDispatched, SameCompletions, awaited}
+use Rattle.strategy_model.specs.Dispatch.{IsClosedList, IsOrder, HoldsBack, ComesAtOnce, IsDispatched, SameCompletions, awaited}
 use Rattle.strategy_model.specs.DispatchLaws.{DispatchedAreOne, DispatchedSeeAlone}
 use Rattle.strategy_model.proofs.PlayLemmas.{link_sound}
 use Rattle.strategy_model.proofs.CompareLemmas.{duration_of}
@@ -26,7 +26,7 @@ no_later net edges schedule point m comes held =
       | inr (edge, holds, is) ↦ let below = held edge holds in omega (arith, below, is)
     ]
 
-module _ (net : Plan) (edges : List Edge) (order : List PointId) (plan : IsPlan net) (closed : IsClosed net edges) (ordered : IsOrder net edges order) where
+module _ (net : Plan) (edges : List Edge) (order : List PointId) (plan : IsPlan net) (closed : IsClosedList net edges) (ordered : IsOrder net edges order) where
   -- Two schedules: a point that holds no point up in the first holds none longer in the second, where the points before it
   -- and the completions up to then come no later there.
   held_no_longer : (first second : List ℕ) (point : PointId) (edge : Edge) → HoldsBack edges point edge → awaited net first edge ≤ moment_in first point → (moment_in first edge.to ≤ moment_in first point → moment_in second edge.to ≤ moment_in first edge.to) → ((name : LinkId) (link : Link) → IsLinkOf net name link → edge.to ≡ link.from → moment_in first link.to ≤ moment_in first point → moment_in second link.to ≤ moment_in first link.to) → awaited net second edge ≤ moment_in first point

@@ -25,7 +25,7 @@ pub record Stands (edges : List Edge) (edge : Edge) : Type 0 where
   pub at_most : entry.weight ≤ℤ edge.weight
 
 -- a closed list of edges of a network: in it stand the edges of bounds and links and whatever the rules give from it
-pub record IsClosed (net : Plan) (edges : List Edge) : Type 0 where
+pub record IsClosedList (net : Plan) (edges : List Edge) : Type 0 where
   pub edges_sound : All (IsEdge net) edges
   pub closed : (edge : Edge) → Follows net edges edge → Stands edges edge
 

@@ -1,6 +1,6 @@
 -- Edges of the labelled distance graph (Morris and Muscettola 2005): what they say, when they are true, and walks.
 use Rattle.std.specs.Prelude.{◌≡◌, ℕ, ℤ, pos, ◌-ℤ◌, ◌+ℤ◌, ◌≤ℤ◌, ◌<ℤ◌, ◌≢◌, IsTrue, List, [], ◌∷◌, Option, Some, None, slice_get}
-use Rattle.std.specs.List.{AllByRecursion}
+use Rattle.std.specs.List.{All, AllByRecursion, Contains}
 use Rattle.net_model.specs.Network.{Plan}
 use Rattle.net_model.specs.Rules.{is_ordinary, is_negative}
 use Rattle.net_model.specs.declared.ids.PointId.{PointId}
@@ -48,3 +48,7 @@ IsNegativeOrdinary edge = IsTrue (is_ordinary edge) × IsTrue (is_negative edge)
 -- a cycle of negative ordinary edges
 abbrev pub IsNegativeCycle : List Edge → Type 0
 IsNegativeCycle edges = (point : PointId) × IsWalk point edges point × (edges ≢ []) × AllByRecursion IsNegativeOrdinary edges
+
+-- no cycle of negative ordinary edges of a list
+abbrev pub HasNoNegativeCycle : List Edge → Type 0
+HasNoNegativeCycle edges = (cycle : List Edge) → All (Contains edges) cycle → IsNegativeCycle cycle → ⊥

@@ -1,6 +1,6 @@
 //! Laws about closed lists of edges and the schedules of lower bounds and waits that they give.
 
-ghost use Rattle.strategy_model.specs.DispatchLaws.{ClosedListsGiveStrategies, DispatchedSatisfy, DispatchedExist, DispatchedAreOne, DispatchedSeeAlone, DispatchedAreEarliest, DynamicRulesArePlayed};
+ghost use Rattle.strategy_model.specs.DispatchLaws.{ClosedListsGiveStrategies, DispatchedSatisfy, DispatchedExist, DispatchedAreOne, DispatchedSeeAlone, DispatchedAreEarliest, DynamicRulesArePlayed, PlayedRulesAreDynamic, ClosedListsHaveOrders, ClosedListsDecide};
 
 /// A closed list of edges with an order gives a strategy that controls the network and plays the schedule of lower bounds
 /// and waits in every situation.
@@ -37,4 +37,20 @@ pub fn dispatched_are_earliest()
 /// Every dynamic rule is what some strategy plays.
 pub fn dynamic_rules_are_played()
     ensures { DynamicRulesArePlayed }
+{}
+
+/// What a strategy plays in every situation is a dynamic rule.
+pub fn played_rules_are_dynamic()
+    ensures { PlayedRulesAreDynamic }
+{}
+
+/// A closed list of edges without a cycle of negative ordinary edges has an order.
+pub fn closed_lists_have_orders()
+    ensures { ClosedListsHaveOrders }
+{}
+
+/// A closed list of edges that are true of every strategy that controls the network decides whether there is one: exactly
+/// where the list has no cycle of negative ordinary edges.
+pub fn closed_lists_decide()
+    ensures { ClosedListsDecide }
 {}

@@ -1,0 +1,39 @@
+-- What derivable edges, closed tables and the closure of a network say of its strategies.
+use Rattle.std.specs.Prelude.{◌↔◌, ℕ, List}
+use Rattle.std.specs.List.{All}
+use Rattle.net_model.specs.Network.{Plan, IsPlan}
+use Rattle.net_model.specs.declared.ids.PointId.{PointId}
+use Rattle.net_model.specs.declared.part.Edge.{Edge}
+use Rattle.closure_model.specs.Tables.{Graph, edges_of, IsFor, IsClosed, IsGraph}
+use Rattle.closure_model.specs.Derivable.{IsDerivable}
+use Rattle.closure_model.specs.Closure.{IsClosure}
+use Rattle.strategy_model.specs.Situations.{IsSituation}
+use Rattle.strategy_model.specs.Control.{Controls, IsControllable, IsEarliest}
+use Rattle.strategy_model.specs.Edges.{HoldsOf, IsNegativeCycle, HasNoNegativeCycle}
+use Rattle.strategy_model.specs.Dispatch.{IsClosedList, IsOrder, IsDispatched}
+use Rattle.strategy_model.specs.declared.tree.Tree.{Tree}
+
+-- every derivable edge is true of every strategy that controls the network
+abbrev pub DerivableAreTrue : Type 0
+DerivableAreTrue = (net : Plan) (strategy : Tree) (edge : Edge) → IsPlan net → Controls strategy net → IsDerivable net edge → HoldsOf net strategy edge
+
+-- so a cycle of negative ordinary edges that are derivable excludes every strategy that controls the network
+abbrev pub DerivableCyclesExclude : Type 0
+DerivableCyclesExclude = (net : Plan) (cycle : List Edge) → IsPlan net → All (IsDerivable net) cycle → IsNegativeCycle cycle → IsControllable net → ⊥
+
+-- the edges of a closed table of a network are a closed list
+abbrev pub ClosedTablesAreClosedLists : Type 0
+ClosedTablesAreClosedLists = (net : Plan) (table : Graph) → IsFor net table → IsGraph table → IsClosed net table → IsClosedList net (edges_of table)
+
+-- and so are those of its closure
+abbrev pub ClosuresAreClosedLists : Type 0
+ClosuresAreClosedLists = (net : Plan) (table : Graph) → IsPlan net → IsClosure net table → IsClosedList net (edges_of table)
+
+-- a network is controllable exactly where its closure has no cycle of negative ordinary edges
+abbrev pub ClosuresDecide : Type 0
+ClosuresDecide = (net : Plan) (table : Graph) → IsPlan net → IsClosure net table → (IsControllable net ↔ HasNoNegativeCycle (edges_of table))
+
+-- the schedule of the lower bounds and waits of the closure is the earliest
+abbrev pub ClosuresDispatchEarliest : Type 0
+ClosuresDispatchEarliest =
+    (net : Plan) (table : Graph) (order : List PointId) (situation schedule : List ℕ) → IsPlan net → IsClosure net table → IsOrder net (edges_of table) order → IsSituation net situation → IsDispatched net (edges_of table) situation schedule → IsEarliest net situation schedule

@@ -1,0 +1,33 @@
+//! Laws about derivable edges, closed tables and the closure, each the contract of a function without parameters.
+
+ghost use Rattle.controllability.specs.Laws.{DerivableAreTrue, DerivableCyclesExclude, ClosedTablesAreClosedLists, ClosuresAreClosedLists, ClosuresDecide, ClosuresDispatchEarliest};
+
+/// Every derivable edge is true of every strategy that controls the network.
+pub fn derivable_are_true()
+    ensures { DerivableAreTrue }
+{}
+
+/// A cycle of negative ordinary edges that are derivable excludes every strategy that controls the network.
+pub fn derivable_cycles_exclude()
+    ensures { DerivableCyclesExclude }
+{}
+
+/// The edges of a closed table of a network are a closed list.
+pub fn closed_tables_are_closed_lists()
+    ensures { ClosedTablesAreClosedLists }
+{}
+
+/// The edges of the closure of a network are a closed list.
+pub fn closures_are_closed_lists()
+    ensures { ClosuresAreClosedLists }
+{}
+
+/// A network is controllable exactly where its closure has no cycle of negative ordinary edges.
+pub fn closures_decide()
+    ensures { ClosuresDecide }
+{}
+
+/// The schedule of the lower bounds and waits of the closure is the earliest.
+pub fn closures_dispatch_earliest()
+    ensures { ClosuresDispatchEarliest }
+{}

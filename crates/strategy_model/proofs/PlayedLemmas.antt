@@ -1,0 +1,131 @@
+-- What a strategy plays in every situation is a dynamic rule: up to a moment its plays depend on the completions up to it
+-- alone.
+use Rattle.std.proofs.Common.{◌≡◌, ℕ, ◌+◌, ◌<◌, ◌≤◌, ◌&&◌, true, cond, List, [], Option, Some, None, is_some, inl, inr, refl, sym, ap, subst, ◌∙◌, arith}
+use Rattle.std.specs.Prelude.{slice_get, ◌==◌}
+use Rattle.std.specs.Cmp.Lexicographic.{pointwise}
+use Rattle.std.proofs.lemmas.Bool.{cases_lt, eqb-true, eq-eqb, and_parts, and_from, true≢false}
+use Rattle.std.proofs.lemmas.Option.{none-some, same_Some}
+use Rattle.std.proofs.lemmas.List.Elements.{filter_agree}
+use Rattle.net_model.specs.Network.{Plan, IsPlan, IsPoint, activation}
+use Rattle.net_model.specs.Edges.{IsLinkOf}
+use Rattle.net_model.specs.declared.ids.PointId.{PointId}
+use Rattle.net_model.specs.declared.ids.LinkId.{LinkId}
+use Rattle.net_model.specs.declared.part.Link.{Link}
+use Rattle.strategy_model.specs.Situations.{IsSituation, moment_in}
+use Rattle.strategy_model.specs.Plays.{Moments, same_point, moment_of, points_of, may_act, completed, play_from, play_cases}
+use Rattle.strategy_model.specs.Dispatch.{AgreeUpTo, SameCompletions}
+use Rattle.strategy_model.specs.DispatchLaws.{PlayedRulesAreDynamic}
+use Rattle.strategy_model.specs.declared.tree.Tree.{Tree, Leaf, Node', Row_of-Case, end_of-Case, more_of-Case}
+use Rattle.strategy_model.proofs.PlayLemmas.{and_moment, known_stays, unknown_later, new_moment, GoesOn, goes_on}
+use Rattle.strategy_model.proofs.AgreeLemmas.{both, played_length}
+use Rattle.strategy_model.proofs.CompareLemmas.{completion_follows_activation}
+use Rattle.strategy_model.proofs.KindLemmas.{kind_of_any}
+use Rattle.strategy_model.proofs.KnownLemmas.{Known, seen_in, same_tests, completed_is}
+
+-- every moment so far is before t
+abbrev Before : Moments → ℕ → Type 0
+Before so_far t = (point : PointId) (m : ℕ) → moment_of so_far point ≡ Some m → m < t
+
+before_next : (so_far : Moments) (t : ℕ) (seen acts : List PointId) → Before so_far t → Before (and_moment so_far t seen acts) (t + 1)
+before_next so_far t seen acts before point m found = by (moment_of so_far point) refl
+  where
+    by : (o : Option ℕ) → moment_of so_far point ≡ o → m < t + 1
+    by None missing =
+        let now = new_moment t seen acts point m (sym (unknown_later so_far t seen acts point missing) ∙ found) in
+        omega (arith, now)
+    by (Some k) known =
+        let same = same_Some k m (sym (known_stays so_far t seen acts point k known) ∙ found) in
+        let early = before point k known in
+        omega (arith, same, early)
+
+-- the moments so far of a play are those of its schedule
+known_in_play : (net : Plan) (schedule : List ℕ) (so_far : Moments) (t : ℕ) → Before so_far t → GoesOn net schedule so_far t → Known net schedule so_far t
+known_in_play net schedule so_far t before goes = record {
+  before = λ point within sooner. by_then point within sooner (moment_of so_far point) refl;
+  not_yet = λ point within later. not_by_then point within later (moment_of so_far point) refl;
+}
+  where
+    by_then : (point : PointId) → IsPoint net point → moment_in schedule point < t → (o : Option ℕ) → moment_of so_far point ≡ o → moment_of so_far point ≡ Some (moment_in schedule point)
+    by_then point within sooner None missing = let later = goes.later point within missing in absurd (omega (arith, later, sooner))
+    by_then point within sooner (Some m) known = known ∙ ap (λ (k : ℕ). Some k) (sym (goes.kept point m within known))
+
+    not_by_then : (point : PointId) → IsPoint net point → t ≤ moment_in schedule point → (o : Option ℕ) → moment_of so_far point ≡ o → moment_of so_far point ≡ None
+    not_by_then point within later None missing = missing
+    not_by_then point within later (Some m) known =
+        let kept = goes.kept point m within known in
+        let early = before point m known in
+        absurd (omega (arith, kept, early, later))
+
+-- where the completions up to a moment are the same, the same points are seen at it
+same_seen : (net : Plan) (first second : List ℕ) (t m : ℕ) → SameCompletions net t first second → m ≤ t → seen_in net first m ≡ seen_in net second m
+same_seen net first second t m same within =
+    filter_agree (λ point. is_some (activation net point) && (moment_in first point == m)) (λ point. is_some (activation net point) && (moment_in second point == m)) (λ point. same_tests (is_some (activation net point) && (moment_in first point == m)) (is_some (activation net point) && (moment_in second point == m)) (there point) (back point)) (points_of net)
+  where
+    comes : (point : PointId) → is_some (activation net point) ≡ true → AgreeUpTo t (moment_in first point) (moment_in second point)
+    comes point contingent =
+        elim (kind_of_any net point) [
+          | inl none ↦ absurd (true≢false (sym contingent ∙ ap is_some none))
+          | inr ending ↦ subst (λ (p : PointId). AgreeUpTo t (moment_in first p) (moment_in second p)) ending.ends (same ending.name ending.link ending.declared)
+        ]
+
+    there : (point : PointId) → (is_some (activation net point) && (moment_in first point == m)) ≡ true → (is_some (activation net point) && (moment_in second point == m)) ≡ true
+    there point holds =
+        let (contingent, now) = and_parts (is_some (activation net point)) (moment_in first point == m) holds in
+        let at = eqb-true (moment_in first point) m now in
+        and_from (is_some (activation net point)) (moment_in second point == m) contingent (eq-eqb (moment_in second point) m (sym ((comes point contingent).0 (omega (arith, at, within))) ∙ at))
+
+    back : (point : PointId) → (is_some (activation net point) && (moment_in second point == m)) ≡ true → (is_some (activation net point) && (moment_in first point == m)) ≡ true
+    back point holds =
+        let (contingent, now) = and_parts (is_some (activation net point)) (moment_in second point == m) holds in
+        let at = eqb-true (moment_in second point) m now in
+        and_from (is_some (activation net point)) (moment_in first point == m) contingent (eq-eqb (moment_in first point) m ((comes point contingent).1 (omega (arith, at, within)) ∙ at))
+
+module _ (net : Plan) (plan : IsPlan net) (ds es : List ℕ) (is_ds : IsSituation net ds) (is_es : IsSituation net es) (first second : List ℕ) (first_lasting : (name : LinkId) (link : Link) (duration : ℕ) → IsLinkOf net name link → slice_get ds name.0 ≡ Some duration → moment_in first link.to ≡ moment_in first link.from + duration) (second_lasting : (name : LinkId) (link : Link) (duration : ℕ) → IsLinkOf net name link → slice_get es name.0 ≡ Some duration → moment_in second link.to ≡ moment_in second link.from + duration) (t : ℕ) (same : SameCompletions net t first second) where
+  -- after the moment everything that came by it is known
+  all_known : (so_far : Moments) (m : ℕ) → t < m → GoesOn net first so_far m → GoesOn net second so_far m → (point : PointId) → IsPoint net point → AgreeUpTo t (moment_in first point) (moment_in second point)
+  all_known so_far m past first_goes second_goes point within = by (moment_of so_far point) refl
+    where
+      by : (o : Option ℕ) → moment_of so_far point ≡ o → AgreeUpTo t (moment_in first point) (moment_in second point)
+      by (Some k) known =
+          let is = first_goes.kept point k within known ∙ sym (second_goes.kept point k within known) in (λ by_then. is, λ by_then. is)
+      by None missing =
+          let later = first_goes.later point within missing in
+          let later_too = second_goes.later point within missing in
+          (λ by_then. absurd (omega (arith, later, by_then, past)), λ by_then. absurd (omega (arith, later_too, by_then, past)))
+
+  mutual
+    agree_up_to : (tree : Tree) (so_far : Moments) (m : ℕ) → Before so_far m → play_from tree net ds so_far m ≡ Some first → play_from tree net es so_far m ≡ Some second → (point : PointId) → IsPoint net point → AgreeUpTo t (moment_in first point) (moment_in second point)
+    agree_up_to Leaf so_far m before played_first played_second point within =
+        let is : moment_in first point ≡ moment_in second point = ap (λ (s : List ℕ). moment_in s point) (same_Some first second (sym played_first ∙ played_second)) in
+        (λ by_then. is, λ by_then. is)
+    agree_up_to (Node' shape cases) so_far m before played_first played_second point within =
+        let first_goes = goes_on net ds first (Node' shape cases) so_far m played_first in
+        let second_goes = goes_on net es second (Node' shape cases) so_far m played_second in
+        elim (cases_lt t m) [
+          | inl past ↦ all_known so_far m past first_goes second_goes point within
+          | inr by_then ↦
+              let first_seen = completed_is net ds first plan is_ds first_lasting so_far m (known_in_play net first so_far m before first_goes) in
+              let second_seen = completed_is net es second plan is_es second_lasting so_far m (known_in_play net second so_far m before second_goes) in
+              let one : completed net ds so_far m ≡ completed net es so_far m = first_seen ∙ same_seen net first second t m same by_then ∙ sym second_seen in
+              agree_among cases so_far m before (completed net ds so_far m) played_first (subst (λ (points : List PointId). play_cases cases net es so_far m points ≡ Some second) (sym one) played_second) point within
+        ]
+
+    agree_among : {n : _} (cases : Row_of-Case n) (so_far : Moments) (m : ℕ) → Before so_far m → (points : List PointId) → play_cases cases net ds so_far m points ≡ Some first → play_cases cases net es so_far m points ≡ Some second → (point : PointId) → IsPoint net point → AgreeUpTo t (moment_in first point) (moment_in second point)
+    agree_among end_of-Case so_far m before points played_first played_second point within = absurd (none-some first played_first)
+    agree_among (more_of-Case seen acts next others) so_far m before points played_first played_second point within =
+        let and_now = and_moment so_far m seen acts in
+        elim (both (pointwise same_point seen points) (cond (may_act net so_far acts) (play_from next net ds and_now (m + 1)) None) (play_cases others net ds so_far m points) (cond (may_act net so_far acts) (play_from next net es and_now (m + 1)) None) (play_cases others net es so_far m points) played_first played_second) [
+          | inl here ↦ elim (both (may_act net so_far acts) (play_from next net ds and_now (m + 1)) None (play_from next net es and_now (m + 1)) None here.0 here.1) [
+            | inl may ↦ agree_up_to next and_now (m + 1) (before_next so_far m seen acts before) may.0 may.1 point within
+            | inr refused ↦ absurd (none-some first refused.0)
+          ]
+          | inr later ↦ agree_among others so_far m before points later.0 later.1 point within
+        ]
+
+pub played_rules_are_dynamic : PlayedRulesAreDynamic
+played_rules_are_dynamic net strategy schedule_of plan played =
+    record {
+      complete = λ situation is_situation. played_length net situation (schedule_of situation) strategy [] 0 (played situation is_situation);
+      lasting = λ situation name link duration is_situation. completion_follows_activation net strategy situation (schedule_of situation) name link duration plan (played situation is_situation);
+      seen_alone = λ first second t is_first is_second same point executable. agree_up_to net plan first second is_first is_second (schedule_of first) (schedule_of second) (λ name link duration. completion_follows_activation net strategy first (schedule_of first) name link duration plan (played first is_first)) (λ name link duration. completion_follows_activation net strategy second (schedule_of second) name link duration plan (played second is_second)) t same strategy [] 0 (λ point m found. absurd (none-some m found)) (played first is_first) (played second is_second) point executable.0;
+    }
