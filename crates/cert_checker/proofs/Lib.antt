@@ -6,3 +6,4 @@ pub mod Following
 pub mod Deriving
 pub mod Closing
 pub mod Refusing
+pub mod RefusalLemmas

@@ -11,8 +11,6 @@ use Rattle.cert_checker.specs.Walk.{WalkPasses, refusal, walk_passes}
 use Rattle.cert_checker.specs.Judgement.{at_number, lines_pass, refutation_passes, judged, judgement_of}
 use Rattle.cert_checker.specs.Truth.{AreTrue, passed_lines}
 use Rattle.cert_checker.specs.declared.judgement.Refusal.{Refusal}
-use Rattle.cert_checker.specs.declared.judgement.Judgement.TheVariants.{Accepted, Refused}
-use Rattle.cert_checker.specs.declared.judgement.Claim.TheVariants.{NotControllable}
 use Rattle.cert_checker.proofs.Passing.{goes_on}
 use Rattle.cert_checker.specs.Laws.{PassedLinesAreTrue}
 use Rattle.cert_checker.proofs.Deriving.{first_passes, lines_are_true}

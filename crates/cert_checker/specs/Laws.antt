@@ -1,11 +1,15 @@
 -- What holds of the judgement of certificates: what they say is so, whoever wrote them.
-use Rattle.std.specs.Prelude.{◌≡◌, ℕ}
+use Rattle.std.specs.Prelude.{◌≡◌, ◌⊎◌, ℕ, List}
 use Rattle.net_model.specs.Network.{Plan, IsPlan}
 use Rattle.strategy_model.specs.Control.{IsControllable}
 use Rattle.cert_format.specs.declared.certificate.Certificate.{Certificate}
+use Rattle.cert_format.specs.declared.certificate.Certificate.TheVariants.{Refutation}
+use Rattle.cert_format.specs.declared.line.CertLine.{CertLine}
 use Rattle.cert_checker.specs.Judgement.{judgement_of}
 use Rattle.cert_checker.specs.Truth.{AreTrue, passed_lines}
-use Rattle.cert_checker.specs.declared.judgement.Judgement.TheVariants.{Accepted}
+use Rattle.cert_checker.specs.Refusals.{IsRefusedLine, IsRefusedWalk}
+use Rattle.cert_checker.specs.declared.judgement.CertFault.{CertFault}
+use Rattle.cert_checker.specs.declared.judgement.Judgement.TheVariants.{Accepted, Refused}
 use Rattle.cert_checker.specs.declared.judgement.Claim.TheVariants.{NotControllable}
 
 -- each line that passes is true of every strategy that controls the network
@@ -15,3 +19,8 @@ PassedLinesAreTrue = (net : Plan) (certificate : Certificate) → IsPlan net →
 -- an accepted refutation excludes every strategy that controls the network
 abbrev pub AcceptedExcludes : Type 0
 AcceptedExcludes = (net : Plan) (certificate : Certificate) → IsPlan net → judgement_of net certificate ≡ Accepted NotControllable → IsControllable net → ⊥
+
+-- a refused refutation has one line that is refused, or its walk is
+abbrev pub RefusalsAreOfOneLine : Type 0
+RefusalsAreOfOneLine =
+    (net : Plan) (lines : List CertLine) (walk : List ℕ) (number : ℕ) (why : CertFault) → judgement_of net (Refutation lines walk) ≡ Refused number why → IsRefusedLine net lines number why ⊎ IsRefusedWalk net lines walk number why

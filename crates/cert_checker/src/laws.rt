@@ -1,6 +1,6 @@
 //! Laws about the judgement of certificates, each the contract of a function without parameters.
 
-ghost use Rattle.cert_checker.specs.Laws.{AcceptedExcludes, PassedLinesAreTrue};
+ghost use Rattle.cert_checker.specs.Laws.{AcceptedExcludes, PassedLinesAreTrue, RefusalsAreOfOneLine};
 
 use strategy_model::laws;
 
@@ -19,3 +19,8 @@ pub fn accepted_excludes()
     laws::rules_keep_edges();
     laws::refutations_exclude_strategies();
 }
+
+/// A refused refutation has one line that is refused, by its own first test that fails, or its walk is.
+pub fn refusals_are_of_one_line()
+    ensures { RefusalsAreOfOneLine }
+{}
