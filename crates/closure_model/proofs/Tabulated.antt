@@ -2,7 +2,7 @@
 use Rattle.std.proofs.Common.{◌≡◌, ℤ, Bool, true, false, cond, ◌||◌, List, [], ◌∷◌, Option, Some, None, refl, ap, sym, subst, ◌∙◌, inl, inr}
 use lib.Dec.{T}
 use Rattle.std.specs.Option.{option_map}
-use Rattle.std.specs.List.{AllByRecursion, cons_option, list_any, Contains}
+use Rattle.std.specs.List.{AllByRecursion, cons_option, filter_map, list_any, Contains}
 use Rattle.std.specs.declared.cmp.Ordering.TheVariants.{Less}
 use Rattle.std.specs.Ordering.{eq_by_cmp, is_lt}
 use Rattle.std.specs.FinMap.{FinMap, find, is_sorted, get, entries, from_sorted, get-from_sorted, entries-from_sorted, same_map}
@@ -15,8 +15,7 @@ use Rattle.closure_model.proofs.Entries.{both_back}
 
 -- the entries of the keys at which a function gives something
 abbrev pub tabulated : (Key → Option ℤ) → List Key → List (Key × ℤ)
-tabulated f [] = []
-tabulated f (key ∷ keys) = cons_option (option_map (λ w. (key, w)) (f key)) (tabulated f keys)
+tabulated f keys = filter_map (λ key. option_map (λ w. (key, w)) (f key)) keys
 
 -- ---- what is found
 is_in : Key → List Key → Bool
