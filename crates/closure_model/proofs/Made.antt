@@ -1,7 +1,8 @@
 -- A node that follows from the nodes before it, rule by rule with its premises; and what that gives: its edge is derivable, its
 -- premises stand earlier, and a labelled node rests on its label.
-use Rattle.std.proofs.Common.{◌≡◌, ℕ, zero, suc, ◌≤◌, ◌<◌, List, [], ◌∷◌, take, Some, None, refl, ap, sym, ◌∙◌, subst, arith}
+use Rattle.std.proofs.Common.{◌++◌, length, ◌⊎◌, inl, inr, ◌≡◌, ℕ, zero, suc, ◌≤◌, ◌<◌, List, [], ◌∷◌, take, Some, None, refl, ap, sym, ◌∙◌, subst, arith}
 use Rattle.std.specs.Prelude.{slice_get}
+use Rattle.std.proofs.Math.Seq.{take-length}
 use Rattle.std.specs.Option.{option_and_then}
 use Rattle.std.specs.List.{All, Contains}
 use Rattle.std.proofs.lemmas.List.Elements.{All-cons, All-nil, All-contains}
@@ -16,7 +17,7 @@ use Rattle.net_model.specs.declared.part.Edge.{Edge}
 use Rattle.net_model.specs.declared.part.Link.{Link}
 use Rattle.closure_model.specs.Derivable as derivable
 use Rattle.closure_model.specs.Derivable.{IsDerivable}
-use Rattle.closure_model.specs.Derivations.{node_at, edge_at, given_by, IsDerivationList, premises_of, PremisesStandEarlier, item_of, IsUnder, itself, under, RestsOn}
+use Rattle.closure_model.specs.Derivations.{IsGiven, node_at, edge_at, given_by, IsDerivationList, premises_of, PremisesStandEarlier, item_of, IsUnder, itself, under, RestsOn}
 use Rattle.closure_model.specs.declared.derivation.Item.{Item}
 use Rattle.closure_model.specs.declared.derivation.Item.TheVariants as item
 use Rattle.closure_model.specs.declared.derivation.Node.{Node}
@@ -24,7 +25,7 @@ use Rattle.closure_model.specs.declared.derivation.NodeId.{NodeId}
 use Rattle.closure_model.specs.declared.derivation.Rule.{Rule}
 use Rattle.closure_model.specs.declared.derivation.Rule.TheVariants as by_rule
 use Rattle.closure_model.proofs.Lists.{Contains-head, Contains-tail}
-use Rattle.closure_model.proofs.Nodes.{IsPremise, premise_read, chained, mapped}
+use Rattle.closure_model.proofs.Nodes.{IsPremise, premise_read, chained, mapped, push_cases}
 
 pub data Made (net : Plan) (nodes : List Node) (limit : ℕ) (edge : Edge) : Rule → Type 0 where
   made_bound : (name : BoundId) (bound : Bound) → slice_get net.bounds name.0 ≡ Some bound → bound_edge bound ≡ edge → Made net nodes limit edge (by_rule.Bound name)
@@ -161,3 +162,30 @@ module _ (net : Plan) (nodes : List Node) (list : IsDerivationList net nodes) wh
 
   pub labelled_rests : (id : NodeId) (node : Node) (name : LinkId) → node_at nodes id ≡ Some node → node.edge.label ≡ Some name → RestsOn nodes id (item.Link name)
   labelled_rests id node name here labelled = label_below (suc id.0) id node name (omega arith) here labelled
+
+-- ---- a node that follows from a whole list
+pub given_earlier : (net : Plan) (nodes : List Node) (node : Node) → IsGiven net nodes node → All (λ (premise : NodeId). premise.0 < length nodes) (premises_of node.rule)
+given_earlier net nodes node given =
+    let all : take (length nodes) nodes ≡ nodes = take-length nodes in
+    made_earlier net nodes (length nodes) node.edge node.rule (made net nodes (length nodes) node.edge node.rule (subst (λ (earlier : List Node). IsGiven net earlier node) (sym all) given))
+
+pub earlier_pushed : (nodes : List Node) (node : Node) → PremisesStandEarlier nodes → All (λ (premise : NodeId). premise.0 < length nodes) (premises_of node.rule) → PremisesStandEarlier (nodes ++ node ∷ [])
+earlier_pushed nodes node earlier all id m here = by (push_cases nodes node id.0 m here)
+  where
+    by : (slice_get nodes id.0 ≡ Some m) ⊎ ((id.0 ≡ length nodes) × (node ≡ m)) → All (λ (premise : NodeId). premise.0 < id.0) (premises_of m.rule)
+    by (inl there) = earlier id m there
+    by (inr (last, is)) = subst (λ (n : ℕ). All (λ (premise : NodeId). premise.0 < n) (premises_of m.rule)) (sym last) (subst (λ (n : Node). All (λ (premise : NodeId). premise.0 < length nodes) (premises_of n.rule)) is all)
+
+-- what a node rests on, its rule uses or one of its premises rests on
+pub rests_cases : (nodes : List Node) (id : NodeId) (node : Node) (what : Item) → node_at nodes id ≡ Some node → RestsOn nodes id what → (item_of node.rule ≡ Some what) ⊎ ((premise : NodeId) × Contains (premises_of node.rule) premise × RestsOn nodes premise what)
+rests_cases nodes id node what here rests = by rests.under
+  where
+    by : IsUnder nodes rests.below id → (item_of node.rule ≡ Some what) ⊎ ((premise : NodeId) × Contains (premises_of node.rule) premise × RestsOn nodes premise what)
+    by (itself i same) =
+        let both : Some node ≡ Some rests.node = sym here ∙ (ap (node_at nodes) same ∙ rests.here) in
+        let is : node ≡ rests.node = cc in
+        inl (ap (λ (n : Node). item_of n.rule) is ∙ rests.uses)
+    by (under i premise other there among rest) =
+        let both : Some other ≡ Some node = sym there ∙ here in
+        let is : other ≡ node = cc in
+        inr (premise, subst (λ (n : Node). Contains (premises_of n.rule) premise) is among, record { below = rests.below; node = rests.node; under = rest; here = rests.here; uses = rests.uses })

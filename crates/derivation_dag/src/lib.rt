@@ -1,0 +1,10 @@
+//! Derivation lists: edges in the order of making, each with its rule and its premises.
+#![tactic(auto)]
+
+mod ancestors;
+mod dag;
+mod premises;
+mod resting;
+
+pub use closure_model::{Item, Node, NodeId, Rule};
+pub use dag::Dag;
