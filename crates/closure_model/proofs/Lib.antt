@@ -3,6 +3,7 @@ mod FirstLeast
 mod RuleSteps
 mod Consequences
 mod Slots
+mod Grounding
 mod RowLaw
 pub mod RowSteps
 pub mod Lists
