@@ -24,3 +24,4 @@ pub mod Made
 pub mod Newest
 pub mod Standing
 pub mod LawProofs
+pub mod RoundLaw
