@@ -12,7 +12,9 @@ use Rattle.closure_model.specs.ReferenceRow.{with_made, IsBelow}
 use Rattle.closure_model.specs.declared.rows.Made.{Made}
 use Rattle.closure_model.proofs.Consequences.{IsConsequence}
 use Rattle.closure_model.proofs.Lists.{Contains-head, Contains-tail}
-use Rattle.closure_model.proofs.TableLemmas.{with_edge-has, with_edge-other, at_most_tested, at_most_gives}
+use Rattle.closure_model.proofs.TableLemmas.{with_edge-has, with_edge-other, weight_of-with_edge, at_most_tested, at_most_gives}
+use Rattle.closure_model.specs.Keys.{key_cmp}
+use Rattle.std.specs.Ordering.{eq_by_cmp}
 use Rattle.closure_model.proofs.Weights.{not_below, le_then_lt}
 
 -- ---- one edge more
@@ -79,3 +81,20 @@ module _ (net : Plan) (table : Graph) where
   pub grounded_rest : (now : Graph) (one : Made) (made : List Made) → AreGrounded now (one ∷ made) → AreGrounded (lowered now one.edge) made
   unfolding AreGrounded
   grounded_rest now one made all = all.1
+
+  pub grounded_cons : (now : Graph) (one : Made) (made : List Made) → IsGrounded now one → IsBelow now one.edge → AreGrounded (lowered now one.edge) made → AreGrounded now (one ∷ made)
+  unfolding AreGrounded
+  grounded_cons now one made is below rest = ((is, below), rest)
+
+-- ---- tables that agree on the keys of a target
+pub record AgreeAt (to : PointId) (one other : Graph) : Type 0 where
+  pub same : (key : Key) → key.to ≡ to → weight_of one key ≡ weight_of other key
+
+pub below_agreeing : (to : PointId) (one other : Graph) (edge : Edge) → AgreeAt to one other → edge.to ≡ to → IsBelow one edge → IsBelow other edge
+below_agreeing to one other edge agree ends below weight has = below weight (agree.same (key_of edge) ends ∙ has)
+
+pub agree_lowered : (to : PointId) (one other : Graph) (edge : Edge) → AgreeAt to one other → IsBelow one edge → IsBelow other edge → AgreeAt to (lowered one edge) (lowered other edge)
+agree_lowered to one other edge agree below_one below_other = record { same = λ key ends.
+  ap (λ (t : Graph). weight_of t key) (lowered_below one edge below_one)
+  ∙ (weight_of-with_edge one edge key ∙ (ap (cond (eq_by_cmp key_cmp key (key_of edge)) (Some edge.weight)) (agree.same key ends)
+  ∙ (sym (weight_of-with_edge other edge key) ∙ ap (λ (t : Graph). weight_of t key) (sym (lowered_below other edge below_other))))) }

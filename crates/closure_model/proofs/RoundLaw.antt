@@ -30,7 +30,7 @@ use Rattle.closure_model.specs.declared.rows.Why.{Why}
 use Rattle.closure_model.specs.declared.rows.Why.TheVariants.{No, Up, Low, Cross, Drop}
 use Rattle.closure_model.proofs.Consequences.{IsConsequence, removed, moved, crossed, joined, joined_labelled}
 use Rattle.closure_model.proofs.FirstLeast.{FirstIs, first_least_of}
-use Rattle.closure_model.proofs.Grounding.{IsGrounded, AreGrounded, grounded_append, grounded_none, grounded_first, grounded_rest, lowered_other, with_made_other}
+use Rattle.closure_model.proofs.Grounding.{IsGrounded, AreGrounded, grounded_append, grounded_none, grounded_first, grounded_rest, grounded_cons, lowered_other, with_made_other, AgreeAt, below_agreeing, agree_lowered}
 use Rattle.closure_model.proofs.LawProofs.{table_tells_nodes, following_keeps_standing}
 use Rattle.closure_model.proofs.Lists.{Contains-head, Contains-tail}
 use Rattle.closure_model.proofs.Nodes.{before_push}
@@ -186,3 +186,44 @@ all_stand net table before support (one ∷ made) on old stands grounded =
     let (first, below) = grounded_first net table support.table one made grounded in
     let (then_stands, then_on) = one_stands net table before support one on old stands first in
     all_stand net table before (with_one before support one) made then_on old then_stands (grounded_rest net table support.table one made grounded)
+
+-- ---- the rows of a round, one after another
+-- a consequence ends where its premise does
+consequence_ends : (net : Plan) (table : Graph) (premise : Edge) (made : Made) → IsConsequence net table premise made → made.edge.to ≡ premise.to
+consequence_ends net table premise made (removed is why) = ap (λ (e : Edge). e.to) (sym (removal_gives net premise made.edge is).is)
+consequence_ends net table premise made (moved name is why) = ap (λ (e : Edge). e.to) (sym (lower_case_gives net name premise made.edge is).is)
+consequence_ends net table premise made (crossed name is why) = ap (λ (e : Edge). e.to) (sym (cross_case_gives net name premise made.edge is).is)
+consequence_ends net table premise made (joined first has is why) = ap (λ (e : Edge). e.to) (sym (no_case_gives first premise made.edge is).is)
+consequence_ends net table premise made (joined_labelled first has is why) = ap (λ (e : Edge). e.to) (sym (upper_case_gives first premise made.edge is).is)
+
+module _ (net : Plan) (table : Graph) (plan : IsPlan net) (fits : IsFor net table) (sound : IsGraph table) where
+  grounded_moves : (to : PointId) (one other : Graph) (made : List Made) → ((m : Made) → Contains made m → m.edge.to ≡ to) → AgreeAt to one other → AreGrounded net table one made → AreGrounded net table other made
+  grounded_moves to one other [] each agree all = grounded_none net table other
+  grounded_moves to one other (m ∷ made) each agree all =
+      let (is, below) = grounded_first net table one m made all in
+      let ends : m.edge.to ≡ to = each m (Contains-head m made) in
+      let premise_ends : is.premise.to ≡ to = sym (consequence_ends net table is.premise m is.follows) ∙ ends in
+      let below' = below_agreeing to one other m.edge agree ends below in
+      grounded_cons net table other m made
+      (record { premise = is.premise; follows = is.follows; has = sym (agree.same (key_of is.premise) premise_ends) ∙ is.has }) below'
+      (grounded_moves to (lowered one m.edge) (lowered other m.edge) made (λ m' inside. each m' (Contains-tail m made m' inside)) (agree_lowered to one other m.edge agree below below') (grounded_rest net table one m made all))
+
+  ends_in : (to : PointId) (one : Made) → Contains (reference_row net table to) one → one.edge.to ≡ to
+  ends_in to one inside = All-contains (λ (m : Made). m.edge.to ≡ to) (reference_row net table to) one (row_result net table to plan fits sound).ends inside
+
+  rows_grounded : (first count : ℕ) (now : Graph) → ((key : Key) → first ≤ key.to.0 → weight_of now key ≡ weight_of table key)
+      → AreGrounded net table now (flat_map (reference_row net table) (map (λ k. record { 0 = k }) (range_with_len first count)))
+  rows_grounded first zero now agrees = grounded_none net table now
+  rows_grounded first (suc count) now agrees =
+      let to : PointId = record { 0 = first } in
+      let row : List Made = reference_row net table to in
+      let here : AgreeAt to table now = record { same = λ key ends. (let at : key.to.0 ≡ first = ap (λ (p : PointId). p.0) ends in sym (agrees key (omega arith))) } in
+      let later : (key : Key) → first + 1 ≤ key.to.0 → weight_of (with_made now row) key ≡ weight_of table key = λ key above.
+        with_made_other now row key (λ one inside same. (let ends : one.edge.to.0 ≡ first = ap (λ (p : PointId). p.0) (ends_in to one inside) in let keys : one.edge.to.0 ≡ key.to.0 = ap (λ (k : Key). k.to.0) same in omega arith))
+        ∙ agrees key (omega arith) in
+      grounded_append net table now row (flat_map (reference_row net table) (map (λ k. record { 0 = k }) (range_with_len (first + 1) count)))
+      (grounded_moves to table now row (ends_in to) here (row_is_grounded net table to plan fits sound))
+      (rows_grounded (first + 1) count (with_made now row) later)
+
+  pub round_is_grounded : AreGrounded net table table (round_made net table)
+  round_is_grounded = rows_grounded 0 table.shape.points table (λ key above. refl)
