@@ -25,3 +25,4 @@ pub mod Newest
 pub mod Standing
 pub mod LawProofs
 pub mod RoundLaw
+pub mod RoundClosing
