@@ -3,6 +3,7 @@ mod FirstLeast
 mod RuleSteps
 mod Consequences
 mod Slots
+mod Grounding
 mod RowLaw
 pub mod RowSteps
 pub mod Lists
@@ -23,3 +24,5 @@ pub mod Made
 pub mod Newest
 pub mod Standing
 pub mod LawProofs
+pub mod RoundLaw
+pub mod RoundClosing

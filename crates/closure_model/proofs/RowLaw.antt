@@ -28,6 +28,7 @@ use Rattle.closure_model.proofs.Weights.{same_weight, le_then, lt_then, le_then_
 use Rattle.closure_model.proofs.RuleSteps.{Lengthens, GivesLess, at_weight, no_case_lengthens, upper_case_lengthens, lower_case_lengthens, cross_case_lengthens, removal_lengthens, no_case_of_less, upper_case_of_less, lower_case_of_less, cross_case_of_less, removal_of_less}
 use Rattle.closure_model.proofs.Consequences.{IsConsequence, removed, moved, crossed, joined, joined_labelled, consequence_is, Follows, removal_stands, lower_case_stands, cross_case_stands, no_case_stands, upper_case_stands}
 use Rattle.closure_model.proofs.Slots.{set_same, set_other, map_set_kept, some_of_map, key_in, slot_of_key, Change, stays, takes, was_slot, slot_after, change_key, change_settled, above, IsMet, met_after, met_after_all, offer_met, offered_keys}
+use Rattle.closure_model.proofs.Grounding.{IsGrounded, AreGrounded, lowered_has, lowered_other, with_made_push, with_made_other, grounded_push, grounded_none}
 use Rattle.closure_model.proofs.FirstLeast.{FirstIs, first_least-is}
 use Rattle.closure_model.proofs.RowSteps.{unsettled, length-unsettled, slot_there, after_slot, unsettled-after, settled_times-none, settled_times-some}
 use Rattle.closure_model.proofs.TableLemmas.{all_lowered-at_most, all_lowered-has, all_lowered-cases, at_most_below, at_most_from, at_most_gives}
@@ -261,6 +262,29 @@ module _ (net : Plan) (table : Graph) (to : PointId) (plan : IsPlan net) (fits :
           let met = met_after_all to (offered slots one) list one.edge (offer_met to table.shape slots one row.keys is.key is.ends) in
           subst (λ (m : Made). IsMet to (fold offered (offered slots one) list) m.edge) here met
       by rest (inr there) = rest there
+
+  -- ---- what made the slots that are open
+  -- whatever is offered, and whatever made a slot that is open, has a property
+  abbrev pub AllOpen : (Made → Type 0) → List Slot → Type 0
+  AllOpen P slots = (place : ℕ) (slot : Slot) (why : Why) (weight : ℤ) → slice_get slots place ≡ Some slot → slot.settled ≡ false → slot.why ≡ Some why → slot.weight ≡ Some weight → P (record { edge = edge_in to slot weight; why = why })
+
+  offer_open : (P : Made → Type 0) (made : Made) (slots : List Slot) → made.edge.to ≡ to → P made → AllOpen P slots → AllOpen P (offered slots made)
+  offer_open P made slots ends is all place after why weight there is_open some has = let was = was_slot slots made place after there in by was.slot was.here was.change
+    where
+      by : (slot : Slot) → slice_get slots place ≡ Some slot → Change made slot after → P (record { edge = edge_in to after weight; why = why })
+      by slot here (stays same not) = all place after why weight (here ∙ ap Some same) is_open some has
+      by slot here (takes of is_above same) =
+          let key : key_in to after ≡ key_of made.edge = ap (key_in to) (sym same) ∙ slot_of_key to made.edge slot ends of in
+          let weights : made.edge.weight ≡ weight = same_weight made.edge.weight weight (ap (λ (s : Slot). s.weight) same ∙ has) in
+          let edge : made.edge ≡ edge_in to after weight = sym (ap (λ (k : Key). edge_of k weight) key ∙ ap (edge_of (key_of made.edge)) (sym weights)) in
+          let whys : made.why ≡ why = same_Some made.why why (ap (λ (s : Slot). s.why) same ∙ some) in
+          subst P (λ i. record { edge = edge i; why = whys i }) is
+
+  offers_open : (P : Made → Type 0) (list : List Made) (slots : List Slot) → ((made : Made) → Contains list made → (made.edge.to ≡ to) × P made) → AllOpen P slots → AllOpen P (fold offered slots list)
+  offers_open P [] slots each all = all
+  offers_open P (made ∷ list) slots each all =
+      let (ends, is) = each made (Contains-head made list) in
+      offers_open P list (offered slots made) (λ one inside. each one (Contains-tail made list one inside)) (offer_open P made slots ends is all)
 
   -- ---- the settling of a slot
   abbrev pub marked : Slot → Slot
@@ -540,12 +564,25 @@ module _ (net : Plan) (table : Graph) (to : PointId) (plan : IsPlan net) (fits :
   abbrev pub IsNotAbove : Made → Made → Type 0
   IsNotAbove one other = one.edge.weight ≤ℤ other.edge.weight
 
+  -- an edge follows from that of a settled slot
+  pub record IsReady (slots : List Slot) (one : Made) : Type 0 where
+    pub place : ℕ
+    pub slot : Slot
+    pub weight : ℤ
+    pub here : slice_get slots place ≡ Some slot
+    pub settled : slot.settled ≡ true
+    pub has : slot.weight ≡ Some weight
+    pub follows : IsConsequence net table (edge_in to slot weight) one
+
   pub record IsMaking (making : Making) : Type 0 where
     pub partly : IsPartly making.slots
     pub listed : (place : ℕ) (slot : Slot) (why : Why) (weight : ℤ) → slice_get making.slots place ≡ Some slot → slot.settled ≡ true → slot.why ≡ Some why → slot.weight ≡ Some weight → Contains making.made (record { edge = edge_in to slot weight; why = why })
     pub each : (one : Made) → Contains making.made one → IsFromSlot making.slots one
     pub once : AllPairs IsApart making.made
     pub in_order : AllPairs IsNotAbove making.made
+    pub grounded : AreGrounded net table table making.made
+    pub stand : (place : ℕ) (slot : Slot) (weight : ℤ) → slice_get making.slots place ≡ Some slot → slot.settled ≡ true → slot.weight ≡ Some weight → HasEdge (with_made table making.made) (edge_in to slot weight)
+    pub ready : AllOpen (IsReady making.slots) making.slots
 
   fell_from : (slot : Slot) (low : ℤ) (one : Made) → Contains (fell to slot low) one → (slot.why ≡ Some one.why) × (edge_in to slot low ≡ one.edge)
   fell_from slot low one inside = by slot.why refl inside
@@ -625,6 +662,104 @@ module _ (net : Plan) (table : Graph) (to : PointId) (plan : IsPlan net) (fits :
         by None = subst (AllPairs R) (sym (append-nil making.made)) pairs
         by (Some why) = all_pairs_push R making.made (record { edge = edge_in to slot low; why = why }) pairs (λ k d inside. each (get_or making.made k d) why (Contains-get_or making.made k d inside))
 
+    -- the table before and after the edge of the slot has come into it
+    abbrev before : Graph
+    before = with_made table making.made
+
+    abbrev now : Graph
+    now = with_made table later.made
+
+    slot_below : (why : Why) → slot.why ≡ Some why → IsBelow before (edge_in to slot low)
+    slot_below why some old has_old =
+        let (weight, is_weight, below) = is.partly.row.fallen place slot why here some in
+        let weights : weight ≡ low = same_weight weight low (sym is_weight ∙ has) in
+        let same = with_made_other table making.made (key_in to slot) old_apart in
+        subst (λ (w : ℤ). w <ℤ old) weights (below old (sym same ∙ has_old))
+
+    -- an edge of another key stands as before
+    kept_other : (edge : Edge) → key_of (edge_in to slot low) ≢ key_of edge → HasEdge before edge → HasEdge now edge
+    kept_other edge apart stands = by slot.why
+      where
+        by : (o : Option Why) → HasEdge (with_made table (making.made ++ option_map_or (λ why. record { edge = edge_in to slot low; why = why } ∷ []) o [])) edge
+        by None = subst (λ (list : List Made). HasEdge (with_made table list) edge) (sym (append-nil making.made)) stands
+        by (Some why) = subst (λ (t : Graph). HasEdge t edge) (sym (with_made_push table making.made (record { edge = edge_in to slot low; why = why }))) (lowered_other before (edge_in to slot low) (key_of edge) apart ∙ stands)
+
+    -- the edge of the slot stands afterwards
+    slot_stands : HasEdge now (edge_in to slot low)
+    slot_stands = by slot.why refl
+      where
+        by : (o : Option Why) → slot.why ≡ o → HasEdge (with_made table (making.made ++ option_map_or (λ why. record { edge = edge_in to slot low; why = why } ∷ []) o [])) (edge_in to slot low)
+        by None none =
+            let old : weight_of table (key_in to slot) ≡ Some low = sym (is.partly.row.unfallen place slot here none) ∙ has in
+            subst (λ (list : List Made). HasEdge (with_made table list) (edge_in to slot low)) (sym (append-nil making.made)) (with_made_other table making.made (key_in to slot) old_apart ∙ old)
+        by (Some why) some =
+            subst (λ (t : Graph). HasEdge t (edge_in to slot low)) (sym (with_made_push table making.made (record { edge = edge_in to slot low; why = why }))) (lowered_has before (edge_in to slot low) (slot_below why some))
+
+    -- a premise that stood is of another key: that of the slot did not stand at this weight, or its slot is another
+    kept_settled : (other : ℕ) (old : Slot) (weight : ℤ) → other ≢ place → slice_get making.slots other ≡ Some old → HasEdge before (edge_in to old weight) → HasEdge now (edge_in to old weight)
+    kept_settled other old weight apart at stands = kept_other (edge_in to old weight) (λ same. apart (only_slot other old at (sym same))) stands
+      where
+        only_slot : (other : ℕ) (old : Slot) → slice_get making.slots other ≡ Some old → key_in to old ≡ key_in to slot → other ≡ place
+        only_slot other old at equal =
+            let keys = is.partly.row.keys in
+            let old_key : slice_get (row_keys table.shape to) other ≡ Some (key_in to old) = ap (λ (ks : List Key). slice_get ks other) (sym keys) ∙ (slice_get-map (key_in to) making.slots other ∙ ap (option_map (key_in to)) at) in
+            let new_key : slice_get (row_keys table.shape to) place ≡ Some (key_in to slot) = ap (λ (ks : List Key). slice_get ks place) (sym keys) ∙ (slice_get-map (key_in to) making.slots place ∙ ap (option_map (key_in to)) here) in
+            only_place (row_keys table.shape to) (row_keys_rise table.shape to) other place (key_in to old) old_key (new_key ∙ ap Some (sym equal))
+
+    later_stand : (other : ℕ) (after : Slot) (weight : ℤ) → slice_get later.slots other ≡ Some after → after.settled ≡ true → after.weight ≡ Some weight → HasEdge now (edge_in to after weight)
+    later_stand other after weight there settled has_it = by (was_marked making.slots place slot low here is_open has other after (later_after.back other after there settled))
+      where
+        by : ((other ≡ place) × (marked slot ≡ after)) ⊎ ((other ≢ place) × (slice_get making.slots other ≡ Some after)) → HasEdge now (edge_in to after weight)
+        by (inl (same, one)) =
+            let weights : low ≡ weight = same_weight low weight (sym has ∙ (ap (λ (s : Slot). s.weight) one ∙ has_it)) in
+            let edges : edge_in to slot low ≡ edge_in to after weight = ap (edge_in to slot) weights ∙ ap (λ (s : Slot). edge_in to s weight) one in
+            subst (HasEdge now) edges slot_stands
+        by (inr (apart, at)) = kept_settled other after weight apart at (is.stand other after weight at settled has_it)
+
+    -- what was ready is, and what is offered now
+    ready_kept : (one : Made) → IsReady making.slots one → IsReady later.slots one
+    ready_kept one from =
+        let apart : from.place ≢ place = λ same. (let at : slice_get making.slots place ≡ Some from.slot = subst (λ (k : ℕ). slice_get making.slots k ≡ Some from.slot) same from.here in
+          let one_slot : slot ≡ from.slot = same_Some slot from.slot (sym here ∙ at) in
+          let open' : from.slot.settled ≡ false = ap (λ (s : Slot). s.settled) (sym one_slot) ∙ is_open in let settled = from.settled in absurd cc) in
+        record {
+          place = from.place; slot = from.slot; weight = from.weight;
+          here = later_after.kept from.place from.slot (set_other making.slots place from.place (marked slot) apart ∙ from.here) from.settled;
+          settled = from.settled; has = from.has; follows = from.follows;
+        }
+
+    ready_new : (one : Made) → Contains (consequences net table (edge_in to slot low)) one → (one.edge.to ≡ to) × IsReady later.slots one
+    ready_new one inside =
+        let (derived, not_less) = can_be_offered making.slots place slot low here is_open has is.partly.row one inside in (
+          (in_row_there one.edge derived).ends,
+          record {
+            place = place; slot = marked slot; weight = low;
+            here = later_after.kept place (marked slot) (set_same making.slots place slot (marked slot) here) refl;
+            settled = refl; has = has; follows = consequence_is net table (edge_in to slot low) one inside;
+          },
+        )
+
+    mark_ready : AllOpen (IsReady later.slots) (mark making.slots place slot low here is_open has)
+    mark_ready other after why weight there is_open_there some has_it = by (was_marked making.slots place slot low here is_open has other after there)
+      where
+        by : ((other ≡ place) × (marked slot ≡ after)) ⊎ ((other ≢ place) × (slice_get making.slots other ≡ Some after)) → IsReady later.slots (record { edge = edge_in to after weight; why = why })
+        by (inl (same, one)) = let settled : true ≡ after.settled = ap (λ (s : Slot). s.settled) one in absurd cc
+        by (inr (apart, at)) = ready_kept (record { edge = edge_in to after weight; why = why }) (is.ready other after why weight at is_open_there some has_it)
+
+    later_ready : AllOpen (IsReady later.slots) later.slots
+    later_ready = offers_open (IsReady later.slots) (consequences net table (edge_in to slot low)) (mark making.slots place slot low here is_open has) ready_new mark_ready
+
+    later_grounded : AreGrounded net table table later.made
+    later_grounded = by slot.why refl
+      where
+        by : (o : Option Why) → slot.why ≡ o → AreGrounded net table table (making.made ++ option_map_or (λ why. record { edge = edge_in to slot low; why = why } ∷ []) o [])
+        by None none = subst (AreGrounded net table table) (sym (append-nil making.made)) is.grounded
+        by (Some why) some =
+            let from = is.ready place slot why low here is_open some has in
+            let stands : HasEdge before (edge_in to from.slot from.weight) = is.stand from.place from.slot from.weight from.here from.settled from.has in
+            grounded_push net table table making.made (record { edge = edge_in to slot low; why = why }) is.grounded
+            (record { premise = edge_in to from.slot from.weight; follows = from.follows; has = stands }) (slot_below why some)
+
     later_making : IsMaking later
     later_making = record {
       partly = settling_partly making.slots place slot low here is_open has is.partly next;
@@ -632,6 +767,9 @@ module _ (net : Plan) (table : Graph) (to : PointId) (plan : IsPlan net) (fits :
       each = later_each;
       once = later_pairs IsApart is.once (λ one why inside. old_apart one inside);
       in_order = later_pairs IsNotAbove is.in_order (λ one why inside. old_not_above one inside);
+      grounded = later_grounded;
+      stand = later_stand;
+      ready = later_ready;
     }
 
   -- ---- the whole row
@@ -667,10 +805,13 @@ module _ (net : Plan) (table : Graph) (to : PointId) (plan : IsPlan net) (fits :
           subst (λ (n : ℕ). IsMaking (settled_times net table to n after) × IsAllSettled (settled_times net table to n after).slots) one (given after (omega arith) made)
 
   first_making : IsMaking (record { slots = first_slots table to; made = [] })
-  first_making = record { partly = first_partly; listed = λ place slot why weight here is some has. absurd (never place slot here is); each = λ one inside. absurd (Contains-none one inside); once = λ i j d before inside. absurd (omega arith); in_order = λ i j d before inside. absurd (omega arith) }
+  first_making = record { partly = first_partly; listed = λ place slot why weight here is some has. absurd (never place slot here is); each = λ one inside. absurd (Contains-none one inside); once = λ i j d before inside. absurd (omega arith); in_order = λ i j d before inside. absurd (omega arith);
+    grounded = grounded_none net table table; stand = λ place slot weight here is has. absurd (never place slot here is); ready = λ place slot why weight here is some has. absurd (never_fell place slot here why some) }
     where
       never : (place : ℕ) (slot : Slot) → slice_get (first_slots table to) place ≡ Some slot → slot.settled ≡ true → ⊥
       never place slot here is = let first = first_slot place slot here in let not : false ≡ slot.settled = ap (λ (s : Slot). s.settled) first.is in absurd cc
+      never_fell : (place : ℕ) (slot : Slot) → slice_get (first_slots table to) place ≡ Some slot → (why : Why) → slot.why ≡ Some why → ⊥
+      never_fell place slot here why some = let first = first_slot place slot here in let none : None ≡ slot.why = ap (λ (s : Slot). s.why) first.is in absurd cc
 
   whole : IsMaking (settled_row net table to) × IsAllSettled (settled_row net table to).slots
   whole =
@@ -726,6 +867,9 @@ module _ (net : Plan) (table : Graph) (to : PointId) (plan : IsPlan net) (fits :
       let weights : weight ≡ one.edge.weight = same_weight weight from.weight (sym is ∙ from.has) ∙ ap (λ (e : Edge). e.weight) from.is in
       let key : key_of one.edge ≡ key_in to from.slot = ap key_of (sym from.is) in
       subst (λ (w : ℤ). w <ℤ old) weights (below old (ap (weight_of table) (sym key) ∙ has))
+
+  pub row_is_grounded : AreGrounded net table table (reference_row net table to)
+  row_is_grounded = let (making, all) = whole in making.grounded
 
   once_all : AllPairs IsApart (reference_row net table to)
   once_all = let (making, all) = whole in making.once

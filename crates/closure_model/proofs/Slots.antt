@@ -48,17 +48,17 @@ some_of_map f (Some x) y is = (x, refl, same_Some (f x) y is)
 abbrev pub key_in : PointId → Slot → Key
 key_in to slot = record { to = to; from = slot.from; label = slot.label }
 
-same_label_is : (one other : Option LinkId) → same_label one other ≡ true → one ≡ other
+pub same_label_is : (one other : Option LinkId) → same_label one other ≡ true → one ≡ other
 same_label_is None None same = refl
 same_label_is None (Some label) same = absurd cc
 same_label_is (Some label) None same = absurd cc
 same_label_is (Some one) (Some other) same = ap (λ (k : ℕ). Some (record { 0 = k })) (eqb-true one.0 other.0 same)
 
-same_label_itself : (one : Option LinkId) → same_label one one ≡ true
+pub same_label_itself : (one : Option LinkId) → same_label one one ≡ true
 same_label_itself None = refl
 same_label_itself (Some label) = grind (arith, nat_tests)
 
-both : (a b : Bool) → (a && b) ≡ true → (a ≡ true) × (b ≡ true)
+pub both : (a b : Bool) → (a && b) ≡ true → (a ≡ true) × (b ≡ true)
 both true b holds = (refl, holds)
 both false b holds = absurd cc
 

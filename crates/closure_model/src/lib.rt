@@ -4,8 +4,7 @@
 
 mod derivation;
 pub mod laws;
-mod rows;
+pub mod rows;
 pub mod table_laws;
 
 pub use derivation::{Item, Node, NodeId, Rule};
-pub use rows::{Made, Slot, Why};

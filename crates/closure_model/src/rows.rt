@@ -1,3 +1,5 @@
+//! The row of a target while it is made, as data.
+
 use net_model::{Edge, LinkId, PointId, Weight};
 
 /// How a key of a row got a lesser weight: the rule, and its premises in the order of the edges, with the weights that were
