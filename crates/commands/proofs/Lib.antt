@@ -4,3 +4,6 @@ pub mod SingleLemmas
 pub mod AskedLemmas
 pub mod PairLemmas
 pub mod PhaseLemmas
+pub mod TakenLemmas
+pub mod TurnLemmas
+pub mod EndLemmas

@@ -12,3 +12,4 @@ pub mod Reading
 pub mod Asked
 pub mod Pairs
 pub mod Phases
+pub mod Turns

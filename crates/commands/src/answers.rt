@@ -4,13 +4,11 @@ ghost use Rattle.std.specs.Prelude.{◌≡◌, ◌+◌, ◌≤◌, ◌++◌, [],
 ghost use Rattle.commands.specs.Limits.{least_room};
 ghost use Rattle.commands.specs.Words.{line_of, word_text, words_after};
 
+use crate::limits::LEAST_ROOM;
 use crate::words::Word;
 use itoa::Buffer;
 use std::alloc::{AllocError, Global};
 use std::marker::Model;
-
-/// How many bytes there is always place for: no line that refuses an input is longer.
-pub const LEAST_ROOM: usize = 256;
 
 /// The buffer of the answers of a run: the text of one answer, and the memory that was reserved for it.
 #[derive(Drop)]

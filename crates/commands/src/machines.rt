@@ -33,7 +33,9 @@ pub trait Command: Drop {
     /// What the command means.
     ghost machine: { Machine Self };
 
-    /// How many bytes the next line may have, its end not among them. No state passes what the reader of lines holds.
+    /// How many bytes the next line may have, its end not among them. No state passes what a reader of lines holds without
+    /// memory: `held` is the one place that says so. Once a reader may grow, it becomes
+    /// `most_line < result → machine.may_want self.now`.
     fn longest(&self) -> u32
         ensures value { result ≡ machine.longest self.now }
         ensures held { result ≤ most_line };
