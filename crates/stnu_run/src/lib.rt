@@ -2,12 +2,12 @@
 #![tactic(auto)]
 
 mod certificate_text;
+mod dispatch;
 mod faults;
 mod judging;
 mod plan_text;
-// mod run;
 mod status;
 mod words;
 
-// pub use run::run;
+pub use dispatch::run;
 pub use status::Status;

@@ -7,7 +7,7 @@ ghost use Rattle.stnu_run.specs.PlanText.{plan_reader, plan_begun, built_step};
 use crate::faults::{Fault, stop_fault};
 use commands::{Step, Stop, Text};
 use net_model::{Network, WordFault};
-use plan_format::{DeclarationFault, MOST_LINES, PlanLine, PlanReader};
+use plan_format::{DeclarationFault, PlanLine, PlanReader};
 use plan_port::MOST_LINE;
 use std::alloc::{AllocError, Global};
 
@@ -58,7 +58,7 @@ impl Text for PlanText {
         number: u32,
         line: &[u8],
     ) -> Result<Step<PlanText, Network, Fault>, AllocError> {
-        if self.reader.count() >= MOST_LINES {
+        if self.reader.is_full() {
             return Err(AllocError);
         }
         match self.reader.read_line(line) {
