@@ -4,4 +4,6 @@ pub mod CertificateTexts
 pub mod Judging
 pub mod Words
 pub mod Promises
+pub mod ToJudge
+pub mod JudgePromise
 pub mod Programs

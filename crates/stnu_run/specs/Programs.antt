@@ -12,7 +12,8 @@ use Rattle.commands.specs.Serves.{Serves, WhereBothTold}
 use Rattle.commands.specs.declared.endings.End.{End}
 use Rattle.commands.specs.declared.endings.Status.{Status as Ending}
 use Rattle.stnu_run.specs.Judging.{judge_machine, judge_start}
-use Rattle.stnu_run.specs.Promises.{Promise, JudgePromise}
+use Rattle.stnu_run.specs.Promises.{Promise}
+use Rattle.stnu_run.specs.JudgePromise.{JudgePromise}
 use Rattle.stnu_run.specs.declared.status.Status.{Status}
 use Rattle.stnu_run.specs.declared.words.Task.{Task}
 use Rattle.stnu_run.specs.declared.words.Task.TheVariants.{Judge}
