@@ -7,7 +7,7 @@ use Rattle.plan_port.specs.Limits.{most_line}
 use Rattle.plan_port.specs.Lines.{Coming, Comes, TooLong, TooMuch, coming}
 use Rattle.plan_format.specs.PlanNetwork.{DeclaresNetwork, RefusesPart}
 use Rattle.plan_format.specs.PlanReading as plan
-use Rattle.plan_format.specs.PlanFaults as plan
+use Rattle.plan_format.specs.PlanFaults as plan_fault
 use Rattle.cert_format.specs.CertificateGrammar as certificate
 use Rattle.cert_format.specs.declared.certificate.Certificate.{Certificate}
 use Rattle.commands.specs.Limits.{most_input}
@@ -54,7 +54,7 @@ IsUnderway lines =
 -- certificate
 abbrev pub IsFormatFault : List (List ℕ) → ℕ → FormatKind → Type 0
 IsFormatFault lines number kind =
-    plan.IsFirstFault lines (record { line = number; kind = kind })
+    plan_fault.IsFirstFault lines (record { line = number; kind = kind })
     ⊎ ((net : Plan) × (used : List (List ℕ)) × (rest : List (List ℕ)) × (place : ℕ) × (lines ≡ used ++ rest) × (number ≡ length used + place)
     × DeclaresNetwork lines net rest × certificate.IsFirstFault rest (record { line = place; kind = kind }))
 
