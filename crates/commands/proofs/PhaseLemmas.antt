@@ -106,12 +106,15 @@ module _ {B S V F P : Type 0} (begin : B → V → List ℕ → Onward P → Typ
     pub reads : (lines : List InputLine) (others : S → Outcome V F) → outcome_by reader (coming (reader.longest here.state) here.room line) (reader.reads here.state (here.number + 1) line.text) here line lines others ≡ Given value (here.number + 1) (here.room - line_size line) lines
 
   -- what a line that comes and brings this makes of a reading
-  outcome_is : (here : Here S) (line : InputLine) (step : Step S V F) → coming (reader.longest here.state) here.room line ≡ Comes → reader.reads here.state (here.number + 1) line.text ≡ step → (lines : List InputLine) (others : S → Outcome V F) → outcome_by reader (coming (reader.longest here.state) here.room line) (reader.reads here.state (here.number + 1) line.text) here line lines others ≡ outcome_by reader Comes step here line lines others
+  outcome_is : (here : Here S) (line : InputLine) (step : Step S V F) → coming (reader.longest here.state) here.room line ≡ Comes → reader.reads here.state (here.number + 1) line.text ≡ step →
+      (lines : List InputLine) (others : S → Outcome V F) → outcome_by reader (coming (reader.longest here.state) here.room line) (reader.reads here.state (here.number + 1) line.text) here line lines others ≡ outcome_by reader Comes step here line lines others
   outcome_is here line step comes reads lines others =
       subst (λ (how : Coming). outcome_by reader how (reader.reads here.state (here.number + 1) line.text) here line lines others ≡ outcome_by reader Comes step here line lines others) (sym comes)
       (subst (λ (one : Step S V F). outcome_by reader Comes one here line lines others ≡ outcome_by reader Comes step here line lines others) (sym reads) refl)
 
-  goes_by_step : (step : Step S V F) (start : B) (here : Here S) (line : InputLine) (answer : List ℕ) (state : Planned B S P) → coming (reader.longest here.state) here.room line ≡ Comes → reader.reads here.state (here.number + 1) line.text ≡ step → RepliesToStep begin reader refusing phase start step answer (run.Goes state) → ReadsOn start here line answer state ⊎ BeginsPhase start here line answer state
+  goes_by_step : (step : Step S V F) (start : B) (here : Here S) (line : InputLine) (answer : List ℕ) (state : Planned B S P) → coming (reader.longest here.state) here.room line ≡ Comes →
+      reader.reads here.state (here.number + 1) line.text ≡ step → RepliesToStep begin reader refusing phase start step answer (run.Goes state) →
+      ReadsOn start here line answer state ⊎ BeginsPhase start here line answer state
   goes_by_step (Goes text) start here line answer state comes reads replies =
       inl (record { text = text; nothing = replies.0; so = cc (replies.1); reads = outcome_is here line (Goes text) comes reads })
   goes_by_step (Gives value) start here line answer state comes reads replies =
@@ -127,7 +130,10 @@ module _ {B S V F P : Type 0} (begin : B → V → List ℕ → Onward P → Typ
   goes : (start : B) (here : Here S) (line : InputLine) (rest : List InputLine) (answer : List ℕ) (state : Planned B S P) → Replies machine (at_text start here) (line ∷ rest) answer (run.Goes state) → ReadsOn start here line answer state ⊎ BeginsPhase start here line answer state
   goes start here line rest answer state replies = goes_by (coming (reader.longest here.state) here.room line) start here line answer state refl replies
 
-  runs_by : (start : B) (here : Here S) (line : InputLine) (first rest : List InputLine) (said last : List ℕ) (there : Here (Planned B S P)) (end : End) (so_far : Answers machine (at_text start here) (line ∷ first) said there) → Replies machine there rest last (run.Ends end) → ReadsOn start here line so_far.0 so_far.2 ⊎ BeginsPhase start here line so_far.0 so_far.2 → ((text : S) → Answers machine (at_text start (after_line here line text)) first so_far.1 there → Follows start (reading reader (after_line here line text) (first ++ rest)) (so_far.1 ++ last) end) → Follows start (reading reader here ((line ∷ first) ++ rest)) (said ++ last) end
+  runs_by : (start : B) (here : Here S) (line : InputLine) (first rest : List InputLine) (said last : List ℕ) (there : Here (Planned B S P)) (end : End) (so_far : Answers machine (at_text start here) (line ∷ first) said there) →
+      Replies machine there rest last (run.Ends end) → ReadsOn start here line so_far.0 so_far.2 ⊎ BeginsPhase start here line so_far.0 so_far.2 →
+      ((text : S) → Answers machine (at_text start (after_line here line text)) first so_far.1 there → Follows start (reading reader (after_line here line text) (first ++ rest)) (so_far.1 ++ last) end) →
+      Follows start (reading reader here ((line ∷ first) ++ rest)) (said ++ last) end
   runs_by start here line first rest said last there end so_far replies (inl on) later =
       let next = after_line here line on.text in
       let follows = later on.text (subst (λ (s : Planned B S P). Answers machine (after_line (at_text start here) line s) first so_far.1 there) on.so so_far.5) in
@@ -157,7 +163,9 @@ module _ {B S V F P : Type 0} (begin : B → V → List ℕ → Onward P → Typ
       (runs_on start here one.first one.rest one.said one.last one.there end one.answers one.ends))
 
   -- while memory may be wanted nothing is said, where the phase wants none
-  quiet_by : (start : B) (here : Here S) (line : InputLine) (first : List InputLine) (said : List ℕ) (there : Here (Planned B S P)) → WantsNone phase → machine.may_want there.state → (so_far : Answers machine (at_text start here) (line ∷ first) said there) → ReadsOn start here line so_far.0 so_far.2 ⊎ BeginsPhase start here line so_far.0 so_far.2 → ((text : S) → Answers machine (at_text start (after_line here line text)) first so_far.1 there → so_far.1 ≡ []) → said ≡ []
+  quiet_by : (start : B) (here : Here S) (line : InputLine) (first : List InputLine) (said : List ℕ) (there : Here (Planned B S P)) → WantsNone phase → machine.may_want there.state →
+      (so_far : Answers machine (at_text start here) (line ∷ first) said there) → ReadsOn start here line so_far.0 so_far.2 ⊎ BeginsPhase start here line so_far.0 so_far.2 →
+      ((text : S) → Answers machine (at_text start (after_line here line text)) first so_far.1 there → so_far.1 ≡ []) → said ≡ []
   quiet_by start here line first said there none wants so_far (inl on) later =
       let nothing : so_far.1 ≡ [] = later on.text (subst (λ (s : Planned B S P). Answers machine (after_line (at_text start here) line s) first so_far.1 there) on.so so_far.5) in
       so_far.4 ∙ ap (λ (s : List ℕ). s ++ so_far.1) on.nothing ∙ nothing
