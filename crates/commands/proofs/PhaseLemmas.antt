@@ -7,7 +7,8 @@ use Rattle.commands.specs.Machine.{Machine}
 use Rattle.commands.specs.Runs.{Here, begins, after_line, Stops, RepliesTo, Replies, Answers, Run}
 use Rattle.commands.specs.Breaks.{BreaksForMemory}
 use Rattle.commands.specs.Reading.{Reader, Refusing, Outcome, Given, Faulty, outcome_by, reading}
-use Rattle.commands.specs.Phases.{wrapped, WantsNone, RepliesToStep, planned_machine, FollowsOutcome}
+use Rattle.commands.specs.Single.{IsSingle, IsSingleAnswer}
+use Rattle.commands.specs.Phases.{Within, wrapped, WantsNone, RepliesToStep, planned_machine, FollowsOutcome}
 use Rattle.commands.specs.declared.endings.End.{End}
 use Rattle.commands.specs.declared.machines.Onward.{Onward}
 use Rattle.commands.specs.declared.machines.Onward.TheVariants as run
@@ -26,6 +27,12 @@ wrapped_ends wrap (run.Ends other) end is = cc is
 pub wrapped_goes : {C D : Type 0} (wrap : C → D) (inner : Onward C) (state : D) → run.Goes state ≡ wrapped wrap inner → (it : C) × (inner ≡ run.Goes it) × (state ≡ wrap it)
 wrapped_goes wrap (run.Goes it) state is = (it, refl, cc is)
 wrapped_goes wrap (run.Ends other) state is = absurd (cc is)
+
+-- a reply within another is single where the inner one is
+pub within_same : {C D : Type 0} (wrap : C → D) (Inner : List ℕ → Onward C → Type 0) → ((a b : List ℕ) (x y : Onward C) → Inner a x → Inner b y → (a ≡ b) × (x ≡ y)) →
+    (a b : List ℕ) (x y : Onward D) → Within wrap Inner a x → Within wrap Inner b y → (a ≡ b) × (x ≡ y)
+within_same wrap Inner single a b x y one other =
+    let same = single a b one.0 other.0 one.1 other.1 in (same.0, one.2 ∙ ap (wrapped wrap) same.1 ∙ sym other.2)
 
 module _ {B S V F P : Type 0} (begin : B → V → List ℕ → Onward P → Type 0) (reader : Reader S V F) (refusing : Refusing F) (phase : Machine P) where
   abbrev machine : Machine (Planned B S P)
@@ -184,3 +191,23 @@ module _ {B S V F P : Type 0} (begin : B → V → List ℕ → Onward P → Typ
   pub wants_while_reading : WantsNone phase → (start : B) (text : S) (input behind put : List ℕ) (pieces : List Piece) → BreaksForMemory machine (Reading start text) input behind put pieces → put ≡ []
   wants_while_reading none start text input behind put pieces (inl wants) = quiet start (begins text) wants.first put wants.there none wants.may_want wants.answers
   wants_while_reading none start text input behind put pieces (inr nothing) = nothing.1
+
+  -- at most one reply
+  takes_same : (start : B) (step : Step S V F) (a b : List ℕ) (x y : Onward (Planned B S P)) → IsSingleAnswer begin → RepliesToStep begin reader refusing phase start step a x → RepliesToStep begin reader refusing phase start step b y → (a ≡ b) × (x ≡ y)
+  takes_same start (Goes text) a b x y single one other = (cc, cc)
+  takes_same start (Gives value) a b x y single one other = within_same Serving (begin start value) (single start value) a b x y one other
+  takes_same start (Refused fault) a b x y single one other = (cc, cc)
+
+  state_takes_same : (state : Planned B S P) (number : ℕ) (line a b : List ℕ) (x y : Onward (Planned B S P)) → IsSingleAnswer begin → IsSingle phase → machine.takes state number line a x → machine.takes state number line b y → (a ≡ b) × (x ≡ y)
+  state_takes_same (Reading start text) number line a b x y begins single one other = takes_same start (reader.reads text number line) a b x y begins one other
+  state_takes_same (Serving state) number line a b x y begins single one other = within_same Serving (phase.takes state number line) (single.takes state number line) a b x y one other
+
+  state_stops_same : (state : Planned B S P) (number : ℕ) (stop : Stop) (a b : List ℕ) (x y : End) → IsSingle phase → machine.stops state number stop a x → machine.stops state number stop b y → (a ≡ b) × (x ≡ y)
+  state_stops_same (Reading start text) number stop a b x y single one other = (one.0 ∙ sym other.0, one.1 ∙ sym other.1)
+  state_stops_same (Serving state) number stop a b x y single one other = single.stops state number stop a b x y one other
+
+  pub planned_single : IsSingleAnswer begin → IsSingle phase → IsSingle machine
+  planned_single begins single = record {
+    takes = λ state number line a b x y one other. state_takes_same state number line a b x y begins single one other;
+    stops = λ state number stop a b x y one other. state_stops_same state number stop a b x y single one other;
+  }
