@@ -234,7 +234,8 @@ module _ {C : Type 0} (machine : Machine C) (start : C) where
                 given = held.given ++ take size full.kept;
                 bytes = pieces_held old full (machine.longest command) reads.pieces false before between so_far.pieces so_far.lines (length mid.put) held reads.takes ∙ (ap (λ (l : List ℕ). held.given ++ l) (sym (take-append-drop size full.kept)) ∙ (sym (append_assoc held.given (take size full.kept) (drop size full.kept)) ∙ ap (λ (l : List ℕ). (held.given ++ take size full.kept) ++ l) (sym kept)));
                 closed = unfinished-closed held.given (take size full.kept) held.closed ∙ first.closed;
-                whole = ap (λ (l : List (List ℕ)). map whole_line l) (whole_lines-closed held.given (take size full.kept) held.closed ∙ ap (λ (l : List (List ℕ)). whole_lines held.given ++ l) first.whole) ∙ (map-append whole_line (whole_lines held.given) (holds.line.text ∷ []) ∙ (ap (λ (l : List InputLine). l ++ whole_line holds.line.text ∷ []) held.whole ∙ ap (λ (l : InputLine). so_far.lines ++ l ∷ []) (whole_is holds.line ended)));
+                whole = ap (λ (l : List (List ℕ)). map whole_line l) (whole_lines-closed held.given (take size full.kept) held.closed ∙ ap (λ (l : List (List ℕ)). whole_lines held.given ++ l) first.whole) ∙
+                    (map-append whole_line (whole_lines held.given) (holds.line.text ∷ []) ∙ (ap (λ (l : List InputLine). l ++ whole_line holds.line.text ∷ []) held.whole ∙ ap (λ (l : InputLine). so_far.lines ++ l ∷ []) (whole_is holds.line ended)));
               };
         },
       )
@@ -288,7 +289,8 @@ module _ {C : Type 0} (machine : Machine C) (start : C) where
         answers = so_far.answers;
         in_time = new_in_time command old reads.full reads.pieces (is_read_fault line) before between left_first before.left was mid so_far reads.takes;
         left = subst (λ (l : List ℕ). LosesFront left_first between.left l) (ap (λ (l : List ℕ). bytes_of so_far.pieces ++ l) (sym (bytes_of-map (length mid.put) reads.pieces)) ∙ sym (bytes_of-append so_far.pieces new_pieces)) (LosesFront-twice left_first before.left between.left (bytes_of so_far.pieces) (concat reads.pieces) so_far.left reads.takes.left);
-        ahead = WhereTold-twice left_first before.left between.left (λ input rest. input_lines input ≡ so_far.lines ++ input_lines (remaining old rest)) (GivesNext (machine.longest command) old new line) (λ input rest. (b : List ℕ) × (input_lines input ≡ so_far.lines ++ input_lines (remaining old b)) × GivesFirst (machine.longest command) old new line b rest) (λ x y z p q. (y, p, q.first)) so_far.ahead next;
+        ahead = WhereTold-twice left_first before.left between.left (λ input rest. input_lines input ≡ so_far.lines ++ input_lines (remaining old rest)) (GivesNext (machine.longest command) old new line)
+            (λ input rest. (b : List ℕ) × (input_lines input ≡ so_far.lines ++ input_lines (remaining old b)) × GivesFirst (machine.longest command) old new line b rest) (λ x y z p q. (y, p, q.first)) so_far.ahead next;
         gives = gives_by line command old new before between left_first was mid so_far reads;
         cut_off = cut_off_by line command old new before between left_first was mid so_far reads;
       }
