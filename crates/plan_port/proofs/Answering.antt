@@ -8,7 +8,7 @@ use Rattle.texts.proofs.InputLemmas.{input_lines-open, input_lines-closed, unfin
 use Rattle.plan_port.specs.Talk.{Seen, WhereTold, LosesFront}
 use Rattle.plan_port.specs.Lines.{Coming, Comes, coming, DecideNothing}
 use Rattle.plan_port.specs.Lines.{TooLong as LongLine, TooMuch as MuchInput}
-use Rattle.plan_port.specs.Reader.{Reader, Takes, ReadsNext, GivesNext, GivesFirst, FirstIs, NamesLimit, room, remaining, answer_by, answer_to, answer, without_line, after_answer, stop_of, lines_begun, is_read_fault}
+use Rattle.plan_port.specs.Reader.{Reader, Takes, ReadsNext, GivesNext, GivesFirst, GivesLine, FirstIs, NamesLimit, room, remaining, answer_by, answer_to, answer, without_line, after_answer, stop_of, lines_begun, is_read_fault}
 use Rattle.plan_port.specs.Reading.{verdict_by, verdict_to, verdict, outcome_by, outcome_of, is_fault, gives_line}
 use Rattle.plan_port.specs.declared.lines.Outcome.{Outcome}
 use Rattle.plan_port.specs.declared.lines.Outcome.TheVariants.{Decided}
@@ -211,25 +211,6 @@ cut_off longest full new line answered goes_on fault =
     let same : new ≡ after_answer ReadFault full = goes_on ∙ ap (λ (l : Line). after_answer l full) fault in
     (ap (λ (r : Reader). r.ended) same ∙ found.1, subst (λ (r : Reader). DecideNothing longest (room r) r.kept) (sym same) (decide_nothing longest (room full) full.kept found.0))
 
--- what a call of the reader did
-pub reads_next : (longest : ℕ) (old full new : Reader) (line : Line) (outcome : Outcome) (pieces : List (List ℕ)) (a b : Seen) → Takes longest old full pieces (is_fault outcome) a b → outcome ≡ outcome_of longest full → line ≡ answer longest full → new ≡ after_answer line full → ReadsNext longest old new line a b
-reads_next longest old full new line outcome pieces a b takes is answered goes_on =
-    let failed : is_fault outcome ≡ is_read_fault line = ap is_fault is ∙ (fault_to (input_lines full.kept) longest full ∙ ap (λ (l : Line). is_read_fault l) (sym answered)) in
-    let most : full.most ≡ old.most = ap (λ (r : Reader). r.most) takes.reader in
-    record {
-      pieces = pieces;
-      full = full;
-      takes = subst (λ (f : Bool). Takes longest old full pieces f a b) failed takes;
-      answered = answered;
-      goes_on = goes_on;
-      number = ap (λ (r : Reader). r.number) goes_on ∙ ap (λ (r : Reader). r.number + lines_begun line) takes.reader;
-      most = ap (λ (r : Reader). r.most) goes_on ∙ (most_stays line (input_lines full.kept) full ∙ most);
-      stopped = ap (λ (r : Reader). r.stopped) goes_on;
-      limit = subst (λ (n : ℕ). NamesLimit line longest n) most (subst (λ (l : Line). NamesLimit l longest full.most) (sym answered) (limit_to (input_lines full.kept) longest full));
-      at_end = at_end longest full new line answered goes_on;
-      cut_off = cut_off longest full new line answered goes_on;
-    }
-
 -- the answer, told of the bytes that are left
 first_is : (how : Coming) (longest room : ℕ) (first : InputLine) (others all : List InputLine) → all ≡ first ∷ others → coming longest room first ≡ how → FirstIs how longest room all
 first_is how longest room first others all is comes = subst (λ (ls : List InputLine). FirstIs how longest room ls) (sym is) comes
@@ -307,6 +288,48 @@ next_by longest r after (WholeFirst w) =
     subst (λ (ls : List InputLine). GivesNext longest r (after_by (answer_to longest r ls) ls r) (answer_to longest r ls) after after) (sym w.lines_are) (next_whole (coming longest (room r) (whole_line w.line)) longest r after w refl)
 next_by longest r after (OpenFirst o) =
     subst (λ (ls : List InputLine). GivesNext longest r (after_by (answer_to longest r ls) ls r) (answer_to longest r ls) after after) (sym o.lines_are) (next_open r.ended (coming longest (room r) (open_line r.kept)) longest r after o refl refl)
+
+-- a line that was given is the first of those that were held
+nothing_left : (ended : Bool) → cond {A = List ℕ} ended [] [] ≡ []
+nothing_left true = refl
+nothing_left false = refl
+
+only_held : (r : Reader) → remaining r [] ≡ r.kept
+only_held r = ap (λ (l : List ℕ). r.kept ++ l) (nothing_left r.ended) ∙ append-nil r.kept
+
+line_held : (longest : ℕ) (full new : Reader) (line : Line) → line ≡ answer longest full → new ≡ after_answer line full → line ≡ Text → (first : InputLine) × GivesLine longest full new full.kept new.kept first
+line_held longest full new line answered goes_on is =
+    let here : GivesNext longest full (after_answer line full) line [] [] = subst (λ (l : Line). GivesNext longest full (after_answer l full) l [] []) (sym answered) (next_by longest full [] (first_of full.kept)) in
+    let now : GivesNext longest full new line [] [] = subst (λ (r : Reader). GivesNext longest full r line [] []) (sym goes_on) here in
+    let g : GivesFirst longest full new Text [] [] = subst (λ (l : Line). GivesFirst longest full new l [] []) is now.first in (
+      g.0,
+      record {
+        lines = ap (λ (l : List ℕ). input_lines l) (sym (only_held full)) ∙ (g.1.lines ∙ ap (λ (l : List ℕ). g.0 ∷ input_lines l) (only_held new));
+        comes = g.1.comes;
+        text = g.1.text;
+        place = g.1.place;
+      },
+    )
+
+-- what a call of the reader did
+pub reads_next : (longest : ℕ) (old full new : Reader) (line : Line) (outcome : Outcome) (pieces : List (List ℕ)) (a b : Seen) → Takes longest old full pieces (is_fault outcome) a b → outcome ≡ outcome_of longest full → line ≡ answer longest full → new ≡ after_answer line full → ReadsNext longest old new line a b
+reads_next longest old full new line outcome pieces a b takes is answered goes_on =
+    let failed : is_fault outcome ≡ is_read_fault line = ap is_fault is ∙ (fault_to (input_lines full.kept) longest full ∙ ap (λ (l : Line). is_read_fault l) (sym answered)) in
+    let most : full.most ≡ old.most = ap (λ (r : Reader). r.most) takes.reader in
+    record {
+      pieces = pieces;
+      full = full;
+      takes = subst (λ (f : Bool). Takes longest old full pieces f a b) failed takes;
+      answered = answered;
+      goes_on = goes_on;
+      number = ap (λ (r : Reader). r.number) goes_on ∙ ap (λ (r : Reader). r.number + lines_begun line) takes.reader;
+      most = ap (λ (r : Reader). r.most) goes_on ∙ (most_stays line (input_lines full.kept) full ∙ most);
+      stopped = ap (λ (r : Reader). r.stopped) goes_on;
+      limit = subst (λ (n : ℕ). NamesLimit line longest n) most (subst (λ (l : Line). NamesLimit l longest full.most) (sym answered) (limit_to (input_lines full.kept) longest full));
+      given = line_held longest full new line answered goes_on;
+      at_end = at_end longest full new line answered goes_on;
+      cut_off = cut_off longest full new line answered goes_on;
+    }
 
 -- the same, told of the reader before its takes
 first_of_old : (line : Line) (longest : ℕ) (old full new : Reader) (before after : List ℕ) → room old ≡ room full → old.before ≡ full.before → remaining old before ≡ remaining full after → GivesFirst longest full new line after after → GivesFirst longest old new line before after

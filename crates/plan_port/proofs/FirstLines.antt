@@ -22,7 +22,8 @@ abbrev much_test : ℕ → ℕ → Bool → Bool
 much_test room size closed = nat_lt room size || (closed && nat_le room size)
 
 -- where a line end stands in the bytes, they are a line and what stands after that end
-closed_by : (ends : Bool) (line : List ℕ) (byte : ℕ) (bytes : List ℕ) → ends_line byte ≡ ends → (ends ≡ false → input_lines_after (line ++ byte ∷ []) bytes ≡ whole_line ((line ++ byte ∷ []) ++ take (place bytes) bytes) ∷ input_lines (drop (place bytes + 1) bytes)) → input_lines_after line (byte ∷ bytes) ≡ whole_line (line ++ take (place (byte ∷ bytes)) (byte ∷ bytes)) ∷ input_lines (drop (place (byte ∷ bytes) + 1) (byte ∷ bytes))
+closed_by : (ends : Bool) (line : List ℕ) (byte : ℕ) (bytes : List ℕ) → ends_line byte ≡ ends → (ends ≡ false → input_lines_after (line ++ byte ∷ []) bytes ≡ whole_line ((line ++ byte ∷ []) ++ take (place bytes) bytes) ∷ input_lines (drop (place bytes + 1) bytes)) →
+    input_lines_after line (byte ∷ bytes) ≡ whole_line (line ++ take (place (byte ∷ bytes)) (byte ∷ bytes)) ∷ input_lines (drop (place (byte ∷ bytes) + 1) (byte ∷ bytes))
 closed_by true line byte bytes e later =
     let here : place (byte ∷ bytes) ≡ 0 = ap (λ (b : Bool). cond (not b) (1 + place bytes) 0) e in
     let left : input_lines_after line (byte ∷ bytes) ≡ whole_line line ∷ input_lines bytes = ap (λ (b : Bool). map whole_line (cond b (line ∷ whole_lines_after [] bytes) (whole_lines_after (line ++ byte ∷ []) bytes)) ++ last_line (cond b (unfinished_after [] bytes) (unfinished_after (line ++ byte ∷ []) bytes))) e ∙ ap (λ (ls : List InputLine). whole_line line ∷ ls) (sym (input_lines_is bytes)) in

@@ -55,7 +55,9 @@ kept_twice : (r : Reader) (pieces more : List (List ℕ)) (ended ended' : Bool) 
 kept_twice r pieces more ended ended' =
     ap (λ (l : List ℕ). record r { text = []; kept = l; ended = ended' }) (append_assoc r.kept (concat pieces) (concat more) ∙ ap (λ (l : List ℕ). r.kept ++ l) (sym (concat-append pieces more)))
 
-undecided_at : (longest room : ℕ) (kept : List ℕ) (pieces more : List (List ℕ)) (k : ℕ) → length more ≤ 1 → k < length (pieces ++ more) → (k < length pieces) ⊎ (length pieces ≤ k) → ((k : ℕ) → k < length pieces → DecideNothing longest room (kept ++ concat (take k pieces))) → DecideNothing longest room (kept ++ concat pieces) → DecideNothing longest room (kept ++ concat (take k (pieces ++ more)))
+undecided_at : (longest room : ℕ) (kept : List ℕ) (pieces more : List (List ℕ)) (k : ℕ) → length more ≤ 1 → k < length (pieces ++ more) → (k < length pieces) ⊎ (length pieces ≤ k) →
+    ((k : ℕ) → k < length pieces → DecideNothing longest room (kept ++ concat (take k pieces))) → DecideNothing longest room (kept ++ concat pieces) →
+    DecideNothing longest room (kept ++ concat (take k (pieces ++ more)))
 undecided_at longest room kept pieces more k one within (inl lt) earlier now =
     subst (λ (l : List (List ℕ)). DecideNothing longest room (kept ++ concat l)) (sym (take-append-le k pieces more (omega arith))) (earlier k lt)
 undecided_at longest room kept pieces more k one within (inr le) earlier now =
@@ -85,7 +87,9 @@ none_at longest mid new took into end decides is =
     subst (λ (r : Reader). DecideNothing longest (room r) r.kept) (sym is) (subst (λ (l : List ℕ). DecideNothing longest (room mid) l) (sym kept) decides)
 
 -- one take more
-pub Takes-more : (longest : ℕ) (old mid new : Reader) (took : Took) (into : List ℕ) (pieces : List (List ℕ)) (a b c : Seen) → Takes longest old mid pieces false a b → TakesOnce b c took into → mid.ended ≡ false → DecideNothing longest (room mid) mid.kept → new ≡ with_bytes_kept mid (bytes_given took into) (ended_after took mid.ended) → Takes longest old new (pieces ++ pieces_given took into) (has_failed took) a c
+pub Takes-more : (longest : ℕ) (old mid new : Reader) (took : Took) (into : List ℕ) (pieces : List (List ℕ)) (a b c : Seen) → Takes longest old mid pieces false a b →
+    TakesOnce b c took into → mid.ended ≡ false → DecideNothing longest (room mid) mid.kept → new ≡ with_bytes_kept mid (bytes_given took into) (ended_after took mid.ended) →
+    Takes longest old new (pieces ++ pieces_given took into) (has_failed took) a c
 Takes-more longest old mid new took into pieces a b c before once unended decides is =
     let more = pieces_given took into in
     let ended : new.ended ≡ ended_after took mid.ended = ap (λ (r : Reader). r.ended) is in

@@ -118,8 +118,16 @@ abbrev pub after_answer : Line → Reader → Reader
 after_answer line reader =
     record (without_line line (input_lines reader.kept) reader) { number = reader.number + lines_begun line; stopped = stop_of line }
 
+-- the new reader gave this line, the first of all those bytes, of which these remain
+pub record GivesLine (longest : ℕ) (old new : Reader) (all remain : List ℕ) (line : InputLine) : Type 0 where
+  pub lines : input_lines all ≡ line ∷ input_lines remain
+  pub comes : coming longest (room old) line ≡ Comes
+  pub text : new.text ≡ line.text
+  pub place : new.before ≡ old.before + line_size line
+
 -- what a reader did that had not stopped: it took the pieces that it needed and no more, the answer is what the bytes that it
--- then held decide, and it goes on with the others. Where a take failed, it holds bytes that decide nothing.
+-- then held decide, and it goes on with the others. A line that it gave is the first of those that it held. Where a take
+-- failed, it holds bytes that decide nothing.
 pub record ReadsNext (longest : ℕ) (old new : Reader) (line : Line) (before after : Seen) : Type 0 where
   pub pieces : List (List ℕ)
   pub full : Reader
@@ -130,6 +138,7 @@ pub record ReadsNext (longest : ℕ) (old new : Reader) (line : Line) (before af
   pub most : new.most ≡ old.most
   pub stopped : new.stopped ≡ stop_of line
   pub limit : NamesLimit line longest old.most
+  pub given : line ≡ Text → (first : InputLine) × GivesLine longest full new full.kept new.kept first
   pub at_end : line ≡ End → (new.ended ≡ true) × (new.kept ≡ [])
   pub cut_off : line ≡ ReadFault → (new.ended ≡ false) × DecideNothing longest (room new) new.kept
 
@@ -138,16 +147,9 @@ abbrev pub FirstIs : Coming → (longest room : ℕ) → List InputLine → Type
 FirstIs how longest room [] = ⊥
 FirstIs how longest room (line ∷ others) = coming longest room line ≡ how
 
--- the new reader goes on with the lines after this one, which it gave
-pub record GivesLine (longest : ℕ) (old new : Reader) (before after : List ℕ) (line : InputLine) : Type 0 where
-  pub lines : input_lines (remaining old before) ≡ line ∷ input_lines (remaining new after)
-  pub comes : coming longest (room old) line ≡ Comes
-  pub text : new.text ≡ line.text
-  pub place : new.before ≡ old.before + line_size line
-
 -- the answer is what comes of the first line of all bytes that were left
 abbrev pub GivesFirst : ℕ → Reader → Reader → Line → (before after : List ℕ) → Type 0
-GivesFirst longest old new Text before after = (line : InputLine) × GivesLine longest old new before after line
+GivesFirst longest old new Text before after = (line : InputLine) × GivesLine longest old new (remaining old before) (remaining new after) line
 GivesFirst longest old new End before after =
     (input_lines (remaining old before) ≡ []) × (remaining new after ≡ [])
 GivesFirst longest old new (TooLong _) before after = FirstIs LongLine longest (room old) (input_lines (remaining old before))

@@ -30,7 +30,9 @@ text_of_last : (line : List ℕ) → if_filled line ≡ map (λ (l : InputLine).
 text_of_last [] = refl
 text_of_last (byte ∷ bytes) = refl
 
-texts_by : (ends : Bool) (line bytes more : List ℕ) → lines_after [] bytes ≡ map (λ (l : InputLine). l.text) (input_lines_after [] bytes) → lines_after more bytes ≡ map (λ (l : InputLine). l.text) (input_lines_after more bytes) → cond ends (line ∷ lines_after [] bytes) (lines_after more bytes) ≡ map (λ (l : InputLine). l.text) (map whole_line (cond ends (line ∷ whole_lines_after [] bytes) (whole_lines_after more bytes)) ++ last_line (cond ends (unfinished_after [] bytes) (unfinished_after more bytes)))
+texts_by : (ends : Bool) (line bytes more : List ℕ) → lines_after [] bytes ≡ map (λ (l : InputLine). l.text) (input_lines_after [] bytes) →
+    lines_after more bytes ≡ map (λ (l : InputLine). l.text) (input_lines_after more bytes) →
+    cond ends (line ∷ lines_after [] bytes) (lines_after more bytes) ≡ map (λ (l : InputLine). l.text) (map whole_line (cond ends (line ∷ whole_lines_after [] bytes) (whole_lines_after more bytes)) ++ last_line (cond ends (unfinished_after [] bytes) (unfinished_after more bytes)))
 texts_by true line bytes more here later = ap (λ (ls : List (List ℕ)). line ∷ ls) here
 texts_by false line bytes more here later = later
 
@@ -44,7 +46,9 @@ unfolding lines input_lines whole_lines unfinished
 lines-texts bytes = lines_after-texts [] bytes
 
 -- bytes that come go on with what is unfinished
-whole_by : (ends : Bool) (line bytes longer more : List ℕ) → whole_lines_after [] (bytes ++ more) ≡ whole_lines_after [] bytes ++ whole_lines_after (unfinished_after [] bytes) more → whole_lines_after longer (bytes ++ more) ≡ whole_lines_after longer bytes ++ whole_lines_after (unfinished_after longer bytes) more → cond ends (line ∷ whole_lines_after [] (bytes ++ more)) (whole_lines_after longer (bytes ++ more)) ≡ cond ends (line ∷ whole_lines_after [] bytes) (whole_lines_after longer bytes) ++ whole_lines_after (cond ends (unfinished_after [] bytes) (unfinished_after longer bytes)) more
+whole_by : (ends : Bool) (line bytes longer more : List ℕ) → whole_lines_after [] (bytes ++ more) ≡ whole_lines_after [] bytes ++ whole_lines_after (unfinished_after [] bytes) more →
+    whole_lines_after longer (bytes ++ more) ≡ whole_lines_after longer bytes ++ whole_lines_after (unfinished_after longer bytes) more →
+    cond ends (line ∷ whole_lines_after [] (bytes ++ more)) (whole_lines_after longer (bytes ++ more)) ≡ cond ends (line ∷ whole_lines_after [] bytes) (whole_lines_after longer bytes) ++ whole_lines_after (cond ends (unfinished_after [] bytes) (unfinished_after longer bytes)) more
 whole_by true line bytes longer more here later = ap (λ (ls : List (List ℕ)). line ∷ ls) here
 whole_by false line bytes longer more here later = later
 
@@ -53,7 +57,9 @@ whole_lines_after-append line [] more = refl
 whole_lines_after-append line (byte ∷ bytes) more =
     whole_by (byte == 10) line bytes (line ++ byte ∷ []) more (whole_lines_after-append [] bytes more) (whole_lines_after-append (line ++ byte ∷ []) bytes more)
 
-unfinished_by : (ends : Bool) (bytes longer more : List ℕ) → unfinished_after [] (bytes ++ more) ≡ unfinished_after (unfinished_after [] bytes) more → unfinished_after longer (bytes ++ more) ≡ unfinished_after (unfinished_after longer bytes) more → cond ends (unfinished_after [] (bytes ++ more)) (unfinished_after longer (bytes ++ more)) ≡ unfinished_after (cond ends (unfinished_after [] bytes) (unfinished_after longer bytes)) more
+unfinished_by : (ends : Bool) (bytes longer more : List ℕ) → unfinished_after [] (bytes ++ more) ≡ unfinished_after (unfinished_after [] bytes) more →
+    unfinished_after longer (bytes ++ more) ≡ unfinished_after (unfinished_after longer bytes) more →
+    cond ends (unfinished_after [] (bytes ++ more)) (unfinished_after longer (bytes ++ more)) ≡ unfinished_after (cond ends (unfinished_after [] bytes) (unfinished_after longer bytes)) more
 unfinished_by true bytes longer more here later = here
 unfinished_by false bytes longer more here later = later
 
@@ -96,7 +102,8 @@ unfinished-append bytes more =
     unfinished_after-append [] bytes more ∙ sym ((unfinished_after-begins [] bytes Begins-nil).rest more)
 
 -- bytes of no whole line are all unfinished
-open_by : (ends : Bool) (line bytes longer : List ℕ) → cond ends (line ∷ whole_lines_after [] bytes) (whole_lines_after longer bytes) ≡ [] → (ends ≡ false → whole_lines_after longer bytes ≡ [] → (unfinished_after longer bytes ≡ longer ++ bytes) × Begins (longer ++ bytes)) → (ends ≡ false) × (whole_lines_after longer bytes ≡ []) × (unfinished_after longer bytes ≡ longer ++ bytes) × Begins (longer ++ bytes)
+open_by : (ends : Bool) (line bytes longer : List ℕ) → cond ends (line ∷ whole_lines_after [] bytes) (whole_lines_after longer bytes) ≡ [] → (ends ≡ false → whole_lines_after longer bytes ≡ [] → (unfinished_after longer bytes ≡ longer ++ bytes) × Begins (longer ++ bytes)) →
+    (ends ≡ false) × (whole_lines_after longer bytes ≡ []) × (unfinished_after longer bytes ≡ longer ++ bytes) × Begins (longer ++ bytes)
 open_by true line bytes longer none later = absurd (cc)
 open_by false line bytes longer none later = let found = later refl none in (refl, none, found.0, found.1)
 
