@@ -6,7 +6,7 @@ use Rattle.commands.specs.Machine.{Machine}
 use Rattle.commands.specs.Runs.{Here, begins, after_line, Stops, RepliesTo, Replies, Answers, Run, Runs}
 use Rattle.commands.specs.Reading.{Reader, Refusing, Outcome, Faulty, outcome_by, reading}
 use Rattle.commands.specs.Asked.{RepliesToStep, asked_machine, AnswersOutcome}
-use Rattle.commands.specs.Single.{IsSingle}
+use Rattle.commands.specs.Single.{IsSingle, IsSingleAnswer}
 use Rattle.commands.specs.declared.endings.End.{End}
 use Rattle.commands.specs.declared.machines.Onward.{Onward}
 use Rattle.commands.specs.declared.machines.Onward.TheVariants as run
@@ -97,7 +97,7 @@ module _ {Q S V F : Type 0} (answers : Q → V → List ℕ → End → Type 0) 
       let same = single value a b one.0 other.0 one.2 other.2 in (same.0, one.1 ∙ ap (λ (e : End). run.Ends e) same.1 ∙ sym other.1)
   takes_same question (Refused fault) a b x y single one other = (cc, cc)
 
-  pub asked_single : ((question : Q) (value : V) (a b : List ℕ) (x y : End) → answers question value a x → answers question value b y → (a ≡ b) × (x ≡ y)) → IsSingle machine
+  pub asked_single : IsSingleAnswer answers → IsSingle machine
   asked_single single = record {
     takes = λ state number line a b x y one other. takes_same state.question (reader.reads state.text number line) a b x y (single state.question) one other;
     stops = λ state number stop a b x y one other. (one.0 ∙ sym other.0, one.1 ∙ sym other.1);

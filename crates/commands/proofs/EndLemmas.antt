@@ -135,7 +135,7 @@ module _ {C : Type 0} (machine : Machine C) (start : C) where
     pub read_faults : now.read_faults ≡ first.read_faults
     pub write_faults : now.write_faults ≡ first.write_faults
     pub told : is_some now.left ≡ is_some first.left
-    pub talk : WhereTold first.talk now.talk (λ was is. SoFar machine start command reader first.left now.left was is)
+    pub talk : WhereTold first.talk now.talk (SoFar machine start command reader first.left now.left)
 
   no_piece : (seen later : List Piece) (piece : Piece) (A : Type 0) → [] ≡ seen ++ piece ∷ later → A
   no_piece [] later piece A is = absurd (cc is)
@@ -167,11 +167,17 @@ module _ {C : Type 0} (machine : Machine C) (start : C) where
     });
   }
 
+  -- a reader has read on in a run that has come so far
+  pub record ReadFrom (line : Line) (command : C) (old new : Reader) (first before between : Seen) : Type 0 where
+    pub serving : IsServing command old first before
+    pub reads : ReadsNext (machine.longest command) old new line before between
+    pub next : WhereTold before.left between.left (GivesNext (machine.longest command) old new line)
+
   -- after the reader has read on
-  read_seen : (command : C) (old new : Reader) (line : Line) (first before between : Seen) → IsServing command old first before → ReadsNext (machine.longest command) old new line before between → WhereTold before.left between.left (λ b a. GivesNext (machine.longest command) old new line b a) → WhereTold first.talk between.talk (λ was is. ReadSoFar machine start command old new line first.left between.left was is)
-  read_seen command old new line first before between serving reads next =
-      WhereTold-twice first.talk before.talk between.talk (λ was mid. SoFar machine start command old first.left before.left was mid) (λ mid is. is ≡ after_takes reads.pieces (is_read_fault line) mid) (λ was is. ReadSoFar machine start command old new line first.left between.left was is)
-      (λ was mid is so_far changed. read_on machine start command old new line before between first.left was mid is so_far reads changed next) serving.talk reads.takes.talk
+  read_seen : (command : C) (old new : Reader) (line : Line) (first before between : Seen) → ReadFrom line command old new first before between → WhereTold first.talk between.talk (ReadSoFar machine start command old new line first.left between.left)
+  read_seen command old new line first before between from =
+      WhereTold-twice first.talk before.talk between.talk (SoFar machine start command old first.left before.left) (λ mid is. is ≡ after_takes from.reads.pieces (is_read_fault line) mid) (ReadSoFar machine start command old new line first.left between.left)
+      (λ was mid is so_far changed. read_on machine start command old new line before between first.left was mid is so_far from.reads changed from.next) from.serving.talk from.reads.takes.talk
 
   -- a command goes on only after a line
   text_goes : (line : Line) (command : C) (new : Reader) (answer : List ℕ) (reply : Turn C) (next : C) → ReplyTo machine command line new answer reply → reply ≡ Goes next → (line ≡ Text) × machine.takes command new.number new.text answer (onward.Goes next)
@@ -184,28 +190,28 @@ module _ {C : Type 0} (machine : Machine C) (start : C) where
   text_goes OutOfMemory command new answer reply next replies is = absurd replies
 
   -- the answer to a line was put, and the command goes on
-  on_by : (line : Line) (command next : C) (old new : Reader) (first before between after : Seen) (answer : List ℕ) → line ≡ Text → IsServing command old first before → ReadsNext (machine.longest command) old new line before between → WhereTold before.left between.left (λ b a. GivesNext (machine.longest command) old new line b a) → Writes between after All answer → machine.takes command new.number new.text answer (onward.Goes next) → IsServing next new first after
-  on_by Text command next old new first before between after answer is serving reads given writes takes = record {
-    running = reads.stopped;
-    most = reads.most ∙ serving.most;
-    read_faults = writes.read_faults ∙ (reads.takes.read_faults ∙ serving.read_faults);
-    write_faults = writes.write_faults ∙ (reads.takes.write_faults ∙ serving.write_faults);
-    told = ap (λ (l : Option (List ℕ)). is_some l) writes.left ∙ (still_told before.left between.left (concat reads.pieces) reads.takes.left ∙ serving.told);
-    talk = subst (λ (l : Option (List ℕ)). WhereTold first.talk after.talk (λ was is. SoFar machine start next new first.left l was is)) (sym writes.left)
-        (WhereTold-twice first.talk between.talk after.talk (λ was is. ReadSoFar machine start command old new Text first.left between.left was is) (λ is fin. fin ≡ after_writing All answer is) (λ was fin. SoFar machine start next new first.left between.left was fin)
-        (λ was is fin read wrote. goes_on machine start command next old new first.left between.left was is fin answer read wrote takes reads.number reads.most) (read_seen command old new Text first before between serving reads given) writes.talk);
+  on_by : (line : Line) (command next : C) (old new : Reader) (first before between after : Seen) (answer : List ℕ) → line ≡ Text → ReadFrom line command old new first before between → Writes between after All answer → machine.takes command new.number new.text answer (onward.Goes next) → IsServing next new first after
+  on_by Text command next old new first before between after answer is from writes takes = record {
+    running = from.reads.stopped;
+    most = from.reads.most ∙ from.serving.most;
+    read_faults = writes.read_faults ∙ (from.reads.takes.read_faults ∙ from.serving.read_faults);
+    write_faults = writes.write_faults ∙ (from.reads.takes.write_faults ∙ from.serving.write_faults);
+    told = ap (λ (l : Option (List ℕ)). is_some l) writes.left ∙ (still_told before.left between.left (concat from.reads.pieces) from.reads.takes.left ∙ from.serving.told);
+    talk = subst (λ (l : Option (List ℕ)). WhereTold first.talk after.talk (SoFar machine start next new first.left l)) (sym writes.left)
+        (WhereTold-twice first.talk between.talk after.talk (ReadSoFar machine start command old new Text first.left between.left) (λ is fin. fin ≡ after_writing All answer is) (λ was fin. SoFar machine start next new first.left between.left was fin)
+        (λ was is fin read wrote. goes_on machine start command next old new first.left between.left was is fin answer read wrote takes from.reads.number from.reads.most) (read_seen command old new Text first before between from) writes.talk);
   }
-  on_by NoLine command next old new first before between after answer is serving reads given writes takes = absurd (cc is)
-  on_by (TooLong n) command next old new first before between after answer is serving reads given writes takes = absurd (cc is)
-  on_by (TooMuch n) command next old new first before between after answer is serving reads given writes takes = absurd (cc is)
-  on_by ReadFault command next old new first before between after answer is serving reads given writes takes = absurd (cc is)
-  on_by OutOfMemory command next old new first before between after answer is serving reads given writes takes = absurd (cc is)
+  on_by NoLine command next old new first before between after answer is from writes takes = absurd (cc is)
+  on_by (TooLong n) command next old new first before between after answer is from writes takes = absurd (cc is)
+  on_by (TooMuch n) command next old new first before between after answer is from writes takes = absurd (cc is)
+  on_by ReadFault command next old new first before between after answer is from writes takes = absurd (cc is)
+  on_by OutOfMemory command next old new first before between after answer is from writes takes = absurd (cc is)
 
   on_written : (written : Written) (command next : C) (old new : Reader) (first before after : Seen) (turn : OneTurn machine command old new (Goes next) before after) (replied : Replied machine command turn.line new (Goes next) turn.between after) → replied.written ≡ written → IsServing command old first before → IsServing next new first after
   on_written All command next old new first before after turn replied is serving =
       let reply : replied.reply ≡ Goes next = sym (replied.goes ∙ ap (λ (w : Written). after_written w replied.reply) is) in
       let goes = text_goes turn.line command new replied.answer replied.reply next replied.replies reply in
-      on_by turn.line command next old new first before turn.between after replied.answer goes.0 serving turn.reads turn.next (subst (λ (w : Written). Writes turn.between after w replied.answer) is replied.writes) goes.1
+      on_by turn.line command next old new first before turn.between after replied.answer goes.0 (record { serving = serving; reads = turn.reads; next = turn.next }) (subst (λ (w : Written). Writes turn.between after w replied.answer) is replied.writes) goes.1
   on_written (Part count) command next old new first before after turn replied is serving =
       let reply : Goes next ≡ Ends status.WriteFault = replied.goes ∙ ap (λ (w : Written). after_written w replied.reply) is in
       absurd (cc reply)
@@ -261,7 +267,8 @@ module _ {C : Type 0} (machine : Machine C) (start : C) where
         };
   }
 
-  puts_are : (s : Status) (command : C) (old new : Reader) (line : Line) (left_first left_now : Option (List ℕ)) (was is fin : Talk) (written : Written) (bytes input behind : List ℕ) (read : ReadSoFar machine start command old new line left_first left_now was is) → Wrote written bytes is fin → PutsFor machine start s input behind (read.said ++ bytes_put written bytes) read.pieces → Puts machine start s was fin input behind
+  puts_are : (s : Status) (command : C) (old new : Reader) (line : Line) (left_first left_now : Option (List ℕ)) (was is fin : Talk) (written : Written) (bytes input behind : List ℕ) (read : ReadSoFar machine start command old new line left_first left_now was is) →
+      Wrote written bytes is fin → PutsFor machine start s input behind (read.said ++ bytes_put written bytes) read.pieces → Puts machine start s was fin input behind
   puts_are s command old new line left_first left_now was is fin written bytes input behind read wrote puts = record {
     pieces = read.pieces;
     put = read.said ++ bytes_put written bytes;
@@ -279,34 +286,34 @@ module _ {C : Type 0} (machine : Machine C) (start : C) where
   one_take true was is fault place = place
   one_take false was is fault place = absurd (cc fault)
 
-  no_take_failed : (command : C) (old new : Reader) (line : Line) (first before between after : Seen) (written : Written) (answer : List ℕ) → is_read_fault line ≡ false → IsServing command old first before → ReadsNext (machine.longest command) old new line before between → WhereTold before.left between.left (λ b a. GivesNext (machine.longest command) old new line b a) → Writes between after written answer → NoTakeFailed first after
-  no_take_failed command old new line first before between after written answer fault serving reads next writes = record {
-    count = writes.read_faults ∙ (reads.takes.read_faults ∙ (ap (λ (f : Bool). counted_takes f before.read_faults) fault ∙ serving.read_faults));
-    place = WhereTold-twice first.talk between.talk after.talk (λ was is. ReadSoFar machine start command old new line first.left between.left was is) (λ is fin. fin ≡ after_writing written answer is) (λ was fin. fin.failed_take ≡ was.failed_take)
-        (λ was is fin read changed. (wrote written answer is fin changed).take_same ∙ no_take (is_read_fault line) was is fault read.take_is) (read_seen command old new line first before between serving reads next) writes.talk;
+  no_take_failed : (command : C) (old new : Reader) (line : Line) (first before between after : Seen) (written : Written) (answer : List ℕ) → is_read_fault line ≡ false → ReadFrom line command old new first before between → Writes between after written answer → NoTakeFailed first after
+  no_take_failed command old new line first before between after written answer fault from writes = record {
+    count = writes.read_faults ∙ (from.reads.takes.read_faults ∙ (ap (λ (f : Bool). counted_takes f before.read_faults) fault ∙ from.serving.read_faults));
+    place = WhereTold-twice first.talk between.talk after.talk (ReadSoFar machine start command old new line first.left between.left) (λ is fin. fin ≡ after_writing written answer is) (λ was fin. fin.failed_take ≡ was.failed_take)
+        (λ was is fin read changed. (wrote written answer is fin changed).take_same ∙ no_take (is_read_fault line) was is fault read.take_is) (read_seen command old new line first before between from) writes.talk;
   }
 
-  last_take_failed : (command : C) (old new : Reader) (line : Line) (first before between after : Seen) (written : Written) (answer : List ℕ) → is_read_fault line ≡ true → IsServing command old first before → ReadsNext (machine.longest command) old new line before between → WhereTold before.left between.left (λ b a. GivesNext (machine.longest command) old new line b a) → Writes between after written answer → LastTakeFailed first after (bytes_put written answer)
-  last_take_failed command old new line first before between after written answer fault serving reads next writes = record {
-    count = writes.read_faults ∙ (reads.takes.read_faults ∙ (ap (λ (f : Bool). counted_takes f before.read_faults) fault ∙ ap raised serving.read_faults));
-    place = WhereTold-twice first.talk between.talk after.talk (λ was is. ReadSoFar machine start command old new line first.left between.left was is) (λ is fin. fin ≡ after_writing written answer is) (λ was fin. EndsAfterTake fin (bytes_put written answer))
+  last_take_failed : (command : C) (old new : Reader) (line : Line) (first before between after : Seen) (written : Written) (answer : List ℕ) → is_read_fault line ≡ true → ReadFrom line command old new first before between → Writes between after written answer → LastTakeFailed first after (bytes_put written answer)
+  last_take_failed command old new line first before between after written answer fault from writes = record {
+    count = writes.read_faults ∙ (from.reads.takes.read_faults ∙ (ap (λ (f : Bool). counted_takes f before.read_faults) fault ∙ ap raised from.serving.read_faults));
+    place = WhereTold-twice first.talk between.talk after.talk (ReadSoFar machine start command old new line first.left between.left) (λ is fin. fin ≡ after_writing written answer is) (λ was fin. EndsAfterTake fin (bytes_put written answer))
         (λ was is fin read changed.
         let w = wrote written answer is fin changed in
-        (is.put, w.put, w.take_same ∙ (one_take (is_read_fault line) was is fault read.take_is ∙ ap (λ (n : ℕ). Some (let p : Place = record { taken = n; put = length is.put } in p)) (ap (λ (l : List Piece). length l) (sym w.taken))))) (read_seen command old new line first before between serving reads next) writes.talk;
+        (is.put, w.put, w.take_same ∙ (one_take (is_read_fault line) was is fault read.take_is ∙ ap (λ (n : ℕ). Some (let p : Place = record { taken = n; put = length is.put } in p)) (ap (λ (l : List Piece). length l) (sym w.taken))))) (read_seen command old new line first before between from) writes.talk;
   }
 
-  no_put_failed : (command : C) (old new : Reader) (line : Line) (first before between after : Seen) (answer : List ℕ) → IsServing command old first before → ReadsNext (machine.longest command) old new line before between → WhereTold before.left between.left (λ b a. GivesNext (machine.longest command) old new line b a) → Writes between after All answer → NoPutFailed first after
-  no_put_failed command old new line first before between after answer serving reads next writes = record {
-    count = writes.write_faults ∙ (reads.takes.write_faults ∙ serving.write_faults);
-    place = WhereTold-twice first.talk between.talk after.talk (λ was is. ReadSoFar machine start command old new line first.left between.left was is) (λ is fin. fin ≡ after_writing All answer is) (λ was fin. fin.failed_put ≡ was.failed_put)
-        (λ was is fin read changed. (wrote All answer is fin changed).put_is ∙ read.put_same) (read_seen command old new line first before between serving reads next) writes.talk;
+  no_put_failed : (command : C) (old new : Reader) (line : Line) (first before between after : Seen) (answer : List ℕ) → ReadFrom line command old new first before between → Writes between after All answer → NoPutFailed first after
+  no_put_failed command old new line first before between after answer from writes = record {
+    count = writes.write_faults ∙ (from.reads.takes.write_faults ∙ from.serving.write_faults);
+    place = WhereTold-twice first.talk between.talk after.talk (ReadSoFar machine start command old new line first.left between.left) (λ is fin. fin ≡ after_writing All answer is) (λ was fin. fin.failed_put ≡ was.failed_put)
+        (λ was is fin read changed. (wrote All answer is fin changed).put_is ∙ read.put_same) (read_seen command old new line first before between from) writes.talk;
   }
 
-  last_put_failed : (command : C) (old new : Reader) (line : Line) (first before between after : Seen) (count : ℕ) (answer : List ℕ) → IsServing command old first before → ReadsNext (machine.longest command) old new line before between → WhereTold before.left between.left (λ b a. GivesNext (machine.longest command) old new line b a) → Writes between after (Part count) answer → LastPutFailed first after
-  last_put_failed command old new line first before between after count answer serving reads next writes = record {
-    count = writes.write_faults ∙ ap raised (reads.takes.write_faults ∙ serving.write_faults);
-    place = WhereTold-twice first.talk between.talk after.talk (λ was is. ReadSoFar machine start command old new line first.left between.left was is) (λ is fin. fin ≡ after_writing (Part count) answer is) (λ was fin. fin.failed_put ≡ Some (place_of fin))
-        (λ was is fin read changed. (wrote (Part count) answer is fin changed).put_is) (read_seen command old new line first before between serving reads next) writes.talk;
+  last_put_failed : (command : C) (old new : Reader) (line : Line) (first before between after : Seen) (count : ℕ) (answer : List ℕ) → ReadFrom line command old new first before between → Writes between after (Part count) answer → LastPutFailed first after
+  last_put_failed command old new line first before between after count answer from writes = record {
+    count = writes.write_faults ∙ ap raised (from.reads.takes.write_faults ∙ from.serving.write_faults);
+    place = WhereTold-twice first.talk between.talk after.talk (ReadSoFar machine start command old new line first.left between.left) (λ is fin. fin ≡ after_writing (Part count) answer is) (λ was fin. fin.failed_put ≡ Some (place_of fin))
+        (λ was is fin read changed. (wrote (Part count) answer is fin changed).put_is) (read_seen command old new line first before between from) writes.talk;
   }
 
   -- what is ahead of a run, where what is left is told
@@ -317,17 +324,20 @@ module _ {C : Type 0} (machine : Machine C) (start : C) where
     pub all : input ≡ bytes_of pieces ++ behind
 
   -- a run that ends so, by what was put for what was ahead
-  serves_by : (s : Status) (command : C) (old new : Reader) (line : Line) (first before between after : Seen) (written : Written) (answer : List ℕ) → IsServing command old first before → ReadsNext (machine.longest command) old new line before between → WhereTold before.left between.left (λ b a. GivesNext (machine.longest command) old new line b a) → Writes between after written answer → Calls s first after → ((was is : Talk) (input behind : List ℕ) (read : ReadSoFar machine start command old new line first.left between.left was is) → Ahead command old new line read.lines read.pieces input behind → PutsFor machine start s input behind (read.said ++ bytes_put written answer) read.pieces) → Serves machine start s first after
-  serves_by s command old new line first before between after written answer serving reads next writes calls puts = record {
+  serves_by : (s : Status) (command : C) (old new : Reader) (line : Line) (first before between after : Seen) (written : Written) (answer : List ℕ) →
+      ReadFrom line command old new first before between → Writes between after written answer → Calls s first after →
+      ((was is : Talk) (input behind : List ℕ) (read : ReadSoFar machine start command old new line first.left between.left was is) → Ahead command old new line read.lines read.pieces input behind → PutsFor machine start s input behind (read.said ++ bytes_put written answer) read.pieces) →
+      Serves machine start s first after
+  serves_by s command old new line first before between after written answer from writes calls puts = record {
     calls = calls;
-    prompt = WhereTold-twice first.talk between.talk after.talk (λ was is. ReadSoFar machine start command old new line first.left between.left was is) (λ is fin. fin ≡ after_writing written answer is) (λ was fin. IsPrompt machine start was fin)
-        (λ was is fin read changed. is_prompt command old new line first.left between.left was is fin written answer read (wrote written answer is fin changed)) (read_seen command old new line first before between serving reads next) writes.talk;
-    puts = WhereTold-twice first.talk between.talk after.talk (λ was is. ReadSoFar machine start command old new line first.left between.left was is) (λ is fin. fin ≡ after_writing written answer is) (λ was fin. WhereTold first.left after.left (λ input behind. Puts machine start s was fin input behind))
-        (λ was is fin read changed. subst (λ (l : Option (List ℕ)). WhereTold first.left l (λ input behind. Puts machine start s was fin input behind)) (sym writes.left)
-        (WhereTold-so first.left between.left (λ input behind. ((b : List ℕ) × (input_lines input ≡ read.lines ++ input_lines (remaining old b)) × GivesFirst (machine.longest command) old new line b behind) × (input ≡ bytes_of read.pieces ++ behind)) (λ input behind. Puts machine start s was fin input behind)
+    prompt = WhereTold-twice first.talk between.talk after.talk (ReadSoFar machine start command old new line first.left between.left) (λ is fin. fin ≡ after_writing written answer is) (IsPrompt machine start)
+        (λ was is fin read changed. is_prompt command old new line first.left between.left was is fin written answer read (wrote written answer is fin changed)) (read_seen command old new line first before between from) writes.talk;
+    puts = WhereTold-twice first.talk between.talk after.talk (ReadSoFar machine start command old new line first.left between.left) (λ is fin. fin ≡ after_writing written answer is) (λ was fin. WhereTold first.left after.left (Puts machine start s was fin))
+        (λ was is fin read changed. subst (λ (l : Option (List ℕ)). WhereTold first.left l (Puts machine start s was fin)) (sym writes.left)
+        (WhereTold-so first.left between.left (λ input behind. ((b : List ℕ) × (input_lines input ≡ read.lines ++ input_lines (remaining old b)) × GivesFirst (machine.longest command) old new line b behind) × (input ≡ bytes_of read.pieces ++ behind)) (Puts machine start s was fin)
         (λ input behind told. puts_are s command old new line first.left between.left was is fin written answer input behind read (wrote written answer is fin changed) (puts was is input behind read (record { before = told.0.0; divided = told.0.1; gives = told.0.2; all = told.1 })))
-        (told_left first.left between.left (bytes_of read.pieces) (λ input rest. (b : List ℕ) × (input_lines input ≡ read.lines ++ input_lines (remaining old b)) × GivesFirst (machine.longest command) old new line b rest) read.left read.ahead))) (read_seen command old new line first before between serving reads next) writes.talk;
-    told = ap (λ (l : Option (List ℕ)). is_some l) writes.left ∙ (still_told before.left between.left (concat reads.pieces) reads.takes.left ∙ serving.told);
+        (told_left first.left between.left (bytes_of read.pieces) (λ input rest. (b : List ℕ) × (input_lines input ≡ read.lines ++ input_lines (remaining old b)) × GivesFirst (machine.longest command) old new line b rest) read.left read.ahead))) (read_seen command old new line first before between from) writes.talk;
+    told = ap (λ (l : Option (List ℕ)). is_some l) writes.left ∙ (still_told before.left between.left (concat from.reads.pieces) from.reads.takes.left ∙ from.serving.told);
   }
 
   -- a reply that ends a run, where no take failed, is the end of the command
@@ -344,12 +354,14 @@ module _ {C : Type 0} (machine : Machine C) (start : C) where
   same_end (onward.Ends other) end is = cc is
 
   -- the command ended the run
-  ends_whole : (end : End) (command : C) (old new : Reader) (line : Line) (first before between after : Seen) (answer : List ℕ) (reply : Turn C) → is_read_fault line ≡ false → IsServing command old first before → ReadsNext (machine.longest command) old new line before between → WhereTold before.left between.left (λ b a. GivesNext (machine.longest command) old new line b a) → Writes between after All answer → ReplyTo machine command line new answer reply → Ends (status.Ended end) ≡ reply → Serves machine start (status.Ended end) first after
-  ends_whole end command old new line first before between after answer reply fault serving reads next writes replies is =
-      serves_by (status.Ended end) command old new line first before between after All answer serving reads next writes
-      (no_take_failed command old new line first before between after All answer fault serving reads next writes, no_put_failed command old new line first before between after answer serving reads next writes)
+  ends_whole : (end : End) (command : C) (old new : Reader) (line : Line) (first before between after : Seen) (answer : List ℕ) (reply : Turn C) → is_read_fault line ≡ false →
+      ReadFrom line command old new first before between → Writes between after All answer → ReplyTo machine command line new answer reply → Ends (status.Ended end) ≡ reply →
+      Serves machine start (status.Ended end) first after
+  ends_whole end command old new line first before between after answer reply fault from writes replies is =
+      serves_by (status.Ended end) command old new line first before between after All answer from writes
+      (no_take_failed command old new line first before between after All answer fault from writes, no_put_failed command old new line first before between after answer from writes)
       (λ was it input behind read ahead.
-      let one = proper line command old new ahead.before behind answer reply fault reads.number ahead.gives replies in
+      let one = proper line command old new ahead.before behind answer reply fault from.reads.number ahead.gives replies in
       let how = same_end one.how end (is ∙ one.is) in
       record {
         first = read.lines;
@@ -364,12 +376,12 @@ module _ {C : Type 0} (machine : Machine C) (start : C) where
       })
 
   -- a put failed, at the reply of the command
-  breaks_at_put : (command : C) (old new : Reader) (line : Line) (first before between after : Seen) (count : ℕ) (answer : List ℕ) (reply : Turn C) → is_read_fault line ≡ false → IsServing command old first before → ReadsNext (machine.longest command) old new line before between → WhereTold before.left between.left (λ b a. GivesNext (machine.longest command) old new line b a) → Writes between after (Part count) answer → ReplyTo machine command line new answer reply → Serves machine start status.WriteFault first after
-  breaks_at_put command old new line first before between after count answer reply fault serving reads next writes replies =
-      serves_by status.WriteFault command old new line first before between after (Part count) answer serving reads next writes
-      (inl (no_take_failed command old new line first before between after (Part count) answer fault serving reads next writes), last_put_failed command old new line first before between after count answer serving reads next writes)
+  breaks_at_put : (command : C) (old new : Reader) (line : Line) (first before between after : Seen) (count : ℕ) (answer : List ℕ) (reply : Turn C) → is_read_fault line ≡ false → ReadFrom line command old new first before between → Writes between after (Part count) answer → ReplyTo machine command line new answer reply → Serves machine start status.WriteFault first after
+  breaks_at_put command old new line first before between after count answer reply fault from writes replies =
+      serves_by status.WriteFault command old new line first before between after (Part count) answer from writes
+      (inl (no_take_failed command old new line first before between after (Part count) answer fault from writes), last_put_failed command old new line first before between after count answer from writes)
       (λ was it input behind read ahead.
-      let one = proper line command old new ahead.before behind answer reply fault reads.number ahead.gives replies in
+      let one = proper line command old new ahead.before behind answer reply fault from.reads.number ahead.gives replies in
       inl (record {
         first = read.lines;
         rest = input_lines (remaining old ahead.before);
@@ -386,18 +398,18 @@ module _ {C : Type 0} (machine : Machine C) (start : C) where
       }))
 
   -- a take failed
-  breaks_at_take : (command : C) (old new : Reader) (first before between after : Seen) → IsServing command old first before → ReadsNext (machine.longest command) old new ReadFault before between → WhereTold before.left between.left (λ b a. GivesNext (machine.longest command) old new ReadFault b a) → Writes between after All read_fault_line → Serves machine start status.ReadFault first after
-  breaks_at_take command old new first before between after serving reads next writes =
-      serves_by status.ReadFault command old new ReadFault first before between after All read_fault_line serving reads next writes
-      (last_take_failed command old new ReadFault first before between after All read_fault_line refl serving reads next writes, no_put_failed command old new ReadFault first before between after read_fault_line serving reads next writes)
+  breaks_at_take : (command : C) (old new : Reader) (first before between after : Seen) → ReadFrom ReadFault command old new first before between → Writes between after All read_fault_line → Serves machine start status.ReadFault first after
+  breaks_at_take command old new first before between after from writes =
+      serves_by status.ReadFault command old new ReadFault first before between after All read_fault_line from writes
+      (last_take_failed command old new ReadFault first before between after All read_fault_line refl from writes, no_put_failed command old new ReadFault first before between after read_fault_line from writes)
       (λ was it input behind read ahead. record { taken = bytes_of read.pieces; said = read.said; all_taken = ahead.all; answered = read.cut_off refl; all = refl })
 
   -- a take failed, and then a put
-  breaks_at_both : (command : C) (old new : Reader) (first before between after : Seen) (count : ℕ) → IsServing command old first before → ReadsNext (machine.longest command) old new ReadFault before between → WhereTold before.left between.left (λ b a. GivesNext (machine.longest command) old new ReadFault b a) → Writes between after (Part count) read_fault_line → Serves machine start status.WriteFault first after
-  breaks_at_both command old new first before between after count serving reads next writes =
+  breaks_at_both : (command : C) (old new : Reader) (first before between after : Seen) (count : ℕ) → ReadFrom ReadFault command old new first before between → Writes between after (Part count) read_fault_line → Serves machine start status.WriteFault first after
+  breaks_at_both command old new first before between after count from writes =
       let part = part_is count read_fault_line writes.part in
-      serves_by status.WriteFault command old new ReadFault first before between after (Part count) read_fault_line serving reads next writes
-      (inr (take count read_fault_line, part, last_take_failed command old new ReadFault first before between after (Part count) read_fault_line refl serving reads next writes), last_put_failed command old new ReadFault first before between after count read_fault_line serving reads next writes)
+      serves_by status.WriteFault command old new ReadFault first before between after (Part count) read_fault_line from writes
+      (inr (take count read_fault_line, part, last_take_failed command old new ReadFault first before between after (Part count) read_fault_line refl from writes), last_put_failed command old new ReadFault first before between after count read_fault_line from writes)
       (λ was it input behind read ahead. inr (take count read_fault_line, part, record { taken = bytes_of read.pieces; said = read.said; all_taken = ahead.all; answered = read.cut_off refl; all = refl }))
 
   -- there was no memory at a line
@@ -410,13 +422,15 @@ module _ {C : Type 0} (machine : Machine C) (start : C) where
     write_faults = refl;
   }
 
-  in_time_pieces : (put : List ℕ) (lines : List InputLine) (said : List ℕ) (pieces : List Piece) → ((seen later : List Piece) (piece : Piece) → pieces ≡ seen ++ piece ∷ later → InTime machine start put lines said seen piece) → (seen later : List Piece) (piece : Piece) → pieces ≡ seen ++ piece ∷ later → (more : List InputLine) × (lines ≡ map whole_line (whole_lines (bytes_of seen)) ++ more)
+  in_time_pieces : (put : List ℕ) (lines : List InputLine) (said : List ℕ) (pieces : List Piece) →
+      ((seen later : List Piece) (piece : Piece) → pieces ≡ seen ++ piece ∷ later → InTime machine start put lines said seen piece) → (seen later : List Piece) (piece : Piece) →
+      pieces ≡ seen ++ piece ∷ later → (more : List InputLine) × (lines ≡ map whole_line (whole_lines (bytes_of seen)) ++ more)
   in_time_pieces put lines said pieces in_time seen later piece split = let one = in_time seen later piece split in (one.others, one.lines_are)
 
-  wants : (command : C) (old new : Reader) (first before between : Seen) → IsServing command old first before → ReadsNext (machine.longest command) old new Text before between → WhereTold before.left between.left (λ b a. GivesNext (machine.longest command) old new Text b a) → machine.may_want command → Serves machine start status.NoMemory first between
-  wants command old new first before between serving reads next may_want =
-      serves_by status.NoMemory command old new Text first before between between All [] serving reads next (nothing_writes between)
-      (no_take_failed command old new Text first before between between All [] refl serving reads next (nothing_writes between), no_put_failed command old new Text first before between between [] serving reads next (nothing_writes between))
+  wants : (command : C) (old new : Reader) (first before between : Seen) → ReadFrom Text command old new first before between → machine.may_want command → Serves machine start status.NoMemory first between
+  wants command old new first before between from may_want =
+      serves_by status.NoMemory command old new Text first before between between All [] from (nothing_writes between)
+      (no_take_failed command old new Text first before between between All [] refl from (nothing_writes between), no_put_failed command old new Text first before between between [] from (nothing_writes between))
       (λ was it input behind read ahead. inl (record {
         first = read.lines;
         line = ahead.gives.0;
@@ -429,48 +443,50 @@ module _ {C : Type 0} (machine : Machine C) (start : C) where
         not_whole = in_time_pieces was.put read.lines read.said read.pieces read.in_time;
       }))
 
-  wanted_by : (line : Line) (command : C) (old new : Reader) (first before between : Seen) → line ≡ Text → IsServing command old first before → ReadsNext (machine.longest command) old new line before between → WhereTold before.left between.left (λ b a. GivesNext (machine.longest command) old new line b a) → machine.may_want command → Serves machine start status.NoMemory first between
-  wanted_by Text command old new first before between is serving reads next may_want = wants command old new first before between serving reads next may_want
-  wanted_by NoLine command old new first before between is serving reads next may_want = absurd (cc is)
-  wanted_by (TooLong n) command old new first before between is serving reads next may_want = absurd (cc is)
-  wanted_by (TooMuch n) command old new first before between is serving reads next may_want = absurd (cc is)
-  wanted_by ReadFault command old new first before between is serving reads next may_want = absurd (cc is)
-  wanted_by OutOfMemory command old new first before between is serving reads next may_want = absurd (cc is)
+  wanted_by : (line : Line) (command : C) (old new : Reader) (first before between : Seen) → line ≡ Text → ReadFrom line command old new first before between → machine.may_want command → Serves machine start status.NoMemory first between
+  wanted_by Text command old new first before between is from may_want = wants command old new first before between from may_want
+  wanted_by NoLine command old new first before between is from may_want = absurd (cc is)
+  wanted_by (TooLong n) command old new first before between is from may_want = absurd (cc is)
+  wanted_by (TooMuch n) command old new first before between is from may_want = absurd (cc is)
+  wanted_by ReadFault command old new first before between is from may_want = absurd (cc is)
+  wanted_by OutOfMemory command old new first before between is from may_want = absurd (cc is)
 
-  answered : (line : Line) (written : Written) (s : Status) (command : C) (old new : Reader) (first before between after : Seen) (answer : List ℕ) (reply : Turn C) → is_read_fault line ≡ false → IsServing command old first before → ReadsNext (machine.longest command) old new line before between → WhereTold before.left between.left (λ b a. GivesNext (machine.longest command) old new line b a) → Writes between after written answer → ReplyTo machine command line new answer reply → Ends s ≡ after_written written reply → Serves machine start s first after
-  answered line All s command old new first before between after answer reply fault serving reads next writes replies is =
+  answered : (line : Line) (written : Written) (s : Status) (command : C) (old new : Reader) (first before between after : Seen) (answer : List ℕ) (reply : Turn C) → is_read_fault line ≡ false →
+      ReadFrom line command old new first before between → Writes between after written answer → ReplyTo machine command line new answer reply → Ends s ≡ after_written written reply →
+      Serves machine start s first after
+  answered line All s command old new first before between after answer reply fault from writes replies is =
       let end = ended_reply line command new answer reply s fault replies is in
       let same : Ends (status.Ended end.0) ≡ reply = ap (λ (t : Status). let turn : Turn C = Ends t in turn) (sym end.1) ∙ is in
-      subst (λ (t : Status). Serves machine start t first after) (sym end.1) (ends_whole end.0 command old new line first before between after answer reply fault serving reads next writes replies same)
-  answered line (Part count) s command old new first before between after answer reply fault serving reads next writes replies is =
+      subst (λ (t : Status). Serves machine start t first after) (sym end.1) (ends_whole end.0 command old new line first before between after answer reply fault from writes replies same)
+  answered line (Part count) s command old new first before between after answer reply fault from writes replies is =
       let same : status.WriteFault ≡ s = cc is in
-      subst (λ (t : Status). Serves machine start t first after) same (breaks_at_put command old new line first before between after count answer reply fault serving reads next writes replies)
+      subst (λ (t : Status). Serves machine start t first after) same (breaks_at_put command old new line first before between after count answer reply fault from writes replies)
 
   -- the last turn, by what the reader answered and what was put
-  ends_by : (line : Line) (written : Written) (s : Status) (command : C) (old new : Reader) (first before between after : Seen) (answer : List ℕ) (reply : Turn C) → IsServing command old first before → ReadsNext (machine.longest command) old new line before between → WhereTold before.left between.left (λ b a. GivesNext (machine.longest command) old new line b a) → Writes between after written answer → ReplyTo machine command line new answer reply → Ends s ≡ after_written written reply → Serves machine start s first after
-  ends_by ReadFault All s command old new first before between after answer reply serving reads next writes replies is =
+  ends_by : (line : Line) (written : Written) (s : Status) (command : C) (old new : Reader) (first before between after : Seen) (answer : List ℕ) (reply : Turn C) → ReadFrom line command old new first before between → Writes between after written answer → ReplyTo machine command line new answer reply → Ends s ≡ after_written written reply → Serves machine start s first after
+  ends_by ReadFault All s command old new first before between after answer reply from writes replies is =
       let same : status.ReadFault ≡ s = cc (is, replies.1) in
-      subst (λ (t : Status). Serves machine start t first after) same (breaks_at_take command old new first before between after serving reads next (subst (λ (a : List ℕ). Writes between after All a) replies.0 writes))
-  ends_by ReadFault (Part count) s command old new first before between after answer reply serving reads next writes replies is =
+      subst (λ (t : Status). Serves machine start t first after) same (breaks_at_take command old new first before between after from (subst (λ (a : List ℕ). Writes between after All a) replies.0 writes))
+  ends_by ReadFault (Part count) s command old new first before between after answer reply from writes replies is =
       let same : status.WriteFault ≡ s = cc is in
-      subst (λ (t : Status). Serves machine start t first after) same (breaks_at_both command old new first before between after count serving reads next (subst (λ (a : List ℕ). Writes between after (Part count) a) replies.0 writes))
-  ends_by OutOfMemory written s command old new first before between after answer reply serving reads next writes replies is = absurd replies
-  ends_by Text written s command old new first before between after answer reply serving reads next writes replies is = answered Text written s command old new first before between after answer reply refl serving reads next writes replies is
-  ends_by NoLine written s command old new first before between after answer reply serving reads next writes replies is = answered NoLine written s command old new first before between after answer reply refl serving reads next writes replies is
-  ends_by (TooLong n) written s command old new first before between after answer reply serving reads next writes replies is = answered (TooLong n) written s command old new first before between after answer reply refl serving reads next writes replies is
-  ends_by (TooMuch n) written s command old new first before between after answer reply serving reads next writes replies is = answered (TooMuch n) written s command old new first before between after answer reply refl serving reads next writes replies is
+      subst (λ (t : Status). Serves machine start t first after) same (breaks_at_both command old new first before between after count from (subst (λ (a : List ℕ). Writes between after (Part count) a) replies.0 writes))
+  ends_by OutOfMemory written s command old new first before between after answer reply from writes replies is = absurd replies
+  ends_by Text written s command old new first before between after answer reply from writes replies is = answered Text written s command old new first before between after answer reply refl from writes replies is
+  ends_by NoLine written s command old new first before between after answer reply from writes replies is = answered NoLine written s command old new first before between after answer reply refl from writes replies is
+  ends_by (TooLong n) written s command old new first before between after answer reply from writes replies is = answered (TooLong n) written s command old new first before between after answer reply refl from writes replies is
+  ends_by (TooMuch n) written s command old new first before between after answer reply from writes replies is = answered (TooMuch n) written s command old new first before between after answer reply refl from writes replies is
 
-  ends_wanted : (line : Line) (s : Status) (command : C) (old new : Reader) (first before between after : Seen) → IsServing command old first before → ReadsNext (machine.longest command) old new line before between → WhereTold before.left between.left (λ b a. GivesNext (machine.longest command) old new line b a) → WantedMemory machine command line (Ends s) between after → Serves machine start s first after
-  ends_wanted line s command old new first before between after serving reads next wanted =
+  ends_wanted : (line : Line) (s : Status) (command : C) (old new : Reader) (first before between after : Seen) → ReadFrom line command old new first before between → WantedMemory machine command line (Ends s) between after → Serves machine start s first after
+  ends_wanted line s command old new first before between after from wanted =
       let same : status.NoMemory ≡ s = cc (wanted.ends) in
       subst (λ (t : Status). Serves machine start t first after) same (subst (λ (a : Seen). Serves machine start status.NoMemory first a) (sym wanted.same)
-      (wanted_by line command old new first before between wanted.text serving reads next wanted.may_want))
+      (wanted_by line command old new first before between wanted.text from wanted.may_want))
 
   ends_puts : (s : Status) (command : C) (old new : Reader) (first before after : Seen) (turn : OneTurn machine command old new (Ends s) before after) → WantedMemory machine command turn.line (Ends s) turn.between after ⊎ Replied machine command turn.line new (Ends s) turn.between after → IsServing command old first before → Serves machine start s first after
   ends_puts s command old new first before after turn (inl wanted) serving =
-      ends_wanted turn.line s command old new first before turn.between after serving turn.reads turn.next wanted
+      ends_wanted turn.line s command old new first before turn.between after (record { serving = serving; reads = turn.reads; next = turn.next }) wanted
   ends_puts s command old new first before after turn (inr replied) serving =
-      ends_by turn.line replied.written s command old new first before turn.between after replied.answer replied.reply serving turn.reads turn.next replied.writes replied.replies replied.goes
+      ends_by turn.line replied.written s command old new first before turn.between after replied.answer replied.reply (record { serving = serving; reads = turn.reads; next = turn.next }) replied.writes replied.replies replied.goes
 
   -- the last turn of a run
   pub serving_ends : (s : Status) (command : C) (old new : Reader) (first before after : Seen) → IsServing command old first before → OneTurn machine command old new (Ends s) before after → Serves machine start s first after
@@ -480,7 +496,7 @@ module _ {C : Type 0} (machine : Machine C) (start : C) where
   pub nothing_served : (now : Seen) → Serves machine start status.NoMemory now now
   nothing_served now = record {
     calls = (record { count = refl; place = WhereTold-same now.talk (λ was is. is.failed_take ≡ was.failed_take) (λ t. refl) }, record { count = refl; place = WhereTold-same now.talk (λ was is. is.failed_put ≡ was.failed_put) (λ t. refl) });
-    prompt = WhereTold-same now.talk (λ was is. IsPrompt machine start was is) (λ t. record { pieces = []; taken = sym (append-nil t.taken); promptly = λ seen later piece split. no_piece seen later piece (IsTakenPromptly machine start t t seen piece) split });
+    prompt = WhereTold-same now.talk (IsPrompt machine start) (λ t. record { pieces = []; taken = sym (append-nil t.taken); promptly = λ seen later piece split. no_piece seen later piece (IsTakenPromptly machine start t t seen piece) split });
     puts = WhereTold-same now.talk (λ was is. WhereTold now.left now.left (λ input behind. Puts machine start status.NoMemory was is input behind)) (λ t. WhereTold-same now.left (λ input behind. Puts machine start status.NoMemory t t input behind) (λ input. record { pieces = []; put = []; taken = sym (append-nil t.taken); all = sym (append-nil t.put); puts = inr (refl, refl) }));
     told = refl;
   }

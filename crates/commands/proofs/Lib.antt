@@ -7,3 +7,4 @@ pub mod PhaseLemmas
 pub mod TakenLemmas
 pub mod TurnLemmas
 pub mod EndLemmas
+pub mod FrontLemmas

@@ -7,7 +7,8 @@ use Rattle.commands.specs.Machine.{Machine}
 use Rattle.commands.specs.Runs.{Here, begins, after_line, Stops, RepliesTo, Replies, Answers, Run}
 use Rattle.commands.specs.Breaks.{BreaksForMemory}
 use Rattle.commands.specs.Reading.{Reader, Refusing, Outcome, Given, Faulty, outcome_by, reading}
-use Rattle.commands.specs.Phases.{wrapped, WantsNone, RepliesToStep, planned_machine, FollowsOutcome}
+use Rattle.commands.specs.Single.{IsSingle, IsSingleAnswer}
+use Rattle.commands.specs.Phases.{Within, wrapped, WantsNone, RepliesToStep, planned_machine, FollowsOutcome}
 use Rattle.commands.specs.declared.endings.End.{End}
 use Rattle.commands.specs.declared.machines.Onward.{Onward}
 use Rattle.commands.specs.declared.machines.Onward.TheVariants as run
@@ -26,6 +27,12 @@ wrapped_ends wrap (run.Ends other) end is = cc is
 pub wrapped_goes : {C D : Type 0} (wrap : C → D) (inner : Onward C) (state : D) → run.Goes state ≡ wrapped wrap inner → (it : C) × (inner ≡ run.Goes it) × (state ≡ wrap it)
 wrapped_goes wrap (run.Goes it) state is = (it, refl, cc is)
 wrapped_goes wrap (run.Ends other) state is = absurd (cc is)
+
+-- a reply within another is single where the inner one is
+pub within_same : {C D : Type 0} (wrap : C → D) (Inner : List ℕ → Onward C → Type 0) → ((a b : List ℕ) (x y : Onward C) → Inner a x → Inner b y → (a ≡ b) × (x ≡ y)) →
+    (a b : List ℕ) (x y : Onward D) → Within wrap Inner a x → Within wrap Inner b y → (a ≡ b) × (x ≡ y)
+within_same wrap Inner single a b x y one other =
+    let same = single a b one.0 other.0 one.1 other.1 in (same.0, one.2 ∙ ap (wrapped wrap) same.1 ∙ sym other.2)
 
 module _ {B S V F P : Type 0} (begin : B → V → List ℕ → Onward P → Type 0) (reader : Reader S V F) (refusing : Refusing F) (phase : Machine P) where
   abbrev machine : Machine (Planned B S P)
@@ -106,12 +113,15 @@ module _ {B S V F P : Type 0} (begin : B → V → List ℕ → Onward P → Typ
     pub reads : (lines : List InputLine) (others : S → Outcome V F) → outcome_by reader (coming (reader.longest here.state) here.room line) (reader.reads here.state (here.number + 1) line.text) here line lines others ≡ Given value (here.number + 1) (here.room - line_size line) lines
 
   -- what a line that comes and brings this makes of a reading
-  outcome_is : (here : Here S) (line : InputLine) (step : Step S V F) → coming (reader.longest here.state) here.room line ≡ Comes → reader.reads here.state (here.number + 1) line.text ≡ step → (lines : List InputLine) (others : S → Outcome V F) → outcome_by reader (coming (reader.longest here.state) here.room line) (reader.reads here.state (here.number + 1) line.text) here line lines others ≡ outcome_by reader Comes step here line lines others
+  outcome_is : (here : Here S) (line : InputLine) (step : Step S V F) → coming (reader.longest here.state) here.room line ≡ Comes → reader.reads here.state (here.number + 1) line.text ≡ step →
+      (lines : List InputLine) (others : S → Outcome V F) → outcome_by reader (coming (reader.longest here.state) here.room line) (reader.reads here.state (here.number + 1) line.text) here line lines others ≡ outcome_by reader Comes step here line lines others
   outcome_is here line step comes reads lines others =
       subst (λ (how : Coming). outcome_by reader how (reader.reads here.state (here.number + 1) line.text) here line lines others ≡ outcome_by reader Comes step here line lines others) (sym comes)
       (subst (λ (one : Step S V F). outcome_by reader Comes one here line lines others ≡ outcome_by reader Comes step here line lines others) (sym reads) refl)
 
-  goes_by_step : (step : Step S V F) (start : B) (here : Here S) (line : InputLine) (answer : List ℕ) (state : Planned B S P) → coming (reader.longest here.state) here.room line ≡ Comes → reader.reads here.state (here.number + 1) line.text ≡ step → RepliesToStep begin reader refusing phase start step answer (run.Goes state) → ReadsOn start here line answer state ⊎ BeginsPhase start here line answer state
+  goes_by_step : (step : Step S V F) (start : B) (here : Here S) (line : InputLine) (answer : List ℕ) (state : Planned B S P) → coming (reader.longest here.state) here.room line ≡ Comes →
+      reader.reads here.state (here.number + 1) line.text ≡ step → RepliesToStep begin reader refusing phase start step answer (run.Goes state) →
+      ReadsOn start here line answer state ⊎ BeginsPhase start here line answer state
   goes_by_step (Goes text) start here line answer state comes reads replies =
       inl (record { text = text; nothing = replies.0; so = cc (replies.1); reads = outcome_is here line (Goes text) comes reads })
   goes_by_step (Gives value) start here line answer state comes reads replies =
@@ -127,7 +137,10 @@ module _ {B S V F P : Type 0} (begin : B → V → List ℕ → Onward P → Typ
   goes : (start : B) (here : Here S) (line : InputLine) (rest : List InputLine) (answer : List ℕ) (state : Planned B S P) → Replies machine (at_text start here) (line ∷ rest) answer (run.Goes state) → ReadsOn start here line answer state ⊎ BeginsPhase start here line answer state
   goes start here line rest answer state replies = goes_by (coming (reader.longest here.state) here.room line) start here line answer state refl replies
 
-  runs_by : (start : B) (here : Here S) (line : InputLine) (first rest : List InputLine) (said last : List ℕ) (there : Here (Planned B S P)) (end : End) (so_far : Answers machine (at_text start here) (line ∷ first) said there) → Replies machine there rest last (run.Ends end) → ReadsOn start here line so_far.0 so_far.2 ⊎ BeginsPhase start here line so_far.0 so_far.2 → ((text : S) → Answers machine (at_text start (after_line here line text)) first so_far.1 there → Follows start (reading reader (after_line here line text) (first ++ rest)) (so_far.1 ++ last) end) → Follows start (reading reader here ((line ∷ first) ++ rest)) (said ++ last) end
+  runs_by : (start : B) (here : Here S) (line : InputLine) (first rest : List InputLine) (said last : List ℕ) (there : Here (Planned B S P)) (end : End) (so_far : Answers machine (at_text start here) (line ∷ first) said there) →
+      Replies machine there rest last (run.Ends end) → ReadsOn start here line so_far.0 so_far.2 ⊎ BeginsPhase start here line so_far.0 so_far.2 →
+      ((text : S) → Answers machine (at_text start (after_line here line text)) first so_far.1 there → Follows start (reading reader (after_line here line text) (first ++ rest)) (so_far.1 ++ last) end) →
+      Follows start (reading reader here ((line ∷ first) ++ rest)) (said ++ last) end
   runs_by start here line first rest said last there end so_far replies (inl on) later =
       let next = after_line here line on.text in
       let follows = later on.text (subst (λ (s : Planned B S P). Answers machine (after_line (at_text start here) line s) first so_far.1 there) on.so so_far.5) in
@@ -157,7 +170,9 @@ module _ {B S V F P : Type 0} (begin : B → V → List ℕ → Onward P → Typ
       (runs_on start here one.first one.rest one.said one.last one.there end one.answers one.ends))
 
   -- while memory may be wanted nothing is said, where the phase wants none
-  quiet_by : (start : B) (here : Here S) (line : InputLine) (first : List InputLine) (said : List ℕ) (there : Here (Planned B S P)) → WantsNone phase → machine.may_want there.state → (so_far : Answers machine (at_text start here) (line ∷ first) said there) → ReadsOn start here line so_far.0 so_far.2 ⊎ BeginsPhase start here line so_far.0 so_far.2 → ((text : S) → Answers machine (at_text start (after_line here line text)) first so_far.1 there → so_far.1 ≡ []) → said ≡ []
+  quiet_by : (start : B) (here : Here S) (line : InputLine) (first : List InputLine) (said : List ℕ) (there : Here (Planned B S P)) → WantsNone phase → machine.may_want there.state →
+      (so_far : Answers machine (at_text start here) (line ∷ first) said there) → ReadsOn start here line so_far.0 so_far.2 ⊎ BeginsPhase start here line so_far.0 so_far.2 →
+      ((text : S) → Answers machine (at_text start (after_line here line text)) first so_far.1 there → so_far.1 ≡ []) → said ≡ []
   quiet_by start here line first said there none wants so_far (inl on) later =
       let nothing : so_far.1 ≡ [] = later on.text (subst (λ (s : Planned B S P). Answers machine (after_line (at_text start here) line s) first so_far.1 there) on.so so_far.5) in
       so_far.4 ∙ ap (λ (s : List ℕ). s ++ so_far.1) on.nothing ∙ nothing
@@ -176,3 +191,23 @@ module _ {B S V F P : Type 0} (begin : B → V → List ℕ → Onward P → Typ
   pub wants_while_reading : WantsNone phase → (start : B) (text : S) (input behind put : List ℕ) (pieces : List Piece) → BreaksForMemory machine (Reading start text) input behind put pieces → put ≡ []
   wants_while_reading none start text input behind put pieces (inl wants) = quiet start (begins text) wants.first put wants.there none wants.may_want wants.answers
   wants_while_reading none start text input behind put pieces (inr nothing) = nothing.1
+
+  -- at most one reply
+  takes_same : (start : B) (step : Step S V F) (a b : List ℕ) (x y : Onward (Planned B S P)) → IsSingleAnswer begin → RepliesToStep begin reader refusing phase start step a x → RepliesToStep begin reader refusing phase start step b y → (a ≡ b) × (x ≡ y)
+  takes_same start (Goes text) a b x y single one other = (cc, cc)
+  takes_same start (Gives value) a b x y single one other = within_same Serving (begin start value) (single start value) a b x y one other
+  takes_same start (Refused fault) a b x y single one other = (cc, cc)
+
+  state_takes_same : (state : Planned B S P) (number : ℕ) (line a b : List ℕ) (x y : Onward (Planned B S P)) → IsSingleAnswer begin → IsSingle phase → machine.takes state number line a x → machine.takes state number line b y → (a ≡ b) × (x ≡ y)
+  state_takes_same (Reading start text) number line a b x y begins single one other = takes_same start (reader.reads text number line) a b x y begins one other
+  state_takes_same (Serving state) number line a b x y begins single one other = within_same Serving (phase.takes state number line) (single.takes state number line) a b x y one other
+
+  state_stops_same : (state : Planned B S P) (number : ℕ) (stop : Stop) (a b : List ℕ) (x y : End) → IsSingle phase → machine.stops state number stop a x → machine.stops state number stop b y → (a ≡ b) × (x ≡ y)
+  state_stops_same (Reading start text) number stop a b x y single one other = (one.0 ∙ sym other.0, one.1 ∙ sym other.1)
+  state_stops_same (Serving state) number stop a b x y single one other = single.stops state number stop a b x y one other
+
+  pub planned_single : IsSingleAnswer begin → IsSingle phase → IsSingle machine
+  planned_single begins single = record {
+    takes = λ state number line a b x y one other. state_takes_same state number line a b x y begins single one other;
+    stops = λ state number stop a b x y one other. state_stops_same state number stop a b x y single one other;
+  }

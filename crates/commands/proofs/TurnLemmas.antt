@@ -126,7 +126,9 @@ module _ {C : Type 0} (machine : Machine C) (start : C) where
           absurd (omega (arith, nothing, within))
 
   -- bytes that decide nothing after whole lines that were answered
-  undecided_after : (command : C) (reader : Reader) (lines : List InputLine) (said given bytes : List ℕ) → Answers machine (begins start) lines said (here_at command reader) → unfinished given ≡ [] → map whole_line (whole_lines given) ≡ lines → DecideNothing (machine.longest command) (room reader) bytes → (Answered machine start (given ++ bytes) said) × (map whole_line (whole_lines (given ++ bytes)) ≡ lines)
+  undecided_after : (command : C) (reader : Reader) (lines : List InputLine) (said given bytes : List ℕ) → Answers machine (begins start) lines said (here_at command reader) → unfinished given ≡ [] →
+      map whole_line (whole_lines given) ≡ lines → DecideNothing (machine.longest command) (room reader) bytes →
+      (Answered machine start (given ++ bytes) said) × (map whole_line (whole_lines (given ++ bytes)) ≡ lines)
   undecided_after command reader lines said given bytes answers closed whole nothing =
       let lines_are : whole_lines (given ++ bytes) ≡ whole_lines given = whole_lines-closed given bytes closed ∙ (ap (λ (l : List (List ℕ)). whole_lines given ++ l) nothing.no_line ∙ append-nil (whole_lines given)) in
       let all : map whole_line (whole_lines (given ++ bytes)) ≡ lines = ap (λ (l : List (List ℕ)). map whole_line l) lines_are ∙ whole in (
@@ -139,7 +141,8 @@ module _ {C : Type 0} (machine : Machine C) (start : C) where
       )
 
   -- the pieces of a turn were taken in time
-  new_in_time : (command : C) (old full : Reader) (taken : List (List ℕ)) (failed : Bool) (before after : Seen) (left_first left_now : Option (List ℕ)) (was is : Talk) (so_far : SoFar command old left_first left_now was is) → Takes (machine.longest command) old full taken failed before after → AreInTime was.put so_far.lines so_far.said (so_far.pieces ++ map (piece_at (length is.put)) taken)
+  new_in_time : (command : C) (old full : Reader) (taken : List (List ℕ)) (failed : Bool) (before after : Seen) (left_first left_now : Option (List ℕ)) (was is : Talk) (so_far : SoFar command old left_first left_now was is) →
+      Takes (machine.longest command) old full taken failed before after → AreInTime was.put so_far.lines so_far.said (so_far.pieces ++ map (piece_at (length is.put)) taken)
   new_in_time command old full taken failed before after left_first left_now was is so_far takes = λ seen later piece split.
       by_place seen later piece (split_append so_far.pieces (map (piece_at (length is.put)) taken) seen later piece split)
     where
@@ -231,7 +234,8 @@ module _ {C : Type 0} (machine : Machine C) (start : C) where
                 given = held.given ++ take size full.kept;
                 bytes = pieces_held old full (machine.longest command) reads.pieces false before between so_far.pieces so_far.lines (length mid.put) held reads.takes ∙ (ap (λ (l : List ℕ). held.given ++ l) (sym (take-append-drop size full.kept)) ∙ (sym (append_assoc held.given (take size full.kept) (drop size full.kept)) ∙ ap (λ (l : List ℕ). (held.given ++ take size full.kept) ++ l) (sym kept)));
                 closed = unfinished-closed held.given (take size full.kept) held.closed ∙ first.closed;
-                whole = ap (λ (l : List (List ℕ)). map whole_line l) (whole_lines-closed held.given (take size full.kept) held.closed ∙ ap (λ (l : List (List ℕ)). whole_lines held.given ++ l) first.whole) ∙ (map-append whole_line (whole_lines held.given) (holds.line.text ∷ []) ∙ (ap (λ (l : List InputLine). l ++ whole_line holds.line.text ∷ []) held.whole ∙ ap (λ (l : InputLine). so_far.lines ++ l ∷ []) (whole_is holds.line ended)));
+                whole = ap (λ (l : List (List ℕ)). map whole_line l) (whole_lines-closed held.given (take size full.kept) held.closed ∙ ap (λ (l : List (List ℕ)). whole_lines held.given ++ l) first.whole) ∙
+                    (map-append whole_line (whole_lines held.given) (holds.line.text ∷ []) ∙ (ap (λ (l : List InputLine). l ++ whole_line holds.line.text ∷ []) held.whole ∙ ap (λ (l : InputLine). so_far.lines ++ l ∷ []) (whole_is holds.line ended)));
               };
         },
       )
@@ -249,7 +253,8 @@ module _ {C : Type 0} (machine : Machine C) (start : C) where
       let facts = undecided_after command old so_far.lines so_far.said held.given full.kept so_far.answers held.closed held.whole nothing in
       subst (λ (l : List ℕ). Answered machine start l so_far.said) (sym (pieces_held old full (machine.longest command) reads.pieces true before between so_far.pieces so_far.lines (length mid.put) held reads.takes)) facts.0
 
-  gives_by : (line : Line) (command : C) (old new : Reader) (before between : Seen) (left_first : Option (List ℕ)) (was mid : Talk) (so_far : SoFar command old left_first before.left was mid) (reads : ReadsNext (machine.longest command) old new line before between) → line ≡ Text → (one : InputLine) × Given command old new (so_far.pieces ++ map (piece_at (length mid.put)) reads.pieces) so_far.lines one
+  gives_by : (line : Line) (command : C) (old new : Reader) (before between : Seen) (left_first : Option (List ℕ)) (was mid : Talk) (so_far : SoFar command old left_first before.left was mid) (reads : ReadsNext (machine.longest command) old new line before between) →
+      line ≡ Text → (one : InputLine) × Given command old new (so_far.pieces ++ map (piece_at (length mid.put)) reads.pieces) so_far.lines one
   gives_by Text command old new before between left_first was mid so_far reads is = given_line command old new before between left_first was mid so_far reads
   gives_by End command old new before between left_first was mid so_far reads is = absurd (cc is)
   gives_by (TooLong n) command old new before between left_first was mid so_far reads is = absurd (cc is)
@@ -257,7 +262,8 @@ module _ {C : Type 0} (machine : Machine C) (start : C) where
   gives_by ReadFault command old new before between left_first was mid so_far reads is = absurd (cc is)
   gives_by OutOfMemory command old new before between left_first was mid so_far reads is = absurd (cc is)
 
-  cut_off_by : (line : Line) (command : C) (old new : Reader) (before between : Seen) (left_first : Option (List ℕ)) (was mid : Talk) (so_far : SoFar command old left_first before.left was mid) (reads : ReadsNext (machine.longest command) old new line before between) → line ≡ ReadFault → Answered machine start (bytes_of (so_far.pieces ++ map (piece_at (length mid.put)) reads.pieces)) so_far.said
+  cut_off_by : (line : Line) (command : C) (old new : Reader) (before between : Seen) (left_first : Option (List ℕ)) (was mid : Talk) (so_far : SoFar command old left_first before.left was mid) (reads : ReadsNext (machine.longest command) old new line before between) →
+      line ≡ ReadFault → Answered machine start (bytes_of (so_far.pieces ++ map (piece_at (length mid.put)) reads.pieces)) so_far.said
   cut_off_by ReadFault command old new before between left_first was mid so_far reads is = cut_off command old new before between left_first was mid so_far reads
   cut_off_by Text command old new before between left_first was mid so_far reads is = absurd (cc is)
   cut_off_by End command old new before between left_first was mid so_far reads is = absurd (cc is)
@@ -266,7 +272,9 @@ module _ {C : Type 0} (machine : Machine C) (start : C) where
   cut_off_by OutOfMemory command old new before between left_first was mid so_far reads is = absurd (cc is)
 
   -- the reader read on
-  pub read_on : (command : C) (old new : Reader) (line : Line) (before between : Seen) (left_first : Option (List ℕ)) (was mid is : Talk) → SoFar command old left_first before.left was mid → (reads : ReadsNext (machine.longest command) old new line before between) → is ≡ after_takes reads.pieces (is_read_fault line) mid → WhereTold before.left between.left (λ b a. GivesNext (machine.longest command) old new line b a) → ReadSoFar command old new line left_first between.left was is
+  pub read_on : (command : C) (old new : Reader) (line : Line) (before between : Seen) (left_first : Option (List ℕ)) (was mid is : Talk) → SoFar command old left_first before.left was mid →
+      (reads : ReadsNext (machine.longest command) old new line before between) → is ≡ after_takes reads.pieces (is_read_fault line) mid →
+      WhereTold before.left between.left (GivesNext (machine.longest command) old new line) → ReadSoFar command old new line left_first between.left was is
   read_on command old new line before between left_first was mid is so_far reads changed next =
       let t = took reads.pieces (is_read_fault line) mid is changed in
       let new_pieces = map (piece_at (length mid.put)) reads.pieces in
@@ -281,7 +289,8 @@ module _ {C : Type 0} (machine : Machine C) (start : C) where
         answers = so_far.answers;
         in_time = new_in_time command old reads.full reads.pieces (is_read_fault line) before between left_first before.left was mid so_far reads.takes;
         left = subst (λ (l : List ℕ). LosesFront left_first between.left l) (ap (λ (l : List ℕ). bytes_of so_far.pieces ++ l) (sym (bytes_of-map (length mid.put) reads.pieces)) ∙ sym (bytes_of-append so_far.pieces new_pieces)) (LosesFront-twice left_first before.left between.left (bytes_of so_far.pieces) (concat reads.pieces) so_far.left reads.takes.left);
-        ahead = WhereTold-twice left_first before.left between.left (λ input rest. input_lines input ≡ so_far.lines ++ input_lines (remaining old rest)) (λ b a. GivesNext (machine.longest command) old new line b a) (λ input rest. (b : List ℕ) × (input_lines input ≡ so_far.lines ++ input_lines (remaining old b)) × GivesFirst (machine.longest command) old new line b rest) (λ x y z p q. (y, p, q.first)) so_far.ahead next;
+        ahead = WhereTold-twice left_first before.left between.left (λ input rest. input_lines input ≡ so_far.lines ++ input_lines (remaining old rest)) (GivesNext (machine.longest command) old new line)
+            (λ input rest. (b : List ℕ) × (input_lines input ≡ so_far.lines ++ input_lines (remaining old b)) × GivesFirst (machine.longest command) old new line b rest) (λ x y z p q. (y, p, q.first)) so_far.ahead next;
         gives = gives_by line command old new before between left_first was mid so_far reads;
         cut_off = cut_off_by line command old new before between left_first was mid so_far reads;
       }
@@ -301,7 +310,9 @@ module _ {C : Type 0} (machine : Machine C) (start : C) where
       ap (λ (t : List ℕ). make t a.ended) text ∙ ap (λ (e : Bool). make b.text e) ended
 
   -- a line was given, and its answer put: the run has come so far
-  pub goes_on : (command next : C) (old new : Reader) (left_first left_now : Option (List ℕ)) (was is fin : Talk) (answer : List ℕ) → ReadSoFar command old new Text left_first left_now was is → fin ≡ record is { put = is.put ++ answer } → machine.takes command new.number new.text answer (onward.Goes next) → new.number ≡ old.number + 1 → new.most ≡ old.most → SoFar next new left_first left_now was fin
+  pub goes_on : (command next : C) (old new : Reader) (left_first left_now : Option (List ℕ)) (was is fin : Talk) (answer : List ℕ) → ReadSoFar command old new Text left_first left_now was is →
+      fin ≡ record is { put = is.put ++ answer } → machine.takes command new.number new.text answer (onward.Goes next) → new.number ≡ old.number + 1 → new.most ≡ old.most →
+      SoFar next new left_first left_now was fin
   goes_on command next old new left_first left_now was is fin answer read wrote takes number most =
       let one = (read.gives refl).0 in
       let given = (read.gives refl).1 in

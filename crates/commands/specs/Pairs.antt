@@ -7,6 +7,11 @@ use Rattle.commands.specs.declared.reading.Step.TheVariants.{Goes, Gives, Refuse
 use Rattle.commands.specs.declared.pairs.Then.{Then}
 use Rattle.commands.specs.declared.pairs.Then.TheVariants.{First, Second}
 
+-- the two values, where the first is known
+abbrev pub with_first : {V W F : Type 0} → V → Outcome W F → Outcome (V × W) F
+with_first value (Given other number room rest) = Given (value, other) number room rest
+with_first value (Faulty fault) = Faulty fault
+
 module _ {A V B W F : Type 0} where
   -- after a line of the first text, where the second begins so
   abbrev pub first_step : B → Step A V F → Step (Then A V B) (V × W) F
@@ -36,11 +41,6 @@ module _ {A V B W F : Type 0} where
     -- the reader of the first text, and after it of the second
     abbrev pub then_reader : Reader (Then A V B) (V × W) F
     then_reader = record { longest = longest_of; reads = reads_of; stops = stops_of }
-
-    -- the two values, where the first is known
-    abbrev pub with_first : V → Outcome W F → Outcome (V × W) F
-    with_first value (Given other number room rest) = Given (value, other) number room rest
-    with_first value (Faulty fault) = Faulty fault
 
     -- the second text is read over the lines that are left after the first
     abbrev pub then_reading : B → Outcome V F → Outcome (V × W) F

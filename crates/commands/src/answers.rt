@@ -2,7 +2,7 @@
 
 ghost use Rattle.std.specs.Prelude.{◌≡◌, ◌+◌, ◌≤◌, ◌++◌, [], length, IfOk, OnOk, is_ok, if◌then◌else◌};
 ghost use Rattle.commands.specs.Limits.{least_room};
-ghost use Rattle.commands.specs.Words.{line_of, word_text, words_after};
+ghost use Rattle.commands.specs.Words.{line_of, word_text, words_after, most_word, most_size};
 
 use crate::limits::LEAST_ROOM;
 use crate::words::Word;
@@ -67,8 +67,9 @@ impl Answer {
 
     /// Puts a line of these words, for which there is room, without memory.
     pub fn put_line(&mut self, words: &[Word])
-        requires { length self.old.text + length (line_of words.now) ≤ self.old.capacity }
+        requires { length self.old.text + most_size words.now ≤ self.old.capacity }
         ensures text { self.new.text ≡ self.old.text ++ line_of words.now }
+        ensures size { length self.new.text ≤ length self.old.text + most_size words.now }
         ensures capacity { self.old.capacity ≤ self.new.capacity }
     {
         if let Some((first, others)) = words.split_first() {
@@ -78,9 +79,24 @@ impl Answer {
         self.put_bytes(b"\n");
     }
 
+    /// Puts a line of these words, with more memory where there is no room. `AllocError` comes only for want of memory; a part
+    /// of the line may then have been put.
+    pub fn push_line(&mut self, words: &[Word]) -> Result<(), AllocError>
+        ensures text { OnOk result (self.new.text ≡ self.old.text ++ line_of words.now) }
+        ensures capacity { self.old.capacity ≤ self.new.capacity }
+    {
+        if let Some((first, others)) = words.split_first() {
+            self.push_word(*first)?;
+            self.push_others(others)?;
+        }
+        self.reserve(1)?;
+        self.put_bytes(b"\n");
+        Ok(())
+    }
+
     /// Puts a line of these words in place of what stood there, without memory: that of a refusal.
     pub fn refuse(&mut self, words: &[Word])
-        requires { length (line_of words.now) ≤ least_room }
+        requires { most_size words.now ≤ least_room }
         ensures text { self.new.text ≡ line_of words.now }
         ensures capacity { self.old.capacity ≤ self.new.capacity }
     {
@@ -89,10 +105,11 @@ impl Answer {
         self.put_line(words);
     }
 
-    /// Puts these words, for which there is room, each after a blank.
+    /// Puts these words, for which and for a line end there is room, each after a blank.
     fn put_others(&mut self, words: &[Word])
-        requires { length self.old.text + length (words_after words.now) ≤ self.old.capacity }
+        requires { length self.old.text + most_size words.now ≤ self.old.capacity }
         ensures text { self.new.text ≡ self.old.text ++ words_after words.now }
+        ensures size { length self.new.text + 1 ≤ length self.old.text + most_size words.now }
         ensures capacity { self.old.capacity ≤ self.new.capacity }
     {
         for word in words {
@@ -101,10 +118,34 @@ impl Answer {
         }
     }
 
+    /// Puts these words, each after a blank, with more memory where there is no room.
+    fn push_others(&mut self, words: &[Word]) -> Result<(), AllocError>
+        ensures text { OnOk result (self.new.text ≡ self.old.text ++ words_after words.now) }
+        ensures capacity { self.old.capacity ≤ self.new.capacity }
+    {
+        for word in words {
+            self.reserve(1)?;
+            self.put_bytes(b" ");
+            self.push_word(*word)?;
+        }
+        Ok(())
+    }
+
+    /// Puts a word, with more memory where there is no room.
+    fn push_word(&mut self, word: Word) -> Result<(), AllocError>
+        ensures text { OnOk result (self.new.text ≡ self.old.text ++ word_text word.entry) }
+        ensures capacity { self.old.capacity ≤ self.new.capacity }
+    {
+        self.reserve(word.most_size())?;
+        self.put_word(word);
+        Ok(())
+    }
+
     /// Puts a word, for which there is room.
     fn put_word(&mut self, word: Word)
-        requires { length self.old.text + length (word_text word) ≤ self.old.capacity }
+        requires { length self.old.text + most_word word ≤ self.old.capacity }
         ensures text { self.new.text ≡ self.old.text ++ word_text word.entry }
+        ensures size { length self.new.text ≤ length self.old.text + most_word word.entry }
         ensures capacity { self.old.capacity ≤ self.new.capacity }
     {
         match word {
@@ -119,6 +160,7 @@ impl Answer {
     fn put_bytes(&mut self, bytes: &[u8])
         requires { length self.old.text + length bytes.now ≤ self.old.capacity }
         ensures text { self.new.text ≡ self.old.text ++ bytes.now }
+        ensures size { length self.new.text ≡ length self.old.text + length bytes.now }
         ensures capacity { self.old.capacity ≤ self.new.capacity }
     {
         self.bytes.extend_from_slice(bytes).unwrap();

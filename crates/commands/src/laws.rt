@@ -3,12 +3,12 @@
 ghost use Rattle.std.specs.Prelude.{◌≡◌, ℕ, List, []};
 ghost use Rattle.texts.specs.Lines.{InputLine, input_lines};
 ghost use Rattle.commands.specs.Runs.{Here, Runs, begins};
-ghost use Rattle.commands.specs.Single.{IsSingle};
+ghost use Rattle.commands.specs.Single.{IsSingle, IsSingleAnswer, IsFront};
 ghost use Rattle.commands.specs.Reading.{reading};
 ghost use Rattle.commands.specs.Asked.{asked_machine, AnswersOutcome};
 ghost use Rattle.commands.specs.Pairs.{then_reader, then_reading};
 ghost use Rattle.commands.specs.Phases.{WantsNone, planned_machine, FollowsOutcome};
-ghost use Rattle.commands.specs.Breaks.{BreaksForMemory};
+ghost use Rattle.commands.specs.Breaks.{WithinReply, WantsMemory, BreaksForMemory};
 ghost use Rattle.plan_port.specs.Talk.{Piece};
 ghost use Rattle.commands.specs.declared.endings.End.{End};
 
@@ -22,6 +22,26 @@ use crate::reading::Text;
 pub fn single_runs<C: Command>()
     ensures { IsSingle C.machine → (start : C) (input a b : List ℕ) (x y : End)
         → Runs C.machine start input a x → Runs C.machine start input b y → (a ≡ b) × (x ≡ y) }
+{}
+
+/// What was put up to a failed put at a reply, and what was put up to a line at which there was no memory, is a front of what
+/// the whole run puts, where the command has at most one reply.
+pub fn broken_runs_are_fronts<C: Command>()
+    ensures put { IsSingle C.machine → (start : C) (input put whole : List ℕ) (end : End)
+        → Runs C.machine start input whole end → WithinReply C.machine start input put → IsFront put whole }
+    ensures memory { IsSingle C.machine → (start : C) (input put whole : List ℕ) (pieces : List Piece) (end : End)
+        → Runs C.machine start input whole end → WantsMemory C.machine start input put pieces → IsFront put whole }
+{}
+
+/// A command that asks has at most one reply where its question has at most one answer.
+pub fn asked_is_single<T: Text, Q: Question<T::Value>>()
+    ensures { IsSingleAnswer Q.answers → IsSingle (asked_machine Q.answers T.reader T.Fault.refusing) }
+{}
+
+/// A command of a text and a phase has at most one reply where the phase begins in one way and has at most one.
+pub fn planned_is_single<T: Text, B: Begin<T::Value>>()
+    ensures { IsSingleAnswer B.begins → IsSingle B.Phase.machine
+        → IsSingle (planned_machine B.begins T.reader T.Fault.refusing B.Phase.machine) }
 {}
 
 /// A run of a command that reads a text puts the answer to what the text says, or the line of its first fault.

@@ -17,7 +17,10 @@ mod words;
 pub use answers::Answer;
 pub use asking::{Asked, Question, refuse};
 pub use endings::{End, Status};
-pub use laws::{asked_runs, pair_reads, planned_runs, planned_wants, single_runs};
+pub use laws::{
+    asked_is_single, asked_runs, broken_runs_are_fronts, pair_reads, planned_is_single,
+    planned_runs, planned_wants, single_runs,
+};
 pub use limits::{LEAST_ROOM, MOST_INPUT, limits_are_defined};
 pub use machines::{Command, Onward, Stop};
 pub use pairs::Then;

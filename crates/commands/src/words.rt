@@ -1,5 +1,8 @@
 //! The words of a printed line.
 
+ghost use Rattle.std.specs.Prelude.{◌≡◌};
+ghost use Rattle.commands.specs.Words.{most_word};
+
 /// A word of a line that is printed.
 #[derive(Clone, Copy)]
 pub enum Word<'a> {
@@ -11,4 +14,17 @@ pub enum Word<'a> {
     Signed(i64),
     /// A name, by its bytes.
     Name(&'a [u8]),
+}
+
+impl Word<'_> {
+    /// How many bytes the word has at most.
+    pub(crate) fn most_size(self) -> usize
+        ensures { result ≡ most_word self.entry }
+    {
+        match self {
+            Word::Text(text) => text.len(),
+            Word::Name(name) => name.len(),
+            Word::Number(_) | Word::Signed(_) => 20,
+        }
+    }
 }

@@ -1,0 +1,55 @@
+-- A text of lines that are counted, and a question about it. This project's own choice.
+use Rattle.std.specs.Prelude.{◌≡◌, ℕ, List, [], ◌∷◌, codes, if◌then◌else◌}
+use Rattle.std.specs.Str.{bytes_eq}
+use Rattle.std.specs.Fmt.{decimal}
+use Rattle.texts.specs.Printing.{printed_line}
+use Rattle.plan_port.specs.Limits.{most_line}
+use Rattle.commands.specs.Reading.{Reader, Refusing}
+use Rattle.commands.specs.declared.endings.End.{End}
+use Rattle.commands.specs.declared.endings.End.TheVariants as ends
+use Rattle.commands.specs.declared.machines.Stop.{Stop}
+use Rattle.commands.specs.declared.machines.Stop.TheVariants.{LineTooLong, InputTooMuch, InputEnded}
+use Rattle.commands.specs.declared.reading.Step.{Step}
+use Rattle.commands.specs.declared.reading.Step.TheVariants.{Goes, Gives, Refused}
+use Rattle.example_commands.specs.declared.counting.Counting.{Counting}
+use Rattle.example_commands.specs.declared.counting.Counting.TheVariants.{BeforeTitle, Lines}
+use Rattle.example_commands.specs.declared.counting.CountFault.{CountFault}
+use Rattle.example_commands.specs.declared.counting.CountFault.TheVariants.{NoTitle, NoEnd, Beyond}
+use Rattle.example_commands.specs.declared.counting.HowMany.{HowMany}
+use Rattle.example_commands.specs.declared.counting.HowManyEach.{HowManyEach}
+
+-- the first line is `count`, and the line `end` ends the text, of which its number is the value
+abbrev pub reads : Counting → ℕ → List ℕ → Step Counting ℕ CountFault
+reads BeforeTitle number line = if bytes_eq line (codes "count") then Goes Lines else Refused (NoTitle number)
+reads Lines number line = if bytes_eq line (codes "end") then Gives number else Goes Lines
+
+abbrev pub stops : Counting → ℕ → Stop → CountFault
+stops text number LineTooLong = Beyond number
+stops text number InputTooMuch = Beyond number
+stops BeforeTitle number InputEnded = NoTitle number
+stops Lines number InputEnded = NoEnd number
+
+abbrev pub counting : Reader Counting ℕ CountFault
+counting = record { longest = λ text. most_line; reads = reads; stops = stops }
+
+abbrev pub fault_line : CountFault → List ℕ
+fault_line (NoTitle line) = printed_line (codes "error" ∷ codes "no-title" ∷ decimal line ∷ [])
+fault_line (NoEnd line) = printed_line (codes "error" ∷ codes "no-end" ∷ decimal line ∷ [])
+fault_line (Beyond line) = printed_line (codes "error" ∷ codes "limit" ∷ decimal line ∷ [])
+
+abbrev pub fault_end : CountFault → End
+fault_end (NoTitle line) = ends.Fault
+fault_end (NoEnd line) = ends.Fault
+fault_end (Beyond line) = ends.Limit
+
+abbrev pub refusing : Refusing CountFault
+refusing = record { line = fault_line; end = fault_end }
+
+-- how many lines the text has
+abbrev pub AnswersHowMany : HowMany → ℕ → List ℕ → End → Type 0
+AnswersHowMany question lines answer end = (answer ≡ printed_line (codes "lines" ∷ decimal lines ∷ [])) × (end ≡ ends.Done)
+
+-- the numbers of the lines that end two texts, one after the other
+abbrev pub AnswersHowManyEach : HowManyEach → ℕ × ℕ → List ℕ → End → Type 0
+AnswersHowManyEach question both answer end =
+    (answer ≡ printed_line (codes "lines" ∷ decimal both.0 ∷ decimal both.1 ∷ [])) × (end ≡ ends.Done)

@@ -1,0 +1,116 @@
+//! A text of lines that are counted: `count`, then any lines, then `end`. And questions about it.
+
+ghost use Rattle.std.specs.Prelude.{ℕ};
+ghost use Rattle.example_commands.specs.Counting.{counting, refusing, AnswersHowMany, AnswersHowManyEach};
+
+use commands::{Answer, End, Question, Refusal, Step, Stop, Text, Word};
+use plan_port::MOST_LINE;
+use std::alloc::{AllocError, Global};
+
+/// How far the text was read.
+#[derive(Clone, Copy, Debug, PartialEq, Eq)]
+pub enum Counting {
+    /// The line `count` has not come.
+    BeforeTitle,
+    /// The line `end` has not come.
+    Lines,
+}
+
+/// Why a line is refused, with its number.
+#[derive(Clone, Copy, Debug, PartialEq, Eq)]
+pub enum CountFault {
+    /// The first line is not `count`.
+    NoTitle(u32),
+    /// The line `end` does not come.
+    NoEnd(u32),
+    /// The line is too long, or the input is too much.
+    Beyond(u32),
+}
+
+impl Text for Counting {
+    type Value = u32;
+
+    type Fault = CountFault;
+
+    ghost reader = { counting };
+
+    fn longest(&self) -> u32 {
+        MOST_LINE
+    }
+
+    fn read_line(
+        self,
+        _alloc: Global,
+        number: u32,
+        line: &[u8],
+    ) -> Result<Step<Counting, u32, CountFault>, AllocError> {
+        Ok(match self {
+            Counting::BeforeTitle if line == b"count".as_slice() => Step::Goes(Counting::Lines),
+            Counting::BeforeTitle => Step::Refused(CountFault::NoTitle(number)),
+            Counting::Lines if line == b"end".as_slice() => Step::Gives(number),
+            Counting::Lines => Step::Goes(Counting::Lines),
+        })
+    }
+
+    fn stop(&self, number: u32, stop: Stop) -> CountFault {
+        match (stop, self) {
+            (Stop::LineTooLong | Stop::InputTooMuch, _) => CountFault::Beyond(number),
+            (Stop::InputEnded, Counting::BeforeTitle) => CountFault::NoTitle(number),
+            (Stop::InputEnded, Counting::Lines) => CountFault::NoEnd(number),
+        }
+    }
+}
+
+impl Refusal for CountFault {
+    ghost refusing = { refusing };
+
+    fn put(&self, answer: &mut Answer) {
+        let (word, line) = match *self {
+            CountFault::NoTitle(line) => ("no-title", line),
+            CountFault::NoEnd(line) => ("no-end", line),
+            CountFault::Beyond(line) => ("limit", line),
+        };
+        let number = Word::Number(u64::from(line));
+        answer.refuse(&[Word::Text("error"), Word::Text(word), number]);
+    }
+
+    fn end(&self) -> End {
+        match self {
+            CountFault::NoTitle(_) | CountFault::NoEnd(_) => End::Fault,
+            CountFault::Beyond(_) => End::Limit,
+        }
+    }
+}
+
+/// How many lines a text has.
+#[derive(Clone, Copy, Debug)]
+pub struct HowMany;
+
+impl Question<u32> for HowMany {
+    ghost answers = { AnswersHowMany };
+
+    fn answer(self, _alloc: Global, answer: &mut Answer, lines: u32) -> Result<End, AllocError> {
+        answer.push_line(&[Word::Text("lines"), Word::Number(u64::from(lines))])?;
+        Ok(End::Done)
+    }
+}
+
+/// How many lines each of two texts has.
+#[derive(Clone, Copy, Debug)]
+pub struct HowManyEach;
+
+impl Question<(u32, u32)> for HowManyEach {
+    ghost answers = { AnswersHowManyEach };
+
+    fn answer(
+        self,
+        _alloc: Global,
+        answer: &mut Answer,
+        lines: (u32, u32),
+    ) -> Result<End, AllocError> {
+        let (first, second) = lines;
+        let last = Word::Number(u64::from(second));
+        answer.push_line(&[Word::Text("lines"), Word::Number(u64::from(first)), last])?;
+        Ok(End::Done)
+    }
+}
