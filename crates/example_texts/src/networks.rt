@@ -1,13 +1,14 @@
 use crate::rows::network;
 use net_model::{BoundId, BuildFault, Items, LinkId, Name, Network, Part, PointId, Which};
 use std::alloc::{AllocError, Global};
+use std::process::Abort;
 use std::test::Fail;
 
 /// Four points, of which a bound bears the name of one, and three links.
 const LARGER: &str =
     "stnu 1|point A|point B|point C|point D|bound b A B -5|link A 1 9 B|link A 2 30 D|link D 4 4 C|bound D C C 7|end";
 
-fn look_up(rt: HostRuntime, net: &Network) {
+fn look_up(rt: &impl Abort, net: &Network) {
     let rows = [
         ("A", Some(PointId(0)), None),
         ("D", Some(PointId(3)), Some(BoundId(1))),
@@ -21,7 +22,7 @@ fn look_up(rt: HostRuntime, net: &Network) {
     }
 }
 
-fn links_of_points(rt: HostRuntime, net: &Network) -> Result<(), AllocError> {
+fn links_of_points(rt: &impl Abort, alloc: Global, net: &Network) -> Result<(), AllocError> {
     let rows = [
         (PointId(0), None, [LinkId(0), LinkId(1)].as_slice()),
         (PointId(1), Some(LinkId(0)), [].as_slice()),
@@ -32,7 +33,7 @@ fn links_of_points(rt: HostRuntime, net: &Network) -> Result<(), AllocError> {
         if (point.0 as usize) < net.points().len() {
             assert_eq!(rt; net.activation(point), ending);
             assert_eq!(rt; net.is_contingent(point), ending.is_some());
-            let links = net.links_from(rt.alloc(), point)?;
+            let links = net.links_from(alloc, point)?;
             assert_eq!(rt; links.as_slice(), beginning);
         }
     }
@@ -47,8 +48,8 @@ fn readers_of_a_network(rt: HostRuntime) -> Result<(), Fail> {
         (4, 2, 3)
     );
     assert_eq!(rt; net.greatest(), 30);
-    look_up(rt, &net);
-    Ok(links_of_points(rt, &net)?)
+    look_up(&rt, &net);
+    Ok(links_of_points(&rt, rt.alloc(), &net)?)
 }
 
 /// Why two parts of one name build nothing.

@@ -1,12 +1,13 @@
 use crate::rows::{cells, feed};
 use plan_format::{PlanLine, PlanReader, PlanSection, print_plan, read_plan, read_plan_line};
 use std::alloc::{AllocError, Global};
+use std::process::Abort;
 use std::test::Fail;
 
 /// Lines that are read alone, and what each is.
 const LINES: &str = "\
-  #point A => blank
 \t\r => blank
+  #point A => blank
 stnu 1 => header
 \tstnu  1\r => header
 point end => part
@@ -137,8 +138,8 @@ fn plans(rt: HostRuntime) -> Result<(), Fail> {
 
 /// Whole texts: their fault, or the lines of their parts and the bytes that were used.
 const TEXTS: &str = "\
- => no-header in line 1
 | => no-header in line 2
+ => no-header in line 1
 ||# x| => no-header in line 4
 stnu 1 => no-end in line 2
 stnu 1| => no-end in line 2
@@ -146,7 +147,7 @@ stnu 1|| => no-end in line 3
 stnu 1|point A|end x => word-count in line 3
 stnu 1|end => [] 10
 stnu 1|end|foo => [] 11
-stnu 1\r||point A\r|# x|point B|bound A A B 1||link A 1 2 B|  end  \r|foo => [3, 5, 6, 8] 66";
+stnu 1\r||point A\r|# x|point B|bound A A B 1||link A 1 2 B|  end  \r|foo => [3, 5, 6, 8] 67";
 
 /// The text of a row, with its line ends.
 fn with_line_ends(alloc: Global, row: &str) -> Result<Vec<u8>, AllocError> {
@@ -214,7 +215,7 @@ fn largest_plan(rt: HostRuntime) -> Result<(), Fail> {
     Ok(())
 }
 
-fn look_at(rt: HostRuntime, reader: &PlanReader) {
+fn look_at(rt: &impl Abort, reader: &PlanReader) {
     assert_eq!(rt; reader.section(), PlanSection::Declarations);
     assert_eq!(rt; reader.parts().len(), 1);
     assert_eq!(rt; reader.lines(), [3].as_slice());
@@ -226,7 +227,7 @@ fn look_at(rt: HostRuntime, reader: &PlanReader) {
 fn progress_of_a_reader(rt: HostRuntime) {
     let mut reader = PlanReader::new(rt.alloc());
     assert!(rt; feed(&mut reader, "stnu 1||point A").is_err());
-    look_at(rt, &reader);
+    look_at(&rt, &reader);
     assert!(rt; feed(&mut reader, "point 9").is_err());
-    look_at(rt, &reader);
+    look_at(&rt, &reader);
 }
