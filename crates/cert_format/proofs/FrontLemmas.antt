@@ -59,14 +59,14 @@ said_on (text.Line line) p number others next on = refl
 said_on (text.Walk i) p number others next on = refl
 said_on text.End p number others next on = absurd on
 
--- lines that may come lead from what was read to what is read with them
-abbrev pub Leads : Progress → List CertText → Progress → Type 0
-Leads p [] q = p ≡ q
-Leads p (t ∷ others) q = (admits p.section (text_word t) ≡ true) × GoesOn t × Leads (advanced p t) others q
+-- from what was read, lines that may come reach what is read with them
+abbrev pub Reaches : Progress → List CertText → Progress → Type 0
+Reaches p [] q = p ≡ q
+Reaches p (t ∷ others) q = (admits p.section (text_word t) ≡ true) × GoesOn t × Reaches (advanced p t) others q
 
-leads-append : (xs ys : List CertText) (p q r : Progress) → Leads p xs q → Leads q ys r → Leads p (xs ++ ys) r
-leads-append [] ys p q r first second = subst (λ (s : Progress). Leads s ys r) (sym first) second
-leads-append (t ∷ xs) ys p q r first second = (first.0, first.1, leads-append xs ys (advanced p t) q r first.2 second)
+reaches-append : (xs ys : List CertText) (p q r : Progress) → Reaches p xs q → Reaches q ys r → Reaches p (xs ++ ys) r
+reaches-append [] ys p q r first second = subst (λ (s : Progress). Reaches s ys r) (sym first) second
+reaches-append (t ∷ xs) ys p q r first second = (first.0, first.1, reaches-append xs ys (advanced p t) q r first.2 second)
 
 head_is : {A : Type 0} (x y : A) (xs ys : List A) → x ∷ xs ≡ y ∷ ys → x ≡ y
 head_is x y xs ys same = cc
@@ -81,20 +81,20 @@ no_words (t ∷ said) none = absurd (cc)
 read_at : (q : Progress) (a b : ℕ) (more : List (List ℕ)) → a ≡ b → read_from q a more ≡ read_from q b more
 read_at q a b more same = ap (λ n. read_from q n more) same
 
-leads_by : (blank : Bool) (line : List ℕ) (front more : List (List ℕ)) (p q : Progress) (number : ℕ) (said : List CertText) → are_passed_over (words line) ≡ blank → ((r : Progress) (later : List CertText) → Leads r later q → filled_words front ≡ map text_words later → read_from r (number + 1) (front ++ more) ≡ read_from q (number + 1 + length front) more) → Leads p said q → cond blank (filled_words front) (words line ∷ filled_words front) ≡ map text_words said → said_from p number (line_in p.section (words line)) (front ++ more) (λ r. read_from r (number + 1) (front ++ more)) ≡ read_from q (number + length (line ∷ front)) more
-leads_by true line front more p q number said is after leads spelled =
-    rw (blank_read p.section (words line) is) (after p said leads spelled ∙ read_at q (number + 1 + length front) (number + length (line ∷ front)) more (omega arith))
-leads_by false line front more p q number [] is after leads spelled = absurd (cc)
-leads_by false line front more p q number (t ∷ said) is after leads spelled =
-    let read : line_in p.section (words line) ≡ Ok t = ap (line_in p.section) (head_is _ _ _ _ spelled) ∙ text_read p.section t leads.0 (spelled_on t leads.1) in
-    rw read (said_on t p number (front ++ more) (λ r. read_from r (number + 1) (front ++ more)) leads.1 ∙ after (advanced p t) said leads.2 (tail_is _ _ _ _ spelled) ∙ read_at q (number + 1 + length front) (number + length (line ∷ front)) more (omega arith))
+reaches_by : (blank : Bool) (line : List ℕ) (front more : List (List ℕ)) (p q : Progress) (number : ℕ) (said : List CertText) → are_passed_over (words line) ≡ blank → ((r : Progress) (later : List CertText) → Reaches r later q → filled_words front ≡ map text_words later → read_from r (number + 1) (front ++ more) ≡ read_from q (number + 1 + length front) more) → Reaches p said q → cond blank (filled_words front) (words line ∷ filled_words front) ≡ map text_words said → said_from p number (line_in p.section (words line)) (front ++ more) (λ r. read_from r (number + 1) (front ++ more)) ≡ read_from q (number + length (line ∷ front)) more
+reaches_by true line front more p q number said is after reaches spelled =
+    rw (blank_read p.section (words line) is) (after p said reaches spelled ∙ read_at q (number + 1 + length front) (number + length (line ∷ front)) more (omega arith))
+reaches_by false line front more p q number [] is after reaches spelled = absurd (cc)
+reaches_by false line front more p q number (t ∷ said) is after reaches spelled =
+    let read : line_in p.section (words line) ≡ Ok t = ap (line_in p.section) (head_is _ _ _ _ spelled) ∙ text_read p.section t reaches.0 (spelled_on t reaches.1) in
+    rw read (said_on t p number (front ++ more) (λ r. read_from r (number + 1) (front ++ more)) reaches.1 ∙ after (advanced p t) said reaches.2 (tail_is _ _ _ _ spelled) ∙ read_at q (number + 1 + length front) (number + length (line ∷ front)) more (omega arith))
 
-leads_read : (front more : List (List ℕ)) (p q : Progress) (number : ℕ) (said : List CertText) → Leads p said q → filled_words front ≡ map text_words said → read_from p number (front ++ more) ≡ read_from q (number + length front) more
-leads_read [] more p q number said leads spelled =
-    let same : p ≡ q = subst (λ (ts : List CertText). Leads p ts q) (no_words said spelled) leads in
+reaches_read : (front more : List (List ℕ)) (p q : Progress) (number : ℕ) (said : List CertText) → Reaches p said q → filled_words front ≡ map text_words said → read_from p number (front ++ more) ≡ read_from q (number + length front) more
+reaches_read [] more p q number said reaches spelled =
+    let same : p ≡ q = subst (λ (ts : List CertText). Reaches p ts q) (no_words said spelled) reaches in
     ap (λ (r : Progress). read_from r number more) same ∙ read_at q number (number + 0) more (omega arith)
-leads_read (line ∷ front) more p q number said leads spelled =
-    leads_by (are_passed_over (words line)) line front more p q number said refl (λ r later leads spelled. leads_read front more r q (number + 1) later leads spelled) leads spelled
+reaches_read (line ∷ front) more p q number said reaches spelled =
+    reaches_by (are_passed_over (words line)) line front more p q number said refl (λ r later reaches spelled. reaches_read front more r q (number + 1) later reaches spelled) reaches spelled
 
 -- the texts with which a section is reached
 abbrev front_texts : Section → List CertLine → List ℕ → List CertText
@@ -125,11 +125,11 @@ words_of_front section.Walk lines walk =
 abbrev pub progress : Section → List CertLine → List ℕ → Progress
 progress s lines walk = record { section = s; lines = lines; walk = walk }
 
-leads_walk : (lines : List CertLine) (before walk : List ℕ) → AllByRecursion (λ i. i ≤ most_line_number) walk → Leads (progress section.Walk lines before) (map text.Walk walk) (progress section.Walk lines (before ++ walk))
-leads_walk lines before [] within = ap (progress section.Walk lines) (sym (append-nil before))
-leads_walk lines before (i ∷ walk) within =
+reaches_walk : (lines : List CertLine) (before walk : List ℕ) → AllByRecursion (λ i. i ≤ most_line_number) walk → Reaches (progress section.Walk lines before) (map text.Walk walk) (progress section.Walk lines (before ++ walk))
+reaches_walk lines before [] within = ap (progress section.Walk lines) (sym (append-nil before))
+reaches_walk lines before (i ∷ walk) within =
     let all : before ++ i ∷ [] ++ walk ≡ before ++ i ∷ walk = append_assoc before (i ∷ []) walk in
-    (refl, within.0, subst (λ (ws : List ℕ). Leads (progress section.Walk lines (before ++ i ∷ [])) (map text.Walk walk) (progress section.Walk lines ws)) all (leads_walk lines (before ++ i ∷ []) walk within.1))
+    (refl, within.0, subst (λ (ws : List ℕ). Reaches (progress section.Walk lines (before ++ i ∷ [])) (map text.Walk walk) (progress section.Walk lines ws)) all (reaches_walk lines (before ++ i ∷ []) walk within.1))
 
 kind_may_come : (k : LineKind) → admits section.Rules (rule_word k) ≡ true
 kind_may_come (kind.Bound name) = refl
@@ -140,27 +140,27 @@ kind_may_come (kind.Low name j) = refl
 kind_may_come (kind.Cross name j) = refl
 kind_may_come (kind.Drop j) = refl
 
-leads_lines : (before lines : List CertLine) → AllByRecursion IsSpelledLine lines → Leads (progress section.Rules before []) (map text.Line lines) (progress section.Rules (before ++ lines) [])
-leads_lines before [] spelled = ap (λ (ls : List CertLine). progress section.Rules ls []) (sym (append-nil before))
-leads_lines before (line ∷ lines) spelled =
+reaches_lines : (before lines : List CertLine) → AllByRecursion IsSpelledLine lines → Reaches (progress section.Rules before []) (map text.Line lines) (progress section.Rules (before ++ lines) [])
+reaches_lines before [] spelled = ap (λ (ls : List CertLine). progress section.Rules ls []) (sym (append-nil before))
+reaches_lines before (line ∷ lines) spelled =
     let all : before ++ line ∷ [] ++ lines ≡ before ++ line ∷ lines = append_assoc before (line ∷ []) lines in
-    (kind_may_come line.kind, spelled.0, subst (λ (ls : List CertLine). Leads (progress section.Rules (before ++ line ∷ []) []) (map text.Line lines) (progress section.Rules ls [])) all (leads_lines (before ++ line ∷ []) lines spelled.1))
+    (kind_may_come line.kind, spelled.0, subst (λ (ls : List CertLine). Reaches (progress section.Rules (before ++ line ∷ []) []) (map text.Line lines) (progress section.Rules ls [])) all (reaches_lines (before ++ line ∷ []) lines spelled.1))
 
-leads_front : (s : Section) (lines : List CertLine) (walk : List ℕ) → IsReached s lines walk → AllByRecursion IsSpelledLine lines → AllByRecursion (λ i. i ≤ most_line_number) walk → Leads begun (front_texts s lines walk) (progress s lines walk)
-leads_front section.Header lines walk reached spelled within =
+reaches_front : (s : Section) (lines : List CertLine) (walk : List ℕ) → IsReached s lines walk → AllByRecursion IsSpelledLine lines → AllByRecursion (λ i. i ≤ most_line_number) walk → Reaches begun (front_texts s lines walk) (progress s lines walk)
+reaches_front section.Header lines walk reached spelled within =
     ap (λ (ls : List CertLine). progress section.Header ls []) (sym reached.0) ∙ ap (progress section.Header lines) (sym reached.1)
-leads_front section.Kind lines walk reached spelled within =
+reaches_front section.Kind lines walk reached spelled within =
     (refl, tt, ap (λ (ls : List CertLine). progress section.Kind ls []) (sym reached.0) ∙ ap (progress section.Kind lines) (sym reached.1))
-leads_front section.Rules lines walk reached spelled within =
-    (refl, tt, (refl, tt, subst (λ (ws : List ℕ). Leads (progress section.Rules [] []) (map text.Line lines) (progress section.Rules lines ws)) (sym reached) (leads_lines [] lines spelled)))
-leads_front section.Walk lines [] reached spelled within = absurd (reached refl)
-leads_front section.Walk lines (i ∷ walk) reached spelled within =
-    (refl, tt, (refl, tt, leads-append (map text.Line lines) (map text.Walk (i ∷ walk)) (progress section.Rules [] []) (progress section.Rules lines []) (progress section.Walk lines (i ∷ walk)) (leads_lines [] lines spelled) (refl, within.0, leads_walk lines (i ∷ []) walk within.1)))
+reaches_front section.Rules lines walk reached spelled within =
+    (refl, tt, (refl, tt, subst (λ (ws : List ℕ). Reaches (progress section.Rules [] []) (map text.Line lines) (progress section.Rules lines ws)) (sym reached) (reaches_lines [] lines spelled)))
+reaches_front section.Walk lines [] reached spelled within = absurd (reached refl)
+reaches_front section.Walk lines (i ∷ walk) reached spelled within =
+    (refl, tt, (refl, tt, reaches-append (map text.Line lines) (map text.Walk (i ∷ walk)) (progress section.Rules [] []) (progress section.Rules lines []) (progress section.Walk lines (i ∷ walk)) (reaches_lines [] lines spelled) (refl, within.0, reaches_walk lines (i ∷ []) walk within.1)))
 
 -- a front of a certificate is read as what it says
 pub front_read : (front : List (List ℕ)) (p : Progress) → IsFront front p → (more : List (List ℕ)) → read_from begun 1 (front ++ more) ≡ read_from p (1 + length front) more
 front_read front p is more =
-    leads_read front more begun p 1 (front_texts p.section p.lines p.walk) (leads_front p.section p.lines p.walk is.reached (recursion_from_All IsSpelledLine p.lines is.spelled_lines) (recursion_from_All (λ i. i ≤ most_line_number) p.walk is.spelled_walk)) (is.said ∙ words_of_front p.section p.lines p.walk)
+    reaches_read front more begun p 1 (front_texts p.section p.lines p.walk) (reaches_front p.section p.lines p.walk is.reached (recursion_from_All IsSpelledLine p.lines is.spelled_lines) (recursion_from_All (λ i. i ≤ most_line_number) p.walk is.spelled_walk)) (is.said ∙ words_of_front p.section p.lines p.walk)
 
 -- the words of a certificate are those of its front, and `end`
 pub certificate_front : (lines : List CertLine) (walk : List ℕ) → after_two (map line_words lines ++ map walk_words walk) ++ end_words ∷ [] ≡ certificate_words (Refutation lines walk)
