@@ -21,6 +21,7 @@ use Rattle.closure_model.proofs.TableLemmas.{edge_listed, listed_edge}
 use Rattle.strategy_model.specs.Control.{Controls}
 use Rattle.strategy_model.specs.Edges.{HoldsOf}
 use Rattle.strategy_model.specs.Dispatch.{Stands}
+use Rattle.strategy_model.specs.DispatchLaws.{AreTrue}
 use Rattle.strategy_model.specs.declared.tree.Tree.{Tree}
 use Rattle.strategy_model.proofs.ExactLemmas.{exact_rules_keep_truth, cycle_is_loop}
 use Rattle.strategy_model.proofs.LoopLemmas.{loops_exclude_strategies}
@@ -125,7 +126,7 @@ closures_are_closed_lists net table plan closure =
       closed = λ edge follows. stands_in table edge ((closure_is_closed net table closure).0 edge follows);
     }
 
-closure_true : (net : Plan) (table : Graph) → IsPlan net → IsClosure net table → (strategy : Tree) → Controls strategy net → All (HoldsOf net strategy) (edges_of table)
+closure_true : (net : Plan) (table : Graph) → IsPlan net → IsClosure net table → AreTrue net (edges_of table)
 closure_true net table plan closure strategy controls =
     listed_all table (HoldsOf net strategy) (λ edge has. derivable_are_true net strategy edge plan controls (closure_derivable net table closure edge has))
 

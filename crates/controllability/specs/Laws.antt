@@ -36,4 +36,6 @@ ClosuresDecide = (net : Plan) (table : Graph) → IsPlan net → IsClosure net t
 -- the schedule of the lower bounds and waits of the closure is the earliest
 abbrev pub ClosuresDispatchEarliest : Type 0
 ClosuresDispatchEarliest =
-    (net : Plan) (table : Graph) (order : List PointId) (situation schedule : List ℕ) → IsPlan net → IsClosure net table → IsOrder net (edges_of table) order → IsSituation net situation → IsDispatched net (edges_of table) situation schedule → IsEarliest net situation schedule
+    (net : Plan) (table : Graph) (order : List PointId) (situation schedule : List ℕ) → IsPlan net → IsClosure net table
+    → IsOrder net (edges_of table) order → IsSituation net situation → IsDispatched net (edges_of table) situation schedule
+    → IsEarliest net situation schedule
