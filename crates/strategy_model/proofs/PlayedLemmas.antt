@@ -97,7 +97,7 @@ module _ (net : Plan) (plan : IsPlan net) (ds es : List ℕ) (is_ds : IsSituatio
           (λ by_then. absurd (omega (arith, later, by_then, past)), λ by_then. absurd (omega (arith, later_too, by_then, past)))
 
   mutual
-    agree_up_to : (tree : Tree) (so_far : Moments) (m : ℕ) → Before so_far m → play_from tree net ds so_far m ≡ Some first → play_from tree net es so_far m ≡ Some second → (point : PointId) → IsPoint net point → AgreeUpTo t (moment_in first point) (moment_in second point)
+    pub agree_up_to : (tree : Tree) (so_far : Moments) (m : ℕ) → Before so_far m → play_from tree net ds so_far m ≡ Some first → play_from tree net es so_far m ≡ Some second → (point : PointId) → IsPoint net point → AgreeUpTo t (moment_in first point) (moment_in second point)
     agree_up_to Leaf so_far m before played_first played_second point within =
         let is : moment_in first point ≡ moment_in second point = ap (λ (s : List ℕ). moment_in s point) (same_Some first second (sym played_first ∙ played_second)) in
         (λ by_then. is, λ by_then. is)

@@ -75,3 +75,10 @@ ClosedListsHaveOrders = (net : Plan) (edges : List Edge) → IsClosedList net ed
 abbrev pub ClosedListsDecide : Type 0
 ClosedListsDecide =
     (net : Plan) (edges : List Edge) → IsPlan net → IsClosedList net edges → AreTrue net edges → (IsControllable net ↔ HasNoNegativeCycle edges)
+
+-- what the earliest schedules execute up to a moment depends on what is completed up to it alone
+abbrev pub EarliestSeeAlone : Type 0
+EarliestSeeAlone =
+    (net : Plan) (first second first_schedule second_schedule : List ℕ) (t : ℕ) → IsPlan net → IsEarliest net first first_schedule
+    → IsEarliest net second second_schedule → SameCompletions net t first_schedule second_schedule
+    → SameExecutions net t first_schedule second_schedule

@@ -1,6 +1,6 @@
 //! Laws about closed lists of edges, the schedules of lower bounds and waits that they give, and what trees play.
 
-ghost use Rattle.strategy_model.specs.DispatchLaws.{ClosedListsGiveStrategies, DispatchedSatisfy, DispatchedExist, DispatchedAreOne, DispatchedSeeAlone, DispatchedAreEarliest, DynamicStrategiesAreTrees, TreesAreDynamic, ClosedListsHaveOrders, ClosedListsDecide};
+ghost use Rattle.strategy_model.specs.DispatchLaws.{ClosedListsGiveStrategies, DispatchedSatisfy, DispatchedExist, DispatchedAreOne, DispatchedSeeAlone, DispatchedAreEarliest, DynamicStrategiesAreTrees, TreesAreDynamic, ClosedListsHaveOrders, ClosedListsDecide, EarliestSeeAlone};
 
 /// A closed list of edges with an order gives a strategy that controls the network and plays the schedule of lower bounds
 /// and waits in every situation.
@@ -53,4 +53,9 @@ pub fn closed_lists_have_orders()
 /// where the list has no cycle of negative ordinary edges.
 pub fn closed_lists_decide()
     ensures { ClosedListsDecide }
+{}
+
+/// What the earliest schedules execute up to a moment depends on what is completed up to it alone.
+pub fn earliest_see_alone()
+    ensures { EarliestSeeAlone }
 {}
