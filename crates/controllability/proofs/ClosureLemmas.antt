@@ -1,5 +1,5 @@
 -- Derivable edges are true, and the edges of closed tables and closures are closed lists.
-use Rattle.std.proofs.Common.{◌≡◌, ℤ, ◌≤ℤ◌, [], ◌∷◌, Option, Some, None, map, refl, ap, sym, ◌∙◌, subst, arith}
+use Rattle.std.proofs.Common.{◌≡◌, List, ℕ, ℤ, ◌≤ℤ◌, [], ◌∷◌, Option, Some, None, map, refl, ap, sym, ◌∙◌, subst, arith}
 use Rattle.std.specs.Prelude.{slice_get, IsSomeAnd}
 use Rattle.std.specs.List.{All, Contains}
 use Rattle.std.specs.Option.{option_map}
@@ -9,6 +9,7 @@ use Rattle.net_model.specs.Network.{Plan, IsPlan}
 use Rattle.net_model.specs.Edges.{IsEdge, IsLabelled, IsLinkOf}
 use Rattle.net_model.specs.Rules as exact
 use Rattle.net_model.specs.Rules.{Follows}
+use Rattle.net_model.specs.declared.ids.PointId.{PointId}
 use Rattle.net_model.specs.declared.ids.LinkId.{LinkId}
 use Rattle.net_model.specs.declared.part.Edge.{Edge}
 use Rattle.net_model.specs.declared.part.Link.{Link}
@@ -18,14 +19,18 @@ use Rattle.closure_model.specs.Derivable.{IsDerivable, IsDerivableFor, IsLeastDe
 use Rattle.closure_model.specs.Closure.{IsClosure, HoldsDerivable}
 use Rattle.closure_model.proofs.LawProofs.{derivable_are_edges, closure_is_closed}
 use Rattle.closure_model.proofs.TableLemmas.{edge_listed, listed_edge}
-use Rattle.strategy_model.specs.Control.{Controls}
+use Rattle.strategy_model.specs.Control.{Controls, IsEarliest}
 use Rattle.strategy_model.specs.Edges.{HoldsOf}
-use Rattle.strategy_model.specs.Dispatch.{Stands}
+use Rattle.strategy_model.specs.Dispatch.{Stands, IsOrder, IsDispatched}
+use Rattle.strategy_model.specs.DispatchLaws.{AreTrue}
 use Rattle.strategy_model.specs.declared.tree.Tree.{Tree}
 use Rattle.strategy_model.proofs.ExactLemmas.{exact_rules_keep_truth, cycle_is_loop}
 use Rattle.strategy_model.proofs.LoopLemmas.{loops_exclude_strategies}
 use Rattle.strategy_model.proofs.CompletenessLemmas.{closed_lists_decide}
+use Rattle.strategy_model.specs.Situations.{IsSituation}
 use Rattle.strategy_model.proofs.AheadLemmas.{dispatched_are_earliest}
+use Rattle.strategy_model.proofs.EarliestLemmas.{at_most_one_earliest}
+use Rattle.strategy_model.proofs.LowerLemmas.{dispatched_exist}
 use Rattle.controllability.specs.Laws.{DerivableAreTrue, DerivableCyclesExclude, ClosedTablesAreClosedLists, ClosuresAreClosedLists, ClosuresDecide, ClosuresDispatchEarliest}
 
 -- what follows from derivable edges that are true is true
@@ -125,7 +130,7 @@ closures_are_closed_lists net table plan closure =
       closed = λ edge follows. stands_in table edge ((closure_is_closed net table closure).0 edge follows);
     }
 
-closure_true : (net : Plan) (table : Graph) → IsPlan net → IsClosure net table → (strategy : Tree) → Controls strategy net → All (HoldsOf net strategy) (edges_of table)
+closure_true : (net : Plan) (table : Graph) → IsPlan net → IsClosure net table → AreTrue net (edges_of table)
 closure_true net table plan closure strategy controls =
     listed_all table (HoldsOf net strategy) (λ edge has. derivable_are_true net strategy edge plan controls (closure_derivable net table closure edge has))
 
@@ -133,6 +138,16 @@ pub closures_decide : ClosuresDecide
 closures_decide net table plan closure =
     closed_lists_decide net (edges_of table) plan (closures_are_closed_lists net table plan closure) (closure_true net table plan closure)
 
-pub closures_dispatch_earliest : ClosuresDispatchEarliest
-closures_dispatch_earliest net table order situation schedule plan closure ordered is_situation dispatched =
+-- the schedule of the lower bounds and waits of the closure is the earliest
+earliest_if : (net : Plan) (table : Graph) (order : List PointId) (situation schedule : List ℕ) → IsPlan net → IsClosure net table → IsOrder net (edges_of table) order → IsSituation net situation → IsDispatched net (edges_of table) situation schedule → IsEarliest net situation schedule
+earliest_if net table order situation schedule plan closure ordered is_situation dispatched =
     dispatched_are_earliest net (edges_of table) order situation schedule plan (closures_are_closed_lists net table plan closure) ordered (closure_true net table plan closure) is_situation dispatched
+
+pub closures_dispatch_earliest : ClosuresDispatchEarliest
+closures_dispatch_earliest net table order situation schedule plan closure ordered is_situation = (
+  λ earliest.
+      let (made, dispatched) = dispatched_exist net (edges_of table) order situation plan (closures_are_closed_lists net table plan closure) ordered is_situation in
+      let same : made ≡ schedule = at_most_one_earliest net situation made schedule (earliest_if net table order situation made plan closure ordered is_situation dispatched) earliest in
+      subst (IsDispatched net (edges_of table) situation) same dispatched,
+  earliest_if net table order situation schedule plan closure ordered is_situation,
+)

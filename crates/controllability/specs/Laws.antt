@@ -33,7 +33,9 @@ ClosuresAreClosedLists = (net : Plan) (table : Graph) → IsPlan net → IsClosu
 abbrev pub ClosuresDecide : Type 0
 ClosuresDecide = (net : Plan) (table : Graph) → IsPlan net → IsClosure net table → (IsControllable net ↔ HasNoNegativeCycle (edges_of table))
 
--- the schedule of the lower bounds and waits of the closure is the earliest
+-- a schedule is the earliest of a situation exactly where it is that of the lower bounds and waits of the closure
 abbrev pub ClosuresDispatchEarliest : Type 0
 ClosuresDispatchEarliest =
-    (net : Plan) (table : Graph) (order : List PointId) (situation schedule : List ℕ) → IsPlan net → IsClosure net table → IsOrder net (edges_of table) order → IsSituation net situation → IsDispatched net (edges_of table) situation schedule → IsEarliest net situation schedule
+    (net : Plan) (table : Graph) (order : List PointId) (situation schedule : List ℕ) → IsPlan net → IsClosure net table
+    → IsOrder net (edges_of table) order → IsSituation net situation
+    → (IsEarliest net situation schedule ↔ IsDispatched net (edges_of table) situation schedule)

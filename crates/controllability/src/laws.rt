@@ -27,7 +27,7 @@ pub fn closures_decide()
     ensures { ClosuresDecide }
 {}
 
-/// The schedule of the lower bounds and waits of the closure is the earliest.
+/// A schedule is the earliest of a situation exactly where it is that of the lower bounds and waits of the closure.
 pub fn closures_dispatch_earliest()
     ensures { ClosuresDispatchEarliest }
 {}

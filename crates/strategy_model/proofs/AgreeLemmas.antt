@@ -15,7 +15,9 @@ use Rattle.strategy_model.proofs.MomentLemmas.{made_length}
 use Rattle.strategy_model.proofs.PlayLemmas.{and_moment, along, goes_on}
 
 -- where each link completes in both situations or in neither, the same points are completed
-same_completed : (so_far : Moments) (t : ℕ) (links : List Link) (ds es : List ℕ) → length ds ≡ length links → length es ≡ length links → ((i : ℕ) (link : Link) (d e : ℕ) → slice_get links i ≡ Some link → slice_get ds i ≡ Some d → slice_get es i ≡ Some e → completes so_far t link d ≡ completes so_far t link e) → (point : PointId) → is_completed so_far t links ds point ≡ is_completed so_far t links es point
+same_completed : (so_far : Moments) (t : ℕ) (links : List Link) (ds es : List ℕ) → length ds ≡ length links → length es ≡ length links
+    → ((i : ℕ) (link : Link) (d e : ℕ) → slice_get links i ≡ Some link → slice_get ds i ≡ Some d → slice_get es i ≡ Some e → completes so_far t link d ≡ completes so_far t link e) → (point : PointId)
+    → is_completed so_far t links ds point ≡ is_completed so_far t links es point
 same_completed so_far t [] ds es ds_length es_length same point = refl
 same_completed so_far t (link ∷ links) [] es ds_length es_length same point = absurd (omega (arith, ds_length))
 same_completed so_far t (link ∷ links) (d ∷ ds) [] ds_length es_length same point = absurd (omega (arith, es_length))
@@ -43,8 +45,12 @@ both true x y v w here there = inl (here, there)
 both false x y v w here there = inr (here, there)
 
 -- Two situations that differ only in the link at a place, and a moment that no completion of it comes before.
-module _ (net : Plan) (place : ℕ) (link : Link) (declared : slice_get net.links place ≡ Some link) (from_point : link.from.0 < length net.points) (ds es : List ℕ) (ds_length : length ds ≡ length net.links) (es_length : length es ≡ length net.links) (elsewhere : (i : ℕ) → i ≢ place → slice_get ds i ≡ slice_get es i) (first second : List ℕ) (limit : ℕ) (after_first : (d : ℕ) → slice_get ds place ≡ Some d → limit ≤ slice_index first link.from.0 + d) (after_second : (e : ℕ) → slice_get es place ≡ Some e → limit ≤ slice_index second link.from.0 + e) where
-  same_links : (tree : Tree) (so_far : Moments) (t : ℕ) → t < limit → play_from tree net ds so_far t ≡ Some first → play_from tree net es so_far t ≡ Some second → (i : ℕ) (other : Link) (d e : ℕ) → slice_get net.links i ≡ Some other → slice_get ds i ≡ Some d → slice_get es i ≡ Some e → completes so_far t other d ≡ completes so_far t other e
+module _ (net : Plan) (place : ℕ) (link : Link) (declared : slice_get net.links place ≡ Some link) (from_point : link.from.0 < length net.points) (ds es : List ℕ)
+    (ds_length : length ds ≡ length net.links) (es_length : length es ≡ length net.links) (elsewhere : (i : ℕ) → i ≢ place → slice_get ds i ≡ slice_get es i) (first second : List ℕ) (limit : ℕ)
+    (after_first : (d : ℕ) → slice_get ds place ≡ Some d → limit ≤ slice_index first link.from.0 + d)
+    (after_second : (e : ℕ) → slice_get es place ≡ Some e → limit ≤ slice_index second link.from.0 + e) where
+  same_links : (tree : Tree) (so_far : Moments) (t : ℕ) → t < limit → play_from tree net ds so_far t ≡ Some first → play_from tree net es so_far t ≡ Some second → (i : ℕ) (other : Link) (d e : ℕ)
+      → slice_get net.links i ≡ Some other → slice_get ds i ≡ Some d → slice_get es i ≡ Some e → completes so_far t other d ≡ completes so_far t other e
   same_links tree so_far t before played_first played_second i other d e its its_d its_e =
       elim (cases_eq i place) [
         | inl here ↦

@@ -29,7 +29,9 @@ use Rattle.strategy_model.proofs.ViolationLemmas.{size_of, bound_awaited, wait_a
 use Rattle.strategy_model.proofs.SeenLemmas.{no_later, dispatched_are_one}
 use Rattle.strategy_model.proofs.CompletenessLemmas.{closed_lists_give_strategies}
 
-module _ (net : Plan) (edges : List Edge) (order : List PointId) (plan : IsPlan net) (closed : IsClosedList net edges) (ordered : IsOrder net edges order) (situation schedule : List ℕ) (is_situation : IsSituation net situation) (dispatched : IsDispatched net edges situation schedule) (strategy : Tree) (controls : Controls strategy net) (all : All (HoldsOf net strategy) edges) (other : List ℕ) (played : play strategy net situation ≡ Some other) where
+module _ (net : Plan) (edges : List Edge) (order : List PointId) (plan : IsPlan net) (closed : IsClosedList net edges) (ordered : IsOrder net edges order) (situation schedule : List ℕ)
+    (is_situation : IsSituation net situation) (dispatched : IsDispatched net edges situation schedule) (strategy : Tree) (controls : Controls strategy net) (all : All (HoldsOf net strategy) edges)
+    (other : List ℕ) (played : play strategy net situation ≡ Some other) where
   -- a point of the play isn't held back longer by an edge whose end comes no sooner in the play
   held : (point : PointId) (edge : Edge) → HoldsBack edges point edge → moment_in schedule edge.to ≤ moment_in other edge.to → awaited net schedule edge ≤ moment_in other point
   held point edge holds later = by edge.label refl
@@ -96,5 +98,7 @@ dispatched_are_earliest net edges order situation schedule plan closed ordered a
       played = played ∙ ap (λ (s : List ℕ). Some s) same;
       earliest = λ other its controls_too played_too.
           let size = played_length net situation its other [] 0 played_too in
-          place_by_place schedule its (dispatched.complete ∙ sym size) (λ k within. not_ahead net edges order plan closed ordered situation schedule is_situation dispatched other controls_too (all other controls_too) its played_too (suc (rank order (record { 0 = k }))) (record { 0 = k }) (omega arith) (let long = dispatched.complete in omega (arith, within, long)));
+          place_by_place schedule its (dispatched.complete ∙ sym size)
+          (λ k within. not_ahead net edges order plan closed ordered situation schedule is_situation dispatched other controls_too (all other controls_too) its played_too
+          (suc (rank order (record { 0 = k }))) (record { 0 = k }) (omega arith) (let long = dispatched.complete in omega (arith, within, long)));
     }

@@ -78,16 +78,23 @@ module _ (net : Plan) (edges : List Edge) (closed : IsClosedList net edges) wher
 
   pub stands_no_case : (first second : Edge) → Contains edges first → Contains edges second → first.label ≡ None → second.label ≡ None → first.to ≡ second.from → second.weight <ℤ pos 0 → pos 0 ≤ℤ first.weight → Stands edges (record { from = first.from; to = second.to; label = None; weight = first.weight +ℤ second.weight })
   stands_no_case first second one two first_ordinary second_ordinary meets negative from_zero =
-      subst (λ (w : ℤ). Stands edges (record { from = first.from; to = second.to; label = None; weight = w })) (max_zero first.weight second.weight from_zero) (closed.closed (record { from = first.from; to = second.to; label = None; weight = joined_weight first second }) (by_no_case first second one two (no_case_applies first second first_ordinary second_ordinary meets negative)))
+      subst (λ (w : ℤ). Stands edges (record { from = first.from; to = second.to; label = None; weight = w })) (max_zero first.weight second.weight from_zero)
+      (closed.closed (record { from = first.from; to = second.to; label = None; weight = joined_weight first second })
+      (by_no_case first second one two (no_case_applies first second first_ordinary second_ordinary meets negative)))
 
   -- negative ordinary edges in a row give one over both
   pub stands_over_both : (first second : Edge) → Contains edges first → Contains edges second → first.label ≡ None → second.label ≡ None → first.to ≡ second.from → first.weight <ℤ pos 0 → second.weight <ℤ pos 0 → Stands edges (record { from = first.from; to = second.to; label = None; weight = second.weight })
   stands_over_both first second one two first_ordinary second_ordinary meets first_negative negative =
-      subst (λ (w : ℤ). Stands edges (record { from = first.from; to = second.to; label = None; weight = w })) (max_negative first.weight second.weight first_negative) (closed.closed (record { from = first.from; to = second.to; label = None; weight = joined_weight first second }) (by_no_case first second one two (no_case_applies first second first_ordinary second_ordinary meets negative)))
+      subst (λ (w : ℤ). Stands edges (record { from = first.from; to = second.to; label = None; weight = w })) (max_negative first.weight second.weight first_negative)
+      (closed.closed (record { from = first.from; to = second.to; label = None; weight = joined_weight first second })
+      (by_no_case first second one two (no_case_applies first second first_ordinary second_ordinary meets negative)))
 
-  pub stands_upper_case : (first second : Edge) (label : LinkId) → Contains edges first → Contains edges second → first.label ≡ None → second.label ≡ Some label → first.to ≡ second.from → second.weight <ℤ pos 0 → pos 0 ≤ℤ first.weight → Stands edges (record { from = first.from; to = second.to; label = second.label; weight = first.weight +ℤ second.weight })
+  pub stands_upper_case : (first second : Edge) (label : LinkId) → Contains edges first → Contains edges second → first.label ≡ None → second.label ≡ Some label → first.to ≡ second.from
+      → second.weight <ℤ pos 0 → pos 0 ≤ℤ first.weight → Stands edges (record { from = first.from; to = second.to; label = second.label; weight = first.weight +ℤ second.weight })
   stands_upper_case first second label one two first_ordinary second_labelled meets negative from_zero =
-      subst (λ (w : ℤ). Stands edges (record { from = first.from; to = second.to; label = second.label; weight = w })) (max_zero first.weight second.weight from_zero) (closed.closed (record { from = first.from; to = second.to; label = second.label; weight = joined_weight first second }) (by_upper_case first second one two (upper_case_applies first second label first_ordinary second_labelled meets negative)))
+      subst (λ (w : ℤ). Stands edges (record { from = first.from; to = second.to; label = second.label; weight = w })) (max_zero first.weight second.weight from_zero)
+      (closed.closed (record { from = first.from; to = second.to; label = second.label; weight = joined_weight first second })
+      (by_upper_case first second one two (upper_case_applies first second label first_ordinary second_labelled meets negative)))
 
   pub stands_lower_case : (name : LinkId) (link : Link) (second : Edge) → IsLinkOf net name link → Contains edges second → second.label ≡ None → second.from ≡ link.to → second.weight <ℤ pos 0 → Stands edges (moved_to_activation link second)
   stands_lower_case name link second declared one ordinary begins negative =

@@ -43,7 +43,9 @@ plays_agree net strategy name link first second first_play second_play plan decl
     let lasting_first = lasting net plan first first_play strategy [] 0 played_first (follow_at_first net first) name.0 link in
     let lasting_second = lasting net plan second second_play strategy [] 0 played_second (follow_at_first net second) name.0 link in
     elim (cases_lt point.0 (length net.points)) [
-      | inl within ↦ agree_from net name.0 link declared sound.from_point first second (situation_length net.links first is_first) (situation_length net.links second is_second) differ first_play second_play limit (λ d lasts. let h = lasting_first d declared lasts in omega (arith, h)) (λ e lasts. let h = lasting_second e declared lasts in omega (arith, h)) strategy [] 0 played_first played_second point within sooner
+      | inl within ↦ agree_from net name.0 link declared sound.from_point first second (situation_length net.links first is_first)
+          (situation_length net.links second is_second) differ first_play second_play limit (λ d lasts. let h = lasting_first d declared lasts in omega (arith, h))
+          (λ e lasts. let h = lasting_second e declared lasts in omega (arith, h)) strategy [] 0 played_first played_second point within sooner
       | inr past ↦ beyond net first_play second_play (played_length net first first_play strategy [] 0 played_first) (played_length net second second_play strategy [] 0 played_second) point past
     ]
 
@@ -110,7 +112,10 @@ at_least_1 net link duration sound fits =
     let low = fits.0 in
     omega (arith, ints, positive, low)
 
-module _ (net : Plan) (strategy : Tree) (name : LinkId) (link : Link) (plan : IsPlan net) (declared : IsLinkOf net name link) (situation other schedule other_schedule : List ℕ) (is_situation : IsSituation net situation) (is_other : IsSituation net other) (differ : DifferOnlyIn name situation other) (played : play strategy net situation ≡ Some schedule) (other_played : play strategy net other ≡ Some other_schedule) (duration another : ℕ) (lasts : slice_get situation name.0 ≡ Some duration) (other_lasts : slice_get other name.0 ≡ Some another) (is_duration : IsDuration link duration) (is_another : IsDuration link another) where
+module _ (net : Plan) (strategy : Tree) (name : LinkId) (link : Link) (plan : IsPlan net) (declared : IsLinkOf net name link) (situation other schedule other_schedule : List ℕ)
+    (is_situation : IsSituation net situation) (is_other : IsSituation net other) (differ : DifferOnlyIn name situation other) (played : play strategy net situation ≡ Some schedule)
+    (other_played : play strategy net other ≡ Some other_schedule) (duration another : ℕ) (lasts : slice_get situation name.0 ≡ Some duration) (other_lasts : slice_get other name.0 ≡ Some another)
+    (is_duration : IsDuration link duration) (is_another : IsDuration link another) where
   agree : (point : PointId) → moment_in schedule point < min (moment_in schedule link.to) (moment_in other_schedule link.to) → moment_in schedule point ≡ moment_in other_schedule point
   agree = plays_agree net strategy name link situation other schedule other_schedule plan declared is_situation is_other differ played other_played
 
@@ -123,7 +128,9 @@ module _ (net : Plan) (strategy : Tree) (name : LinkId) (link : Link) (plan : Is
       let sound = link_sound net plan name.0 link declared in
       let completes = completion_follows_activation net strategy situation schedule name link duration plan played declared lasts in
       let other_completes = completion_follows_activation net strategy other other_schedule name link another plan other_played declared other_lasts in
-      let same_activation = activation_agrees (moment_in schedule link.from) (moment_in other_schedule link.from) duration another (at_least_1 net link duration sound is_duration) (at_least_1 net link another sound is_another) (λ before. agree link.from (omega (arith, before, completes, other_completes))) (λ before. agree_back link.from (omega (arith, before, completes, other_completes))) in
+      let same_activation = activation_agrees (moment_in schedule link.from) (moment_in other_schedule link.from) duration another (at_least_1 net link duration sound is_duration)
+      (at_least_1 net link another sound is_another) (λ before. agree link.from (omega (arith, before, completes, other_completes)))
+      (λ before. agree_back link.from (omega (arith, before, completes, other_completes))) in
       record {
         other = other;
         other_schedule = other_schedule;
@@ -140,7 +147,8 @@ module _ (net : Plan) (strategy : Tree) (name : LinkId) (link : Link) (plan : Is
         agree_back = agree_back;
       }
 
-pub compared : (net : Plan) (strategy : Tree) (name : LinkId) (link : Link) (situation schedule : List ℕ) (another : ℕ) → IsPlan net → Controls strategy net → IsLinkOf net name link → IsSituation net situation → play strategy net situation ≡ Some schedule → IsDuration link another → Compared net strategy name link situation schedule another
+pub compared : (net : Plan) (strategy : Tree) (name : LinkId) (link : Link) (situation schedule : List ℕ) (another : ℕ) → IsPlan net → Controls strategy net → IsLinkOf net name link
+    → IsSituation net situation → play strategy net situation ≡ Some schedule → IsDuration link another → Compared net strategy name link situation schedule another
 compared net strategy name link situation schedule another plan controls declared is_situation played fits =
     let (duration, lasts, is_duration) = duration_of net.links situation name.0 link is_situation declared in
     let other = set situation name.0 another in

@@ -1,39 +1,48 @@
 -- A closed list of edges with an order gives a strategy that controls the network.
 use Rattle.std.proofs.Common.{List}
-use Rattle.std.specs.List.{All}
 use Rattle.std.proofs.lemmas.List.Elements.{recursion_from_All}
 use Rattle.net_model.specs.Network.{Plan, IsPlan}
 use Rattle.net_model.specs.declared.ids.PointId.{PointId}
 use Rattle.net_model.specs.declared.part.Edge.{Edge}
 use Rattle.strategy_model.specs.Dispatch.{IsClosedList, IsOrder, IsDynamic}
-use Rattle.strategy_model.specs.DispatchLaws.{ClosedListsGiveStrategies, ClosedListsDecide}
-use Rattle.strategy_model.specs.Control.{Controls, IsControllable}
+use Rattle.strategy_model.specs.DispatchLaws.{AreTrue, ClosedListsGiveStrategies, ClosedListsDecide}
+use Rattle.strategy_model.specs.Control.{IsControllable}
 use Rattle.strategy_model.specs.Edges.{HoldsOf, HasNoNegativeCycle}
-use Rattle.strategy_model.specs.declared.tree.Tree.{Tree}
 use Rattle.strategy_model.proofs.LoopLemmas.{walk_true, loops_exclude_strategies}
 use Rattle.strategy_model.proofs.ExactLemmas.{cycle_is_loop}
 use Rattle.strategy_model.proofs.InsertLemmas.{closed_lists_have_orders}
 use Rattle.strategy_model.proofs.DispatchedLemmas.{dispatched_satisfy}
 use Rattle.strategy_model.proofs.LowerLemmas.{lower_schedule, lower_is_dispatched}
 use Rattle.strategy_model.proofs.SeenLemmas.{dispatched_see_alone}
-use Rattle.strategy_model.proofs.UnfoldLemmas.{dynamic_rules_are_played}
+use Rattle.strategy_model.proofs.UnfoldLemmas.{dynamic_strategies_are_trees}
 
--- the schedules of lower bounds and waits are a dynamic rule
+-- the schedules of lower bounds and waits are a dynamic execution strategy
 pub lower_is_dynamic : (net : Plan) (edges : List Edge) (order : List PointId) → IsPlan net → IsClosedList net edges → IsOrder net edges order → IsDynamic net (lower_schedule net edges order)
 lower_is_dynamic net edges order plan closed ordered =
     record {
       complete = λ situation is_situation. (lower_is_dispatched net edges order situation plan closed ordered is_situation).complete;
       lasting = λ situation name link duration is_situation. (lower_is_dispatched net edges order situation plan closed ordered is_situation).contingent name link duration;
-      seen_alone = λ first second t is_first is_second. dispatched_see_alone net edges order first second (lower_schedule net edges order first) (lower_schedule net edges order second) t plan closed ordered is_first is_second (lower_is_dispatched net edges order first plan closed ordered is_first) (lower_is_dispatched net edges order second plan closed ordered is_second);
+      seen_alone = λ first second t is_first is_second. dispatched_see_alone net edges order first second (lower_schedule net edges order first)
+          (lower_schedule net edges order second) t plan closed ordered is_first is_second (lower_is_dispatched net edges order first plan closed ordered is_first)
+          (lower_is_dispatched net edges order second plan closed ordered is_second);
     }
 
 pub closed_lists_give_strategies : ClosedListsGiveStrategies
 closed_lists_give_strategies net edges order plan closed ordered =
-    let (strategy, played) = dynamic_rules_are_played net (lower_schedule net edges order) plan (lower_is_dynamic net edges order plan closed ordered) in
-    (strategy, λ situation is_situation. (lower_schedule net edges order situation, played situation is_situation, dispatched_satisfy net edges situation (lower_schedule net edges order situation) plan closed is_situation (lower_is_dispatched net edges order situation plan closed ordered is_situation)), λ situation is_situation. (lower_schedule net edges order situation, played situation is_situation, lower_is_dispatched net edges order situation plan closed ordered is_situation))
+    let (strategy, played) = dynamic_strategies_are_trees net (lower_schedule net edges order) plan (lower_is_dynamic net edges order plan closed ordered) in (
+      strategy,
+      λ situation is_situation. (
+        lower_schedule net edges order situation,
+        played situation is_situation,
+        dispatched_satisfy net edges situation
+            (lower_schedule net edges order situation) plan closed is_situation (lower_is_dispatched net edges order situation plan closed ordered is_situation),
+      ),
+      λ situation is_situation.
+          (lower_schedule net edges order situation, played situation is_situation, lower_is_dispatched net edges order situation plan closed ordered is_situation),
+    )
 
 -- a list of edges that are true of every strategy that controls the network excludes them all by a negative cycle
-excluded : (net : Plan) (edges : List Edge) → IsPlan net → ((strategy : Tree) → Controls strategy net → All (HoldsOf net strategy) edges) → IsControllable net → HasNoNegativeCycle edges
+excluded : (net : Plan) (edges : List Edge) → IsPlan net → AreTrue net edges → IsControllable net → HasNoNegativeCycle edges
 excluded net edges plan all controllable cycle among negative =
     let (strategy, controls) = controllable in
     let holds = walk_true net strategy edges cycle (all strategy controls) among in

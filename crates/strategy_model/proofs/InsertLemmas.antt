@@ -63,7 +63,9 @@ place_of xs x (k, inside, here) = (k, slice_get-get_or xs k x inside ∙ ap (λ 
 goes_holds : (edges : List Edge) (from to : PointId) → Goes edges from to → goes edges from to ≡ true
 goes_holds edges from to found =
     let (k, there) = place_of edges found.edge found.among in
-    any_holds (goes_by from to) edges k found.edge there (and_from (is_ordinary found.edge && is_negative found.edge && same_point found.edge.from from) (same_point found.edge.to to) (and_from (is_ordinary found.edge && is_negative found.edge) (same_point found.edge.from from) (and_from (is_ordinary found.edge) (is_negative found.edge) found.ordinary found.negative) (test_from_same found.edge.from from found.begins)) (test_from_same found.edge.to to found.ends))
+    any_holds (goes_by from to) edges k found.edge there (and_from (is_ordinary found.edge && is_negative found.edge && same_point found.edge.from from) (same_point found.edge.to to)
+    (and_from (is_ordinary found.edge && is_negative found.edge) (same_point found.edge.from from) (and_from (is_ordinary found.edge) (is_negative found.edge) found.ordinary found.negative)
+    (test_from_same found.edge.from from found.begins)) (test_from_same found.edge.to to found.ends))
 
 none_holds : {A : Type 0} (test : A → Bool) (xs : List A) → list_any test xs ≡ false → AllByRecursion (λ x. test x ≡ false) xs
 none_holds test [] none = tt

@@ -18,13 +18,21 @@ use Rattle.strategy_model.proofs.PlayLemmas.{and_moment, known_stays, unknown_la
 use Rattle.strategy_model.proofs.CompareLemmas.{duration_of, at_least_1}
 use Rattle.strategy_model.proofs.KindLemmas.{Ending, kind_of_any, ending_known}
 
+-- a contingent point comes at a moment
+abbrev pub comes_seen : Plan → List ℕ → ℕ → PointId → Bool
+comes_seen net schedule t point = is_some (activation net point) && (moment_in schedule point == t)
+
+-- an executable point comes at a moment
+abbrev pub comes_acted : Plan → List ℕ → ℕ → PointId → Bool
+comes_acted net schedule t point = is_none (activation net point) && (moment_in schedule point == t)
+
 -- the contingent points that come at a moment
 abbrev pub seen_in : Plan → List ℕ → ℕ → List PointId
-seen_in net schedule t = filter (λ point. is_some (activation net point) && (moment_in schedule point == t)) (points_of net)
+seen_in net schedule t = filter (comes_seen net schedule t) (points_of net)
 
 -- the executable points that come at a moment
 abbrev pub acts_in : Plan → List ℕ → ℕ → List PointId
-acts_in net schedule t = filter (λ point. is_none (activation net point) && (moment_in schedule point == t)) (points_of net)
+acts_in net schedule t = filter (comes_acted net schedule t) (points_of net)
 
 -- the moments so far are those of the schedule before a moment
 pub record Known (net : Plan) (schedule : List ℕ) (so_far : Moments) (t : ℕ) : Type 0 where
@@ -67,13 +75,16 @@ not_given net test t point fails = by (moment_of (at_moment t (filter test (poin
     by (Some m) found = absurd (true≢false (sym (passes_test test t (points_of net) point m found) ∙ fails))
 
 -- ---- what is completed
-completion_there : (so_far : Moments) (t : ℕ) (links : List Link) (durations : List ℕ) (place : ℕ) (link : Link) (duration : ℕ) (point : PointId) → slice_get links place ≡ Some link → slice_get durations place ≡ Some duration → same_point link.to point ≡ true → completes so_far t link duration ≡ true → is_completed so_far t links durations point ≡ true
+completion_there : (so_far : Moments) (t : ℕ) (links : List Link) (durations : List ℕ) (place : ℕ) (link : Link) (duration : ℕ) (point : PointId) → slice_get links place ≡ Some link
+    → slice_get durations place ≡ Some duration → same_point link.to point ≡ true → completes so_far t link duration ≡ true → is_completed so_far t links durations point ≡ true
 completion_there so_far t [] durations place link duration point declared lasts ends done = absurd (none-some link declared)
 completion_there so_far t (l ∷ links) [] place link duration point declared lasts ends done = absurd (none-some duration lasts)
 completion_there so_far t (l ∷ links) (d ∷ durations) zero link duration point declared lasts ends done =
     let same : l ≡ link = same_Some l link declared in
     let its : d ≡ duration = same_Some d duration lasts in
-    or_left (same_point l.to point && completes so_far t l d) (is_completed so_far t links durations point) (and_from (same_point l.to point) (completes so_far t l d) (subst (λ (x : Link). same_point x.to point ≡ true) (sym same) ends) (subst (λ (x : Link). completes so_far t x d ≡ true) (sym same) (subst (λ (e : ℕ). completes so_far t link e ≡ true) (sym its) done)))
+    or_left (same_point l.to point && completes so_far t l d) (is_completed so_far t links durations point)
+    (and_from (same_point l.to point) (completes so_far t l d) (subst (λ (x : Link). same_point x.to point ≡ true) (sym same) ends)
+    (subst (λ (x : Link). completes so_far t x d ≡ true) (sym same) (subst (λ (e : ℕ). completes so_far t link e ≡ true) (sym its) done)))
 completion_there so_far t (l ∷ links) (d ∷ durations) (suc place) link duration point declared lasts ends done =
     or_right (same_point l.to point && completes so_far t l d) (is_completed so_far t links durations point) (completion_there so_far t links durations place link duration point declared lasts ends done)
 
@@ -112,7 +123,10 @@ may_act_more net so_far act acts may once rest =
     let within : nat_lt act.0 (length net.points) ≡ true = lt-ltb act.0 (length net.points) may.within in
     let fresh : is_none (moment_of so_far act) ≡ true = ap is_none may.fresh in
     let apart : not (list_any (same_point act) acts) ≡ true = ap not once in
-    and_from (nat_lt act.0 (length net.points) && is_none (activation net act) && is_none (moment_of so_far act) && not (list_any (same_point act) acts)) (may_act net so_far acts) (and_from (nat_lt act.0 (length net.points) && is_none (activation net act) && is_none (moment_of so_far act)) (not (list_any (same_point act) acts)) (and_from (nat_lt act.0 (length net.points) && is_none (activation net act)) (is_none (moment_of so_far act)) (and_from (nat_lt act.0 (length net.points)) (is_none (activation net act)) within may.executable) fresh) apart) rest
+    and_from (nat_lt act.0 (length net.points) && is_none (activation net act) && is_none (moment_of so_far act) && not (list_any (same_point act) acts)) (may_act net so_far acts)
+    (and_from (nat_lt act.0 (length net.points) && is_none (activation net act) && is_none (moment_of so_far act)) (not (list_any (same_point act) acts))
+    (and_from (nat_lt act.0 (length net.points) && is_none (activation net act)) (is_none (moment_of so_far act))
+    (and_from (nat_lt act.0 (length net.points)) (is_none (activation net act)) within may.executable) fresh) apart) rest
 
 may_act_among : (net : Plan) (so_far : Moments) (test : PointId → Bool) (a n : ℕ) → ((k : ℕ) → k < a + n → test (record { 0 = k }) ≡ true → MayExecute net so_far (record { 0 = k })) → may_act net so_far (filter test (points_from a n)) ≡ true
 may_act_among net so_far test a zero may = refl
@@ -127,7 +141,7 @@ may_act_among net so_far test a (suc n) may =
 -- the executable points that come at a moment may be executed then
 pub acts_allowed : (net : Plan) (schedule : List ℕ) (so_far : Moments) (t : ℕ) → Known net schedule so_far t → may_act net so_far (acts_in net schedule t) ≡ true
 acts_allowed net schedule so_far t known =
-    may_act_among net so_far (λ point. is_none (activation net point) && (moment_in schedule point == t)) 0 (length net.points) (λ k within passes.
+    may_act_among net so_far (comes_acted net schedule t) 0 (length net.points) (λ k within passes.
     let (executable, comes) = and_parts (is_none (activation net (record { 0 = k }))) (moment_in schedule (record { 0 = k }) == t) passes in
     let now = eqb-true (moment_in schedule (record { 0 = k })) t comes in
     record { within = omega (arith, within); executable = executable; fresh = known.not_yet (record { 0 = k }) (omega (arith, within)) (omega (arith, now)) })
@@ -154,7 +168,9 @@ made_of_known net schedule so_far t size known past =
         let inside : i < length net.points = omega (arith, within, size) in
         subst (λ (k : ℕ). moment_of so_far (record { 0 = k }) ≡ Some (slice_index schedule i)) at (known.before (record { 0 = i }) inside (past (record { 0 = i }) inside))
 
-module _ (net : Plan) (situation schedule : List ℕ) (plan : IsPlan net) (is_situation : IsSituation net situation) (lasting : (name : LinkId) (link : Link) (duration : ℕ) → IsLinkOf net name link → slice_get situation name.0 ≡ Some duration → moment_in schedule link.to ≡ moment_in schedule link.from + duration) (so_far : Moments) (t : ℕ) (known : Known net schedule so_far t) where
+module _ (net : Plan) (situation schedule : List ℕ) (plan : IsPlan net) (is_situation : IsSituation net situation)
+    (lasting : (name : LinkId) (link : Link) (duration : ℕ) → IsLinkOf net name link → slice_get situation name.0 ≡ Some duration
+    → moment_in schedule link.to ≡ moment_in schedule link.from + duration) (so_far : Moments) (t : ℕ) (known : Known net schedule so_far t) where
   -- the activation of a link that is known has its moment in the schedule
   known_from : (link : Link) (a : ℕ) → IsPoint net link.from → moment_of so_far link.from ≡ Some a → (a ≡ moment_in schedule link.from) × (a < t)
   known_from link a within found =
@@ -188,14 +204,14 @@ module _ (net : Plan) (situation schedule : List ℕ) (plan : IsPlan net) (is_si
   -- what is completed are the contingent points that come then
   pub completed_is : completed net situation so_far t ≡ seen_in net schedule t
   completed_is =
-      filter_agree (is_completed so_far t net.links situation) (λ point. is_some (activation net point) && (moment_in schedule point == t)) (λ point. same_tests (is_completed so_far t net.links situation point) (is_some (activation net point) && (moment_in schedule point == t)) (there point) (back point)) (points_of net)
+      filter_agree (is_completed so_far t net.links situation) (comes_seen net schedule t) (λ point. same_tests (is_completed so_far t net.links situation point) (comes_seen net schedule t point) (there point) (back point)) (points_of net)
     where
-      there : (point : PointId) → is_completed so_far t net.links situation point ≡ true → (is_some (activation net point) && (moment_in schedule point == t)) ≡ true
+      there : (point : PointId) → is_completed so_far t net.links situation point ≡ true → comes_seen net schedule t point ≡ true
       there point done =
           let (ending, comes) = completed_comes point (completed_means so_far t net.links situation point done) in
           and_from (is_some (activation net point)) (moment_in schedule point == t) (some_from_none (activation net point) (ending_known net point ending)) (eq-eqb (moment_in schedule point) t comes)
 
-      back : (point : PointId) → (is_some (activation net point) && (moment_in schedule point == t)) ≡ true → is_completed so_far t net.links situation point ≡ true
+      back : (point : PointId) → comes_seen net schedule t point ≡ true → is_completed so_far t net.links situation point ≡ true
       back point holds =
           let (contingent, comes) = and_parts (is_some (activation net point)) (moment_in schedule point == t) holds in
           elim (kind_of_any net point) [
@@ -215,12 +231,12 @@ module _ (net : Plan) (situation schedule : List ℕ) (plan : IsPlan net) (is_si
 
           by : (o : Option LinkId) → activation net point ≡ o → moment_of (at_moment t (seen_in net schedule t) ++ at_moment t (acts_in net schedule t)) point ≡ Some t
           by None none =
-              let fails : (is_some (activation net point) && (moment_in schedule point == t)) ≡ false = rw none refl in
-              let passes : (is_none (activation net point) && (moment_in schedule point == t)) ≡ true = rw none here in
-              found_later (at_moment t (seen_in net schedule t)) (at_moment t (acts_in net schedule t)) point (not_given net (λ point. is_some (activation net point) && (moment_in schedule point == t)) t point fails) ∙ given net (λ point. is_none (activation net point) && (moment_in schedule point == t)) t point within passes
+              let fails : comes_seen net schedule t point ≡ false = rw none refl in
+              let passes : comes_acted net schedule t point ≡ true = rw none here in
+              found_later (at_moment t (seen_in net schedule t)) (at_moment t (acts_in net schedule t)) point (not_given net (comes_seen net schedule t) t point fails) ∙ given net (comes_acted net schedule t) t point within passes
           by (Some name) some =
-              let passes : (is_some (activation net point) && (moment_in schedule point == t)) ≡ true = rw some here in
-              found_first (at_moment t (seen_in net schedule t)) (at_moment t (acts_in net schedule t)) point t (given net (λ point. is_some (activation net point) && (moment_in schedule point == t)) t point within passes)
+              let passes : comes_seen net schedule t point ≡ true = rw some here in
+              found_first (at_moment t (seen_in net schedule t)) (at_moment t (acts_in net schedule t)) point t (given net (comes_seen net schedule t) t point within passes)
 
       before : (point : PointId) → IsPoint net point → moment_in schedule point < t + 1 → moment_of (and_moment so_far t (seen_in net schedule t) (acts_in net schedule t)) point ≡ Some (moment_in schedule point)
       before point within sooner =
@@ -234,4 +250,7 @@ module _ (net : Plan) (situation schedule : List ℕ) (plan : IsPlan net) (is_si
       not_yet : (point : PointId) → IsPoint net point → t + 1 ≤ moment_in schedule point → moment_of (and_moment so_far t (seen_in net schedule t) (acts_in net schedule t)) point ≡ None
       not_yet point within later =
           let other : (moment_in schedule point == t) ≡ false = ne_eqb (moment_in schedule point) t (λ same. omega (arith, same, later)) in
-          unknown_later so_far t (seen_in net schedule t) (acts_in net schedule t) point (known.not_yet point within (omega (arith, later))) ∙ found_later (at_moment t (seen_in net schedule t)) (at_moment t (acts_in net schedule t)) point (not_given net (λ point. is_some (activation net point) && (moment_in schedule point == t)) t point (and_right (is_some (activation net point)) (moment_in schedule point == t) other)) ∙ not_given net (λ point. is_none (activation net point) && (moment_in schedule point == t)) t point (and_right (is_none (activation net point)) (moment_in schedule point == t) other)
+          unknown_later so_far t (seen_in net schedule t) (acts_in net schedule t) point (known.not_yet point within (omega (arith, later)))
+          ∙ found_later (at_moment t (seen_in net schedule t)) (at_moment t (acts_in net schedule t)) point
+          (not_given net (comes_seen net schedule t) t point (and_right (is_some (activation net point)) (moment_in schedule point == t) other))
+          ∙ not_given net (comes_acted net schedule t) t point (and_right (is_none (activation net point)) (moment_in schedule point == t) other)

@@ -25,3 +25,4 @@ pub mod CompletenessLemmas
 pub mod AheadLemmas
 pub mod InsertLemmas
 pub mod PlayedLemmas
+pub mod AloneLemmas

@@ -71,7 +71,9 @@ latest_same situation first second point [] same = refl
 latest_same situation first second point (edge ∷ edges) same =
     by (binds point edge) same.0 (latest_same situation first second point edges same.1)
   where
-    by : (b : Bool) → (b ≡ true → first edge.to ≡ second edge.to) → latest situation first point edges ≡ latest situation second point edges → cond b (max (first edge.to + delay situation edge) (latest situation first point edges)) (latest situation first point edges) ≡ cond b (max (second edge.to + delay situation edge) (latest situation second point edges)) (latest situation second point edges)
+    by : (b : Bool) → (b ≡ true → first edge.to ≡ second edge.to) → latest situation first point edges ≡ latest situation second point edges
+        → cond b (max (first edge.to + delay situation edge) (latest situation first point edges)) (latest situation first point edges) ≡ cond b
+        (max (second edge.to + delay situation edge) (latest situation second point edges)) (latest situation second point edges)
     by true here rest = ap (λ (m : ℕ). max (m + delay situation edge) (latest situation first point edges)) (here refl) ∙ ap (max (second edge.to + delay situation edge)) rest
     by false here rest = rest
 
@@ -91,7 +93,9 @@ not_above situation moment point most [] below = tt
 not_above situation moment point most (edge ∷ edges) below =
     by (binds point edge) (not_above situation moment point most edges) below
   where
-    by : (b : Bool) → (latest situation moment point edges ≤ most → AllByRecursion (λ edge. binds point edge ≡ true → moment edge.to + delay situation edge ≤ most) edges) → cond b (max (moment edge.to + delay situation edge) (latest situation moment point edges)) (latest situation moment point edges) ≤ most → (b ≡ true → moment edge.to + delay situation edge ≤ most) × AllByRecursion (λ edge. binds point edge ≡ true → moment edge.to + delay situation edge ≤ most) edges
+    by : (b : Bool) → (latest situation moment point edges ≤ most → AllByRecursion (λ edge. binds point edge ≡ true → moment edge.to + delay situation edge ≤ most) edges)
+        → cond b (max (moment edge.to + delay situation edge) (latest situation moment point edges)) (latest situation moment point edges) ≤ most
+        → (b ≡ true → moment edge.to + delay situation edge ≤ most) × AllByRecursion (λ edge. binds point edge ≡ true → moment edge.to + delay situation edge ≤ most) edges
     by true rest within = (λ here. omega (arith, within), rest (omega (arith, within)))
     by false rest within = (λ here. absurd cc, rest within)
 

@@ -25,7 +25,8 @@ unknown_later so_far t seen acts p missing =
     ap (λ (ms : Moments). moment_of ms p) (append_assoc so_far (at_moment t seen) (at_moment t acts)) ∙ found_later so_far (at_moment t seen ++ at_moment t acts) p missing
 
 -- What holds at the end of a play and of each moment where it held after it holds at the beginning.
-module _ (net : Plan) (situation schedule : List ℕ) (M : Moments → ℕ → Type 0) (at_end : (so_far : Moments) (t : ℕ) → schedule_made net so_far ≡ Some schedule → M so_far t) (at_moment' : (so_far : Moments) (t : ℕ) (acts : List PointId) → may_act net so_far acts ≡ true → M (and_moment so_far t (completed net situation so_far t) acts) (t + 1) → M so_far t) where
+module _ (net : Plan) (situation schedule : List ℕ) (M : Moments → ℕ → Type 0) (at_end : (so_far : Moments) (t : ℕ) → schedule_made net so_far ≡ Some schedule → M so_far t)
+    (at_moment' : (so_far : Moments) (t : ℕ) (acts : List PointId) → may_act net so_far acts ≡ true → M (and_moment so_far t (completed net situation so_far t) acts) (t + 1) → M so_far t) where
   mutual
     pub along : (tree : Tree) (so_far : Moments) (t : ℕ) → play_from tree net situation so_far t ≡ Some schedule → M so_far t
     along Leaf so_far t played = at_end so_far t played

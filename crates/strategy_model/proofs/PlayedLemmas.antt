@@ -1,6 +1,6 @@
--- What a strategy plays in every situation is a dynamic rule: up to a moment its plays depend on the completions up to it
--- alone.
-use Rattle.std.proofs.Common.{◌≡◌, ℕ, ◌+◌, ◌<◌, ◌≤◌, ◌&&◌, true, cond, List, [], Option, Some, None, is_some, inl, inr, refl, sym, ap, subst, ◌∙◌, arith}
+-- What a tree plays in every situation is a dynamic execution strategy: up to a moment its plays depend on the completions
+-- up to it alone.
+use Rattle.std.proofs.Common.{◌≡◌, ℕ, ◌+◌, ◌<◌, ◌≤◌, true, cond, List, [], Option, Some, None, is_some, inl, inr, refl, sym, ap, subst, ◌∙◌, arith}
 use Rattle.std.specs.Prelude.{slice_get, ◌==◌}
 use Rattle.std.specs.Cmp.Lexicographic.{pointwise}
 use Rattle.std.proofs.lemmas.Bool.{cases_lt, eqb-true, eq-eqb, and_parts, and_from, true≢false}
@@ -14,13 +14,13 @@ use Rattle.net_model.specs.declared.part.Link.{Link}
 use Rattle.strategy_model.specs.Situations.{IsSituation, moment_in}
 use Rattle.strategy_model.specs.Plays.{Moments, same_point, moment_of, points_of, may_act, completed, play_from, play_cases}
 use Rattle.strategy_model.specs.Dispatch.{AgreeUpTo, SameCompletions}
-use Rattle.strategy_model.specs.DispatchLaws.{PlayedRulesAreDynamic}
+use Rattle.strategy_model.specs.DispatchLaws.{TreesAreDynamic}
 use Rattle.strategy_model.specs.declared.tree.Tree.{Tree, Leaf, Node', Row_of-Case, end_of-Case, more_of-Case}
 use Rattle.strategy_model.proofs.PlayLemmas.{and_moment, known_stays, unknown_later, new_moment, GoesOn, goes_on}
 use Rattle.strategy_model.proofs.AgreeLemmas.{both, played_length}
 use Rattle.strategy_model.proofs.CompareLemmas.{completion_follows_activation}
 use Rattle.strategy_model.proofs.KindLemmas.{kind_of_any}
-use Rattle.strategy_model.proofs.KnownLemmas.{Known, seen_in, same_tests, completed_is}
+use Rattle.strategy_model.proofs.KnownLemmas.{Known, comes_seen, seen_in, same_tests, completed_is}
 
 -- every moment so far is before t
 abbrev Before : Moments → ℕ → Type 0
@@ -59,7 +59,7 @@ known_in_play net schedule so_far t before goes = record {
 -- where the completions up to a moment are the same, the same points are seen at it
 same_seen : (net : Plan) (first second : List ℕ) (t m : ℕ) → SameCompletions net t first second → m ≤ t → seen_in net first m ≡ seen_in net second m
 same_seen net first second t m same within =
-    filter_agree (λ point. is_some (activation net point) && (moment_in first point == m)) (λ point. is_some (activation net point) && (moment_in second point == m)) (λ point. same_tests (is_some (activation net point) && (moment_in first point == m)) (is_some (activation net point) && (moment_in second point == m)) (there point) (back point)) (points_of net)
+    filter_agree (comes_seen net first m) (comes_seen net second m) (λ point. same_tests (comes_seen net first m point) (comes_seen net second m point) (there point) (back point)) (points_of net)
   where
     comes : (point : PointId) → is_some (activation net point) ≡ true → AgreeUpTo t (moment_in first point) (moment_in second point)
     comes point contingent =
@@ -68,19 +68,22 @@ same_seen net first second t m same within =
           | inr ending ↦ subst (λ (p : PointId). AgreeUpTo t (moment_in first p) (moment_in second p)) ending.ends (same ending.name ending.link ending.declared)
         ]
 
-    there : (point : PointId) → (is_some (activation net point) && (moment_in first point == m)) ≡ true → (is_some (activation net point) && (moment_in second point == m)) ≡ true
+    there : (point : PointId) → comes_seen net first m point ≡ true → comes_seen net second m point ≡ true
     there point holds =
         let (contingent, now) = and_parts (is_some (activation net point)) (moment_in first point == m) holds in
         let at = eqb-true (moment_in first point) m now in
         and_from (is_some (activation net point)) (moment_in second point == m) contingent (eq-eqb (moment_in second point) m (sym ((comes point contingent).0 (omega (arith, at, within))) ∙ at))
 
-    back : (point : PointId) → (is_some (activation net point) && (moment_in second point == m)) ≡ true → (is_some (activation net point) && (moment_in first point == m)) ≡ true
+    back : (point : PointId) → comes_seen net second m point ≡ true → comes_seen net first m point ≡ true
     back point holds =
         let (contingent, now) = and_parts (is_some (activation net point)) (moment_in second point == m) holds in
         let at = eqb-true (moment_in second point) m now in
         and_from (is_some (activation net point)) (moment_in first point == m) contingent (eq-eqb (moment_in first point) m ((comes point contingent).1 (omega (arith, at, within)) ∙ at))
 
-module _ (net : Plan) (plan : IsPlan net) (ds es : List ℕ) (is_ds : IsSituation net ds) (is_es : IsSituation net es) (first second : List ℕ) (first_lasting : (name : LinkId) (link : Link) (duration : ℕ) → IsLinkOf net name link → slice_get ds name.0 ≡ Some duration → moment_in first link.to ≡ moment_in first link.from + duration) (second_lasting : (name : LinkId) (link : Link) (duration : ℕ) → IsLinkOf net name link → slice_get es name.0 ≡ Some duration → moment_in second link.to ≡ moment_in second link.from + duration) (t : ℕ) (same : SameCompletions net t first second) where
+module _ (net : Plan) (plan : IsPlan net) (ds es : List ℕ) (is_ds : IsSituation net ds) (is_es : IsSituation net es) (first second : List ℕ)
+    (first_lasting : (name : LinkId) (link : Link) (duration : ℕ) → IsLinkOf net name link → slice_get ds name.0 ≡ Some duration → moment_in first link.to ≡ moment_in first link.from + duration)
+    (second_lasting : (name : LinkId) (link : Link) (duration : ℕ) → IsLinkOf net name link → slice_get es name.0 ≡ Some duration → moment_in second link.to ≡ moment_in second link.from + duration)
+    (t : ℕ) (same : SameCompletions net t first second) where
   -- after the moment everything that came by it is known
   all_known : (so_far : Moments) (m : ℕ) → t < m → GoesOn net first so_far m → GoesOn net second so_far m → (point : PointId) → IsPoint net point → AgreeUpTo t (moment_in first point) (moment_in second point)
   all_known so_far m past first_goes second_goes point within = by (moment_of so_far point) refl
@@ -94,7 +97,7 @@ module _ (net : Plan) (plan : IsPlan net) (ds es : List ℕ) (is_ds : IsSituatio
           (λ by_then. absurd (omega (arith, later, by_then, past)), λ by_then. absurd (omega (arith, later_too, by_then, past)))
 
   mutual
-    agree_up_to : (tree : Tree) (so_far : Moments) (m : ℕ) → Before so_far m → play_from tree net ds so_far m ≡ Some first → play_from tree net es so_far m ≡ Some second → (point : PointId) → IsPoint net point → AgreeUpTo t (moment_in first point) (moment_in second point)
+    pub agree_up_to : (tree : Tree) (so_far : Moments) (m : ℕ) → Before so_far m → play_from tree net ds so_far m ≡ Some first → play_from tree net es so_far m ≡ Some second → (point : PointId) → IsPoint net point → AgreeUpTo t (moment_in first point) (moment_in second point)
     agree_up_to Leaf so_far m before played_first played_second point within =
         let is : moment_in first point ≡ moment_in second point = ap (λ (s : List ℕ). moment_in s point) (same_Some first second (sym played_first ∙ played_second)) in
         (λ by_then. is, λ by_then. is)
@@ -122,10 +125,13 @@ module _ (net : Plan) (plan : IsPlan net) (ds es : List ℕ) (is_ds : IsSituatio
           | inr later ↦ agree_among others so_far m before points later.0 later.1 point within
         ]
 
-pub played_rules_are_dynamic : PlayedRulesAreDynamic
-played_rules_are_dynamic net strategy schedule_of plan played =
+pub trees_are_dynamic : TreesAreDynamic
+trees_are_dynamic net strategy schedule_of plan played =
     record {
       complete = λ situation is_situation. played_length net situation (schedule_of situation) strategy [] 0 (played situation is_situation);
       lasting = λ situation name link duration is_situation. completion_follows_activation net strategy situation (schedule_of situation) name link duration plan (played situation is_situation);
-      seen_alone = λ first second t is_first is_second same point executable. agree_up_to net plan first second is_first is_second (schedule_of first) (schedule_of second) (λ name link duration. completion_follows_activation net strategy first (schedule_of first) name link duration plan (played first is_first)) (λ name link duration. completion_follows_activation net strategy second (schedule_of second) name link duration plan (played second is_second)) t same strategy [] 0 (λ point m found. absurd (none-some m found)) (played first is_first) (played second is_second) point executable.0;
+      seen_alone = λ first second t is_first is_second same point executable. agree_up_to net plan first second is_first is_second (schedule_of first) (schedule_of second)
+          (λ name link duration. completion_follows_activation net strategy first (schedule_of first) name link duration plan (played first is_first))
+          (λ name link duration. completion_follows_activation net strategy second (schedule_of second) name link duration plan (played second is_second)) t same strategy [] 0
+          (λ point m found. absurd (none-some m found)) (played first is_first) (played second is_second) point executable.0;
     }

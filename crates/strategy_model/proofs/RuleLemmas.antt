@@ -82,7 +82,9 @@ longest_is_duration net link sound =
     (omega (arith, ints, same, interval), omega (arith, ints, same))
 
 -- A point that comes before a link's completion where the link is shortest comes at the same moment where it isn't.
-after_shortest : (net : Plan) (strategy : Tree) (name : LinkId) (link : Link) (situation schedule : List ℕ) → IsLink net link → (both : Compared net strategy name link situation schedule (nat_abs link.low)) → (second edge : Edge) → HoldsIn both.other_schedule second → second.from ≡ link.to → second.weight <ℤ pos 0 → edge.from ≡ link.from → edge.to ≡ second.to → (link.low +ℤ second.weight) ≤ℤ edge.weight → HoldsIn schedule edge
+after_shortest : (net : Plan) (strategy : Tree) (name : LinkId) (link : Link) (situation schedule : List ℕ) → IsLink net link
+    → (both : Compared net strategy name link situation schedule (nat_abs link.low)) → (second edge : Edge) → HoldsIn both.other_schedule second → second.from ≡ link.to → second.weight <ℤ pos 0
+    → edge.from ≡ link.from → edge.to ≡ second.to → (link.low +ℤ second.weight) ≤ℤ edge.weight → HoldsIn schedule edge
 after_shortest net strategy name link situation schedule sound both second edge holds begins negative from to looser =
     let begins_in : moment_in both.other_schedule second.from ≡ moment_in both.other_schedule link.to = ap (moment_in both.other_schedule) begins in
     let from_in : moment_in schedule edge.from ≡ moment_in schedule link.from = ap (moment_in schedule) from in
@@ -117,7 +119,9 @@ cross_case_keeps_truth net strategy second edge plan controls holds rule situati
     after_shortest net strategy rule.name rule.link situation schedule sound both second edge holds_there rule.begins rule.negative rule.from rule.to rule.looser
 
 -- a point that comes before a link's completion comes at the same moment where the link is longest
-beside_longest : (net : Plan) (strategy : Tree) (name : LinkId) (link : Link) (situation schedule : List ℕ) → IsLink net link → (both : Compared net strategy name link situation schedule (nat_abs link.high)) → (premise : Edge) → HoldsIn both.other_schedule premise → premise.to ≡ link.from → moment_in schedule premise.from < moment_in schedule link.to → HoldsIn schedule premise
+beside_longest : (net : Plan) (strategy : Tree) (name : LinkId) (link : Link) (situation schedule : List ℕ) → IsLink net link
+    → (both : Compared net strategy name link situation schedule (nat_abs link.high)) → (premise : Edge) → HoldsIn both.other_schedule premise → premise.to ≡ link.from
+    → moment_in schedule premise.from < moment_in schedule link.to → HoldsIn schedule premise
 beside_longest net strategy name link situation schedule sound both premise holds ends before =
     let ends_in : moment_in schedule premise.to ≡ moment_in schedule link.from = ap (moment_in schedule) ends in
     let ends_there : moment_in both.other_schedule premise.to ≡ moment_in both.other_schedule link.from = ap (moment_in both.other_schedule) ends in
@@ -139,7 +143,9 @@ longest_there net other name link declared lasts longest its duration its_declar
     ap pos same_duration ∙ longest ∙ ap (λ (l : Link). l.high) same_link
 
 -- a labelled edge that is true holds wherever its first point comes before its label's completion
-pub wait_kept : (net : Plan) (strategy : Tree) (name : LinkId) (link : Link) (premise : Edge) (situation schedule : List ℕ) → IsPlan net → Controls strategy net → HoldsOf net strategy premise → premise.label ≡ Some name → IsLinkOf net name link → premise.to ≡ link.from → IsSituation net situation → play strategy net situation ≡ Some schedule → moment_in schedule premise.from < moment_in schedule link.to → HoldsIn schedule premise
+pub wait_kept : (net : Plan) (strategy : Tree) (name : LinkId) (link : Link) (premise : Edge) (situation schedule : List ℕ) → IsPlan net → Controls strategy net → HoldsOf net strategy premise
+    → premise.label ≡ Some name → IsLinkOf net name link → premise.to ≡ link.from → IsSituation net situation → play strategy net situation ≡ Some schedule
+    → moment_in schedule premise.from < moment_in schedule link.to → HoldsIn schedule premise
 wait_kept net strategy name link premise situation schedule plan controls holds labelled declared ends is_situation played before =
     let sound = link_sound net plan name.0 link declared in
     let positive = sound.positive in

@@ -27,9 +27,12 @@ no_later net edges schedule point m comes held =
     ]
 
 module _ (net : Plan) (edges : List Edge) (order : List PointId) (plan : IsPlan net) (closed : IsClosedList net edges) (ordered : IsOrder net edges order) where
-  -- Two schedules: a point that holds no point up in the first holds none longer in the second, where the points before it
-  -- and the completions up to then come no later there.
-  held_no_longer : (first second : List ℕ) (point : PointId) (edge : Edge) → HoldsBack edges point edge → awaited net first edge ≤ moment_in first point → (moment_in first edge.to ≤ moment_in first point → moment_in second edge.to ≤ moment_in first edge.to) → ((name : LinkId) (link : Link) → IsLinkOf net name link → edge.to ≡ link.from → moment_in first link.to ≤ moment_in first point → moment_in second link.to ≤ moment_in first link.to) → awaited net second edge ≤ moment_in first point
+  -- What holds a point back in one schedule holds it back no longer in another, where its end and the completions up to then
+  -- come no later.
+  held_no_longer : (first second : List ℕ) (point : PointId) (edge : Edge) → HoldsBack edges point edge → awaited net first edge ≤ moment_in first point
+      → (moment_in first edge.to ≤ moment_in first point → moment_in second edge.to ≤ moment_in first edge.to)
+      → ((name : LinkId) (link : Link) → IsLinkOf net name link → edge.to ≡ link.from → moment_in first link.to ≤ moment_in first point → moment_in second link.to ≤ moment_in first link.to)
+      → awaited net second edge ≤ moment_in first point
   held_no_longer first second point edge holds awaits before completed = by edge.label refl
     where
       by : (label : Option LinkId) → edge.label ≡ label → awaited net second edge ≤ moment_in first point
@@ -55,7 +58,11 @@ module _ (net : Plan) (edges : List Edge) (order : List PointId) (plan : IsPlan 
     up_to zero point within is_point by_then = absurd (omega (arith, within))
     up_to (suc limit) point within is_point by_then =
         elim (kind net point is_point) [
-          | inl executable ↦ no_later net edges second point (moment_in first point) (second_comes point executable) (λ edge holds. held_no_longer first second point edge holds ((first_comes point executable).not_before edge holds) (λ sooner. let falls = falls_to net edges order plan closed ordered point edge holds in up_to limit edge.to (omega (arith, falls, within)) (edge_sound net edges closed edge holds.among).to_point (omega (arith, sooner, by_then))) (λ name link declared ends sooner. let agree = (same name link declared).0 (omega (arith, sooner, by_then)) in omega (arith, agree)))
+          | inl executable ↦ no_later net edges second point (moment_in first point) (second_comes point executable)
+              (λ edge holds. held_no_longer first second point edge holds ((first_comes point executable).not_before edge holds)
+              (λ sooner. let falls = falls_to net edges order plan closed ordered point edge holds in up_to limit edge.to (omega (arith, falls, within))
+              (edge_sound net edges closed edge holds.among).to_point (omega (arith, sooner, by_then)))
+              (λ name link declared ends sooner. let agree = (same name link declared).0 (omega (arith, sooner, by_then)) in omega (arith, agree)))
           | inr ending ↦
               let at : moment_in first ending.link.to ≡ moment_in first point = ap (moment_in first) ending.ends in
               let at_second : moment_in second ending.link.to ≡ moment_in second point = ap (moment_in second) ending.ends in
@@ -98,8 +105,15 @@ dispatched_see_alone net edges order first second first_schedule second_schedule
     later by_then = up_to net edges order plan closed ordered first_schedule second_schedule t first_dispatched.executable second_dispatched.executable same (suc (rank order point)) point (omega arith) executable.0 by_then
 
     sooner : moment_in second_schedule point ≤ t → moment_in first_schedule point ≤ moment_in second_schedule point
-    sooner by_then = up_to net edges order plan closed ordered second_schedule first_schedule t second_dispatched.executable first_dispatched.executable (λ name link declared. let agree = same name link declared in (λ before. sym (agree.1 before), λ before. sym (agree.0 before))) (suc (rank order point)) point (omega arith) executable.0 by_then
+    sooner by_then = up_to net edges order plan closed ordered second_schedule first_schedule t second_dispatched.executable first_dispatched.executable
+        (λ name link declared. let agree = same name link declared in (λ before. sym (agree.1 before), λ before. sym (agree.0 before))) (suc (rank order point)) point
+        (omega arith) executable.0 by_then
 
 pub dispatched_are_one : DispatchedAreOne
 dispatched_are_one net edges order situation first second plan closed ordered is_situation is_first is_second =
-    both_ways first second (place_by_place first second (is_first.complete ∙ sym is_second.complete) (λ k within. sooner_in net edges order plan closed ordered situation second first is_situation is_second is_first (suc (rank order (record { 0 = k }))) (record { 0 = k }) (omega arith) (let size = is_first.complete in omega (arith, within, size)))) (place_by_place second first (is_second.complete ∙ sym is_first.complete) (λ k within. sooner_in net edges order plan closed ordered situation first second is_situation is_first is_second (suc (rank order (record { 0 = k }))) (record { 0 = k }) (omega arith) (let size = is_second.complete in omega (arith, within, size))))
+    both_ways first second (place_by_place first second (is_first.complete ∙ sym is_second.complete)
+    (λ k within. sooner_in net edges order plan closed ordered situation second first is_situation is_second is_first (suc (rank order (record { 0 = k }))) (record { 0 = k }) (omega arith)
+    (let size = is_first.complete in omega (arith, within, size))))
+    (place_by_place second first (is_second.complete ∙ sym is_first.complete)
+    (λ k within. sooner_in net edges order plan closed ordered situation first second is_situation is_first is_second (suc (rank order (record { 0 = k }))) (record { 0 = k }) (omega arith)
+    (let size = is_second.complete in omega (arith, within, size))))

@@ -30,13 +30,21 @@ pub case_passed : (cases : List Case) (i : ℕ) (case : Case) (points : List Poi
 case_passed cases i case points within is fails =
     ap (λ (cs : List Case). case_for cs points) (next_of cases i case within is) ∙ cond-false (pointwise same_point case.seen points) (Some case) (case_for (drop (i + 1) cases) points) fails
 
-pub completion_found : (so_far : Moments) (t : ℕ) (links : List Link) (durations : List ℕ) (point : PointId) (i : ℕ) (link : Link) (duration : ℕ) → i < length links → i < length durations → link ≡ get_or links i link → duration ≡ get_or durations i duration → (same_point link.to point && completes so_far t link duration) ≡ true → is_completed so_far t (drop i links) (drop i durations) point ≡ true
+pub completion_found : (so_far : Moments) (t : ℕ) (links : List Link) (durations : List ℕ) (point : PointId) (i : ℕ) (link : Link) (duration : ℕ) → i < length links → i < length durations
+    → link ≡ get_or links i link → duration ≡ get_or durations i duration → (same_point link.to point && completes so_far t link duration) ≡ true
+    → is_completed so_far t (drop i links) (drop i durations) point ≡ true
 completion_found so_far t links durations point i link duration link_within within link_is is completes_now =
-    ap (λ (ls : List Link). is_completed so_far t ls (drop i durations) point) (next_of links i link link_within link_is) ∙ ap (λ (ds : List ℕ). is_completed so_far t (link ∷ drop (i + 1) links) ds point) (next_of durations i duration within is) ∙ or_left (same_point link.to point && completes so_far t link duration) (is_completed so_far t (drop (i + 1) links) (drop (i + 1) durations) point) completes_now
+    ap (λ (ls : List Link). is_completed so_far t ls (drop i durations) point) (next_of links i link link_within link_is)
+    ∙ ap (λ (ds : List ℕ). is_completed so_far t (link ∷ drop (i + 1) links) ds point) (next_of durations i duration within is)
+    ∙ or_left (same_point link.to point && completes so_far t link duration) (is_completed so_far t (drop (i + 1) links) (drop (i + 1) durations) point) completes_now
 
-pub completion_passed : (so_far : Moments) (t : ℕ) (links : List Link) (durations : List ℕ) (point : PointId) (i : ℕ) (link : Link) (duration : ℕ) → i < length links → i < length durations → link ≡ get_or links i link → duration ≡ get_or durations i duration → (same_point link.to point && completes so_far t link duration) ≡ false → is_completed so_far t (drop i links) (drop i durations) point ≡ is_completed so_far t (drop (i + 1) links) (drop (i + 1) durations) point
+pub completion_passed : (so_far : Moments) (t : ℕ) (links : List Link) (durations : List ℕ) (point : PointId) (i : ℕ) (link : Link) (duration : ℕ) → i < length links → i < length durations
+    → link ≡ get_or links i link → duration ≡ get_or durations i duration → (same_point link.to point && completes so_far t link duration) ≡ false
+    → is_completed so_far t (drop i links) (drop i durations) point ≡ is_completed so_far t (drop (i + 1) links) (drop (i + 1) durations) point
 completion_passed so_far t links durations point i link duration link_within within link_is is fails =
-    ap (λ (ls : List Link). is_completed so_far t ls (drop i durations) point) (next_of links i link link_within link_is) ∙ ap (λ (ds : List ℕ). is_completed so_far t (link ∷ drop (i + 1) links) ds point) (next_of durations i duration within is) ∙ ap (λ (b : Bool). b || is_completed so_far t (drop (i + 1) links) (drop (i + 1) durations) point) fails
+    ap (λ (ls : List Link). is_completed so_far t ls (drop i durations) point) (next_of links i link link_within link_is)
+    ∙ ap (λ (ds : List ℕ). is_completed so_far t (link ∷ drop (i + 1) links) ds point) (next_of durations i duration within is)
+    ∙ ap (λ (b : Bool). b || is_completed so_far t (drop (i + 1) links) (drop (i + 1) durations) point) fails
 
 -- whether the first of some acts may be executed
 abbrev pub may_act_first : Plan → Moments → PointId → List PointId → Bool
@@ -79,7 +87,9 @@ after_one : (items : List ℕ) (m : ℕ) (rest : Option (List ℕ)) → option_m
 after_one items m None = refl
 after_one items m (Some xs) = ap (λ (ys : List ℕ). Some ys) (sym (append_assoc items (m ∷ []) xs))
 
-pub made_more : (net : Plan) (so_far : Moments) (items : List ℕ) (k m : ℕ) → k < length net.points → (point : PointId) → point.0 ≡ k → moment_of so_far point ≡ Some m → option_map (λ xs. items ++ xs) (all_some (map (moment_of so_far) (drop k (points_of net)))) ≡ option_map (λ xs. (items ++ m ∷ []) ++ xs) (all_some (map (moment_of so_far) (drop (k + 1) (points_of net))))
+pub made_more : (net : Plan) (so_far : Moments) (items : List ℕ) (k m : ℕ) → k < length net.points → (point : PointId) → point.0 ≡ k → moment_of so_far point ≡ Some m
+    → option_map (λ xs. items ++ xs) (all_some (map (moment_of so_far) (drop k (points_of net)))) ≡ option_map (λ xs. (items ++ m ∷ []) ++ xs)
+    (all_some (map (moment_of so_far) (drop (k + 1) (points_of net))))
 made_more net so_far items k m within point is found =
     let rest = all_some (map (moment_of so_far) (drop (k + 1) (points_of net))) in
     ap (λ (points : List PointId). option_map (λ xs. items ++ xs) (all_some (map (moment_of so_far) points))) (next_point net k within point is) ∙ ap (λ (o : Option ℕ). option_map (λ xs. items ++ xs) (all_some (o ∷ map (moment_of so_far) (drop (k + 1) (points_of net))))) found ∙ after_one items m rest

@@ -80,7 +80,8 @@ module _ (net : Plan) (situation : List ℕ) (so_far : Moments) (t : ℕ) (node 
 
   pub case_taken : (case : Case) → case_for cases seen ≡ Some case → may_act net so_far case.acts ≡ true → play_from node net situation so_far t ≡ play_from case.next net situation (and_moment so_far t seen case.acts) (t + 1)
   case_taken case found may =
-      at_node ∙ ap (goes_on_in net situation so_far t) found ∙ cond-true (may_act net so_far case.acts) (play_from case.next net situation (and_moment so_far t case.seen case.acts) (t + 1)) None may ∙ ap (λ (points : List PointId). play_from case.next net situation (and_moment so_far t points case.acts) (t + 1)) (sees cases seen case found)
+      at_node ∙ ap (goes_on_in net situation so_far t) found ∙ cond-true (may_act net so_far case.acts) (play_from case.next net situation (and_moment so_far t case.seen case.acts) (t + 1)) None may
+      ∙ ap (λ (points : List PointId). play_from case.next net situation (and_moment so_far t points case.acts) (t + 1)) (sees cases seen case found)
 
   pub depth_falls : (case : Case) → case_for cases seen ≡ Some case → depth case.next < depth node
   depth_falls case found =

@@ -1,5 +1,5 @@
--- A dynamic rule unfolds to a strategy: at each moment one case for each situation that what was seen leaves.
-use Rattle.std.proofs.Common.{◌≡◌, ◌⊎◌, ℕ, zero, suc, ◌+◌, ◌<◌, ◌≤◌, ◌&&◌, max, Bool, true, false, cond, List, [], ◌∷◌, Option, Some, None, length, map, is_some, is_none, refl, ap, sym, ◌∙◌, subst, arith, inl, inr}
+-- A dynamic execution strategy unfolds to a tree: at each moment one case for each situation that what was seen leaves.
+use Rattle.std.proofs.Common.{◌≡◌, ◌⊎◌, ℕ, zero, suc, ◌+◌, ◌<◌, ◌≤◌, max, Bool, true, false, cond, List, [], ◌∷◌, Option, Some, None, length, map, is_some, is_none, refl, ap, sym, ◌∙◌, subst, arith, inl, inr}
 use Rattle.std.specs.Prelude.{filter, ◌==◌}
 use Rattle.std.specs.List.{slice_index}
 use Rattle.std.specs.Cmp.Lexicographic.{pointwise, pointwise_decides}
@@ -11,7 +11,7 @@ use Rattle.net_model.specs.declared.ids.PointId.{PointId}
 use Rattle.strategy_model.specs.Situations.{IsSituation, moment_in}
 use Rattle.strategy_model.specs.Plays.{Moments, same_point, moment_of, at_moment, points_of, may_act, case_for, play_from}
 use Rattle.strategy_model.specs.Dispatch.{SameCompletions, IsDynamic}
-use Rattle.strategy_model.specs.DispatchLaws.{DynamicRulesArePlayed}
+use Rattle.strategy_model.specs.DispatchLaws.{DynamicStrategiesAreTrees}
 use Rattle.strategy_model.specs.declared.tree.Case.{Case}
 use Rattle.strategy_model.specs.declared.tree.Tree.{Tree, Leaf, Node}
 use Rattle.strategy_model.proofs.MomentLemmas.{same_from_test, test_from_same, same_points, passes_test}
@@ -20,7 +20,7 @@ use Rattle.strategy_model.proofs.CompareLemmas.{beyond}
 use Rattle.strategy_model.proofs.TreeLemmas.{case_taken}
 use Rattle.strategy_model.proofs.KindLemmas.{Ending, ending_known}
 use Rattle.strategy_model.proofs.SituationLemmas.{Among, among_kept, from_kept, situations_of, has_situation, are_situations}
-use Rattle.strategy_model.proofs.KnownLemmas.{Known, seen_in, acts_in, given, some_from_none, same_tests, completed_is, known_after, acts_allowed, made_of_known}
+use Rattle.strategy_model.proofs.KnownLemmas.{Known, comes_seen, comes_acted, seen_in, acts_in, given, some_from_none, same_tests, completed_is, known_after, acts_allowed, made_of_known}
 
 -- the greatest number of a list
 greatest_of : List ℕ → ℕ
@@ -82,11 +82,15 @@ module _ (net : Plan) (schedule_of : List ℕ → List ℕ) where
       points : List PointId
       points = seen_in net (schedule_of situation) t
 
-      tried : (b : Bool) → pointwise same_point (seen_in net (schedule_of first) t) (seen_in net (schedule_of situation) t) ≡ b → case_for (map (case_in moments all t) (first ∷ situations)) (seen_in net (schedule_of situation) t) ≡ cond b (Some (case_in moments all t first)) (case_for (map (case_in moments all t) situations) (seen_in net (schedule_of situation) t))
+      tried : (b : Bool) → pointwise same_point (seen_in net (schedule_of first) t) (seen_in net (schedule_of situation) t) ≡ b
+          → case_for (map (case_in moments all t) (first ∷ situations)) (seen_in net (schedule_of situation) t) ≡ cond b (Some (case_in moments all t first))
+          (case_for (map (case_in moments all t) situations) (seen_in net (schedule_of situation) t))
       tried b is =
           ap (λ (c : Bool). cond c (Some (case_in moments all t first)) (case_for (map (case_in moments all t) situations) (seen_in net (schedule_of situation) t))) is
 
-      by : (b : Bool) → pointwise same_point (seen_in net (schedule_of first) t) (seen_in net (schedule_of situation) t) ≡ b → (first ≡ situation) ⊎ Among situations situation → (Among situations situation → Taken (case_in moments all t) situations t (seen_in net (schedule_of situation) t)) → Taken (case_in moments all t) (first ∷ situations) t (seen_in net (schedule_of situation) t)
+      by : (b : Bool) → pointwise same_point (seen_in net (schedule_of first) t) (seen_in net (schedule_of situation) t) ≡ b → (first ≡ situation) ⊎ Among situations situation
+          → (Among situations situation → Taken (case_in moments all t) situations t (seen_in net (schedule_of situation) t))
+          → Taken (case_in moments all t) (first ∷ situations) t (seen_in net (schedule_of situation) t)
       by true is among rest =
           record {
             situation = first;
@@ -105,10 +109,10 @@ module _ (net : Plan) (schedule_of : List ℕ → List ℕ) where
 seen_comes : (net : Plan) (first second : List ℕ) (t : ℕ) (point : PointId) → IsPoint net point → Ending net point → ((m : ℕ) → m ≤ t → seen_in net first m ≡ seen_in net second m) → moment_in first point ≤ t → moment_in first point ≡ moment_in second point
 seen_comes net first second t point within ending same by_then =
     let m = moment_in first point in
-    let passes : (is_some (activation net point) && (moment_in first point == m)) ≡ true = and_from (is_some (activation net point)) (moment_in first point == m) (some_from_none (activation net point) (ending_known net point ending)) (eq-eqb m m refl) in
-    let there = given net (λ point. is_some (activation net point) && (moment_in first point == m)) 0 point within passes in
+    let passes : comes_seen net first m point ≡ true = and_from (is_some (activation net point)) (moment_in first point == m) (some_from_none (activation net point) (ending_known net point ending)) (eq-eqb m m refl) in
+    let there = given net (comes_seen net first m) 0 point within passes in
     let here : moment_of (at_moment 0 (seen_in net second m)) point ≡ Some 0 = subst (λ (points : List PointId). moment_of (at_moment 0 points) point ≡ Some 0) (same m by_then) there in
-    let its = passes_test (λ point. is_some (activation net point) && (moment_in second point == m)) 0 (points_of net) point 0 here in
+    let its = passes_test (comes_seen net second m) 0 (points_of net) point 0 here in
     sym (eqb-true (moment_in second point) m (and_parts (is_some (activation net point)) (moment_in second point == m) its).1)
 
 pub seen_agree : (net : Plan) (first second : List ℕ) (t : ℕ) → IsPlan net → ((m : ℕ) → m ≤ t → seen_in net first m ≡ seen_in net second m) → SameCompletions net t first second
@@ -125,7 +129,7 @@ module _ (net : Plan) (schedule_of : List ℕ → List ℕ) (plan : IsPlan net) 
   -- where the same points were seen up to a moment, the same are executed at it
   same_acts : (first second : List ℕ) (t : ℕ) → IsSituation net first → IsSituation net second → ((m : ℕ) → m ≤ t → seen_in net (schedule_of first) m ≡ seen_in net (schedule_of second) m) → acts_in net (schedule_of first) t ≡ acts_in net (schedule_of second) t
   same_acts first second t is_first is_second same =
-      filter_agree (λ point. is_none (activation net point) && (moment_in (schedule_of first) point == t)) (λ point. is_none (activation net point) && (moment_in (schedule_of second) point == t)) (λ point. same_tests (is_none (activation net point) && (moment_in (schedule_of first) point == t)) (is_none (activation net point) && (moment_in (schedule_of second) point == t)) (there point) (back point)) (points_of net)
+      filter_agree (comes_acted net (schedule_of first) t) (comes_acted net (schedule_of second) t) (λ point. same_tests (comes_acted net (schedule_of first) t point) (comes_acted net (schedule_of second) t point) (there point) (back point)) (points_of net)
     where
       at_once : (point : PointId) → is_none (activation net point) ≡ true → (moment_in (schedule_of first) point ≡ t) ⊎ (moment_in (schedule_of second) point ≡ t) → moment_in (schedule_of first) point ≡ moment_in (schedule_of second) point
       at_once point free comes =
@@ -136,19 +140,22 @@ module _ (net : Plan) (schedule_of : List ℕ → List ℕ) (plan : IsPlan net) 
             | inr past ↦ beyond net (schedule_of first) (schedule_of second) (dynamic.complete first is_first) (dynamic.complete second is_second) point past
           ]
 
-      there : (point : PointId) → (is_none (activation net point) && (moment_in (schedule_of first) point == t)) ≡ true → (is_none (activation net point) && (moment_in (schedule_of second) point == t)) ≡ true
+      there : (point : PointId) → comes_acted net (schedule_of first) t point ≡ true → comes_acted net (schedule_of second) t point ≡ true
       there point holds =
           let (free, comes) = and_parts (is_none (activation net point)) (moment_in (schedule_of first) point == t) holds in
           let now = eqb-true (moment_in (schedule_of first) point) t comes in
           and_from (is_none (activation net point)) (moment_in (schedule_of second) point == t) free (eq-eqb (moment_in (schedule_of second) point) t (sym (at_once point free (inl now)) ∙ now))
 
-      back : (point : PointId) → (is_none (activation net point) && (moment_in (schedule_of second) point == t)) ≡ true → (is_none (activation net point) && (moment_in (schedule_of first) point == t)) ≡ true
+      back : (point : PointId) → comes_acted net (schedule_of second) t point ≡ true → comes_acted net (schedule_of first) t point ≡ true
       back point holds =
           let (free, comes) = and_parts (is_none (activation net point)) (moment_in (schedule_of second) point == t) holds in
           let now = eqb-true (moment_in (schedule_of second) point) t comes in
           and_from (is_none (activation net point)) (moment_in (schedule_of first) point == t) free (eq-eqb (moment_in (schedule_of first) point) t (at_once point free (inr now) ∙ now))
 
-  plays : (moments : ℕ) (situations : List (List ℕ)) (t : ℕ) (situation : List ℕ) (so_far : Moments) → Among situations situation → ((other : List ℕ) → Among situations other → IsSituation net other) → ((other : List ℕ) → Among situations other → (m : ℕ) → m < t → seen_in net (schedule_of other) m ≡ seen_in net (schedule_of situation) m) → Known net (schedule_of situation) so_far t → ((point : PointId) → IsPoint net point → moment_in (schedule_of situation) point < t + moments) → play_from (unfolded net schedule_of moments situations t) net situation so_far t ≡ Some (schedule_of situation)
+  plays : (moments : ℕ) (situations : List (List ℕ)) (t : ℕ) (situation : List ℕ) (so_far : Moments) → Among situations situation → ((other : List ℕ) → Among situations other → IsSituation net other)
+      → ((other : List ℕ) → Among situations other → (m : ℕ) → m < t → seen_in net (schedule_of other) m ≡ seen_in net (schedule_of situation) m) → Known net (schedule_of situation) so_far t
+      → ((point : PointId) → IsPoint net point → moment_in (schedule_of situation) point < t + moments)
+      → play_from (unfolded net schedule_of moments situations t) net situation so_far t ≡ Some (schedule_of situation)
   plays zero situations t situation so_far among all alike known past =
       made_of_known net (schedule_of situation) so_far t (dynamic.complete situation (all situation among)) known (λ point within. let before = past point within in omega (arith, before))
   plays (suc moments) situations t situation so_far among all alike known past =
@@ -165,7 +172,9 @@ module _ (net : Plan) (schedule_of : List ℕ → List ℕ) (plan : IsPlan net) 
       let seen_is = completed_is net situation schedule plan is_situation (λ name link duration. dynamic.lasting situation name link duration is_situation) so_far t known in
       let next = case_taken net situation so_far t (unfolded net schedule_of (suc moments) situations t) (map (case_in net schedule_of moments situations t) situations) refl (seen_in net schedule t) (sym seen_is) (case_in net schedule_of moments situations t its) took.found may in
       let kept = λ (other : List ℕ) (among' : Among (left_by net schedule_of situations t its) other). from_kept (λ other. pointwise same_point (seen_in net (schedule_of its) t) (seen_in net (schedule_of other) t)) situations other among' in
-      let rest = plays moments (left_by net schedule_of situations t its) (t + 1) situation (and_moment so_far t (seen_in net schedule t) (acts_in net schedule t)) (among_kept (λ other. pointwise same_point (seen_in net (schedule_of its) t) (seen_in net (schedule_of other) t)) situations situation among (same_list (seen_in net (schedule_of its) t) (seen_in net schedule t) took.sees)) (λ other among'. all other (kept other among').0) (λ other among' m before. elim (cases_lt m t) [
+      let rest = plays moments (left_by net schedule_of situations t its) (t + 1) situation (and_moment so_far t (seen_in net schedule t) (acts_in net schedule t))
+      (among_kept (λ other. pointwise same_point (seen_in net (schedule_of its) t) (seen_in net (schedule_of other) t)) situations situation among
+      (same_list (seen_in net (schedule_of its) t) (seen_in net schedule t) took.sees)) (λ other among'. all other (kept other among').0) (λ other among' m before. elim (cases_lt m t) [
         | inl earlier ↦ alike other (kept other among').0 m earlier
         | inr now ↦
             let same : m ≡ t = omega (arith, before, now) in
@@ -174,12 +183,14 @@ module _ (net : Plan) (schedule_of : List ℕ → List ℕ) (plan : IsPlan net) 
       ]) (known_after net situation schedule plan is_situation (λ name link duration. dynamic.lasting situation name link duration is_situation) so_far t known) (λ point within. let before = past point within in omega (arith, before)) in
       next ∙ ap (λ (acts : List PointId). play_from (unfolded net schedule_of moments (left_by net schedule_of situations t its) (t + 1)) net situation (and_moment so_far t (seen_in net schedule t) acts) (t + 1)) acts_same ∙ rest
 
-pub dynamic_rules_are_played : DynamicRulesArePlayed
-dynamic_rules_are_played net schedule_of plan dynamic =
+pub dynamic_strategies_are_trees : DynamicStrategiesAreTrees
+dynamic_strategies_are_trees net schedule_of plan dynamic =
     let situations = situations_of net in
     let moments = suc (horizon net schedule_of situations) in (
       unfolded net schedule_of moments situations 0,
       λ situation is_situation.
           let among = has_situation net situation plan is_situation in
-          plays net schedule_of plan dynamic moments situations 0 situation [] among (λ other among'. are_situations net other plan among') (λ other among' m before. absurd (omega (arith, before))) (record { before = λ point within before. absurd (omega (arith, before)); not_yet = λ point within later. refl }) (λ point within. let below = within_horizon net schedule_of situations situation among point.0 in omega (arith, below)),
+          plays net schedule_of plan dynamic moments situations 0 situation [] among (λ other among'. are_situations net other plan among') (λ other among' m before. absurd (omega (arith, before)))
+          (record { before = λ point within before. absurd (omega (arith, before)); not_yet = λ point within later. refl })
+          (λ point within. let below = within_horizon net schedule_of situations situation among point.0 in omega (arith, below)),
     )

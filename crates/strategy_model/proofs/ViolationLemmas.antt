@@ -152,7 +152,9 @@ module _ (net : Plan) (edges : List Edge) (situation schedule : List ℕ) (plan 
         })
 
     -- an ordinary edge from 0 on, and a labelled one from its end, before whose completion the end comes: upper-case
-    before_wait : (edge next : Edge) (name : LinkId) → Contains edges edge → edge.label ≡ None → pos 0 ≤ℤ edge.weight → Contains edges next → edge.to ≡ next.from → next.weight <ℤ pos 0 → next.label ≡ Some name → (pos (moment_in schedule edge.to) +ℤ next.weight) ≤ℤ pos (moment_in schedule next.to) → moment_in schedule edge.to ≤ completion_in net schedule name → moment_in schedule next.to < moment_in schedule edge.to → measure schedule edge < suc limit → Violated net schedule edge → ⊥
+    before_wait : (edge next : Edge) (name : LinkId) → Contains edges edge → edge.label ≡ None → pos 0 ≤ℤ edge.weight → Contains edges next → edge.to ≡ next.from → next.weight <ℤ pos 0
+        → next.label ≡ Some name → (pos (moment_in schedule edge.to) +ℤ next.weight) ≤ℤ pos (moment_in schedule next.to) → moment_in schedule edge.to ≤ completion_in net schedule name
+        → moment_in schedule next.to < moment_in schedule edge.to → measure schedule edge < suc limit → Violated net schedule edge → ⊥
     before_wait edge next name among ordinary from_zero next_among meets negative labelled asks before falls low violated =
         let late = violated.late in
         let marked = mark_small next.label in

@@ -65,7 +65,8 @@ pub record ComesAtOnce (net : Plan) (edges : List Edge) (schedule : List ℕ) (p
 pub record IsDispatched (net : Plan) (edges : List Edge) (situation schedule : List ℕ) : Type 0 where
   pub complete : length schedule ≡ length net.points
   pub executable : (point : PointId) → IsExecutable net point → ComesAtOnce net edges schedule point
-  pub contingent : (name : LinkId) (link : Link) (duration : ℕ) → IsLinkOf net name link → slice_get situation name.0 ≡ Some duration → moment_in schedule link.to ≡ moment_in schedule link.from + duration
+  pub contingent : (name : LinkId) (link : Link) (duration : ℕ) → IsLinkOf net name link → slice_get situation name.0 ≡ Some duration
+      → moment_in schedule link.to ≡ moment_in schedule link.from + duration
 
 -- a strategy dispatches a network by a list of edges where it plays, in every situation, the schedule of lower bounds and
 -- waits
@@ -87,10 +88,13 @@ abbrev pub SameExecutions : Plan → ℕ → List ℕ → List ℕ → Type 0
 SameExecutions net t first second =
     (point : PointId) → IsExecutable net point → AgreeUpTo t (moment_in first point) (moment_in second point)
 
--- A rule that gives a schedule for every situation is a dynamic one where contingent points come their durations after
--- their activation points, and what is executed up to a moment depends on what is completed up to it alone (Hunsberger
--- 2009).
+-- An execution strategy gives a schedule for every situation. It is dynamic where contingent points come their durations
+-- after their activation points, and what is executed up to a moment depends on what is completed up to it alone (Morris,
+-- Muscettola and Vidal 2001, as repaired by Hunsberger 2009).
 pub record IsDynamic (net : Plan) (schedule_of : List ℕ → List ℕ) : Type 0 where
   pub complete : (situation : List ℕ) → IsSituation net situation → length (schedule_of situation) ≡ length net.points
-  pub lasting : (situation : List ℕ) (name : LinkId) (link : Link) (duration : ℕ) → IsSituation net situation → IsLinkOf net name link → slice_get situation name.0 ≡ Some duration → moment_in (schedule_of situation) link.to ≡ moment_in (schedule_of situation) link.from + duration
-  pub seen_alone : (first second : List ℕ) (t : ℕ) → IsSituation net first → IsSituation net second → SameCompletions net t (schedule_of first) (schedule_of second) → SameExecutions net t (schedule_of first) (schedule_of second)
+  pub lasting : (situation : List ℕ) (name : LinkId) (link : Link) (duration : ℕ) → IsSituation net situation → IsLinkOf net name link
+      → slice_get situation name.0 ≡ Some duration
+      → moment_in (schedule_of situation) link.to ≡ moment_in (schedule_of situation) link.from + duration
+  pub seen_alone : (first second : List ℕ) (t : ℕ) → IsSituation net first → IsSituation net second
+      → SameCompletions net t (schedule_of first) (schedule_of second) → SameExecutions net t (schedule_of first) (schedule_of second)

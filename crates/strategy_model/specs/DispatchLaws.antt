@@ -1,4 +1,4 @@
--- What closed lists of edges with an order give.
+-- What closed lists of edges give, and what trees play.
 use Rattle.std.specs.Prelude.{◌≡◌, ◌↔◌, ℕ, List, Some}
 use Rattle.std.specs.List.{All}
 use Rattle.net_model.specs.Network.{Plan, IsPlan}
@@ -11,6 +11,10 @@ use Rattle.strategy_model.specs.Edges.{HoldsOf, HasNoNegativeCycle}
 use Rattle.strategy_model.specs.Dispatch.{IsClosedList, IsOrder, IsDispatched, Dispatches, SameCompletions, SameExecutions, IsDynamic}
 use Rattle.strategy_model.specs.declared.tree.Tree.{Tree}
 
+-- edges that are true of every strategy that controls the network
+abbrev pub AreTrue : Plan → List Edge → Type 0
+AreTrue net edges = (strategy : Tree) → Controls strategy net → All (HoldsOf net strategy) edges
+
 -- a closed list of edges with an order gives a strategy that controls the network and plays the schedule of lower bounds
 -- and waits in every situation
 abbrev pub ClosedListsGiveStrategies : Type 0
@@ -20,37 +24,48 @@ ClosedListsGiveStrategies =
 -- the schedule of lower bounds and waits satisfies the network
 abbrev pub DispatchedSatisfy : Type 0
 DispatchedSatisfy =
-    (net : Plan) (edges : List Edge) (situation schedule : List ℕ) → IsPlan net → IsClosedList net edges → IsSituation net situation → IsDispatched net edges situation schedule → Satisfies net schedule
+    (net : Plan) (edges : List Edge) (situation schedule : List ℕ) → IsPlan net → IsClosedList net edges → IsSituation net situation
+    → IsDispatched net edges situation schedule → Satisfies net schedule
 
 -- there is one in every situation
 abbrev pub DispatchedExist : Type 0
 DispatchedExist =
-    (net : Plan) (edges : List Edge) (order : List PointId) (situation : List ℕ) → IsPlan net → IsClosedList net edges → IsOrder net edges order → IsSituation net situation → (schedule : List ℕ) × IsDispatched net edges situation schedule
+    (net : Plan) (edges : List Edge) (order : List PointId) (situation : List ℕ) → IsPlan net → IsClosedList net edges → IsOrder net edges order
+    → IsSituation net situation → (schedule : List ℕ) × IsDispatched net edges situation schedule
 
 -- and no other
 abbrev pub DispatchedAreOne : Type 0
 DispatchedAreOne =
-    (net : Plan) (edges : List Edge) (order : List PointId) (situation first second : List ℕ) → IsPlan net → IsClosedList net edges → IsOrder net edges order → IsSituation net situation → IsDispatched net edges situation first → IsDispatched net edges situation second → first ≡ second
+    (net : Plan) (edges : List Edge) (order : List PointId) (situation first second : List ℕ) → IsPlan net → IsClosedList net edges
+    → IsOrder net edges order → IsSituation net situation → IsDispatched net edges situation first → IsDispatched net edges situation second
+    → first ≡ second
 
 -- what it executes up to a moment depends on what is completed up to it alone
 abbrev pub DispatchedSeeAlone : Type 0
 DispatchedSeeAlone =
-    (net : Plan) (edges : List Edge) (order : List PointId) (first second first_schedule second_schedule : List ℕ) (t : ℕ) → IsPlan net → IsClosedList net edges → IsOrder net edges order → IsSituation net first → IsSituation net second → IsDispatched net edges first first_schedule → IsDispatched net edges second second_schedule → SameCompletions net t first_schedule second_schedule → SameExecutions net t first_schedule second_schedule
+    (net : Plan) (edges : List Edge) (order : List PointId) (first second first_schedule second_schedule : List ℕ) (t : ℕ) → IsPlan net
+    → IsClosedList net edges → IsOrder net edges order → IsSituation net first → IsSituation net second
+    → IsDispatched net edges first first_schedule → IsDispatched net edges second second_schedule
+    → SameCompletions net t first_schedule second_schedule → SameExecutions net t first_schedule second_schedule
 
--- every dynamic rule is what some strategy plays
-abbrev pub DynamicRulesArePlayed : Type 0
-DynamicRulesArePlayed =
-    (net : Plan) (schedule_of : List ℕ → List ℕ) → IsPlan net → IsDynamic net schedule_of → (strategy : Tree) × ((situation : List ℕ) → IsSituation net situation → play strategy net situation ≡ Some (schedule_of situation))
+-- every dynamic execution strategy is what some tree plays
+abbrev pub DynamicStrategiesAreTrees : Type 0
+DynamicStrategiesAreTrees =
+    (net : Plan) (schedule_of : List ℕ → List ℕ) → IsPlan net → IsDynamic net schedule_of → (strategy : Tree)
+    × ((situation : List ℕ) → IsSituation net situation → play strategy net situation ≡ Some (schedule_of situation))
 
--- and what a strategy plays in every situation is a dynamic rule
-abbrev pub PlayedRulesAreDynamic : Type 0
-PlayedRulesAreDynamic =
-    (net : Plan) (strategy : Tree) (schedule_of : List ℕ → List ℕ) → IsPlan net → ((situation : List ℕ) → IsSituation net situation → play strategy net situation ≡ Some (schedule_of situation)) → IsDynamic net schedule_of
+-- and what a tree plays in every situation is a dynamic execution strategy
+abbrev pub TreesAreDynamic : Type 0
+TreesAreDynamic =
+    (net : Plan) (strategy : Tree) (schedule_of : List ℕ → List ℕ) → IsPlan net
+    → ((situation : List ℕ) → IsSituation net situation → play strategy net situation ≡ Some (schedule_of situation)) → IsDynamic net schedule_of
 
 -- where the edges of the list are true of every strategy that controls the network, it is the earliest schedule
 abbrev pub DispatchedAreEarliest : Type 0
 DispatchedAreEarliest =
-    (net : Plan) (edges : List Edge) (order : List PointId) (situation schedule : List ℕ) → IsPlan net → IsClosedList net edges → IsOrder net edges order → ((strategy : Tree) → Controls strategy net → All (HoldsOf net strategy) edges) → IsSituation net situation → IsDispatched net edges situation schedule → IsEarliest net situation schedule
+    (net : Plan) (edges : List Edge) (order : List PointId) (situation schedule : List ℕ) → IsPlan net → IsClosedList net edges
+    → IsOrder net edges order → AreTrue net edges → IsSituation net situation → IsDispatched net edges situation schedule
+    → IsEarliest net situation schedule
 
 -- a closed list of edges without a cycle of negative ordinary edges has an order
 abbrev pub ClosedListsHaveOrders : Type 0
@@ -59,4 +74,11 @@ ClosedListsHaveOrders = (net : Plan) (edges : List Edge) → IsClosedList net ed
 -- so a closed list of edges that are true of every strategy that controls the network decides whether one does
 abbrev pub ClosedListsDecide : Type 0
 ClosedListsDecide =
-    (net : Plan) (edges : List Edge) → IsPlan net → IsClosedList net edges → ((strategy : Tree) → Controls strategy net → All (HoldsOf net strategy) edges) → (IsControllable net ↔ HasNoNegativeCycle edges)
+    (net : Plan) (edges : List Edge) → IsPlan net → IsClosedList net edges → AreTrue net edges → (IsControllable net ↔ HasNoNegativeCycle edges)
+
+-- what the earliest schedules execute up to a moment depends on what is completed up to it alone
+abbrev pub EarliestSeeAlone : Type 0
+EarliestSeeAlone =
+    (net : Plan) (first second first_schedule second_schedule : List ℕ) (t : ℕ) → IsPlan net → IsEarliest net first first_schedule
+    → IsEarliest net second second_schedule → SameCompletions net t first_schedule second_schedule
+    → SameExecutions net t first_schedule second_schedule

@@ -18,13 +18,19 @@ use Rattle.strategy_model.specs.declared.tree.Tree.{Tree}
 -- in a play each contingent point comes its link's duration after its activation point
 abbrev pub CompletionFollowsActivation : Type 0
 CompletionFollowsActivation =
-    (net : Plan) (strategy : Tree) (situation schedule : List ℕ) (name : LinkId) (link : Link) (duration : ℕ) → IsPlan net → play strategy net situation ≡ Some schedule → IsLinkOf net name link → slice_get situation name.0 ≡ Some duration → moment_in schedule link.to ≡ moment_in schedule link.from + duration
+    (net : Plan) (strategy : Tree) (situation schedule : List ℕ) (name : LinkId) (link : Link) (duration : ℕ) → IsPlan net
+    → play strategy net situation ≡ Some schedule → IsLinkOf net name link → slice_get situation name.0 ≡ Some duration
+    → moment_in schedule link.to ≡ moment_in schedule link.from + duration
 
 -- In two situations that differ in one link the plays of a strategy agree on each point that comes before the sooner of
 -- that link's two completions.
 abbrev pub PlaysAgree : Type 0
 PlaysAgree =
-    (net : Plan) (strategy : Tree) (name : LinkId) (link : Link) (first second first_play second_play : List ℕ) → IsPlan net → IsLinkOf net name link → IsSituation net first → IsSituation net second → DifferOnlyIn name first second → play strategy net first ≡ Some first_play → play strategy net second ≡ Some second_play → (point : PointId) → moment_in first_play point < min (moment_in first_play link.to) (moment_in second_play link.to) → moment_in first_play point ≡ moment_in second_play point
+    (net : Plan) (strategy : Tree) (name : LinkId) (link : Link) (first second first_play second_play : List ℕ) → IsPlan net → IsLinkOf net name link
+    → IsSituation net first → IsSituation net second → DifferOnlyIn name first second → play strategy net first ≡ Some first_play
+    → play strategy net second ≡ Some second_play → (point : PointId)
+    → moment_in first_play point < min (moment_in first_play link.to) (moment_in second_play link.to)
+    → moment_in first_play point ≡ moment_in second_play point
 
 -- the edge of a bound is true of a strategy that controls the network
 abbrev pub BoundKeepsTruth : Type 0
@@ -37,12 +43,14 @@ LinkKeepsTruth = (net : Plan) (strategy : Tree) (edge : Edge) → IsPlan net →
 -- what no-case gives from edges that are true of a controlling strategy is true of it
 abbrev pub NoCaseKeepsTruth : Type 0
 NoCaseKeepsTruth =
-    (net : Plan) (strategy : Tree) (first second edge : Edge) → IsPlan net → Controls strategy net → HoldsOf net strategy first → HoldsOf net strategy second → IsLooseNoCase first second edge → HoldsOf net strategy edge
+    (net : Plan) (strategy : Tree) (first second edge : Edge) → IsPlan net → Controls strategy net → HoldsOf net strategy first
+    → HoldsOf net strategy second → IsLooseNoCase first second edge → HoldsOf net strategy edge
 
 -- what upper-case gives from edges that are true of a controlling strategy is true of it
 abbrev pub UpperCaseKeepsTruth : Type 0
 UpperCaseKeepsTruth =
-    (net : Plan) (strategy : Tree) (first second edge : Edge) → IsPlan net → Controls strategy net → HoldsOf net strategy first → HoldsOf net strategy second → IsLooseUpperCase first second edge → HoldsOf net strategy edge
+    (net : Plan) (strategy : Tree) (first second edge : Edge) → IsPlan net → Controls strategy net → HoldsOf net strategy first
+    → HoldsOf net strategy second → IsLooseUpperCase first second edge → HoldsOf net strategy edge
 
 -- what lower-case gives from an edge that is true of a controlling strategy is true of it
 abbrev pub LowerCaseKeepsTruth : Type 0
@@ -62,7 +70,8 @@ RemovalKeepsTruth =
 -- what follows by one rule from edges that are true of a controlling strategy is true of it
 abbrev pub RulesKeepTruth : Type 0
 RulesKeepTruth =
-    (net : Plan) (strategy : Tree) (earlier : List Edge) (edge : Edge) → IsPlan net → Controls strategy net → AllByRecursion (HoldsOf net strategy) earlier → FollowsLoosely net earlier edge → HoldsOf net strategy edge
+    (net : Plan) (strategy : Tree) (earlier : List Edge) (edge : Edge) → IsPlan net → Controls strategy net
+    → AllByRecursion (HoldsOf net strategy) earlier → FollowsLoosely net earlier edge → HoldsOf net strategy edge
 
 -- every edge of a derivation is true of every strategy that controls the network
 abbrev pub DerivationsAreTrue : Type 0
@@ -104,7 +113,8 @@ AtMostOneEarliest = (net : Plan) (situation first second : List ℕ) → IsEarli
 -- what an exact rule gives from edges of the network that are true of a controlling strategy is true of it
 abbrev pub ExactRulesKeepTruth : Type 0
 ExactRulesKeepTruth =
-    (net : Plan) (strategy : Tree) (earlier : List Edge) (edge : Edge) → IsPlan net → Controls strategy net → All (IsEdge net) earlier → All (HoldsOf net strategy) earlier → Follows net earlier edge → HoldsOf net strategy edge
+    (net : Plan) (strategy : Tree) (earlier : List Edge) (edge : Edge) → IsPlan net → Controls strategy net → All (IsEdge net) earlier
+    → All (HoldsOf net strategy) earlier → Follows net earlier edge → HoldsOf net strategy edge
 
 -- every edge of a derivation by the exact rules is an edge of the network
 abbrev pub ExactDerivationsHaveEdges : Type 0

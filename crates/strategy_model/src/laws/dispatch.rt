@@ -1,6 +1,6 @@
-//! Laws about closed lists of edges and the schedules of lower bounds and waits that they give.
+//! Laws about closed lists of edges, the schedules of lower bounds and waits that they give, and what trees play.
 
-ghost use Rattle.strategy_model.specs.DispatchLaws.{ClosedListsGiveStrategies, DispatchedSatisfy, DispatchedExist, DispatchedAreOne, DispatchedSeeAlone, DispatchedAreEarliest, DynamicRulesArePlayed, PlayedRulesAreDynamic, ClosedListsHaveOrders, ClosedListsDecide};
+ghost use Rattle.strategy_model.specs.DispatchLaws.{ClosedListsGiveStrategies, DispatchedSatisfy, DispatchedExist, DispatchedAreOne, DispatchedSeeAlone, DispatchedAreEarliest, DynamicStrategiesAreTrees, TreesAreDynamic, ClosedListsHaveOrders, ClosedListsDecide, EarliestSeeAlone};
 
 /// A closed list of edges with an order gives a strategy that controls the network and plays the schedule of lower bounds
 /// and waits in every situation.
@@ -34,14 +34,14 @@ pub fn dispatched_are_earliest()
     ensures { DispatchedAreEarliest }
 {}
 
-/// Every dynamic rule is what some strategy plays.
-pub fn dynamic_rules_are_played()
-    ensures { DynamicRulesArePlayed }
+/// Every dynamic execution strategy is what some tree plays.
+pub fn dynamic_strategies_are_trees()
+    ensures { DynamicStrategiesAreTrees }
 {}
 
-/// What a strategy plays in every situation is a dynamic rule.
-pub fn played_rules_are_dynamic()
-    ensures { PlayedRulesAreDynamic }
+/// What a tree plays in every situation is a dynamic execution strategy.
+pub fn trees_are_dynamic()
+    ensures { TreesAreDynamic }
 {}
 
 /// A closed list of edges without a cycle of negative ordinary edges has an order.
@@ -53,4 +53,9 @@ pub fn closed_lists_have_orders()
 /// where the list has no cycle of negative ordinary edges.
 pub fn closed_lists_decide()
     ensures { ClosedListsDecide }
+{}
+
+/// What the earliest schedules execute up to a moment depends on what is completed up to it alone.
+pub fn earliest_see_alone()
+    ensures { EarliestSeeAlone }
 {}
