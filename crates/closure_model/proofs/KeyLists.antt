@@ -151,7 +151,7 @@ labels_whole to n (p ∷ ps) (suc k) at = by (p.0 == to.0) (let moved : n + 1 + 
     by true rest = Contains-tail (record { 0 = n }) (labels to (n + 1) ps) (record { 0 = n + suc k }) rest
     by false rest = rest
 
-Contains-points : (a n : ℕ) (p : PointId) → a ≤ p.0 → p.0 < a + n → Contains (points a n) p
+pub Contains-points : (a n : ℕ) (p : PointId) → a ≤ p.0 → p.0 < a + n → Contains (points a n) p
 Contains-points a zero p low high = absurd (omega arith)
 Contains-points a (suc n) p low high = by (λ more. Contains-points (a + 1) n p more (omega arith)) (a == p.0) refl
   where

@@ -7,3 +7,4 @@ pub mod BaseLemmas
 pub mod Tabulated
 pub mod Listed
 pub mod SoundTables
+pub mod OrderLemmas

@@ -2,4 +2,5 @@
 //! an edge.
 #![tactic(auto)]
 
+pub mod order_laws;
 pub mod table_laws;
