@@ -1,16 +1,16 @@
 -- Orders and cycles: what is placed is an order as far as it goes, and where no more can be placed a cycle is met.
-use Rattle.std.proofs.Common.{◌≡◌, ◌≢◌, ℕ, zero, suc, ◌+◌, ◌-◌, ◌==◌, ◌&&◌, ◌||◌, not, ◌≤◌, ◌<◌, pos, ℤ, Bool, true, false, cond, ◌⊎◌, List, [], ◌∷◌, ◌++◌, map, length, get_or, drop, Option, Some, None, refl, ap, sym, subst, ◌∙◌, inl, inr, ⊎_elim, arith}
-use Rattle.std.specs.Prelude.{is_none, int_lt}
+use Rattle.std.proofs.Common.{◌≡◌, ◌≢◌, ℕ, zero, suc, ◌+◌, ◌-◌, ◌==◌, ◌&&◌, ◌||◌, not, ◌≤◌, ◌<◌, Bool, true, false, cond, ◌⊎◌, List, [], ◌∷◌, ◌++◌, map, length, get_or, drop, Option, Some, None, refl, ap, sym, subst, ◌∙◌, inl, inr, ⊎_elim, arith}
+use Rattle.std.specs.Prelude.{is_none}
 use Rattle.std.specs.Option.{option_map_or, option_to_list}
-use Rattle.std.specs.List.{AllPairs, Contains, find, position_or_len, range_with_len}
+use Rattle.std.specs.List.{All, AllPairs, Contains, find, position_or_len, range_with_len}
 use Rattle.std.proofs.lemmas.Bool.{eqb-true, cases_lt}
 use Rattle.std.proofs.lemmas.Bool.Decides.{nat_tests}
 use Rattle.std.proofs.lemmas.List.{append-nil, get_or_append_left, get_or-append_right, get_or-drop, length_push, length-drop}
-use Rattle.std.proofs.lemmas.List.Elements.{Contains-append_left, Contains-push, Contains-push_cases, Contains-get_or}
+use Rattle.std.proofs.lemmas.List.Elements.{All-push, All-drop, Contains-append_left, Contains-push, Contains-push_cases, Contains-get_or}
 use Rattle.std.proofs.lemmas.List.FromFn.{length-map-range_with_len}
 use Rattle.net_model.specs.declared.ids.PointId.{PointId}
-use Rattle.closure_model.specs.Keys.{ordinary_key, edge_of, all_points}
-use Rattle.closure_model.specs.Tables.{Graph, weight_of, IsGraph}
+use Rattle.closure_model.specs.Keys.{all_points}
+use Rattle.closure_model.specs.Tables.{Graph}
 use Rattle.closure_model.specs.Orders.{goes, is_among, goes_on, next_on, is_free, place_next, placed_after, placed_points, cycle_after, IsOrder, IsCycle}
 use Rattle.closure_model.specs.OrderLaws.{PlacedPointsAreAnOrder, CyclesAreMet, OrdersExcludeCycles}
 use Rattle.closure_model.proofs.Lists.{Contains-none, Contains-head, Contains-tail, Contains-cases}
@@ -309,11 +309,12 @@ left_goes_on graph ps p stuck low out none =
 
 -- a walk so far: a negative ordinary edge goes from each point to the next, and from the last to where it is
 record IsWalk (graph : Graph) (before : List PointId) (p : PointId) : Type 0 where
+  pub points : All (λ q. q.0 < graph.shape.points) before
   pub steps : (i : ℕ) (d : PointId) → i + 1 < length before → goes graph (get_or before i d) (get_or before (i + 1) d) ≡ true
   pub here : (d : PointId) → 0 < length before → goes graph (get_or before (length before - 1) d) p ≡ true
 
-walk_more : (graph : Graph) (before : List PointId) (p next : PointId) → IsWalk graph before p → goes graph p next ≡ true → IsWalk graph (before ++ p ∷ []) next
-walk_more graph before p next walk went = record { steps = steps; here = here }
+walk_more : (graph : Graph) (before : List PointId) (p next : PointId) → IsWalk graph before p → p.0 < graph.shape.points → goes graph p next ≡ true → IsWalk graph (before ++ p ∷ []) next
+walk_more graph before p next walk low went = record { points = All-push (λ (q : PointId). q.0 < graph.shape.points) before p walk.points low; steps = steps; here = here }
   where
     last : (i : ℕ) (d : PointId) → i ≡ length before → get_or (before ++ p ∷ []) i d ≡ p
     last i d at = get_or-append_right before (p ∷ []) (length before) i d refl (omega arith) ∙ (let none : i - length before ≡ 0 = omega arith in ap (λ k. get_or (p ∷ []) k d) none)
@@ -351,6 +352,7 @@ place_of (q ∷ ps) p among = by (place_of ps p) (q.0 == p.0) refl among
 
 walk_closes : (graph : Graph) (before : List PointId) (p : PointId) (k : ℕ) → IsWalk graph before p → IsPlace before p k → IsCycle graph (drop k before)
 walk_closes graph before p k walk place = record {
+  points = All-drop (λ (q : PointId). q.0 < graph.shape.points) k before walk.points;
   some = omega (arith, length-drop k before, place.inside);
   steps = λ i d inside. let low : k + i + 1 < length before = omega (arith, length-drop k before) in
       let next : k + (i + 1) ≡ k + i + 1 = omega arith in
@@ -380,52 +382,38 @@ cycle_met graph ps stuck (suc steps) before p walk low out fuel = by (λ next. c
 
         on : (o : Option PointId) → next_on graph ps p ≡ o → IsCycle graph (option_map_or (cycle_after graph ps steps (before ++ p ∷ [])) o [])
         on None none = absurd (left_goes_on graph ps p stuck low out none)
-        on (Some next) is = let more = next_goes_on graph ps p next is in rest next (walk_more graph before p next walk more.went) more.inside more.out (omega (arith, fewer, fuel))
+        on (Some next) is = let more = next_goes_on graph ps p next is in rest next (walk_more graph before p next walk low more.went) more.inside more.out (omega (arith, fewer, fuel))
 
 pub cycles_are_met : CyclesAreMet
 cycles_are_met graph first is =
     let found = find_some (λ q. not (is_among (placed_points graph) q)) (all_points graph.shape) first is in
     cycle_met graph (placed_points graph) (none_free graph) (graph.shape.points + 1) [] first
-    (record { steps = λ i d inside. absurd (omega arith); here = λ d some. absurd (omega arith) })
+    (record { points = λ i d inside. absurd (omega arith); steps = λ i d inside. absurd (omega arith); here = λ d some. absurd (omega arith) })
     (in_points graph first found.inside) (from_not (is_among (placed_points graph) first) found.passes) (omega (arith, left_most graph []))
 
 -- ---- an order excludes cycles
-record HasEnds (graph : Graph) (a b : PointId) : Type 0 where
-  pub begins : a.0 < graph.shape.points
-  pub ends : b.0 < graph.shape.points
-
-ends_of : (graph : Graph) → IsGraph graph → (a b : PointId) → goes graph a b ≡ true → HasEnds graph a b
-ends_of graph sound a b went = by (weight_of graph (ordinary_key a b)) refl went
-  where
-    by : (o : Option ℤ) → weight_of graph (ordinary_key a b) ≡ o → option_map_or (λ weight. int_lt weight (pos 0)) o false ≡ true → HasEnds graph a b
-    by None is holds = absurd cc
-    by (Some w) is holds = let key = sound.keys (edge_of (ordinary_key a b) w) is in record { begins = key.from_point; ends = key.to_point }
-
 abbrev place : List PointId → PointId → ℕ
 place order p = position_or_len (λ q. q.0 == p.0) order
 
-falls_in_order : (graph : Graph) (order : List PointId) → IsGraph graph → IsOrder graph order → (a b : PointId) → goes graph a b ≡ true → place order b < place order a
-falls_in_order graph order sound is a b went = ⊎_elim
+falls_in_order : (graph : Graph) (order : List PointId) → IsOrder graph order → (a b : PointId) → a.0 < graph.shape.points → b.0 < graph.shape.points → goes graph a b ≡ true → place order b < place order a
+falls_in_order graph order is a b begins ends went = ⊎_elim
     (λ less. less)
     (λ not_less. let same : goes graph a b ≡ false = (λ k. goes graph (sym (one.at a) k) (sym (two.at a) k)) ∙ is.falls (place order a) (place order b) a not_less two.inside in absurd cc)
     (cases_lt (place order b) (place order a))
   where
-    ends : HasEnds graph a b
-    ends = ends_of graph sound a b went
-
     one : IsPlace order a (place order a)
-    one = place_of order a (among_from order a (is.whole a ends.begins))
+    one = place_of order a (among_from order a (is.whole a begins))
 
     two : IsPlace order b (place order b)
-    two = place_of order b (among_from order b (is.whole b ends.ends))
+    two = place_of order b (among_from order b (is.whole b ends))
 
 pub orders_exclude_cycles : OrdersExcludeCycles
-orders_exclude_cycles graph order [] sound is cycle = absurd (omega (arith, cycle.some))
-orders_exclude_cycles graph order (p ∷ more) sound is cycle =
+orders_exclude_cycles graph order [] is cycle = absurd (omega (arith, cycle.some))
+orders_exclude_cycles graph order (p ∷ more) is cycle =
     let first_is : get_or (p ∷ more) 0 p ≡ p = refl in
     let end = length (p ∷ more) - 1 in
     let down = lower end (omega arith) in
-    let close : place order (get_or (p ∷ more) 0 p) < place order (get_or (p ∷ more) end p) = falls_in_order graph order sound is (get_or (p ∷ more) end p) (get_or (p ∷ more) 0 p) (cycle.closes p) in
+    let close : place order (get_or (p ∷ more) 0 p) < place order (get_or (p ∷ more) end p) = falls_in_order graph order is (get_or (p ∷ more) end p) (get_or (p ∷ more) 0 p) (cycle.points end p (omega arith)) (cycle.points 0 p (omega arith)) (cycle.closes p) in
     omega arith
   where
     lower : (k : ℕ) → k < length (p ∷ more) → place order (get_or (p ∷ more) k p) ≤ place order p
@@ -434,5 +422,47 @@ orders_exclude_cycles graph order (p ∷ more) sound is cycle =
         let rest = lower k (omega arith) in
         let next : suc k ≡ k + 1 = omega arith in
         let went : goes graph (get_or (p ∷ more) k p) (get_or (p ∷ more) (suc k) p) ≡ true = ap (λ m. goes graph (get_or (p ∷ more) k p) (get_or (p ∷ more) m p)) next ∙ cycle.steps k p (omega arith) in
-        let falls = falls_in_order graph order sound is (get_or (p ∷ more) k p) (get_or (p ∷ more) (suc k) p) went in
+        let falls = falls_in_order graph order is (get_or (p ∷ more) k p) (get_or (p ∷ more) (suc k) p) (cycle.points k p (omega arith)) (cycle.points (suc k) p low) went in
         omega arith
+
+-- ---- looking through the points in order
+pub found_at : (p : PointId → Bool) (n k : ℕ) → k < n → p (record { 0 = k }) ≡ true → ((j : ℕ) → j < k → p (record { 0 = j }) ≡ false) → find p (map (λ m. record { 0 = m }) (range_with_len 0 n)) ≡ Some (record { 0 = k })
+found_at p n k low passes fails = by 0 n (omega arith) (omega arith) (λ j from below. fails j below)
+  where
+    by : (a n : ℕ) → a ≤ k → k < a + n → ((j : ℕ) → a ≤ j → j < k → p (record { 0 = j }) ≡ false) → find p (map (λ m. record { 0 = m }) (range_with_len a n)) ≡ Some (record { 0 = k })
+    by a zero from to before = absurd (omega arith)
+    by a (suc n) from to before = at (by (a + 1) n) (a == k) refl
+      where
+        at : (a + 1 ≤ k → k < a + 1 + n → ((j : ℕ) → a + 1 ≤ j → j < k → p (record { 0 = j }) ≡ false) → find p (map (λ m. record { 0 = m }) (range_with_len (a + 1) n)) ≡ Some (record { 0 = k }))
+            → (b : Bool) → a == k ≡ b → cond (p (record { 0 = a })) (Some (record { 0 = a })) (find p (map (λ m. record { 0 = m }) (range_with_len (a + 1) n))) ≡ Some (record { 0 = k })
+        at later true is =
+            let same : a ≡ k = eqb-true a k is in
+            ap (λ (m : ℕ). let q : PointId = record { 0 = m } in cond (p q) (Some q) (find p (map (λ m. record { 0 = m }) (range_with_len (a + 1) n)))) same ∙ (let q : PointId = record { 0 = k } in ap (λ b. cond b (Some q) (find p (map (λ m. record { 0 = m }) (range_with_len (a + 1) n)))) passes)
+        at later false is =
+            let apart : a ≢ k = grind (arith, nat_tests) in
+            (let q : PointId = record { 0 = a } in ap (λ b. cond b (Some q) (find p (map (λ m. record { 0 = m }) (range_with_len (a + 1) n)))) (before a (omega arith) (omega arith))) ∙ later (omega arith) (omega arith) (λ j from' below. before j (omega arith) below)
+
+pub found_nowhere : (p : PointId → Bool) (n : ℕ) → ((j : ℕ) → j < n → p (record { 0 = j }) ≡ false) → find p (map (λ m. record { 0 = m }) (range_with_len 0 n)) ≡ None
+found_nowhere p n fails = by 0 n (λ j from to. fails j (omega arith))
+  where
+    by : (a n : ℕ) → ((j : ℕ) → a ≤ j → j < a + n → p (record { 0 = j }) ≡ false) → find p (map (λ m. record { 0 = m }) (range_with_len a n)) ≡ None
+    by a zero before = refl
+    by a (suc n) before =
+        (let q : PointId = record { 0 = a } in ap (λ b. cond b (Some q) (find p (map (λ m. record { 0 = m }) (range_with_len (a + 1) n)))) (before a (omega arith) (omega arith))) ∙ by (a + 1) n (λ j from to. before j (omega arith) (omega arith))
+
+-- no point before the one that is found passes
+pub none_before : (p : PointId → Bool) (n : ℕ) (q : PointId) → find p (map (λ m. record { 0 = m }) (range_with_len 0 n)) ≡ Some q → (j : ℕ) → j < q.0 → p (record { 0 = j }) ≡ false
+none_before p n q found j low = by 0 n found j (omega arith) low
+  where
+    by : (a n : ℕ) → find p (map (λ m. record { 0 = m }) (range_with_len a n)) ≡ Some q → (j : ℕ) → a ≤ j → j < q.0 → p (record { 0 = j }) ≡ false
+    by a zero found j from below = absurd cc
+    by a (suc n) found j from below = at (by (a + 1) n) (p (record { 0 = a })) refl found
+      where
+        at : (find p (map (λ m. record { 0 = m }) (range_with_len (a + 1) n)) ≡ Some q → (j : ℕ) → a + 1 ≤ j → j < q.0 → p (record { 0 = j }) ≡ false)
+            → (b : Bool) → p (record { 0 = a }) ≡ b → cond b (Some (record { 0 = a })) (find p (map (λ m. record { 0 = m }) (range_with_len (a + 1) n))) ≡ Some q → p (record { 0 = j }) ≡ false
+        at later true is here = let first : PointId = record { 0 = a } in let same : Some first ≡ Some q = here in let one : first ≡ q = cc in let number : a ≡ q.0 = ap (λ (r : PointId). r.0) one in absurd (omega arith)
+        at later false is there = on (a == j) refl
+          where
+            on : (c : Bool) → a == j ≡ c → p (record { 0 = j }) ≡ false
+            on true same = let at_a : a ≡ j = eqb-true a j same in ap (λ (m : ℕ). p (record { 0 = m })) (sym at_a) ∙ is
+            on false apart = let other : a ≢ j = grind (arith, nat_tests) in later there j (omega arith) below

@@ -1,7 +1,7 @@
 -- What holds of orders and cycles.
 use Rattle.std.specs.Prelude.{◌≡◌, List, Some, None}
 use Rattle.net_model.specs.declared.ids.PointId.{PointId}
-use Rattle.closure_model.specs.Tables.{Graph, IsGraph}
+use Rattle.closure_model.specs.Tables.{Graph}
 use Rattle.closure_model.specs.Orders.{placed_points, first_left, cycle_from, IsOrder, IsCycle}
 
 -- where every point is placed, the placed points are an order
@@ -12,6 +12,6 @@ PlacedPointsAreAnOrder = (graph : Graph) → first_left graph ≡ None → IsOrd
 abbrev pub CyclesAreMet : Type 0
 CyclesAreMet = (graph : Graph) (first : PointId) → first_left graph ≡ Some first → IsCycle graph (cycle_from graph first)
 
--- a sound table that has an order has no cycle
+-- a table that has an order has no cycle
 abbrev pub OrdersExcludeCycles : Type 0
-OrdersExcludeCycles = (graph : Graph) (order cycle : List PointId) → IsGraph graph → IsOrder graph order → IsCycle graph cycle → ⊥
+OrdersExcludeCycles = (graph : Graph) (order cycle : List PointId) → IsOrder graph order → IsCycle graph cycle → ⊥

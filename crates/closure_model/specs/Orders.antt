@@ -67,5 +67,6 @@ pub record IsOrder (graph : Graph) (order : List PointId) : Type 0 where
 -- a cycle: a negative ordinary edge goes from each point to the next, and from the last to the first
 pub record IsCycle (graph : Graph) (cycle : List PointId) : Type 0 where
   pub some : 0 < length cycle
+  pub points : All (λ point. point.0 < graph.shape.points) cycle
   pub steps : (i : ℕ) (d : PointId) → i + 1 < length cycle → goes graph (slice_index_or cycle i d) (slice_index_or cycle (i + 1) d) ≡ true
   pub closes : (d : PointId) → goes graph (slice_index_or cycle (length cycle - 1) d) (slice_index_or cycle 0 d) ≡ true

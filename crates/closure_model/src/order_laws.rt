@@ -12,7 +12,7 @@ pub fn cycles_are_met()
     ensures { CyclesAreMet }
 {}
 
-/// A sound table that has an order has no cycle.
+/// A table that has an order has no cycle.
 pub fn orders_exclude_cycles()
     ensures { OrdersExcludeCycles }
 {}
