@@ -10,3 +10,5 @@ pub mod DerivationLaws
 pub mod Least
 pub mod ReferenceRow
 pub mod ReferenceRound
+pub mod Orders
+pub mod OrderLaws
