@@ -3,6 +3,8 @@
 
 mod ancestors;
 mod dag;
+mod key;
+mod keyed;
 mod premises;
 mod resting;
 
