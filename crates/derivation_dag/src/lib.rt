@@ -1,4 +1,5 @@
-//! Derivation lists: edges in the order of making, each with its rule and its premises.
+//! Derivation lists: edges in the order of making, each with its rule and its premises; and stores of derivations, which have the
+//! table of their edges besides.
 #![tactic(auto)]
 
 mod ancestors;
