@@ -23,7 +23,7 @@ use Rattle.closure_model.proofs.Nodes.{push_cases, listed_at}
 
 -- ---- the base
 -- a base node follows from any nodes
-base_given : (net : Plan) (earlier : List Node) (node : Node) → Contains (base_nodes net) node → IsGiven net earlier node
+pub base_given : (net : Plan) (earlier : List Node) (node : Node) → Contains (base_nodes net) node → IsGiven net earlier node
 base_given net earlier node inside =
     by (Contains-append_cases (map bound_node (enumerate_from 0 net.bounds)) (map link_node (enumerate_from 0 net.links)) node inside)
   where

@@ -6,8 +6,12 @@ mod ancestors;
 mod dag;
 mod key;
 mod keyed;
+mod plain;
 mod premises;
 mod resting;
+mod supports;
 
 pub use closure_model::{Item, Node, NodeId, Rule};
 pub use dag::Dag;
+pub use plain::Plain;
+pub use supports::Supports;
