@@ -8,6 +8,10 @@ use closure_model::{Item, Node, NodeId};
 use net_model::Network;
 use std::alloc::{AllocError, Global};
 use std::marker::Model;
+use std::mem::size_of;
+
+// A node takes 48 bytes.
+const _: () = prove!(size_of::<Node>() == 48);
 
 /// A derivation list (Morris and Muscettola 2005, in this project's form): nodes in the order of making, each from nodes that
 /// stand earlier. Contracts see it as the list of its nodes. It has no limit of its own. A node takes 48 bytes.
