@@ -13,7 +13,7 @@ use std::alloc::{AllocError, Global};
 pub(crate) fn first_slots(
     alloc: Global,
     table: &Table,
-    points: usize,
+    points: u32,
     target: PointId,
     labels: &[LinkId],
 ) -> Result<Vec<Slot>, AllocError>
@@ -24,7 +24,7 @@ pub(crate) fn first_slots(
 {
     let mut slots = Vec::new(alloc);
     for from in 0..points {
-        push_slots(&mut slots, table, PointId(from as u32), target, labels)?;
+        push_slots(&mut slots, table, PointId(from), target, labels)?;
     }
     Ok(slots)
 }

@@ -26,3 +26,4 @@ pub mod Standing
 pub mod LawProofs
 pub mod RoundLaw
 pub mod RoundClosing
+pub mod RowRun
