@@ -1,7 +1,9 @@
 -- The first of the least is the only one that is it, and there is one wherever an item has a weight.
-use Rattle.std.proofs.Common.{◌≡◌, ◌+◌, ◌<◌, ◌≤◌, ℕ, suc, zero, ℤ, ◌≤ℤ◌, ◌<ℤ◌, Bool, true, false, cond, List, [], ◌∷◌, Option, Some, None, arith, refl, ap, sym, ◌∙◌}
-use Rattle.std.specs.Prelude.{int_le, MatchOption}
-use Rattle.std.specs.Option.{option_map}
+use Rattle.std.proofs.Common.{◌≡◌, ◌+◌, ◌<◌, ◌≤◌, ℕ, suc, zero, ℤ, ◌≤ℤ◌, ◌<ℤ◌, Bool, true, false, cond, List, [], ◌∷◌, ◌++◌, length, ◌⊎◌, inl, inr, Option, Some, None, arith, refl, ap, sym, ◌∙◌}
+use Rattle.std.specs.Prelude.{int_le, MatchOption, slice_get}
+use Rattle.std.specs.Option.{option_map, option_and_then}
+use Rattle.std.proofs.lemmas.Option.{slice_get_within}
+use Rattle.closure_model.proofs.Nodes.{before_push, at_push, push_cases}
 use Rattle.closure_model.specs.Least.{weight_at, lesser, first_least_from, first_least, IsFirstLeast, HasNoWeight}
 use Rattle.closure_model.specs.ReferenceRow.{open_weight, FirstIsNext}
 use Rattle.closure_model.proofs.Weights.{same_weight, le_of_same, le_is, le_is_not, le_then, lt_then, lt_is_le, between, not_below}
@@ -114,3 +116,107 @@ first_least_of weight xs next is = only_first weight xs (first_least weight xs) 
 
 pub first_is_next : FirstIsNext
 first_is_next slots next is = first_least_of open_weight slots (Some next) is
+
+-- ---- one item more
+module _ {A : Type 0} (weight : A → Option ℤ) (xs : List A) (x : A) where
+  at_old : (place : ℕ) (w : ℤ) → weight_at weight xs place ≡ Some w → weight_at weight (xs ++ x ∷ []) place ≡ Some w
+  at_old place w has = by (slice_get xs place) refl has
+    where
+      by : (o : Option A) → slice_get xs place ≡ o → option_and_then weight o ≡ Some w → weight_at weight (xs ++ x ∷ []) place ≡ Some w
+      by None here has = absurd cc
+      by (Some y) here has = rw (before_push xs x place y here) has
+
+  at_new : (w : ℤ) → weight x ≡ Some w → weight_at weight (xs ++ x ∷ []) (length xs) ≡ Some w
+  at_new w has = rw (at_push xs x) has
+
+  at_cases : (place : ℕ) (w : ℤ) → weight_at weight (xs ++ x ∷ []) place ≡ Some w → (weight_at weight xs place ≡ Some w) ⊎ ((place ≡ length xs) × (weight x ≡ Some w))
+  at_cases place w has = by (slice_get (xs ++ x ∷ []) place) refl has
+    where
+      sort : (y : A) → weight y ≡ Some w → (slice_get xs place ≡ Some y) ⊎ ((place ≡ length xs) × (x ≡ y)) → (weight_at weight xs place ≡ Some w) ⊎ ((place ≡ length xs) × (weight x ≡ Some w))
+      sort y has (inl here) = inl (rw here has)
+      sort y has (inr (last, same)) = inr (last, ap weight same ∙ has)
+      by : (o : Option A) → slice_get (xs ++ x ∷ []) place ≡ o → option_and_then weight o ≡ Some w → (weight_at weight xs place ≡ Some w) ⊎ ((place ≡ length xs) × (weight x ≡ Some w))
+      by None here has = absurd cc
+      by (Some y) here has = sort y has (push_cases xs x place y here)
+
+  within : (place : ℕ) (w : ℤ) → weight_at weight xs place ≡ Some w → place < length xs
+  within place w has = by (slice_get xs place) refl has
+    where
+      by : (o : Option A) → slice_get xs place ≡ o → option_and_then weight o ≡ Some w → place < length xs
+      by None here has = absurd cc
+      by (Some y) here has = slice_get_within xs place y here
+
+  -- the last is first where it has less than the best before it, which else stays first
+  last_first : (best : ℕ × ℤ) (w : ℤ) → weight x ≡ Some w → w <ℤ best.1 → IsFirstLeast weight xs best → IsFirstLeast weight (xs ++ x ∷ []) (length xs, w)
+  last_first best w has less was = record { here = at_new w has; least = least; first = first }
+    where
+      least : (place : ℕ) (v : ℤ) → weight_at weight (xs ++ x ∷ []) place ≡ Some v → w ≤ℤ v
+      least place v there = by (at_cases place v there)
+        where
+          by : (weight_at weight xs place ≡ Some v) ⊎ ((place ≡ length xs) × (weight x ≡ Some v)) → w ≤ℤ v
+          by (inl old) = lt_is_le w v (lt_then w best.1 v less (was.least place v old))
+          by (inr (last, same)) = le_of_same w v (same_weight w v (sym has ∙ same))
+      first : (place : ℕ) (v : ℤ) → weight_at weight (xs ++ x ∷ []) place ≡ Some v → place < length xs → w <ℤ v
+      first place v there earlier = by (at_cases place v there)
+        where
+          by : (weight_at weight xs place ≡ Some v) ⊎ ((place ≡ length xs) × (weight x ≡ Some v)) → w <ℤ v
+          by (inl old) = lt_then w best.1 v less (was.least place v old)
+          by (inr (last, same)) = absurd (omega arith)
+
+  best_stays : (best : ℕ × ℤ) → ((w : ℤ) → weight x ≡ Some w → best.1 ≤ℤ w) → IsFirstLeast weight xs best → IsFirstLeast weight (xs ++ x ∷ []) best
+  best_stays best above was = record { here = at_old best.0 best.1 was.here; least = least; first = first }
+    where
+      least : (place : ℕ) (v : ℤ) → weight_at weight (xs ++ x ∷ []) place ≡ Some v → best.1 ≤ℤ v
+      least place v there = by (at_cases place v there)
+        where
+          by : (weight_at weight xs place ≡ Some v) ⊎ ((place ≡ length xs) × (weight x ≡ Some v)) → best.1 ≤ℤ v
+          by (inl old) = was.least place v old
+          by (inr (last, same)) = above v same
+      first : (place : ℕ) (v : ℤ) → weight_at weight (xs ++ x ∷ []) place ≡ Some v → place < best.0 → best.1 <ℤ v
+      first place v there earlier = by (at_cases place v there)
+        where
+          by : (weight_at weight xs place ≡ Some v) ⊎ ((place ≡ length xs) × (weight x ≡ Some v)) → best.1 <ℤ v
+          by (inl old) = was.first place v old earlier
+          by (inr (last, same)) = let inside = within best.0 best.1 was.here in absurd (omega arith)
+
+  only_last : (w : ℤ) → weight x ≡ Some w → HasNoWeight weight xs → IsFirstLeast weight (xs ++ x ∷ []) (length xs, w)
+  only_last w has none = record { here = at_new w has; least = least; first = first }
+    where
+      least : (place : ℕ) (v : ℤ) → weight_at weight (xs ++ x ∷ []) place ≡ Some v → w ≤ℤ v
+      least place v there = by (at_cases place v there)
+        where
+          by : (weight_at weight xs place ≡ Some v) ⊎ ((place ≡ length xs) × (weight x ≡ Some v)) → w ≤ℤ v
+          by (inl old) = let absent = none place in absurd cc
+          by (inr (last, same)) = le_of_same w v (same_weight w v (sym has ∙ same))
+      first : (place : ℕ) (v : ℤ) → weight_at weight (xs ++ x ∷ []) place ≡ Some v → place < length xs → w <ℤ v
+      first place v there earlier = by (at_cases place v there)
+        where
+          by : (weight_at weight xs place ≡ Some v) ⊎ ((place ≡ length xs) × (weight x ≡ Some v)) → w <ℤ v
+          by (inl old) = let absent = none place in absurd cc
+          by (inr (last, same)) = absurd (omega arith)
+
+  still_none : weight x ≡ None → HasNoWeight weight xs → HasNoWeight weight (xs ++ x ∷ [])
+  still_none absent none place = by (weight_at weight (xs ++ x ∷ []) place) refl
+    where
+      either : (w : ℤ) → (weight_at weight xs place ≡ Some w) ⊎ ((place ≡ length xs) × (weight x ≡ Some w)) → weight_at weight (xs ++ x ∷ []) place ≡ None
+      either w (inl old) = let no = none place in absurd cc
+      either w (inr (last, same)) = absurd cc
+      by : (o : Option ℤ) → weight_at weight (xs ++ x ∷ []) place ≡ o → weight_at weight (xs ++ x ∷ []) place ≡ None
+      by None is = is
+      by (Some w) is = either w (at_cases place w is)
+
+  compared : (best : ℕ × ℤ) (w : ℤ) (b : Bool) → int_le best.1 w ≡ b → weight x ≡ Some w → IsFirstLeast weight xs best → FirstIs weight (xs ++ x ∷ []) (cond b (Some best) (Some (length xs, w)))
+  compared best w true test has was = best_stays best (λ v same. le_then best.1 w v (le_is best.1 w test) (le_of_same w v (same_weight w v (sym has ∙ same)))) was
+  compared best w false test has was = last_first best w has (le_is_not best.1 w test) was
+
+  pub first_push : (best : Option (ℕ × ℤ)) → FirstIs weight xs best → FirstIs weight (xs ++ x ∷ []) (lesser best (option_map (λ w. (length xs, w)) (weight x)))
+  first_push best was = by best (weight x) refl was
+    where
+      by : (best : Option (ℕ × ℤ)) (o : Option ℤ) → weight x ≡ o → FirstIs weight xs best → FirstIs weight (xs ++ x ∷ []) (lesser best (option_map (λ w. (length xs, w)) o))
+      by None None absent none = still_none absent none
+      by None (Some w) has none = only_last w has none
+      by (Some best) None absent was = best_stays best (λ w has. absurd (cc)) was
+      by (Some best) (Some w) has was = compared best w (int_le best.1 w) refl has was
+
+pub first_none : {A : Type 0} (weight : A → Option ℤ) → FirstIs weight [] None
+first_none weight place = refl

@@ -1,10 +1,10 @@
-mod Weights
-mod FirstLeast
-mod RuleSteps
-mod Consequences
-mod Slots
-mod Grounding
-mod RowLaw
+pub mod Weights
+pub mod FirstLeast
+pub mod RuleSteps
+pub mod Consequences
+pub mod Slots
+pub mod Grounding
+pub mod RowLaw
 pub mod RowSteps
 pub mod Lists
 pub mod KeyOrder
@@ -27,3 +27,4 @@ pub mod LawProofs
 pub mod RoundLaw
 pub mod RoundClosing
 pub mod OrderLemmas
+pub mod RowRun

@@ -760,7 +760,7 @@ module _ (net : Plan) (table : Graph) (to : PointId) (plan : IsPlan net) (fits :
             grounded_push net table table making.made (record { edge = edge_in to slot low; why = why }) is.grounded
             (record { premise = edge_in to from.slot from.weight; follows = from.follows; has = stands }) (slot_below why some)
 
-    later_making : IsMaking later
+    pub later_making : IsMaking later
     later_making = record {
       partly = settling_partly making.slots place slot low here is_open has is.partly next;
       listed = later_listed;
@@ -804,7 +804,7 @@ module _ (net : Plan) (table : Graph) (to : PointId) (plan : IsPlan net) (fits :
           let one : times ≡ less = omega arith in
           subst (λ (n : ℕ). IsMaking (settled_times net table to n after) × IsAllSettled (settled_times net table to n after).slots) one (given after (omega arith) made)
 
-  first_making : IsMaking (record { slots = first_slots table to; made = [] })
+  pub first_making : IsMaking (record { slots = first_slots table to; made = [] })
   first_making = record { partly = first_partly; listed = λ place slot why weight here is some has. absurd (never place slot here is); each = λ one inside. absurd (Contains-none one inside); once = λ i j d before inside. absurd (omega arith); in_order = λ i j d before inside. absurd (omega arith);
     grounded = grounded_none net table table; stand = λ place slot weight here is has. absurd (never place slot here is); ready = λ place slot why weight here is some has. absurd (never_fell place slot here why some) }
     where
@@ -855,6 +855,12 @@ module _ (net : Plan) (table : Graph) (to : PointId) (plan : IsPlan net) (fits :
   pub row_is_least : IsLeastRow net table to (with_made table (reference_row net table to))
   unfolding after
   row_is_least = record { derivable = row_derivable; least = row_least }
+
+  pub row_derived : (one : Made) → Contains (reference_row net table to) one → IsInRow net table to one.edge
+  row_derived one inside =
+      let (making, all) = whole in
+      let from = making.each one inside in
+      subst (IsInRow net table to) from.is (making.partly.row.derivable from.place from.slot from.weight from.here from.has)
 
   row_ends : (one : Made) → Contains (reference_row net table to) one → one.edge.to ≡ to
   row_ends one inside = let (making, all) = whole in ap (λ (e : Edge). e.to) (sym (making.each one inside).is)

@@ -82,9 +82,13 @@ next_slot slots = first_least open_weight slots
 abbrev pub edge_in : PointId → Slot → ℤ → Edge
 edge_in to slot weight = record { from = slot.from; to = to; label = slot.label; weight = weight }
 
--- the row of a target as the table has it, nothing settled
+-- the slot of a key as a table has it, not settled
+abbrev pub first_slot : Graph → Key → Slot
+first_slot table key = record { from = key.from; label = key.label; weight = weight_of table key; why = None; settled = false }
+
+-- the row of a target as a table has it, nothing settled
 abbrev pub first_slots : Graph → PointId → List Slot
-first_slots table to = map (λ (key : Key). record { from = key.from; label = key.label; weight = weight_of table key; why = None; settled = false }) (row_keys table.shape to)
+first_slots table to = map (first_slot table) (row_keys table.shape to)
 
 -- a row while it is made: its slots in the order of keys, and the edges of the keys that fell, in the order of settling
 pub record Making : Type 0 where

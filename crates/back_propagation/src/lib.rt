@@ -1,0 +1,10 @@
+//! The row of a target: which edges into it fall against a table, by the reductions of the labelled distance graph. The keys of the
+//! row are settled from the least weight on (backwards from a target as in Morris 2014).
+#![tactic(auto)]
+
+
+mod settling;
+mod slots;
+
+pub use closure_model::rows::{Made, Why};
+pub use settling::NewRow;

@@ -1,0 +1,113 @@
+ghost use Rattle.std.specs.Prelude.{◌≡◌, ◌+◌, ◌*◌, ◌<◌, ◌++◌, length, map, Some, None, false, OnOk, IfOk};
+ghost use Rattle.std.specs.Option.{option_map};
+ghost use Rattle.closure_model.specs.Keys.{keys_between, labels_at};
+ghost use Rattle.closure_model.specs.Least.{lesser};
+ghost use Rattle.closure_model.specs.ReferenceRow.{first_slot, first_slots, open_weight, next_slot, edge_in};
+
+use closure_model::rows::Slot;
+use labelled_graph::Table;
+use net_model::{Edge, LinkId, PointId, Weight};
+use std::alloc::{AllocError, Global};
+
+/// The slots of the row of a target as a table has it.
+pub(crate) fn first_slots(
+    alloc: Global,
+    table: &Table,
+    points: u32,
+    target: PointId,
+    labels: &[LinkId],
+) -> Result<Vec<Slot>, AllocError>
+    requires points { points ≡ table.now.shape.points }
+    requires target { target.0 < points }
+    requires labels { labels.now ≡ labels_at table.now.shape target }
+    ensures { IfOk result (λ slots. slots.items ≡ first_slots table.now target) }
+{
+    let mut slots = Vec::new(alloc);
+    for from in 0..points {
+        push_slots(&mut slots, table, PointId(from), target, labels)?;
+    }
+    Ok(slots)
+}
+
+/// Pushes the slots of one source, the ordinary one before the labelled ones.
+fn push_slots(
+    slots: &mut Vec<Slot>,
+    table: &Table,
+    from: PointId,
+    target: PointId,
+    labels: &[LinkId],
+) -> Result<(), AllocError>
+    requires from_point { from.0 < table.now.shape.points }
+    requires to_point { target.0 < table.now.shape.points }
+    requires labels { labels.now ≡ labels_at table.now.shape target }
+    ensures { OnOk result (slots.new.items ≡ slots.old.items ++ map (first_slot table.now) (keys_between table.now.shape target from)) }
+{
+    slots.push(slot(from, None, table.weight(from, target)))?;
+    for label in labels {
+        slots.push(slot(from, Some(*label), table.upper(from, *label)))?;
+    }
+    Ok(())
+}
+
+/// A slot as a table has it.
+fn slot(from: PointId, label: Option<LinkId>, weight: Option<Weight>) -> Slot
+    ensures { result ≡ record { from = from; label = label; weight = weight; why = None; settled = false } }
+{
+    Slot {
+        from,
+        label,
+        weight,
+        why: None,
+        settled: false,
+    }
+}
+
+/// The place and the weight of the slot that is settled next.
+pub(crate) fn next_slot(slots: &[Slot]) -> Option<(usize, Weight)>
+    ensures { result ≡ next_slot slots.now }
+{
+    let mut next = None;
+    for (place, slot) in slots.iter().enumerate() {
+        next = lesser(next, at_place(place, open_weight(slot)));
+    }
+    next
+}
+
+/// The weight at which a slot can be settled.
+fn open_weight(slot: &Slot) -> Option<Weight>
+    ensures { result ≡ open_weight slot.now }
+{
+    if slot.settled { None } else { slot.weight }
+}
+
+fn at_place(place: usize, weight: Option<Weight>) -> Option<(usize, Weight)>
+    ensures { result ≡ option_map (λ w. (place, w)) weight }
+{
+    match weight {
+        Some(weight) => Some((place, weight)),
+        None => None,
+    }
+}
+
+/// The lesser of two weights with their places, the first where they are equal.
+fn lesser(first: Option<(usize, Weight)>, second: Option<(usize, Weight)>) -> Option<(usize, Weight)>
+    ensures { result ≡ lesser first second }
+{
+    match (first, second) {
+        (None, second) => second,
+        (first, None) => first,
+        (Some(first), Some(second)) => Some(if first.1 <= second.1 { first } else { second }),
+    }
+}
+
+/// The edge of a slot of the row of a target, at a weight.
+pub(crate) fn edge_in(target: PointId, slot: &Slot, weight: Weight) -> Edge
+    ensures { result ≡ edge_in target slot.now weight }
+{
+    Edge {
+        from: slot.from,
+        to: target,
+        label: slot.label,
+        weight,
+    }
+}
