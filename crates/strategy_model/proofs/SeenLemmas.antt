@@ -9,7 +9,7 @@ use Rattle.net_model.specs.declared.part.Edge.{Edge}
 use Rattle.net_model.specs.declared.part.Link.{Link}
 use Rattle.strategy_model.specs.Situations.{IsSituation, moment_in}
 use Rattle.strategy_model.specs.Dispatch.{IsClosedList, IsOrder, HoldsBack, ComesAtOnce, IsDispatched, SameCompletions, awaited}
-use Rattle.strategy_model.specs.DispatchLaws.{DispatchedAreOne, DispatchedSeeAlone}
+use Rattle.strategy_model.specs.DispatchLaws.{DispatchedComeOnceFree, DispatchedAreOne, DispatchedSeeAlone}
 use Rattle.strategy_model.proofs.PlayLemmas.{link_sound}
 use Rattle.strategy_model.proofs.CompareLemmas.{duration_of}
 use Rattle.strategy_model.proofs.EarliestLemmas.{both_ways, place_by_place}
@@ -25,6 +25,11 @@ no_later net edges schedule point m comes held =
       | inl none ↦ omega (arith, none)
       | inr (edge, holds, is) ↦ let below = held edge holds in omega (arith, below, is)
     ]
+
+pub dispatched_come_once_free : DispatchedComeOnceFree
+dispatched_come_once_free net edges situation schedule point t dispatched executable =
+    let comes = dispatched.executable point executable in
+    (λ by_then edge holds. let held = comes.not_before edge holds in omega (arith, held, by_then), no_later net edges schedule point t comes)
 
 module _ (net : Plan) (edges : List Edge) (order : List PointId) (plan : IsPlan net) (closed : IsClosedList net edges) (ordered : IsOrder net edges order) where
   -- What holds a point back in one schedule holds it back no longer in another, where its end and the completions up to then

@@ -1,14 +1,14 @@
 -- What closed lists of edges give, and what trees play.
-use Rattle.std.specs.Prelude.{◌≡◌, ◌↔◌, ℕ, List, Some}
+use Rattle.std.specs.Prelude.{◌≡◌, ◌↔◌, ◌≤◌, ℕ, List, Some}
 use Rattle.std.specs.List.{All}
-use Rattle.net_model.specs.Network.{Plan, IsPlan}
+use Rattle.net_model.specs.Network.{Plan, IsPlan, IsExecutable}
 use Rattle.net_model.specs.declared.ids.PointId.{PointId}
 use Rattle.net_model.specs.declared.part.Edge.{Edge}
-use Rattle.strategy_model.specs.Situations.{IsSituation, Satisfies}
+use Rattle.strategy_model.specs.Situations.{IsSituation, Satisfies, moment_in}
 use Rattle.strategy_model.specs.Plays.{play}
 use Rattle.strategy_model.specs.Control.{Controls, IsControllable, IsEarliest}
 use Rattle.strategy_model.specs.Edges.{HoldsOf, HasNoNegativeCycle}
-use Rattle.strategy_model.specs.Dispatch.{IsClosedList, IsOrder, IsDispatched, Dispatches, SameCompletions, SameExecutions, IsDynamic}
+use Rattle.strategy_model.specs.Dispatch.{IsClosedList, IsOrder, HoldsBack, awaited, IsDispatched, Dispatches, SameCompletions, SameExecutions, IsDynamic}
 use Rattle.strategy_model.specs.declared.tree.Tree.{Tree}
 
 -- edges that are true of every strategy that controls the network
@@ -39,6 +39,12 @@ DispatchedAreOne =
     (net : Plan) (edges : List Edge) (order : List PointId) (situation first second : List ℕ) → IsPlan net → IsClosedList net edges
     → IsOrder net edges order → IsSituation net situation → IsDispatched net edges situation first → IsDispatched net edges situation second
     → first ≡ second
+
+-- in it an executable point has come by a moment exactly where no edge holds it back beyond that moment
+abbrev pub DispatchedComeOnceFree : Type 0
+DispatchedComeOnceFree =
+    (net : Plan) (edges : List Edge) (situation schedule : List ℕ) (point : PointId) (t : ℕ) → IsDispatched net edges situation schedule
+    → IsExecutable net point → (moment_in schedule point ≤ t ↔ ((edge : Edge) → HoldsBack edges point edge → awaited net schedule edge ≤ t))
 
 -- what it executes up to a moment depends on what is completed up to it alone
 abbrev pub DispatchedSeeAlone : Type 0

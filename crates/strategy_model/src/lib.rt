@@ -1,4 +1,4 @@
-//! Situations, schedules, strategies and their plays, and the laws of edges.
+//! Situations, schedules, strategies and their plays, the laws of edges, and what closed lists of edges give.
 #![tactic(auto)]
 
 pub mod laws;

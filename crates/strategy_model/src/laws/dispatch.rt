@@ -1,6 +1,6 @@
 //! Laws about closed lists of edges, the schedules of lower bounds and waits that they give, and what trees play.
 
-ghost use Rattle.strategy_model.specs.DispatchLaws.{ClosedListsGiveStrategies, DispatchedSatisfy, DispatchedExist, DispatchedAreOne, DispatchedSeeAlone, DispatchedAreEarliest, DynamicStrategiesAreTrees, TreesAreDynamic, ClosedListsHaveOrders, ClosedListsDecide, EarliestSeeAlone};
+ghost use Rattle.strategy_model.specs.DispatchLaws.{ClosedListsGiveStrategies, DispatchedSatisfy, DispatchedExist, DispatchedAreOne, DispatchedComeOnceFree, DispatchedSeeAlone, DispatchedAreEarliest, DynamicStrategiesAreTrees, TreesAreDynamic, ClosedListsHaveOrders, ClosedListsDecide, EarliestSeeAlone};
 
 /// A closed list of edges with an order gives a strategy that controls the network and plays the schedule of lower bounds
 /// and waits in every situation.
@@ -21,6 +21,11 @@ pub fn dispatched_exist()
 /// In a situation it has one alone.
 pub fn dispatched_are_one()
     ensures { DispatchedAreOne }
+{}
+
+/// In it an executable point has come by a moment exactly where no edge holds it back beyond that moment.
+pub fn dispatched_come_once_free()
+    ensures { DispatchedComeOnceFree }
 {}
 
 /// What the schedule of lower bounds and waits executes up to a moment depends on the completions up to it alone.
