@@ -6,7 +6,7 @@ use Rattle.std.specs.List.{All, Contains, enumerate_from}
 use Rattle.std.proofs.lemmas.Int.{ints}
 use Rattle.std.proofs.lemmas.Bool.Decides.{nat_tests}
 use Rattle.std.proofs.lemmas.Option.{slice_get-map, slice_get-get_or}
-use Rattle.std.proofs.lemmas.List.Elements.{All-contains, Contains-get_or, Contains-append_cases}
+use Rattle.std.proofs.lemmas.List.Elements.{All-contains, Contains-get_or, Contains-append_cases, Contains-append_right}
 use Rattle.std.proofs.Math.ListN.{length-map}
 use Rattle.net_model.specs.Limits.{most_points, most_links, most_size, most_weight, within_size}
 use Rattle.net_model.specs.Network.{Plan, IsPlan, IsBound, IsLink}
@@ -19,7 +19,7 @@ use Rattle.net_model.specs.declared.part.Link.{Link}
 use Rattle.closure_model.specs.Keys.{key_of, Shape, shape_of, IsKey}
 use Rattle.closure_model.specs.Tables.{Graph, HasAtMost, no_edges, IsAtMost, IsWeight, IsGraph, HasBase, base_edges, base_table}
 use Rattle.closure_model.specs.TableLaws.{BaseTableIsWeakest, ClosedTablesHaveTheBase}
-use Rattle.closure_model.proofs.Lists.{Contains-tail, Contains-none, Contains-map_from}
+use Rattle.closure_model.proofs.Lists.{Contains-tail, Contains-none, Contains-map, Contains-map_from}
 use Rattle.closure_model.proofs.TableLemmas.{table_of-given, table_of-has, all_lowered-shape}
 
 pub slice_get-contained : {X : Type 0} (xs : List X) (x : X) → Contains xs x → (k : ℕ) × (slice_get xs k ≡ Some x)
@@ -87,10 +87,10 @@ module _ (net : Plan) (sound : IsPlan net) where
           contained_get (l ∷ ls) zero link at = let same : l ≡ link = cc in (0, omega arith, same)
           contained_get (l ∷ ls) (suc k) link at = Contains-tail l ls link (contained_get ls k link at)
 
-  base_shape : (base_table net).shape ≡ shape_of net
+  pub base_shape : (base_table net).shape ≡ shape_of net
   base_shape = all_lowered-shape (no_edges (shape_of net)) (base_edges net)
 
-  base_sound : IsGraph (base_table net)
+  pub base_sound : IsGraph (base_table net)
   base_sound = record {
     keys = λ edge has. subst (λ shape. IsKey shape (key_of edge)) (sym base_shape) (base_edge_sound edge (table_of-given (shape_of net) (base_edges net) edge has)).0;
     weights = λ edge has. (base_edge_sound edge (table_of-given (shape_of net) (base_edges net) edge has)).1;
@@ -103,6 +103,18 @@ module _ (net : Plan) (sound : IsPlan net) where
       begins p inside =
           let (link, at, is) = Contains-map_from (λ (l : Link). l.from) net.links p inside in
           subst (λ (q : PointId). q.0 < length net.points) is (All-contains (IsLink net) net.links link sound.links_sound at).from_point
+
+  -- the edges of bounds and of links are of keys that there are and of weights that a table may hold
+  pub bound_edges_sound : All (λ (bound : Bound). IsKey (shape_of net) (key_of (bound_edge bound)) × IsWeight bound.most) net.bounds
+  bound_edges_sound = all_contained (λ (bound : Bound). IsKey (shape_of net) (key_of (bound_edge bound)) × IsWeight bound.most) net.bounds bound_sound
+
+  pub link_edges_sound : All (λ (e : ℕ × Link). IsKey (shape_of net) (key_of (link_edge (record { 0 = e.0 }) e.1)) × IsWeight (pos 0 -ℤ e.1.high)) (enumerate_from 0 net.links)
+  link_edges_sound = all_contained (λ (e : ℕ × Link). IsKey (shape_of net) (key_of (link_edge (record { 0 = e.0 }) e.1)) × IsWeight (pos 0 -ℤ e.1.high)) (enumerate_from 0 net.links) each
+    where
+      each : (e : ℕ × Link) → Contains (enumerate_from 0 net.links) e → IsKey (shape_of net) (key_of (link_edge (record { 0 = e.0 }) e.1)) × IsWeight (pos 0 -ℤ e.1.high)
+      each e inside =
+          let edge : Edge = link_edge (record { 0 = e.0 }) e.1 in
+          base_edge_sound edge (Contains-append_right (map bound_edge net.bounds) (map (λ (e : ℕ × Link). link_edge (record { 0 = e.0 }) e.1) (enumerate_from 0 net.links)) edge (Contains-map (λ (e : ℕ × Link). link_edge (record { 0 = e.0 }) e.1) (enumerate_from 0 net.links) e inside))
 
 base_has : (net : Plan) → HasBase net (base_table net)
 base_has net = all_contained (HasAtMost (base_table net)) (base_edges net) (table_of-has (shape_of net) (base_edges net))

@@ -122,7 +122,7 @@ strictly_sorted [] rises = tt
 strictly_sorted (k ∷ ks) (first, more) = (first, strictly_sorted ks more)
 
 -- ---- which keys stand in the lists
-labels_sound : (to : PointId) (n : ℕ) (begins : List PointId) → AllByRecursion (λ (l : LinkId). (n ≤ l.0) × (slice_get begins (l.0 - n) ≡ Some to)) (labels to n begins)
+pub labels_sound : (to : PointId) (n : ℕ) (begins : List PointId) → AllByRecursion (λ (l : LinkId). (n ≤ l.0) × (slice_get begins (l.0 - n) ≡ Some to)) (labels to n begins)
 labels_sound to n [] = tt
 labels_sound to n (p ∷ ps) = by (p.0 == to.0) refl (each-weaker (λ (l : LinkId). (n + 1 ≤ l.0) × (slice_get ps (l.0 - (n + 1)) ≡ Some to)) (λ (l : LinkId). (n ≤ l.0) × (slice_get (p ∷ ps) (l.0 - n) ≡ Some to)) moved (labels to (n + 1) ps) (labels_sound to (n + 1) ps))
   where
@@ -151,7 +151,7 @@ labels_whole to n (p ∷ ps) (suc k) at = by (p.0 == to.0) (let moved : n + 1 + 
     by true rest = Contains-tail (record { 0 = n }) (labels to (n + 1) ps) (record { 0 = n + suc k }) rest
     by false rest = rest
 
-Contains-points : (a n : ℕ) (p : PointId) → a ≤ p.0 → p.0 < a + n → Contains (points a n) p
+pub Contains-points : (a n : ℕ) (p : PointId) → a ≤ p.0 → p.0 < a + n → Contains (points a n) p
 Contains-points a zero p low high = absurd (omega arith)
 Contains-points a (suc n) p low high = by (λ more. Contains-points (a + 1) n p more (omega arith)) (a == p.0) refl
   where

@@ -27,3 +27,4 @@ pub mod LawProofs
 pub mod RoundLaw
 pub mod RoundClosing
 pub mod RowRun
+pub mod OrderLemmas

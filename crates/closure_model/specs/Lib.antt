@@ -10,3 +10,5 @@ pub mod TableLaws
 pub mod Codes
 pub mod ClosureLaws
 pub mod DerivationLaws
+pub mod Orders
+pub mod OrderLaws

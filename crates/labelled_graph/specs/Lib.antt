@@ -1,0 +1,3 @@
+pub mod Words
+pub mod Dense
+pub mod Changes
