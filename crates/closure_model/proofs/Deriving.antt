@@ -90,22 +90,22 @@ each_below f (y ∷ ys) start zero x inside here =
     omega arith
 each_below f (y ∷ ys) start (suc place) x inside here = each_below f ys (max start (f y)) place x (omega arith) here
 
-joined_within : (most : ℕ) (v u : ℤ) → unsigned_abs v ≤ most → unsigned_abs u ≤ most → u <ℤ pos 0 → unsigned_abs (int_max v (pos 0) +ℤ u) ≤ most
+pub joined_within : (most : ℕ) (v u : ℤ) → unsigned_abs v ≤ most → unsigned_abs u ≤ most → u <ℤ pos 0 → unsigned_abs (int_max v (pos 0) +ℤ u) ≤ most
 joined_within most v u first second negative = grind (arith, ints, int_max_is)
 
-moved_within : (most : ℕ) (x u : ℤ) → unsigned_abs x ≤ most → unsigned_abs u ≤ most → pos 0 ≤ℤ x → u <ℤ pos 0 → unsigned_abs (x +ℤ u) ≤ most
+pub moved_within : (most : ℕ) (x u : ℤ) → unsigned_abs x ≤ most → unsigned_abs u ≤ most → pos 0 ≤ℤ x → u <ℤ pos 0 → unsigned_abs (x +ℤ u) ≤ most
 moved_within most x u shortest second positive negative = grind (arith, ints)
 
-freed_within : (most : ℕ) (x z : ℤ) → unsigned_abs x ≤ most → unsigned_abs z ≤ most → unsigned_abs (int_max z (pos 0 -ℤ x)) ≤ most
+pub freed_within : (most : ℕ) (x z : ℤ) → unsigned_abs x ≤ most → unsigned_abs z ≤ most → unsigned_abs (int_max z (pos 0 -ℤ x)) ≤ most
 freed_within most x z shortest premise = grind (arith, ints, int_max_is)
 
-turned_within : (most : ℕ) (y : ℤ) → unsigned_abs y ≤ most → unsigned_abs (pos 0 -ℤ y) ≤ most
+pub turned_within : (most : ℕ) (y : ℤ) → unsigned_abs y ≤ most → unsigned_abs (pos 0 -ℤ y) ≤ most
 turned_within most y longest = grind (arith, ints)
 
-between_within : (most : ℕ) (x y : ℤ) → pos 1 ≤ℤ x → x ≤ℤ y → unsigned_abs y ≤ most → unsigned_abs x ≤ most
+pub between_within : (most : ℕ) (x y : ℤ) → pos 1 ≤ℤ x → x ≤ℤ y → unsigned_abs y ≤ most → unsigned_abs x ≤ most
 between_within most x y one two three = grind (arith, ints)
 
-positive : (x : ℤ) → pos 1 ≤ℤ x → pos 0 ≤ℤ x
+pub positive : (x : ℤ) → pos 1 ≤ℤ x → pos 0 ≤ℤ x
 positive x one = grind (arith, ints)
 
 module _ (net : Plan) where

@@ -1,5 +1,5 @@
 -- The laws, from the lemmas.
-use Rattle.std.proofs.Common.{◌≡◌, ℕ, ◌<◌, ℤ, ◌≤ℤ◌, ◌<ℤ◌, Some, ap, sym, subst, arith}
+use Rattle.std.proofs.Common.{◌∙◌, ◌≡◌, ℕ, ◌<◌, ℤ, ◌≤ℤ◌, ◌<ℤ◌, Some, ap, sym, subst, arith}
 use Rattle.std.specs.Prelude.{MatchOption}
 use Rattle.std.proofs.lemmas.Int.{ints}
 use Rattle.std.proofs.lemmas.List.Elements.{All-contains, Contains-get_or}
@@ -7,7 +7,7 @@ use Rattle.closure_model.specs.Keys.{edge_of, shape_of}
 use Rattle.closure_model.specs.Tables.{Graph, weight_of, HasEdge, table_of, base_edges}
 use Rattle.closure_model.specs.Derivable.{IsDerivable}
 use Rattle.closure_model.specs.ClosureLaws.{RulesKeepDerivable, DerivableAreEdges, DerivableAreBounded, ReachedAreDerivable, ClosureIsClosed, ClosureIsWeakest, ClosureIsOne, ClosedAndDerivableIsClosure}
-use Rattle.closure_model.specs.DerivationLaws.{NodesAreDerivable, PremisesAreEarlier, UnderIsEarlier, LabelledRestOnLinks, BaseStands, FollowingKeepsStanding, StandingIsDerivable, TableTellsNodes, NodeOfKeyIsOne}
+use Rattle.closure_model.specs.DerivationLaws.{NodesAreDerivable, PremisesAreEarlier, UnderIsEarlier, LabelledRestOnLinks, BaseStands, FollowingKeepsStanding, StandingIsDerivable, TableTellsNodes, NewestHasTheWeight, NodeOfKeyIsOne}
 use Rattle.closure_model.specs.Derivations.{edge_at, edges_of_nodes, IsNodeOf, HasNoNode}
 use Rattle.closure_model.specs.declared.derivation.NodeId.{NodeId}
 use Rattle.closure_model.proofs.TableLemmas.{table_of-given}
@@ -15,7 +15,7 @@ use Rattle.closure_model.proofs.Deriving.{follows_derivable, derivable_edge, der
 use Rattle.closure_model.proofs.Basing.{reached_derivable, base_edge_derivable}
 use Rattle.closure_model.proofs.Closing.{closure_closed, closure_at_most, closure_weakest, closure_one, closed_derivable_closure}
 use Rattle.closure_model.proofs.Made.{node_derivable, premises_earlier, under_earlier, labelled_rests}
-use Rattle.closure_model.proofs.Newest.{node_of_edge, table_tells}
+use Rattle.closure_model.proofs.Newest.{node_of_edge, table_tells, newest_weight}
 use Rattle.closure_model.proofs.Standing.{base_stands, stands_pushed}
 
 pub rules_keep_derivable : RulesKeepDerivable
@@ -70,6 +70,9 @@ standing_is_derivable net support stands edge has =
 pub table_tells_nodes : TableTellsNodes
 table_tells_nodes net nodes table key is =
     subst (λ (g : Graph). MatchOption (weight_of g key) (HasNoNode nodes key) (λ (weight : ℤ). (id : NodeId) × IsNodeOf nodes key id × (edge_at nodes id ≡ Some (edge_of key weight)))) (sym is) (table_tells (shape_of net) nodes key)
+
+pub newest_has_the_weight : NewestHasTheWeight
+newest_has_the_weight net nodes table key found is newest = newest_weight (shape_of net) nodes key found newest ∙ ap (λ (g : Graph). weight_of g key) (sym is)
 
 pub node_of_key_is_one : NodeOfKeyIsOne
 node_of_key_is_one nodes key one two first second =

@@ -1,12 +1,18 @@
 -- A node that follows from the nodes before it, rule by rule with its premises; and what that gives: its edge is derivable, its
 -- premises stand earlier, and a labelled node rests on its label.
-use Rattle.std.proofs.Common.{◌≡◌, ℕ, zero, suc, ◌≤◌, ◌<◌, List, [], ◌∷◌, take, Some, None, refl, ap, sym, ◌∙◌, subst, arith}
+use Rattle.std.proofs.Common.{ℤ, true, ◌++◌, length, ◌⊎◌, inl, inr, ◌≡◌, ℕ, zero, suc, ◌≤◌, ◌<◌, List, [], ◌∷◌, take, Some, None, refl, ap, sym, ◌∙◌, subst, arith}
 use Rattle.std.specs.Prelude.{slice_get}
+use Rattle.std.proofs.Math.Seq.{take-length}
 use Rattle.std.specs.Option.{option_and_then}
 use Rattle.std.specs.List.{All, Contains}
 use Rattle.std.proofs.lemmas.List.Elements.{All-cons, All-nil, All-contains}
 use Rattle.net_model.proofs.RuleLemmas.{no_case_gives, upper_case_gives, lower_case_gives, cross_case_gives, removal_gives}
-use Rattle.net_model.specs.Network.{Plan}
+use Rattle.net_model.specs.Network.{Plan, IsPlan}
+use Rattle.net_model.specs.Limits.{most_weight, within_size}
+use Rattle.std.proofs.lemmas.Int.{ints}
+use Rattle.std.proofs.lemmas.Bool.Decides.{nat_tests}
+use Rattle.closure_model.specs.Tables.{IsWeight}
+use Rattle.closure_model.proofs.Deriving.{bound_at, link_at, joined_within, moved_within, freed_within, turned_within, between_within, positive}
 use Rattle.net_model.specs.Edges.{IsLinkOf}
 use Rattle.net_model.specs.Rules.{bound_edge, link_edge, no_case, upper_case, lower_case, cross_case, removal}
 use Rattle.net_model.specs.declared.ids.BoundId.{BoundId}
@@ -16,7 +22,7 @@ use Rattle.net_model.specs.declared.part.Edge.{Edge}
 use Rattle.net_model.specs.declared.part.Link.{Link}
 use Rattle.closure_model.specs.Derivable as derivable
 use Rattle.closure_model.specs.Derivable.{IsDerivable}
-use Rattle.closure_model.specs.Derivations.{node_at, edge_at, given_by, IsDerivationList, premises_of, PremisesStandEarlier, item_of, IsUnder, itself, under, RestsOn}
+use Rattle.closure_model.specs.Derivations.{IsGiven, node_at, edge_at, given_by, IsDerivationList, premises_of, PremisesStandEarlier, item_of, IsUnder, itself, under, RestsOn}
 use Rattle.closure_model.specs.declared.derivation.Item.{Item}
 use Rattle.closure_model.specs.declared.derivation.Item.TheVariants as item
 use Rattle.closure_model.specs.declared.derivation.Node.{Node}
@@ -24,7 +30,7 @@ use Rattle.closure_model.specs.declared.derivation.NodeId.{NodeId}
 use Rattle.closure_model.specs.declared.derivation.Rule.{Rule}
 use Rattle.closure_model.specs.declared.derivation.Rule.TheVariants as by_rule
 use Rattle.closure_model.proofs.Lists.{Contains-head, Contains-tail}
-use Rattle.closure_model.proofs.Nodes.{IsPremise, premise_read, chained, mapped}
+use Rattle.closure_model.proofs.Nodes.{IsPremise, premise_read, chained, mapped, push_cases, listed_at}
 
 pub data Made (net : Plan) (nodes : List Node) (limit : ℕ) (edge : Edge) : Rule → Type 0 where
   made_bound : (name : BoundId) (bound : Bound) → slice_get net.bounds name.0 ≡ Some bound → bound_edge bound ≡ edge → Made net nodes limit edge (by_rule.Bound name)
@@ -161,3 +167,73 @@ module _ (net : Plan) (nodes : List Node) (list : IsDerivationList net nodes) wh
 
   pub labelled_rests : (id : NodeId) (node : Node) (name : LinkId) → node_at nodes id ≡ Some node → node.edge.label ≡ Some name → RestsOn nodes id (item.Link name)
   labelled_rests id node name here labelled = label_below (suc id.0) id node name (omega arith) here labelled
+
+-- ---- a node that follows from a whole list
+pub given_earlier : (net : Plan) (nodes : List Node) (node : Node) → IsGiven net nodes node → All (λ (premise : NodeId). premise.0 < length nodes) (premises_of node.rule)
+given_earlier net nodes node given =
+    let all : take (length nodes) nodes ≡ nodes = take-length nodes in
+    made_earlier net nodes (length nodes) node.edge node.rule (made net nodes (length nodes) node.edge node.rule (subst (λ (earlier : List Node). IsGiven net earlier node) (sym all) given))
+
+pub earlier_pushed : (nodes : List Node) (node : Node) → PremisesStandEarlier nodes → All (λ (premise : NodeId). premise.0 < length nodes) (premises_of node.rule) → PremisesStandEarlier (nodes ++ node ∷ [])
+earlier_pushed nodes node earlier all id m here = by (push_cases nodes node id.0 m here)
+  where
+    by : (slice_get nodes id.0 ≡ Some m) ⊎ ((id.0 ≡ length nodes) × (node ≡ m)) → All (λ (premise : NodeId). premise.0 < id.0) (premises_of m.rule)
+    by (inl there) = earlier id m there
+    by (inr (last, is)) = subst (λ (n : ℕ). All (λ (premise : NodeId). premise.0 < n) (premises_of m.rule)) (sym last) (subst (λ (n : Node). All (λ (premise : NodeId). premise.0 < length nodes) (premises_of n.rule)) is all)
+
+-- what a node rests on, its rule uses or one of its premises rests on
+pub rests_cases : (nodes : List Node) (id : NodeId) (node : Node) (what : Item) → node_at nodes id ≡ Some node → RestsOn nodes id what → (item_of node.rule ≡ Some what) ⊎ ((premise : NodeId) × Contains (premises_of node.rule) premise × RestsOn nodes premise what)
+rests_cases nodes id node what here rests = by rests.under
+  where
+    by : IsUnder nodes rests.below id → (item_of node.rule ≡ Some what) ⊎ ((premise : NodeId) × Contains (premises_of node.rule) premise × RestsOn nodes premise what)
+    by (itself i same) =
+        let both : Some node ≡ Some rests.node = sym here ∙ (ap (node_at nodes) same ∙ rests.here) in
+        let is : node ≡ rests.node = cc in
+        inl (ap (λ (n : Node). item_of n.rule) is ∙ rests.uses)
+    by (under i premise other there among rest) =
+        let both : Some other ≡ Some node = sym there ∙ here in
+        let is : other ≡ node = cc in
+        inr (premise, subst (λ (n : Node). Contains (premises_of n.rule) premise) is among, record { below = rests.below; node = rests.node; under = rest; here = rests.here; uses = rests.uses })
+
+-- ---- a node that follows from nodes of weights within the limit has such a weight
+small : (weight : ℤ) → within_size weight ≡ true → IsWeight weight
+small weight within = grind (arith, ints, nat_tests)
+
+module _ (net : Plan) (plan : IsPlan net) (nodes : List Node) (within : All (λ (n : Node). IsWeight n.edge.weight) nodes) where
+  premise_within : (limit : ℕ) (id : NodeId) (edge : Edge) → IsPremise nodes limit id edge → IsWeight edge.weight
+  premise_within limit id edge read =
+      subst (λ (e : Edge). IsWeight e.weight) read.is (All-contains (λ (n : Node). IsWeight n.edge.weight) nodes read.node within (listed_at nodes id.0 read.node read.here))
+
+  pub made_within : (limit : ℕ) (edge : Edge) (rule : Rule) → Made net nodes limit edge rule → IsWeight edge.weight
+  made_within limit edge rule (made_bound name bound declared is) =
+      let sound = bound_at net plan name.0 bound declared in
+      subst (λ (e : Edge). IsWeight e.weight) is (small bound.most sound.within)
+  made_within limit edge rule (made_link name link declared is) =
+      let sound = link_at net plan name link declared in
+      subst (λ (e : Edge). IsWeight e.weight) is (turned_within most_weight link.high (small link.high sound.within))
+  made_within limit edge rule (made_no first second one two read_one read_two gave) =
+      let gives = no_case_gives one two edge gave in
+      subst (λ (e : Edge). IsWeight e.weight) gives.is (joined_within most_weight one.weight two.weight (premise_within limit first one read_one) (premise_within limit second two read_two) gives.negative)
+  made_within limit edge rule (made_up first second one two read_one read_two gave) =
+      let gives = upper_case_gives one two edge gave in
+      subst (λ (e : Edge). IsWeight e.weight) gives.is (joined_within most_weight one.weight two.weight (premise_within limit first one read_one) (premise_within limit second two read_two) gives.negative)
+  made_within limit edge rule (made_low name second two read_two gave) =
+      let gives = lower_case_gives net name two edge gave in
+      let sound = link_at net plan name gives.link gives.declared in
+      subst (λ (e : Edge). IsWeight e.weight) gives.is
+      (moved_within most_weight gives.link.low two.weight (between_within most_weight gives.link.low gives.link.high sound.positive sound.interval (small gives.link.high sound.within)) (premise_within limit second two read_two) (positive gives.link.low sound.positive) gives.negative)
+  made_within limit edge rule (made_cross name second two read_two gave) =
+      let gives = cross_case_gives net name two edge gave in
+      let sound = link_at net plan name gives.link gives.declared in
+      subst (λ (e : Edge). IsWeight e.weight) gives.is
+      (moved_within most_weight gives.link.low two.weight (between_within most_weight gives.link.low gives.link.high sound.positive sound.interval (small gives.link.high sound.within)) (premise_within limit second two read_two) (positive gives.link.low sound.positive) gives.negative)
+  made_within limit edge rule (made_drop premise one read_one gave) =
+      let gives = removal_gives net one edge gave in
+      let sound = link_at net plan gives.name gives.link gives.declared in
+      subst (λ (e : Edge). IsWeight e.weight) gives.is
+      (freed_within most_weight gives.link.low one.weight (between_within most_weight gives.link.low gives.link.high sound.positive sound.interval (small gives.link.high sound.within)) (premise_within limit premise one read_one))
+
+  pub given_within : (node : Node) → IsGiven net nodes node → IsWeight node.edge.weight
+  given_within node given =
+      let all : take (length nodes) nodes ≡ nodes = take-length nodes in
+      made_within (length nodes) node.edge node.rule (made net nodes (length nodes) node.edge node.rule (subst (λ (earlier : List Node). IsGiven net earlier node) (sym all) given))

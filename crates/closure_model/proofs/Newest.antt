@@ -10,7 +10,7 @@ use Rattle.std.proofs.lemmas.Option.{slice_get_within}
 use Rattle.net_model.specs.declared.part.Edge.{Edge}
 use Rattle.closure_model.specs.Keys.{Key, key_of, edge_of, key_cmp, Shape}
 use Rattle.closure_model.specs.Tables.{weight_of, HasEdge, has_at_most, table_of}
-use Rattle.closure_model.specs.Derivations.{node_at, edge_at, edges_of_nodes, IsNodeOf, HasNoNode, IsNewest}
+use Rattle.closure_model.specs.Derivations.{node_at, edge_at, edges_of_nodes, IsNodeOf, HasNoNode, IsNewest, weight_at}
 use Rattle.closure_model.specs.declared.derivation.Node.{Node}
 use Rattle.closure_model.specs.declared.derivation.NodeId.{NodeId}
 use Rattle.closure_model.proofs.KeyOrder.{key_test}
@@ -180,3 +180,10 @@ module _ (shape : Shape) (nodes : List Node) (key : Key) where
           let held : weight_of (table_of shape (edges_of_nodes nodes)) key ≡ Some was.node.edge.weight = ap (weight_of (table_of shape (edges_of_nodes nodes))) (sym was.of_key) ∙ newest_held shape nodes key id was in
           let read : edge_at nodes id ≡ Some (edge_of key was.node.edge.weight) = ap (option_map (λ (m : Node). m.edge)) was.here ∙ ap (λ (k : Key). Some (edge_of k was.node.edge.weight)) was.of_key in
           subst (λ o. MatchOption o (HasNoNode nodes key) (λ (weight : ℤ). (id : NodeId) × IsNodeOf nodes key id × (edge_at nodes id ≡ Some (edge_of key weight)))) (sym held) (id, was, read)
+
+  -- what is found as the node of the key has the weight of the table
+  pub newest_weight : (found : Option NodeId) → IsNewest nodes key found → weight_at nodes found ≡ weight_of (table_of shape (edges_of_nodes nodes)) key
+  newest_weight None none = sym (none_lacking shape nodes key none)
+  newest_weight (Some id) was =
+      let held : weight_of (table_of shape (edges_of_nodes nodes)) key ≡ Some was.node.edge.weight = ap (weight_of (table_of shape (edges_of_nodes nodes))) (sym was.of_key) ∙ newest_held shape nodes key id was in
+      ap (λ (o : Option Node). option_map (λ (edge : Edge). edge.weight) (option_map (λ (m : Node). m.edge) o)) was.here ∙ sym held

@@ -11,27 +11,19 @@ use Rattle.std.proofs.lemmas.Option.{slice_get_within}
 use Rattle.std.proofs.Math.Seq.{take-append_seam}
 use Rattle.net_model.specs.Network.{Plan}
 use Rattle.net_model.specs.Rules.{bound_edge, link_edge}
-use Rattle.net_model.specs.declared.part.Bound.{Bound}
 use Rattle.net_model.specs.declared.part.Edge.{Edge}
 use Rattle.net_model.specs.declared.part.Link.{Link}
 use Rattle.closure_model.specs.Keys.{shape_of}
 use Rattle.closure_model.specs.Tables.{Graph, lowered, table_of, no_edges, base_edges, base_table}
-use Rattle.closure_model.specs.Derivations.{edges_of_nodes, IsGiven, IsDerivationList, base_nodes, Support, IsTableOf, StandsOn}
+use Rattle.closure_model.specs.Derivations.{edges_of_nodes, IsGiven, IsDerivationList, bound_node, link_node, base_nodes, Support, IsTableOf, StandsOn}
 use Rattle.closure_model.specs.declared.derivation.Node.{Node}
-use Rattle.closure_model.specs.declared.derivation.Rule.TheVariants as by_rule
 use Rattle.closure_model.proofs.Lists.{Contains-map_from}
 use Rattle.closure_model.proofs.Basing.{numbered_at}
 use Rattle.closure_model.proofs.Nodes.{push_cases, listed_at}
 
-abbrev bound_node : ℕ × Bound → Node
-bound_node e = record { rule = by_rule.Bound (record { 0 = e.0 }); edge = bound_edge e.1 }
-
-abbrev link_node : ℕ × Link → Node
-link_node e = record { rule = by_rule.Link (record { 0 = e.0 }); edge = link_edge (record { 0 = e.0 }) e.1 }
-
 -- ---- the base
 -- a base node follows from any nodes
-base_given : (net : Plan) (earlier : List Node) (node : Node) → Contains (base_nodes net) node → IsGiven net earlier node
+pub base_given : (net : Plan) (earlier : List Node) (node : Node) → Contains (base_nodes net) node → IsGiven net earlier node
 base_given net earlier node inside =
     by (Contains-append_cases (map bound_node (enumerate_from 0 net.bounds)) (map link_node (enumerate_from 0 net.links)) node inside)
   where

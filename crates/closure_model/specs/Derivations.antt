@@ -1,6 +1,6 @@
 -- Derivation lists (Morris and Muscettola 2005, in this project's form): edges in the order of making, each with its rule and
 -- with premises that stand earlier, and what a node rests on.
-use Rattle.std.specs.Prelude.{◌≡◌, ◌≢◌, ℕ, ◌<◌, ◌≤ℤ◌, ◌<ℤ◌, List, [], ◌∷◌, ◌++◌, map, take, Option, Some, None, MatchOption, slice_get}
+use Rattle.std.specs.Prelude.{◌≡◌, ◌≢◌, ℕ, ℤ, ◌<◌, ◌≤ℤ◌, ◌<ℤ◌, List, [], ◌∷◌, ◌++◌, map, take, Option, Some, None, MatchOption, slice_get}
 use Rattle.std.specs.Option.{option_map, option_and_then}
 use Rattle.std.specs.List.{Contains, All, AllPairs, enumerate_from}
 use Rattle.net_model.specs.Network.{Plan}
@@ -9,7 +9,7 @@ use Rattle.net_model.specs.declared.part.Bound.{Bound}
 use Rattle.net_model.specs.declared.part.Edge.{Edge}
 use Rattle.net_model.specs.declared.part.Link.{Link}
 use Rattle.closure_model.specs.Keys.{Key, key_of, shape_of}
-use Rattle.closure_model.specs.Tables.{Graph, table_of}
+use Rattle.closure_model.specs.Tables.{Graph, lowered, table_of, base_table}
 use Rattle.closure_model.specs.declared.derivation.Item.{Item}
 use Rattle.closure_model.specs.declared.derivation.Item.TheVariants as item
 use Rattle.closure_model.specs.declared.derivation.Node.{Node}
@@ -106,16 +106,34 @@ HasNoNode nodes key = (id : NodeId) (node : Node) → node_at nodes id ≡ Some 
 abbrev pub IsNewest : List Node → Key → Option NodeId → Type 0
 IsNewest nodes key found = MatchOption found (HasNoNode nodes key) (IsNodeOf nodes key)
 
+-- the weight of the node that was found, if one was
+abbrev pub weight_at : List Node → Option NodeId → Option ℤ
+weight_at nodes found = option_and_then (λ id. option_map (λ (edge : Edge). edge.weight) (edge_at nodes id)) found
+
+-- the node of a bound, by its number
+abbrev pub bound_node : ℕ × Bound → Node
+bound_node e = record { rule = by_rule.Bound (record { 0 = e.0 }); edge = bound_edge e.1 }
+
+-- the node of a link, by its number
+abbrev pub link_node : ℕ × Link → Node
+link_node e = record { rule = by_rule.Link (record { 0 = e.0 }); edge = link_edge (record { 0 = e.0 }) e.1 }
+
 -- the nodes of bounds and links, each list in its order
 abbrev pub base_nodes : Plan → List Node
-base_nodes net =
-    map (λ (e : ℕ × Bound). record { rule = by_rule.Bound (record { 0 = e.0 }); edge = bound_edge e.1 }) (enumerate_from 0 net.bounds)
-    ++ map (λ (e : ℕ × Link). record { rule = by_rule.Link (record { 0 = e.0 }); edge = link_edge (record { 0 = e.0 }) e.1 }) (enumerate_from 0 net.links)
+base_nodes net = map bound_node (enumerate_from 0 net.bounds) ++ map link_node (enumerate_from 0 net.links)
 
 -- what supports a table: a derivation list and the table of the least edges of its nodes
 pub record Support : Type 0 where
   pub nodes : List Node
   pub table : Graph
+
+-- the base nodes and the base table of a network
+abbrev pub base_support : Plan → Support
+base_support net = record { nodes = base_nodes net; table = base_table net }
+
+-- one node more: it comes to the end of the list, and its edge to the table
+abbrev pub with_node : Support → Node → Support
+with_node support node = record { nodes = support.nodes ++ node ∷ []; table = lowered support.table node.edge }
 
 -- a table is that of a list: it has the keys of the nodes, each at the weight of its node
 abbrev pub IsTableOf : Plan → List Node → Graph → Type 0

@@ -1,7 +1,7 @@
 //! Laws about derivable edges, the closure and derivation lists, each the contract of a function without parameters.
 
 ghost use Rattle.closure_model.specs.ClosureLaws.{RulesKeepDerivable, DerivableAreEdges, DerivableAreBounded, ReachedAreDerivable, ClosureIsClosed, ClosureIsWeakest, ClosureIsOne, ClosedAndDerivableIsClosure};
-ghost use Rattle.closure_model.specs.DerivationLaws.{NodesAreDerivable, PremisesAreEarlier, UnderIsEarlier, LabelledRestOnLinks, BaseStands, FollowingKeepsStanding, StandingIsDerivable, TableTellsNodes, NodeOfKeyIsOne};
+ghost use Rattle.closure_model.specs.DerivationLaws.{NodesAreDerivable, PremisesAreEarlier, UnderIsEarlier, LabelledRestOnLinks, BaseStands, FollowingKeepsStanding, StandingIsDerivable, TableTellsNodes, NewestHasTheWeight, NodeOfKeyIsOne};
 
 /// What follows from derivable edges by one rule is derivable.
 pub fn rules_keep_derivable()
@@ -81,6 +81,11 @@ pub fn standing_is_derivable()
 /// The table of a list has exactly the keys of its nodes, each at the weight of the node of the key.
 pub fn table_tells_nodes()
     ensures { TableTellsNodes }
+{}
+
+/// What is found as the node of a key has the weight that the table of the list has for it.
+pub fn newest_has_the_weight()
+    ensures { NewestHasTheWeight }
 {}
 
 /// A key has one node at most.
