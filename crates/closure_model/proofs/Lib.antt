@@ -28,3 +28,4 @@ pub mod RoundLaw
 pub mod RoundClosing
 pub mod RowRun
 pub mod OrderLemmas
+pub mod RoundsLaw

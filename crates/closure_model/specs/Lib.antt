@@ -3,6 +3,7 @@ pub mod Tables
 pub mod Least
 pub mod ReferenceRow
 pub mod ReferenceRound
+pub mod ReferenceRounds
 pub mod Derivable
 pub mod Closure
 pub mod Derivations
