@@ -29,3 +29,4 @@ pub mod RoundClosing
 pub mod RowRun
 pub mod OrderLemmas
 pub mod RoundsLaw
+pub mod Rooms

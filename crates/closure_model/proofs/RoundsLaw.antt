@@ -34,3 +34,35 @@ rounds_stand net start after rounds ending plan stands (after_one _ _ more _ lef
     let (here, lower) = rounds_keep_standing net start plan stands in
     let (there, lowest) = rounds_stand net (after_round net start) after more ending plan here rest in
     (there, IsAtMost-trans after.table (after_round net start).table start.table lowest lower)
+
+closes : (net : Plan) (start after : Support) (rounds : ℕ) (ending : Ending) (order : List PointId) → ending ≡ closed order → IsPlan net → StandsOn net start → RoundsEnd net start rounds after ending → IsClosure net after.table
+closes net start after rounds ending order is plan stands (in_cycle _ first left) = absurd cc
+closes net start after rounds ending order is plan stands (in_order _ left none) = round_gives_closure net plan start stands none
+closes net start after rounds ending order is plan stands (after_one _ _ more _ left some rest) = closes net (after_round net start) after more ending order is plan (rounds_keep_standing net start plan stands).0 rest
+
+pub rounds_that_close : RoundsThatCloseGiveTheClosure
+rounds_that_close net start after rounds order plan stands ends = closes net start after rounds (closed order) order refl plan stands ends
+
+-- the same rounds
+record AreSame (n m : ℕ) (one two : Support) (ending other : Ending) : Type 0 where
+  count : n ≡ m
+  support : one ≡ two
+  end : ending ≡ other
+
+one_way : (net : Plan) (start one two : Support) (n m : ℕ) (ending other : Ending) → RoundsEnd net start n one ending → RoundsEnd net start m two other → AreSame n m one two ending other
+one_way net start one two n m ending other (in_cycle _ first left) (in_cycle _ second there) =
+    let same : first ≡ second = same_Some first second (sym left ∙ there) in
+    record { count = refl; support = refl; end = ap (λ (p : PointId). looped (cycle_from start.table p)) same }
+one_way net start one two n m ending other (in_cycle _ first left) (in_order _ none nothing) = absurd cc
+one_way net start one two n m ending other (in_cycle _ first left) (after_one _ _ more _ none some rest) = absurd cc
+one_way net start one two n m ending other (in_order _ none nothing) (in_cycle _ second there) = absurd cc
+one_way net start one two n m ending other (in_order _ none nothing) (in_order _ none' nothing') = record { count = refl; support = refl; end = refl }
+one_way net start one two n m ending other (in_order _ none nothing) (after_one _ _ more _ none' some rest) = absurd (some nothing)
+one_way net start one two n m ending other (after_one _ _ more _ none some rest) (in_cycle _ second there) = absurd cc
+one_way net start one two n m ending other (after_one _ _ more _ none some rest) (in_order _ none' nothing) = absurd (some nothing)
+one_way net start one two n m ending other (after_one _ _ more _ none some rest) (after_one _ _ less _ none' some' rest') =
+    let same = one_way net (after_round net start) one two more less ending other rest rest' in
+    record { count = ap suc same.count; support = same.support; end = same.end }
+
+pub rounds_end_in_one_way : RoundsEndInOneWay
+rounds_end_in_one_way net start one two n m ending other first second = let same = one_way net start one two n m ending other first second in (same.count, same.support, same.end)
