@@ -80,13 +80,16 @@ not_among_less ps q p none = by (is_among ps p) refl
     by true is = let more : is_among (ps ++ q ∷ []) p ≡ true = among_more ps q p is in absurd cc
     by false is = is
 
-pub in_points : (graph : Graph) (p : PointId) → Contains (all_points graph.shape) p → p.0 < graph.shape.points
-in_points graph p inside = let below : p.0 < 0 + graph.shape.points = by 0 graph.shape.points p inside in omega arith
+pub in_range : (n : ℕ) (p : PointId) → Contains {X = PointId} (map (λ k. record { 0 = k }) (range_with_len 0 n)) p → p.0 < n
+in_range n p inside = let below : p.0 < 0 + n = by 0 n p inside in omega arith
   where
     by : (a n : ℕ) (p : PointId) → Contains {X = PointId} (map (λ k. record { 0 = k }) (range_with_len a n)) p → p.0 < a + n
     by a zero p at = absurd (Contains-none p at)
     by a (suc n) p (zero, low, at) = let here : a ≡ p.0 = ap (λ (q : PointId). q.0) at in omega arith
     by a (suc n) p (suc k, low, at) = let later : p.0 < a + 1 + n = by (a + 1) n p (k, omega arith, at) in omega arith
+
+pub in_points : (graph : Graph) (p : PointId) → Contains (all_points graph.shape) p → p.0 < graph.shape.points
+in_points graph p inside = in_range graph.shape.points p inside
 
 -- ---- fewer and fewer are left
 abbrev count : (PointId → Bool) → List PointId → ℕ
