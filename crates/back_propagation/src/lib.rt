@@ -2,9 +2,9 @@
 //! row are settled from the least weight on (backwards from a target as in Morris 2014).
 #![tactic(auto)]
 
-
+mod offers;
 mod settling;
 mod slots;
 
 pub use closure_model::rows::{Made, Why};
-pub use settling::NewRow;
+pub use settling::{NewRow, row};

@@ -1,4 +1,4 @@
-ghost use Rattle.std.specs.Prelude.{◌≡◌, ◌+◌, ◌*◌, ◌<◌, ◌++◌, length, map, Some, None, false, OnOk, IfOk};
+ghost use Rattle.std.specs.Prelude.{◌≡◌, ℤ, ◌+◌, ◌*◌, ◌<◌, ◌++◌, length, map, Some, None, false, OnOk, IfOk, IfSome};
 ghost use Rattle.std.specs.Option.{option_map};
 ghost use Rattle.closure_model.specs.Keys.{keys_between, labels_at};
 ghost use Rattle.closure_model.specs.Least.{lesser};
@@ -64,7 +64,8 @@ fn slot(from: PointId, label: Option<LinkId>, weight: Option<Weight>) -> Slot
 
 /// The place and the weight of the slot that is settled next.
 pub(crate) fn next_slot(slots: &[Slot]) -> Option<(usize, Weight)>
-    ensures { result ≡ next_slot slots.now }
+    ensures next { result ≡ next_slot slots.now }
+    ensures inside { IfSome result (λ next. next.0 < length slots.now) }
 {
     let mut next = None;
     for (place, slot) in slots.iter().enumerate() {
@@ -90,7 +91,10 @@ fn at_place(place: usize, weight: Option<Weight>) -> Option<(usize, Weight)>
 }
 
 /// The lesser of two weights with their places, the first where they are equal.
-fn lesser(first: Option<(usize, Weight)>, second: Option<(usize, Weight)>) -> Option<(usize, Weight)>
+fn lesser(
+    first: Option<(usize, Weight)>,
+    second: Option<(usize, Weight)>,
+) -> Option<(usize, Weight)>
     ensures { result ≡ lesser first second }
 {
     match (first, second) {
@@ -100,14 +104,14 @@ fn lesser(first: Option<(usize, Weight)>, second: Option<(usize, Weight)>) -> Op
     }
 }
 
-/// The edge of a slot of the row of a target, at a weight.
-pub(crate) fn edge_in(target: PointId, slot: &Slot, weight: Weight) -> Edge
-    ensures { result ≡ edge_in target slot.now weight }
+/// The edge of a slot of the row of a target that has a weight.
+pub(crate) fn edge_in(target: PointId, slot: &Slot) -> Edge
+    ensures { (weight : ℤ) → slot.now.weight ≡ Some weight → result ≡ edge_in target slot.now weight }
 {
     Edge {
         from: slot.from,
         to: target,
         label: slot.label,
-        weight,
+        weight: slot.weight.unwrap_or(0),
     }
 }

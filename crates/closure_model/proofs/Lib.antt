@@ -28,3 +28,5 @@ pub mod RoundLaw
 pub mod RoundClosing
 pub mod OrderLemmas
 pub mod RowRun
+pub mod RoundsLaw
+pub mod Rooms

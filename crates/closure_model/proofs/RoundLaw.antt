@@ -14,12 +14,12 @@ use Rattle.net_model.specs.declared.ids.LinkId.{LinkId}
 use Rattle.net_model.specs.declared.ids.PointId.{PointId}
 use Rattle.net_model.specs.declared.part.Edge.{Edge}
 use Rattle.net_model.proofs.RuleLemmas.{no_case_gives, upper_case_gives, lower_case_gives, cross_case_gives, removal_gives}
-use Rattle.closure_model.specs.Derivations.{Support, StandsOn, IsTableOf, IsGiven, IsNodeOf, HasNoNode, IsNewest, given_by, node_at, edge_at}
+use Rattle.closure_model.specs.Derivations.{Support, StandsOn, with_node, IsTableOf, IsGiven, IsNodeOf, HasNoNode, IsNewest, given_by, node_at, edge_at}
 use Rattle.closure_model.specs.DerivationLaws.{TableTellsNodes}
 use Rattle.closure_model.specs.Keys.{Key, key_of, edge_of, all_points}
 use Rattle.closure_model.specs.Least.{weight_at, IsFirstLeast, HasNoWeight, first_least}
 use Rattle.closure_model.specs.ReferenceRow.{same_label, with_made, reference_row, IsBelow}
-use Rattle.closure_model.specs.ReferenceRound.{is_same_key, weight_for, node_for, rule_for, with_node, round_made, after_round}
+use Rattle.closure_model.specs.ReferenceRound.{is_same_key, weight_for, node_for, rule_for, with_one, round_made, after_round}
 use Rattle.closure_model.specs.Tables.{Graph, HasEdge, weight_of, lowered, IsGraph, IsFor}
 use Rattle.closure_model.specs.declared.derivation.Node.{Node}
 use Rattle.closure_model.specs.declared.derivation.NodeId.{NodeId}
@@ -161,31 +161,29 @@ pub rule_exists : (net : Plan) (table : Graph) (before : List Node) (support : S
 rule_exists net table before support one on old new grounded = rule_of net table before support.nodes on old support.table new one grounded.premise grounded.follows grounded.has
 
 -- ---- the nodes of a list of edges that fall
--- what supports the table after an edge came in
-pub with_one : List Node → Support → Made → Support
-with_one before support one = record { nodes = with_node before support.nodes one; table = lowered support.table one.edge }
+pub with_one_is : (net : Plan) (before : List Node) (support : Support) (one : Made) (has : HasRule net before support.nodes one) → with_one before support one ≡ with_node support (record { rule = has.rule; edge = one.edge })
+with_one_is net before support one has = ap (λ (o : Option Rule). option_map_or (λ rule. with_node support (record { rule = rule; edge = one.edge })) o support) has.is
 
-pub with_node_is : (net : Plan) (before now : List Node) (one : Made) (has : HasRule net before now one) → with_node before now one ≡ now ++ record { rule = has.rule; edge = one.edge } ∷ []
-with_node_is net before now one has = ap (λ (o : Option Rule). option_map_or (λ rule. now ++ record { rule = rule; edge = one.edge } ∷ []) o now) has.is
+-- what holds after some edges of a round have come in
+pub record StandsAfter (net : Plan) (before : List Node) (support : Support) (table : Graph) : Type 0 where
+  pub stands : StandsOn net support
+  pub on : GoesOn before support.nodes
+  pub table_is : support.table ≡ table
 
-pub one_stands : (net : Plan) (table : Graph) (before : List Node) (support : Support) (one : Made) → GoesOn before support.nodes → IsTableOf net before table → StandsOn net support → IsGrounded net table support.table one
-    → StandsOn net (with_one before support one) × GoesOn before (with_one before support one).nodes
-unfolding with_one
-one_stands net table before support one on old stands grounded =
-    let has = rule_exists net table before support one on old stands.table grounded in
-    let same = with_node_is net before support.nodes one has in (
-      subst (λ (nodes : List Node). StandsOn net (record { nodes = nodes; table = lowered support.table one.edge })) (sym same) (following_keeps_standing net support (record { rule = has.rule; edge = one.edge }) stands has.given),
-      subst (GoesOn before) (sym same) (goes_on_push before support.nodes (record { rule = has.rule; edge = one.edge }) on),
-    )
+pub one_stands : (net : Plan) (table : Graph) (before : List Node) (support : Support) (now : Graph) (one : Made) → IsTableOf net before table → StandsAfter net before support now → IsGrounded net table now one → StandsAfter net before (with_one before support one) (lowered now one.edge)
+one_stands net table before support now one old was grounded =
+    let here : IsGrounded net table support.table one = subst (λ (t : Graph). IsGrounded net table t one) (sym was.table_is) grounded in
+    let has = rule_exists net table before support one was.on old was.stands.table here in
+    let node : Node = record { rule = has.rule; edge = one.edge } in
+    subst (λ (s : Support). StandsAfter net before s (lowered now one.edge)) (sym (with_one_is net before support one has))
+    (record { stands = following_keeps_standing net support node was.stands has.given; on = goes_on_push before support.nodes node was.on; table_is = ap (λ (t : Graph). lowered t one.edge) was.table_is })
 
-pub all_stand : (net : Plan) (table : Graph) (before : List Node) (support : Support) (made : List Made) → GoesOn before support.nodes → IsTableOf net before table → StandsOn net support → AreGrounded net table support.table made
-    → StandsOn net (record { nodes = fold (with_node before) support.nodes made; table = with_made support.table made })
-unfolding with_one
-all_stand net table before support [] on old stands grounded = stands
-all_stand net table before support (one ∷ made) on old stands grounded =
-    let (first, below) = grounded_first net table support.table one made grounded in
-    let (then_stands, then_on) = one_stands net table before support one on old stands first in
-    all_stand net table before (with_one before support one) made then_on old then_stands (grounded_rest net table support.table one made grounded)
+pub all_stand : (net : Plan) (table : Graph) (before : List Node) (support : Support) (now : Graph) (made : List Made) → IsTableOf net before table → StandsAfter net before support now → AreGrounded net table now made
+    → StandsAfter net before (fold (with_one before) support made) (with_made now made)
+all_stand net table before support now [] old was grounded = was
+all_stand net table before support now (one ∷ made) old was grounded =
+    let (first, below) = grounded_first net table now one made grounded in
+    all_stand net table before (with_one before support one) (lowered now one.edge) made old (one_stands net table before support now one old was first) (grounded_rest net table now one made grounded)
 
 -- ---- the rows of a round, one after another
 -- a consequence ends where its premise does

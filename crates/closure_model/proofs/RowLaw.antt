@@ -51,7 +51,7 @@ not_later x (y ∷ ys) all zero key is at =
 not_later x (y ∷ ys) all (suc j) key is at = not_later x ys all.1 j key is at
 
 -- in a list of keys that rises a key stands at one place
-only_place : (keys : List Key) → Rises keys → (i j : ℕ) (key : Key) → slice_get keys i ≡ Some key → slice_get keys j ≡ Some key → i ≡ j
+pub only_place : (keys : List Key) → Rises keys → (i j : ℕ) (key : Key) → slice_get keys i ≡ Some key → slice_get keys j ≡ Some key → i ≡ j
 only_place [] rises i j key one two = absurd cc
 only_place (x ∷ xs) rises zero zero key one two = refl
 only_place (x ∷ xs) rises zero (suc j) key one two = absurd (not_later x xs rises.0 j key (same_Some x key one) two)

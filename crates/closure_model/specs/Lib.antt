@@ -2,13 +2,14 @@ pub mod Keys
 pub mod Tables
 pub mod TableLaws
 pub mod Codes
+pub mod Least
+pub mod ReferenceRow
+pub mod ReferenceRound
+pub mod ReferenceRounds
 pub mod Derivable
 pub mod Closure
 pub mod Derivations
 pub mod ClosureLaws
 pub mod DerivationLaws
-pub mod Least
-pub mod ReferenceRow
-pub mod ReferenceRound
 pub mod Orders
 pub mod OrderLaws

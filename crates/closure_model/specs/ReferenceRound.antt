@@ -1,15 +1,15 @@
 -- The reference round: the rows of all targets against one table, and what it adds to the list and the table that support them.
 -- Morris and Muscettola 2005, in this project's form; the order of making is this project's own choice.
-use Rattle.std.specs.Prelude.{◌==◌, ◌&&◌, ℕ, ℤ, Bool, List, [], ◌∷◌, ◌++◌, fold, Option, Some, None, if◌then◌else◌}
+use Rattle.std.specs.Prelude.{◌==◌, ◌&&◌, ℕ, ℤ, Bool, List, fold, Option, Some, None, if◌then◌else◌}
 use Rattle.std.specs.Option.{option_map, option_map_or, option_and_then}
 use Rattle.std.specs.List.{flat_map}
 use Rattle.net_model.specs.Network.{Plan}
 use Rattle.net_model.specs.declared.ids.PointId.{PointId}
 use Rattle.net_model.specs.declared.part.Edge.{Edge}
-use Rattle.closure_model.specs.Derivations.{Support}
+use Rattle.closure_model.specs.Derivations.{Support, with_node}
 use Rattle.closure_model.specs.Keys.{all_points}
 use Rattle.closure_model.specs.Least.{first_least}
-use Rattle.closure_model.specs.ReferenceRow.{reference_row, with_made, same_label}
+use Rattle.closure_model.specs.ReferenceRow.{reference_row, same_label}
 use Rattle.closure_model.specs.Tables.{Graph}
 use Rattle.closure_model.specs.declared.derivation.Node.{Node}
 use Rattle.closure_model.specs.declared.derivation.NodeId.{NodeId}
@@ -40,9 +40,10 @@ rule_for before now (Low link second) = option_map (by_rule.Low link) (node_for 
 rule_for before now (Cross link second) = option_map (by_rule.Cross link) (node_for now second)
 rule_for before now (Drop premise) = option_map by_rule.Drop (node_for now premise)
 
--- the list with a node for one more edge that fell
-abbrev pub with_node : (before now : List Node) → Made → List Node
-with_node before now made = option_map_or (λ rule. now ++ record { rule = rule; edge = made.edge } ∷ []) (rule_for before now made.why) now
+-- what supports the table when one more edge that fell has its node and has come into the table; the nodes before the round are
+-- those of a list
+abbrev pub with_one : (before : List Node) → Support → Made → Support
+with_one before support made = option_map_or (λ rule. with_node support (record { rule = rule; edge = made.edge })) (rule_for before support.nodes made.why) support
 
 -- the edges that fall in a round: all rows are against the same table; target by target in order, and in each row in the order of
 -- settling
@@ -51,7 +52,4 @@ round_made net table = flat_map (reference_row net table) (all_points table.shap
 
 -- the list and the table after a round: each key whose weight fell has a new node, and the table its new weight
 abbrev pub after_round : Plan → Support → Support
-after_round net support = record {
-    nodes = fold (with_node support.nodes) support.nodes (round_made net support.table);
-    table = with_made support.table (round_made net support.table);
-  }
+after_round net support = fold (with_one support.nodes) support (round_made net support.table)

@@ -2,7 +2,7 @@
 use Rattle.std.proofs.Common.{ap, ◌∙◌}
 use Rattle.std.specs.Option.{option_map}
 use Rattle.closure_model.specs.Least.{lesser}
-use Rattle.back_propagation.proofs.SlotSteps.{next_more, next_all}
+use Rattle.back_propagation.proofs.SlotSteps.{next_more, next_all, next_inside}
 use Rattle.back_propagation.proofs.slots.next_slot.Goals as goal
 
 pub loop-place-preserved : goal.loop-place-preserved
@@ -11,4 +11,6 @@ loop-place-preserved c =
     (c.lesser-next.ensures ∙ ap (lesser c.loop-place.next) (c.at_place.ensures ∙ ap (option_map (λ w. (c.loop-place.place, w))) c.open_weight.ensures))
 
 pub returns : goal.returns
-returns c = next_all c.args.slots.now c.loop-place.place c.loop-place.next c.loop-place-test.false c.loop-place.invariant
+returns c =
+    let next = next_all c.args.slots.now c.loop-place.place c.loop-place.next c.loop-place-test.false c.loop-place.invariant in
+    record { next = next; inside = next_inside c.args.slots.now c.loop-place.next next }

@@ -1,0 +1,311 @@
+-- What is offered to a row goes to one slot, and the slots keep their keys.
+use Rattle.std.proofs.Common.{◌≡◌, ◌≢◌, ℕ, zero, suc, ◌+◌, ◌*◌, ◌^◌, ◌<◌, ◌≤◌, ℤ, pos, ◌≤ℤ◌, ◌<ℤ◌, Bool, true, false, cond, List, [], ◌∷◌, ◌++◌, length, map, fold, get_or, Option, Some, None, IfSome, refl, ap, sym, subst, ◌∙◌, arith, ◌==◌}
+use Rattle.std.specs.Prelude.{slice_get, position, slice_set, unsigned_abs, filter, int_lt}
+use Rattle.std.specs.Option.{option_map, option_map_or}
+use Rattle.std.specs.List.{Contains, flat_map, filter_map, cons_option, range_with_len, enumerate_from}
+use Rattle.std.proofs.lemmas.Int.{ints}
+use Rattle.std.proofs.lemmas.Nat.{mul-add-lt, mul-le}
+use Rattle.std.proofs.lemmas.Option.{slice_get-map, same_Some, slice_get_within, get_or_from_slice_get}
+use Rattle.std.proofs.lemmas.List.Elements.{All-contains}
+use Rattle.std.proofs.lemmas.List.Quantifiers.{position-Some}
+use Rattle.std.proofs.lemmas.List.Concat.{flat_map-append}
+use Rattle.std.proofs.lemmas.List.Sums.{fold-append}
+use Rattle.std.proofs.lemmas.List.FromFn.{map-range_with_len_more}
+use Rattle.std.proofs.Math.ListN.{length-map}
+use Rattle.net_model.specs.Limits.{most_points, most_links, most_size, most_weight}
+use Rattle.net_model.specs.Network.{Plan, IsPlan, IsLink, IsPoint, activation, greatest}
+use Rattle.net_model.specs.Edges.{IsLinkOf}
+use Rattle.net_model.specs.Rules.{no_case, upper_case, lower_case, cross_case, removal}
+use Rattle.net_model.specs.declared.ids.LinkId.{LinkId}
+use Rattle.net_model.specs.declared.ids.PointId.{PointId}
+use Rattle.net_model.specs.declared.part.Edge.{Edge}
+use Rattle.net_model.specs.declared.part.Link.{Link}
+use Rattle.net_model.proofs.NetworkLemmas.{greatest-le}
+use Rattle.net_model.proofs.RuleLemmas.{no_case_gives, upper_case_gives, lower_case_gives, cross_case_gives, removal_gives}
+use Rattle.closure_model.specs.Keys.{Key, Shape, key_of, edge_of, ordinary_key, row_keys, labels_at, all_points, IsLabelAt}
+use Rattle.closure_model.specs.ReferenceRow.{given, is_slot_of, taken, offered, from_removal, over_link, from_link, from_first, ordinary_into, consequences, IsWithin}
+use Rattle.closure_model.specs.Tables.{Graph, HasEdge, weight_of}
+use Rattle.closure_model.specs.declared.rows.Made.{Made}
+use Rattle.closure_model.specs.declared.rows.Slot.{Slot}
+use Rattle.closure_model.specs.declared.rows.Why.{Why}
+use Rattle.closure_model.specs.declared.rows.Why.TheVariants.{No, Up, Low, Cross}
+use Rattle.closure_model.proofs.KeyLists.{row_keys_rise}
+use Rattle.closure_model.proofs.Nodes.{listed_at}
+use Rattle.closure_model.proofs.RowLaw.{only_place}
+use Rattle.closure_model.proofs.Slots.{some_of_map, slot_of_key, key_of_slot, offered_keys, key_in}
+use Rattle.closure_model.proofs.Weights.{not_below, lt_then}
+use Rattle.back_propagation.specs.Offering.{place_of, width_of, HasColumn, slot_key, IsSlotAt, after_point, IsRowAgainst, IsOfRow}
+use Rattle.back_propagation.proofs.RowPlaces.{row_at, at_column, column_inside}
+
+-- ---- one slot
+nothing_taken : (made : Made) (slots : List Slot) → ((other : ℕ) (one : Slot) → slice_get slots other ≡ Some one → is_slot_of made.edge one ≡ true → ⊥) → offered slots made ≡ slots
+nothing_taken made [] none = refl
+nothing_taken made (x ∷ xs) none = by (is_slot_of made.edge x) refl (nothing_taken made xs (λ other one here is. none (suc other) one here is))
+  where
+    by : (b : Bool) → is_slot_of made.edge x ≡ b → offered xs made ≡ xs → cond b (taken made x) x ∷ offered xs made ≡ x ∷ xs
+    by true is rest = absurd (none 0 x refl is)
+    by false is rest = ap (λ (list : List Slot). x ∷ list) rest
+
+offered_set : (made : Made) (slots : List Slot) (place : ℕ) (slot : Slot) → slice_get slots place ≡ Some slot → is_slot_of made.edge slot ≡ true
+    → ((other : ℕ) (one : Slot) → slice_get slots other ≡ Some one → is_slot_of made.edge one ≡ true → other ≡ place) → offered slots made ≡ slice_set slots place (taken made slot)
+offered_set made [] place slot here is only = absurd cc
+offered_set made (x ∷ xs) zero slot here is only =
+    let same : x ≡ slot = same_Some x slot here in
+    let head : is_slot_of made.edge x ≡ true = ap (is_slot_of made.edge) same ∙ is in
+    let rest : offered xs made ≡ xs = nothing_taken made xs (λ other one at one_is. (let place = only (suc other) one at one_is in absurd (omega arith))) in
+    ap (λ (b : Bool). cond b (taken made x) x ∷ offered xs made) head ∙ (ap (λ (list : List Slot). taken made x ∷ list) rest ∙ ap (λ (s : Slot). taken made s ∷ xs) same)
+offered_set made (x ∷ xs) (suc place) slot here is only =
+    by (is_slot_of made.edge x) refl (offered_set made xs place slot here is (λ other one at one_is. (let next = only (suc other) one at one_is in omega arith)))
+  where
+    by : (b : Bool) → is_slot_of made.edge x ≡ b → offered xs made ≡ slice_set xs place (taken made slot) → cond b (taken made x) x ∷ offered xs made ≡ x ∷ slice_set xs place (taken made slot)
+    by true head rest = let place = only 0 x refl head in absurd (omega arith)
+    by false head rest = ap (λ (list : List Slot). x ∷ list) rest
+
+pub offer_sets : (slots : List Slot) (place : ℕ) (made : Made) (d : Slot) → IsSlotAt slots place made.edge → slice_set slots place (taken made (get_or slots place d)) ≡ offered slots made
+offer_sets slots place made d at =
+    let same : get_or slots place d ≡ at.slot = get_or_from_slice_get slots place at.slot d at.here in
+    ap (λ (s : Slot). slice_set slots place (taken made s)) same ∙ sym (offered_set made slots place at.slot at.here at.of_key at.only)
+
+-- ---- rows against a table
+labels_few : (to : PointId) (n : ℕ) (begins : List PointId) → length (filter (λ (e : ℕ × PointId). e.1.0 == to.0) (enumerate_from n begins)) ≤ length begins
+labels_few to n [] = omega arith
+labels_few to n (p ∷ ps) = by (p.0 == to.0) (labels_few to (n + 1) ps)
+  where
+    by : (b : Bool) → length (filter (λ (e : ℕ × PointId). e.1.0 == to.0) (enumerate_from (n + 1) ps)) ≤ length ps
+        → length (cond b ((n, p) ∷ filter (λ (e : ℕ × PointId). e.1.0 == to.0) (enumerate_from (n + 1) ps)) (filter (λ (e : ℕ × PointId). e.1.0 == to.0) (enumerate_from (n + 1) ps))) ≤ suc (length ps)
+    by true rest = omega arith
+    by false rest = omega arith
+
+module _ (net : Plan) (table : Graph) (to : PointId) (slots : List Slot) (width : ℕ) (row : IsRowAgainst net table to slots width) where
+  pub width_few : width ≤ most_links + 1
+  width_few =
+      let few = labels_few to 0 table.shape.activations in
+      let same : length (labels_at table.shape to) ≡ length (filter (λ (e : ℕ × PointId). e.1.0 == to.0) (enumerate_from 0 table.shape.activations)) =
+      length-map {B = LinkId} (filter (λ (e : ℕ × PointId). e.1.0 == to.0) (enumerate_from 0 table.shape.activations)) (λ (e : ℕ × PointId). record { 0 = e.0 }) in
+      let wide = row.wide in
+      let links = row.sound.few_links in
+      omega (arith, few, same, wide, links)
+
+  pub place_fits : (from : PointId) (column : ℕ) → from.0 < table.shape.points → column < width → place_of width from column < 2 ^ 64
+  place_fits from column inside within =
+      let below : from.0 * width + column < width * table.shape.points = mul-add-lt from.0 width column table.shape.points inside within in
+      let most : width * table.shape.points ≤ (most_links + 1) * most_points = mul-le width table.shape.points (most_links + 1) most_points width_few row.sound.few_points in
+      omega (arith, below, most)
+
+  pub slot_at : (edge : Edge) (column : ℕ) → edge.to ≡ to → edge.from.0 < table.shape.points → HasColumn table.shape to edge.label column → IsSlotAt slots (place_of width edge.from column) edge
+  slot_at edge column ends inside has =
+      let place : ℕ = place_of width edge.from column in
+      let within : column < width_of table.shape to = column_inside table.shape to edge.label column has in
+      let there : slice_get (row_keys table.shape to) (edge.from.0 * width_of table.shape to + column) ≡ Some (record { to = to; from = edge.from; label = edge.label }) =
+      row_at table.shape to edge.from column inside within ∙ at_column table.shape to edge.from edge.label column has in
+      let key : record { to = to; from = edge.from; label = edge.label } ≡ key_of edge = λ i. record { to = sym ends i; from = edge.from; label = edge.label } in
+      let at : slice_get (row_keys table.shape to) (place_of width edge.from column) ≡ Some (key_of edge) = ap (λ (w : ℕ). slice_get (row_keys table.shape to) (edge.from.0 * w + column)) row.wide ∙ (there ∙ ap Some key) in
+      let (slot, here, of_key) = some_of_map (slot_key to) (slice_get slots (place_of width edge.from column)) (key_of edge)
+      (sym (slice_get-map (slot_key to) slots (place_of width edge.from column)) ∙ (ap (λ (ks : List Key). slice_get ks (place_of width edge.from column)) row.keys ∙ at)) in
+      record {
+        slot = slot;
+        here = here;
+        of_key = key_of_slot to edge slot of_key;
+        only = λ other one one_here one_is. only_place (row_keys table.shape to) (row_keys_rise table.shape to) other (place_of width edge.from column) (key_of edge)
+            (ap (λ (ks : List Key). slice_get ks other) (sym row.keys) ∙ (slice_get-map (slot_key to) slots other ∙ (ap (option_map (slot_key to)) one_here ∙ ap Some (slot_of_key to edge one ends one_is)))) at;
+      }
+
+offers_keys : (to : PointId) (slots : List Slot) (list : List Made) → map (slot_key to) (fold offered slots list) ≡ map (slot_key to) slots
+offers_keys to slots [] = refl
+offers_keys to slots (made ∷ list) = offers_keys to (offered slots made) list ∙ offered_keys to slots made
+
+pub row_kept : (net : Plan) (table : Graph) (to : PointId) (slots after : List Slot) (width : ℕ) (list : List Made) → after ≡ fold offered slots list → IsRowAgainst net table to slots width → IsRowAgainst net table to after width
+row_kept net table to slots after width list is row = record {
+  plan = row.plan;
+  fits = row.fits;
+  sound = row.sound;
+  within = row.within;
+  wide = row.wide;
+  keys = ap (map (slot_key to)) is ∙ (offers_keys to slots list ∙ row.keys);
+}
+
+-- ---- links
+-- the link that ends in a point is one of the network
+pub activation_known : (net : Plan) (point : PointId) (name : LinkId) → activation net point ≡ Some name → name.0 < length net.links
+activation_known net point name is = by (position (λ (l : Link). l.to.0 == point.0) net.links) refl is
+  where
+    by : (o : Option ℕ) → position (λ (l : Link). l.to.0 == point.0) net.links ≡ o → option_map (λ k. record { 0 = k }) o ≡ Some name → name.0 < length net.links
+    by None here found = absurd cc
+    by (Some k) here found =
+        let same : k ≡ name.0 = ap (λ (l : LinkId). l.0) (same_Some (record { 0 = k }) name found) in
+        let (inside, passes, before) = position-Some (λ (l : Link). l.to.0 == point.0) net.links k (record { from = point; low = pos 0; high = pos 0; to = point }) here in
+        omega arith
+
+-- ---- an edge of a row
+-- a weight from -M to M is one that a rule takes
+pub weight_small : (net : Plan) (weight : ℤ) → IsPlan net → IsWithin net weight → unsigned_abs weight ≤ most_weight
+weight_small net weight plan within = let small = greatest-le net plan in omega (arith, within, small)
+
+module _ (net : Plan) (table : Graph) (to : PointId) (slots : List Slot) (width : ℕ) (row : IsRowAgainst net table to slots width) (edge : Edge) (column : ℕ) (is : IsOfRow net table to edge column) where
+  points_are : table.shape.points ≡ length net.points
+  points_are = ap (λ (s : Shape). s.points) row.fits
+
+  pub from_inside : edge.from.0 < table.shape.points
+  from_inside = is.key.from_point
+
+  pub from_point : IsPoint net edge.from
+  from_point = subst (λ (n : ℕ). edge.from.0 < n) points_are is.key.from_point
+
+  pub column_within : column < width
+  column_within = let within = column_inside table.shape to edge.label column is.column in let wide = row.wide in omega arith
+
+  pub label_is_link : IfSome edge.label (λ name. name.0 < length net.links)
+  label_is_link = by edge.label is.key.labelled
+    where
+      by : (label : Option LinkId) → IsLabelAt table.shape edge.to label → IfSome label (λ name. name.0 < length net.links)
+      by None at = tt
+      by (Some name) at =
+          let inside = slice_get_within table.shape.activations name.0 edge.to at in
+          let same : length table.shape.activations ≡ length net.links = ap (λ (s : Shape). length s.activations) row.fits ∙ length-map net.links (λ (l : Link). l.from) in
+          omega arith
+
+  pub removal_slot : (o : Option Edge) → o ≡ removal net edge → IfSome o (IsSlotAt slots (place_of width edge.from 0))
+  removal_slot None gave = tt
+  removal_slot (Some other) gave =
+      let gives = removal_gives net edge other (sym gave) in
+      let from : other.from ≡ edge.from = ap (λ (e : Edge). e.from) (sym gives.is) in
+      let ends : other.to ≡ to = ap (λ (e : Edge). e.to) (sym gives.is) ∙ is.ends in
+      let label : other.label ≡ None = ap (λ (e : Edge). e.label) (sym gives.is) in
+      subst (λ (p : PointId). IsSlotAt slots (place_of width p 0) other) from
+      (slot_at net table to slots width row other 0 ends (subst (λ (p : PointId). p.0 < table.shape.points) (sym from) is.key.from_point) (subst (λ (l : Option LinkId). HasColumn table.shape to l 0) (sym label) refl))
+
+  pub link_from : (name : LinkId) (link : Link) → IsLinkOf net name link → link.from.0 < table.shape.points
+  link_from name link declared = subst (λ (n : ℕ). link.from.0 < n) (sym points_are) (All-contains (IsLink net) net.links link row.plan.links_sound (listed_at net.links name.0 link declared)).from_point
+
+  pub lower_slot : (name : LinkId) (link : Link) (o : Option Edge) → IsLinkOf net name link → o ≡ lower_case net name edge → IfSome o (IsSlotAt slots (place_of width link.from column))
+  lower_slot name link None declared gave = tt
+  lower_slot name link (Some other) declared gave =
+      let gives = lower_case_gives net name edge other (sym gave) in
+      let same : gives.link ≡ link = same_Some gives.link link (sym gives.declared ∙ declared) in
+      let from : other.from ≡ link.from = ap (λ (e : Edge). e.from) (sym gives.is) ∙ ap (λ (l : Link). l.from) same in
+      let ends : other.to ≡ to = ap (λ (e : Edge). e.to) (sym gives.is) ∙ is.ends in
+      let label : edge.label ≡ other.label = ap (λ (e : Edge). e.label) gives.is in
+      subst (λ (p : PointId). IsSlotAt slots (place_of width p column) other) from
+      (slot_at net table to slots width row other column ends (subst (λ (p : PointId). p.0 < table.shape.points) (sym from) (link_from name link declared)) (subst (λ (l : Option LinkId). HasColumn table.shape to l column) label is.column))
+
+  pub cross_slot : (name : LinkId) (link : Link) (o : Option Edge) → IsLinkOf net name link → o ≡ cross_case net name edge → IfSome o (IsSlotAt slots (place_of width link.from column))
+  cross_slot name link None declared gave = tt
+  cross_slot name link (Some other) declared gave =
+      let gives = cross_case_gives net name edge other (sym gave) in
+      let same : gives.link ≡ link = same_Some gives.link link (sym gives.declared ∙ declared) in
+      let from : other.from ≡ link.from = ap (λ (e : Edge). e.from) (sym gives.is) ∙ ap (λ (l : Link). l.from) same in
+      let ends : other.to ≡ to = ap (λ (e : Edge). e.to) (sym gives.is) ∙ is.ends in
+      let label : edge.label ≡ other.label = ap (λ (e : Edge). e.label) gives.is in
+      subst (λ (p : PointId). IsSlotAt slots (place_of width p column) other) from
+      (slot_at net table to slots width row other column ends (subst (λ (p : PointId). p.0 < table.shape.points) (sym from) (link_from name link declared)) (subst (λ (l : Option LinkId). HasColumn table.shape to l column) label is.column))
+
+  pub no_case_slot : (first : Edge) (o : Option Edge) → HasEdge table first → o ≡ no_case first edge → IfSome o (IsSlotAt slots (place_of width first.from column))
+  no_case_slot first None has gave = tt
+  no_case_slot first (Some other) has gave =
+      let gives = no_case_gives first edge other (sym gave) in
+      let from : other.from ≡ first.from = ap (λ (e : Edge). e.from) (sym gives.is) in
+      let ends : other.to ≡ to = ap (λ (e : Edge). e.to) (sym gives.is) ∙ is.ends in
+      let label : edge.label ≡ other.label = gives.second_ordinary ∙ ap (λ (e : Edge). e.label) gives.is in
+      subst (λ (p : PointId). IsSlotAt slots (place_of width p column) other) from
+      (slot_at net table to slots width row other column ends (subst (λ (p : PointId). p.0 < table.shape.points) (sym from) (row.sound.keys first has).from_point) (subst (λ (l : Option LinkId). HasColumn table.shape to l column) label is.column))
+
+  pub upper_case_slot : (first : Edge) (o : Option Edge) → HasEdge table first → o ≡ upper_case first edge → IfSome o (IsSlotAt slots (place_of width first.from column))
+  upper_case_slot first None has gave = tt
+  upper_case_slot first (Some other) has gave =
+      let gives = upper_case_gives first edge other (sym gave) in
+      let from : other.from ≡ first.from = ap (λ (e : Edge). e.from) (sym gives.is) in
+      let ends : other.to ≡ to = ap (λ (e : Edge). e.to) (sym gives.is) ∙ is.ends in
+      let label : edge.label ≡ other.label = ap (λ (e : Edge). e.label) gives.is in
+      subst (λ (p : PointId). IsSlotAt slots (place_of width p column) other) from
+      (slot_at net table to slots width row other column ends (subst (λ (p : PointId). p.0 < table.shape.points) (sym from) (row.sound.keys first has).from_point) (subst (λ (l : Option LinkId). HasColumn table.shape to l column) label is.column))
+
+-- ---- the lists of consequences
+-- two offers, one after the other
+pub two_given : (slots middle after : List Slot) (one two : Why) (first second : Option Edge) → middle ≡ fold offered slots (given one first) → after ≡ fold offered middle (given two second) → after ≡ fold offered slots (given one first ++ given two second)
+two_given slots middle after one two first second is_first is_second =
+    is_second ∙ (ap (λ (s : List Slot). fold offered s (given two second)) is_first ∙ sym (fold-append offered slots (given one first) (given two second)))
+
+pub after_points : (table : Graph) (edge : Edge) (points : List PointId) → flat_map (from_first edge) (filter_map (λ from. option_map (edge_of (ordinary_key from edge.from)) (weight_of table (ordinary_key from edge.from))) points) ≡ flat_map (after_point table edge) points
+after_points table edge [] = refl
+after_points table edge (from ∷ points) = by (weight_of table (ordinary_key from edge.from)) (after_points table edge points)
+  where
+    rest : List Edge
+    rest = filter_map (λ from. option_map (edge_of (ordinary_key from edge.from)) (weight_of table (ordinary_key from edge.from))) points
+
+    by : (o : Option ℤ) → flat_map (from_first edge) (filter_map (λ from. option_map (edge_of (ordinary_key from edge.from)) (weight_of table (ordinary_key from edge.from))) points) ≡ flat_map (after_point table edge) points
+        → flat_map (from_first edge) (cons_option (option_map (edge_of (ordinary_key from edge.from)) o) (filter_map (λ from. option_map (edge_of (ordinary_key from edge.from)) (weight_of table (ordinary_key from edge.from))) points))
+        ≡ option_map_or (λ weight. from_first edge (edge_of (ordinary_key from edge.from) weight)) o [] ++ flat_map (after_point table edge) points
+    by None same = same
+    by (Some weight) same = ap (λ (list : List Made). from_first edge (edge_of (ordinary_key from edge.from) weight) ++ list) same
+
+pub point_more : (table : Graph) (edge : Edge) (from : ℕ) (slots before after : List Slot)
+    → before ≡ fold offered slots (flat_map (after_point table edge) (map (λ k. record { 0 = k }) (range_with_len 0 from)))
+    → after ≡ fold offered before (after_point table edge (record { 0 = from }))
+    → after ≡ fold offered slots (flat_map (after_point table edge) (map (λ k. record { 0 = k }) (range_with_len 0 (from + 1))))
+point_more table edge from slots before after was is =
+    let points : List PointId = map (λ k. record { 0 = k }) (range_with_len 0 from) in
+    let one : PointId = record { 0 = from } in
+    let more : map (λ k. record { 0 = k }) (range_with_len 0 (from + 1)) ≡ points ++ one ∷ [] = map-range_with_len_more (λ (k : ℕ). record { 0 = k }) 0 from from (omega arith) in
+    let lists : flat_map (after_point table edge) (points ++ one ∷ []) ≡ flat_map (after_point table edge) points ++ after_point table edge one =
+    flat_map-append (after_point table edge) points (one ∷ []) ∙ ap (λ (list : List Made). flat_map (after_point table edge) points ++ list) (append_nil (after_point table edge one)) in
+    is ∙ (ap (λ (s : List Slot). fold offered s (after_point table edge one)) was
+    ∙ (sym (fold-append offered slots (flat_map (after_point table edge) points) (after_point table edge one))
+    ∙ ap (fold offered slots) (sym (ap (flat_map (after_point table edge)) more ∙ lists))))
+  where
+    append_nil : (list : List Made) → list ++ [] ≡ list
+    append_nil [] = refl
+    append_nil (x ∷ xs) = ap (λ (ys : List Made). x ∷ ys) (append_nil xs)
+
+pub points_all : (table : Graph) (edge : Edge) (slots after : List Slot) (from count : ℕ) → count ≤ from → from ≤ count → count ≡ table.shape.points
+    → after ≡ fold offered slots (flat_map (after_point table edge) (map (λ k. record { 0 = k }) (range_with_len 0 from)))
+    → after ≡ fold offered slots (flat_map (from_first edge) (ordinary_into table edge.from))
+points_all table edge slots after from count low high whole is =
+    let all : from ≡ table.shape.points = omega arith in
+    is ∙ (ap (λ (n : ℕ). fold offered slots (flat_map (after_point table edge) (map (λ k. record { 0 = k }) (range_with_len 0 n)))) all ∙ ap (fold offered slots) (sym (after_points table edge (all_points table.shape))))
+
+-- an edge of weight 0 or more goes on over no link and after no edge
+not_negative : (edge : Edge) → pos 0 ≤ℤ edge.weight → (w : ℤ) → w ≡ edge.weight → w <ℤ pos 0 → ⊥
+not_negative edge high w same low = grind (arith, ints)
+
+never_given : (why : Why) (o : Option Edge) → ((e : Edge) → o ≡ Some e → ⊥) → given why o ≡ []
+never_given why None none = refl
+never_given why (Some e) none = absurd (none e refl)
+
+from_first_none : (edge first : Edge) → pos 0 ≤ℤ edge.weight → from_first edge first ≡ []
+from_first_none edge first high =
+    let one : given (No first edge) (no_case first edge) ≡ [] = never_given (No first edge) (no_case first edge) (λ e is. not_negative edge high edge.weight refl (no_case_gives first edge e is).negative) in
+    let two : given (Up first edge) (upper_case first edge) ≡ [] = never_given (Up first edge) (upper_case first edge) (λ e is. not_negative edge high edge.weight refl (upper_case_gives first edge e is).negative) in
+    rw (one, two) refl
+
+firsts_none : (edge : Edge) → pos 0 ≤ℤ edge.weight → (firsts : List Edge) → flat_map (from_first edge) firsts ≡ []
+firsts_none edge high [] = refl
+firsts_none edge high (first ∷ firsts) = let one = from_first_none edge first high in let rest = firsts_none edge high firsts in rw (one, rest) refl
+
+from_link_none : (net : Plan) (edge : Edge) → pos 0 ≤ℤ edge.weight → from_link net edge ≡ []
+from_link_none net edge high = by (activation net edge.from)
+  where
+    by : (o : Option LinkId) → option_map_or (over_link net edge) o [] ≡ []
+    by None = refl
+    by (Some name) =
+        let one : given (Low name edge) (lower_case net name edge) ≡ [] = never_given (Low name edge) (lower_case net name edge) (λ e is. not_negative edge high edge.weight refl (lower_case_gives net name edge e is).negative) in
+        let two : given (Cross name edge) (cross_case net name edge) ≡ [] = never_given (Cross name edge) (cross_case net name edge) (λ e is. not_negative edge high edge.weight refl (cross_case_gives net name edge e is).negative) in
+        rw (one, two) refl
+
+pub consequences_of_heavy : (net : Plan) (table : Graph) (edge : Edge) (slots after : List Slot) → pos 0 ≤ℤ edge.weight → after ≡ fold offered slots (from_removal net edge) → after ≡ fold offered slots (consequences net table edge)
+consequences_of_heavy net table edge slots after high is =
+    let link = from_link_none net edge high in
+    let firsts = firsts_none edge high (ordinary_into table edge.from) in
+    let same : consequences net table edge ≡ from_removal net edge ++ [] = rw (link, firsts) refl in
+    is ∙ ap (fold offered slots) (sym (same ∙ append_nil (from_removal net edge)))
+  where
+    append_nil : (list : List Made) → list ++ [] ≡ list
+    append_nil [] = refl
+    append_nil (x ∷ xs) = ap (λ (ys : List Made). x ∷ ys) (append_nil xs)
+
+pub consequences_of_light : (net : Plan) (table : Graph) (edge : Edge) (slots one two after : List Slot) → one ≡ fold offered slots (from_removal net edge) → two ≡ fold offered one (from_link net edge)
+    → after ≡ fold offered two (flat_map (from_first edge) (ordinary_into table edge.from)) → after ≡ fold offered slots (consequences net table edge)
+consequences_of_light net table edge slots one two after is_one is_two is =
+    let firsts : List Made = flat_map (from_first edge) (ordinary_into table edge.from) in
+    is ∙ (ap (λ (s : List Slot). fold offered s (flat_map (from_first edge) (ordinary_into table edge.from))) (is_two ∙ ap (λ (s : List Slot). fold offered s (from_link net edge)) is_one)
+    ∙ (sym (fold-append offered (fold offered slots (from_removal net edge)) (from_link net edge) (flat_map (from_first edge) (ordinary_into table edge.from)))
+    ∙ sym (fold-append offered slots (from_removal net edge) (from_link net edge ++ flat_map (from_first edge) (ordinary_into table edge.from)))))

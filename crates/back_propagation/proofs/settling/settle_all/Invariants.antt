@@ -1,0 +1,9 @@
+use Rattle.closure_model.proofs.RowRun.{IsUnderWay}
+use Rattle.closure_model.proofs.RowSteps.{unsettled}
+use Rattle.back_propagation.proofs.settling.settle_all.Given as goal
+
+abbrev pub invariant-loop-next : goal.invariant-loop-next
+invariant-loop-next l = IsUnderWay l.net l.table l.target (record { slots = l.slots; made = l.made.items })
+
+abbrev pub decreases-loop-next : goal.decreases-loop-next
+decreases-loop-next l = unsettled l.slots

@@ -1,0 +1,193 @@
+ghost use Rattle.std.specs.Prelude.{◌≡◌, ◌+◌, ◌*◌, ◌<◌, ◌≤◌, ◌^◌, fold, length, true, pos, int_lt, IfSome, IfNone, slice_set, IsTrue, ◌<ℤ◌};
+ghost use Rattle.std.specs.List.{flat_map};
+ghost use Rattle.net_model.specs.Edges.{IsLinkOf};
+ghost use Rattle.net_model.specs.Rules.{is_negative};
+ghost use Rattle.closure_model.specs.ReferenceRow.{given, has_above, taken, offered, from_removal, from_link, from_first, ordinary_into, consequences};
+ghost use Rattle.closure_model.specs.Tables.{HasEdge};
+ghost use Rattle.back_propagation.specs.Offering.{place_of, IsSlotAt, IsRowAgainst, IsOfRow, after_point};
+
+use closure_model::rows::{Made, Slot, Why};
+use labelled_graph::Table;
+use net_model::{Edge, Link, LinkId, Network, PointId, Weight};
+use reduction_rules::{cross_case, lower_case, no_case, removal, upper_case};
+
+/// Where the slots of a row stand: `width` for each source, and that of the edge at hand in a column.
+#[derive(Clone, Copy)]
+pub(crate) struct Column {
+    pub(crate) width: usize,
+    pub(crate) column: usize,
+}
+
+/// Offers to a row what follows from an edge of it, in the order of the definition. An edge of weight 0 or more has no consequence
+/// but the removal of its label.
+pub(crate) fn offer_consequences(
+    slots: &mut [Slot],
+    table: &Table,
+    net: &Network,
+    edge: &Edge,
+    at: Column,
+)
+    requires row { IsRowAgainst net.now table.now edge.now.to slots.old at.width }
+    requires edge { IsOfRow net.now table.now edge.now.to edge.now at.column }
+    ensures { slots.new ≡ fold offered slots.old (consequences net.now table.now edge.now) }
+{
+    offer_removal(slots, table, net, edge, at);
+    if is_negative(edge) {
+        offer_over_link(slots, table, net, edge, at);
+        offer_after_firsts(slots, table, net, edge, at);
+    }
+}
+
+fn is_negative(edge: &Edge) -> bool
+    ensures { result ≡ is_negative edge.now }
+{
+    edge.weight < 0
+}
+
+/// Offers the edge without its label.
+fn offer_removal(slots: &mut [Slot], table: &Table, net: &Network, edge: &Edge, at: Column)
+    requires row { IsRowAgainst net.now table.now edge.now.to slots.old at.width }
+    requires edge { IsOfRow net.now table.now edge.now.to edge.now at.column }
+    ensures { slots.new ≡ fold offered slots.old (from_removal net.now edge.now) }
+{
+    let place = place_of(at.width, edge.from, 0);
+    offer_given(slots, place, Why::Drop(*edge), removal(net, edge));
+}
+
+/// Offers what follows over the link that ends where the edge begins, if one does.
+fn offer_over_link(slots: &mut [Slot], table: &Table, net: &Network, edge: &Edge, at: Column)
+    requires row { IsRowAgainst net.now table.now edge.now.to slots.old at.width }
+    requires edge { IsOfRow net.now table.now edge.now.to edge.now at.column }
+    ensures { slots.new ≡ fold offered slots.old (from_link net.now edge.now) }
+{
+    if let Some(link) = net.activation(edge.from) {
+        let place = place_of(at.width, link_of(net, link).from, at.column);
+        offer_given(
+            slots,
+            place,
+            Why::Low(link, *edge),
+            lower_case(net, link, edge),
+        );
+        offer_given(
+            slots,
+            place,
+            Why::Cross(link, *edge),
+            cross_case(net, link, edge),
+        );
+    }
+}
+
+/// Offers what follows with an ordinary edge of the table before the edge, for each that ends where it begins.
+fn offer_after_firsts(slots: &mut [Slot], table: &Table, net: &Network, edge: &Edge, at: Column)
+    requires row { IsRowAgainst net.now table.now edge.now.to slots.old at.width }
+    requires edge { IsOfRow net.now table.now edge.now.to edge.now at.column }
+    ensures { slots.new ≡ fold offered slots.old (flat_map (from_first edge.now) (ordinary_into table.now edge.now.from)) }
+{
+    for from in 0..net.points().len() as u32 {
+        offer_after_point(slots, table, net, edge, at, PointId(from));
+    }
+}
+
+/// Offers what follows with the ordinary edge of the table from a point before the edge, if the table has one.
+fn offer_after_point(
+    slots: &mut [Slot],
+    table: &Table,
+    net: &Network,
+    edge: &Edge,
+    at: Column,
+    from: PointId,
+)
+    requires row { IsRowAgainst net.now table.now edge.now.to slots.old at.width }
+    requires edge { IsOfRow net.now table.now edge.now.to edge.now at.column }
+    requires from { from.0 < length net.now.points }
+    ensures { slots.new ≡ fold offered slots.old (after_point table.now edge.now from) }
+{
+    if let Some(weight) = table.weight(from, edge.from) {
+        let first = Edge {
+            from,
+            to: edge.from,
+            label: None,
+            weight,
+        };
+        offer_after_first(slots, table, net, edge, at, &first);
+    }
+}
+
+fn offer_after_first(
+    slots: &mut [Slot],
+    table: &Table,
+    net: &Network,
+    edge: &Edge,
+    at: Column,
+    first: &Edge,
+)
+    requires row { IsRowAgainst net.now table.now edge.now.to slots.old at.width }
+    requires edge { IsOfRow net.now table.now edge.now.to edge.now at.column }
+    requires first { HasEdge table.now first.now }
+    ensures { slots.new ≡ fold offered slots.old (from_first edge.now first.now) }
+{
+    let place = place_of(at.width, first.from, at.column);
+    offer_given(slots, place, Why::No(*first, *edge), no_case(first, edge));
+    offer_given(
+        slots,
+        place,
+        Why::Up(*first, *edge),
+        upper_case(first, edge),
+    );
+}
+
+/// Offers what a rule gave, if it gave an edge.
+fn offer_given(slots: &mut [Slot], place: usize, why: Why, edge: Option<Edge>)
+    requires { IfSome edge (IsSlotAt slots.old place) }
+    ensures { slots.new ≡ fold offered slots.old (given why edge) }
+{
+    if let Some(edge) = edge {
+        offer(slots, place, &Made { edge, why });
+    }
+}
+
+/// Offers an edge to its slot, which takes it exactly where it has no weight or a greater one.
+fn offer(slots: &mut [Slot], place: usize, made: &Made)
+    requires { IsSlotAt slots.old place made.now.edge }
+    ensures { slots.new ≡ offered slots.old made.now }
+{
+    slots[place] = taken(&slots[place], made);
+}
+
+fn taken(slot: &Slot, made: &Made) -> Slot
+    ensures { result ≡ taken made.now slot.now }
+{
+    if has_above(slot, made.edge.weight) {
+        Slot {
+            weight: Some(made.edge.weight),
+            why: Some(made.why),
+            ..*slot
+        }
+    } else {
+        *slot
+    }
+}
+
+fn has_above(slot: &Slot, weight: Weight) -> bool
+    ensures { result ≡ has_above slot.now weight }
+{
+    match slot.weight {
+        Some(old) => weight < old,
+        None => true,
+    }
+}
+
+fn link_of(net: &Network, name: LinkId) -> Link
+    requires { name.0 < length net.now.links }
+    ensures { IsLinkOf net.now name result }
+{
+    net.links()[name.0 as usize]
+}
+
+/// The place of the slot of a source and a column, where there are so many slots for each source.
+fn place_of(width: usize, from: PointId, column: usize) -> usize
+    requires { place_of width from column < 2 ^ 64 }
+    ensures { result ≡ place_of width from column }
+{
+    from.0 as usize * width + column
+}
