@@ -4,13 +4,8 @@
 
 mod derivation;
 pub mod laws;
-<<<<<<< HEAD
 pub mod order_laws;
 pub mod rows;
-=======
-pub mod rows;
-pub mod order_laws;
->>>>>>> 2626659abe93656d724882e1ec583d000ad667ba
 pub mod table_laws;
 
 pub use derivation::{Item, Node, NodeId, Rule};
