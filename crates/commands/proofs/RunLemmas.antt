@@ -9,16 +9,16 @@ use Rattle.commands.specs.declared.machines.Onward.TheVariants.{Goes}
 
 module _ {C : Type 0} (machine : Machine C) where
   -- a line after which the run goes on has come whole, within its limits
-  pub record Comes_and_takes (here : Here C) (line : InputLine) (answer : List ℕ) (onward : Onward C) : Type 0 where
+  pub record ComesAndTakes (here : Here C) (line : InputLine) (answer : List ℕ) (onward : Onward C) : Type 0 where
     pub comes : coming_at machine here line ≡ Comes
     pub takes : machine.takes here.state (here.number + 1) line.text answer onward
 
-  comes_by : (how : Coming) (here : Here C) (line : InputLine) (answer : List ℕ) (state : C) → coming_at machine here line ≡ how → RepliesTo machine how here line.text answer (Goes state) → Comes_and_takes here line answer (Goes state)
+  comes_by : (how : Coming) (here : Here C) (line : InputLine) (answer : List ℕ) (state : C) → coming_at machine here line ≡ how → RepliesTo machine how here line.text answer (Goes state) → ComesAndTakes here line answer (Goes state)
   comes_by Comes here line answer state is replies = record { comes = is; takes = replies }
   comes_by TooLong here line answer state is replies = absurd (cc (replies.1))
   comes_by TooMuch here line answer state is replies = absurd (cc (replies.1))
 
-  pub goes_only_on_lines : (here : Here C) (line : InputLine) (rest : List InputLine) (answer : List ℕ) (state : C) → Replies machine here (line ∷ rest) answer (Goes state) → Comes_and_takes here line answer (Goes state)
+  pub goes_only_on_lines : (here : Here C) (line : InputLine) (rest : List InputLine) (answer : List ℕ) (state : C) → Replies machine here (line ∷ rest) answer (Goes state) → ComesAndTakes here line answer (Goes state)
   goes_only_on_lines here line rest answer state replies = comes_by (coming_at machine here line) here line answer state refl replies
 
   -- what a line that comes is answered by is a reply
