@@ -1,8 +1,5 @@
--- The line of a refusal is short.
-use Rattle.std.proofs.Common.{ℕ, ◌+◌, ◌≤◌, ◌<◌, ◌^◌, List, [], ◌∷◌, ◌++◌, length, length-append, refl, ap, arith, lit≤, rules}
-use Rattle.std.specs.Prelude.{codes}
-use Rattle.std.specs.List.{flat_map}
-use Rattle.texts.specs.Printing.{after_blank, printed_line}
+-- The words of a refusal are short.
+use Rattle.std.proofs.Common.{◌≤◌, length, lit≤}
 use Rattle.net_model.specs.Formats.{format_word}
 use Rattle.net_model.specs.Building.{word_of, which_word}
 use Rattle.net_model.specs.declared.format.FormatKind.{FormatKind}
@@ -51,12 +48,3 @@ word_short (Part number (part.BadInterval place)) = lit≤ tt
 word_short (Part number part.OutOfMemory) = lit≤ tt
 word_short (LineTooLong number) = lit≤ tt
 word_short (InputTooMuch number) = lit≤ tt
-
--- the length of a line of four words
-line_length : (a b c d : List ℕ) → length (printed_line (a ∷ b ∷ c ∷ d ∷ [])) ≤ length a + (length b + (length c + (length d + 4)))
-line_length a b c d =
-    let tail : List ℕ = 32 ∷ b ++ (32 ∷ c ++ (32 ∷ d ++ [])) in
-    grind (arith, length-append)
-
-pub line_short : (class number word : List ℕ) → length class ≤ 6 → length number ≤ 20 → length word ≤ 18 → length (printed_line (codes "error" ∷ class ∷ number ∷ word ∷ [])) ≤ 256
-line_short class number word a b c = let whole = line_length (codes "error") class number word in omega arith

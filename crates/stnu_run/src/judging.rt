@@ -50,9 +50,7 @@ fn put_judgement(
     ensures { OnOk result (answer.new.text ≡ answer.old.text ++ judgement_line judgement) }
 {
     let text = judgement.to_string(alloc)?;
-    answer.reserve(text.len() + 1)?;
-    answer.put_line(&[Word::Text(text.as_str())]);
-    Ok(())
+    answer.push_line(&[Word::Text(text.as_str())])
 }
 
 fn judgement_end(judgement: Judgement) -> End
