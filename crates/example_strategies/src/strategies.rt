@@ -130,12 +130,6 @@ fn check_plays(rt: &impl Abort, alloc: Global, net: &Network) -> Result<(), Allo
     Ok(())
 }
 
-#[test]
-fn strategies_play(rt: HostRuntime) -> Result<(), Fail> {
-    let net = together(rt.alloc())?;
-    Ok(check_plays(&rt, rt.alloc(), &net)?)
-}
-
 /// Moments of A, C and D, and whether they satisfy the network.
 const SCHEDULES: [([u64; 3], bool); 3] = [
     ([0, 2, 2], true),
@@ -152,8 +146,13 @@ fn check_schedules(rt: &impl Abort, alloc: Global, net: &Network) -> Result<(), 
     Ok(())
 }
 
+fn check(rt: &impl Abort, alloc: Global, net: &Network) -> Result<(), Fail> {
+    check_plays(rt, alloc, net)?;
+    Ok(check_schedules(rt, alloc, net)?)
+}
+
 #[test]
-fn schedules_satisfy(rt: HostRuntime) -> Result<(), Fail> {
+fn strategies_play_and_schedules_satisfy(rt: HostRuntime) -> Result<(), Fail> {
     let net = together(rt.alloc())?;
-    Ok(check_schedules(&rt, rt.alloc(), &net)?)
+    check(&rt, rt.alloc(), &net)
 }
