@@ -77,6 +77,35 @@ fn name(text: &str) -> Result<Name, NameFault> {
     Name::new(text.as_bytes())
 }
 
+fn bound(item: &str, from: &str, to: &str, most: Weight) -> Result<Part, NameFault> {
+    Ok(Part::Bound(name(item)?, name(from)?, name(to)?, most))
+}
+
+fn link(from: &str, low: Weight, high: Weight, to: &str) -> Result<Part, NameFault> {
+    Ok(Part::Link(name(from)?, low, high, name(to)?))
+}
+
+fn push_points(parts: &mut Vec<Part>, points: &[&str]) -> Result<(), Fail> {
+    for point in points {
+        parts.push(Part::Point(name(point)?))?;
+    }
+    Ok(())
+}
+
+fn push_bounds(parts: &mut Vec<Part>, bounds: &[(&str, &str, &str, Weight)]) -> Result<(), Fail> {
+    for (item, from, to, most) in bounds {
+        parts.push(bound(item, from, to, *most)?)?;
+    }
+    Ok(())
+}
+
+fn push_links(parts: &mut Vec<Part>, links: &[(&str, Weight, Weight, &str)]) -> Result<(), Fail> {
+    for (from, low, high, to) in links {
+        parts.push(link(from, *low, *high, to)?)?;
+    }
+    Ok(())
+}
+
 /// A network of these points, bounds `(name, from, to, most)` and links `(from, low, high, to)`.
 fn network(
     alloc: Global,
@@ -85,15 +114,9 @@ fn network(
     links: &[(&str, Weight, Weight, &str)],
 ) -> Result<Network, Fail> {
     let mut parts = Vec::new(alloc);
-    for point in points {
-        parts.push(Part::Point(name(point)?))?;
-    }
-    for (item, from, to, most) in bounds {
-        parts.push(Part::Bound(name(item)?, name(from)?, name(to)?, *most))?;
-    }
-    for (from, low, high, to) in links {
-        parts.push(Part::Link(name(from)?, *low, *high, name(to)?))?;
-    }
+    push_points(&mut parts, points)?;
+    push_bounds(&mut parts, bounds)?;
+    push_links(&mut parts, links)?;
     built(alloc, parts.as_slice())
 }
 
