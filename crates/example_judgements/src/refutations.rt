@@ -202,39 +202,73 @@ fn try_rows<R: Abort>(
     Ok(())
 }
 
+/// Tries rows over a network of these points, bounds and links.
+fn try_over<R: Abort>(
+    rt: &R,
+    alloc: Global,
+    points: &[&str],
+    bounds: &[(&str, &str, &str, Weight)],
+    links: &[(&str, Weight, Weight, &str)],
+    lines: &str,
+    rows: &str,
+) -> Result<(), Fail> {
+    let net = network(alloc, points, bounds, links)?;
+    try_rows(rt, alloc, &net, lines, rows)?;
+    Ok(())
+}
+
 #[test]
 fn over_two_bounds(rt: HostRuntime) -> Result<(), Fail> {
     let bounds = [("b1", "A", "B", 3), ("b2", "B", "A", -5)];
-    let net = network(rt.alloc(), &["A", "B"], &bounds, &[])?;
-    try_rows(&rt, rt.alloc(), &net, "", OVER_TWO_BOUNDS)?;
-    Ok(())
+    try_over(
+        &rt,
+        rt.alloc(),
+        &["A", "B"],
+        &bounds,
+        &[],
+        "",
+        OVER_TWO_BOUNDS,
+    )
 }
 
 #[test]
 fn over_a_ring(rt: HostRuntime) -> Result<(), Fail> {
     let links = [("A", 1, 2, "B"), ("B", 1, 2, "A")];
-    let net = network(rt.alloc(), &["A", "B"], &[], &links)?;
-    try_rows(&rt, rt.alloc(), &net, "", OVER_RING)?;
-    Ok(())
+    try_over(&rt, rt.alloc(), &["A", "B"], &[], &links, "", OVER_RING)
 }
 
 #[test]
 fn over_one_link(rt: HostRuntime) -> Result<(), Fail> {
+    let points = ["A", "C", "D"];
     let bounds = [("b1", "D", "C", 1), ("b2", "C", "D", -1)];
-    let net = network(rt.alloc(), &["A", "C", "D"], &bounds, &[("A", 3, 8, "C")])?;
-    try_rows(&rt, rt.alloc(), &net, ONE_LINK, OVER_ONE_LINK)?;
-    Ok(())
+    let links = [("A", 3, 8, "C")];
+    try_over(
+        &rt,
+        rt.alloc(),
+        &points,
+        &bounds,
+        &links,
+        ONE_LINK,
+        OVER_ONE_LINK,
+    )
 }
 
 #[test]
 fn over_two_links(rt: HostRuntime) -> Result<(), Fail> {
+    let points = ["A1", "C1", "A2", "C2"];
     let bounds = [
         ("p", "A1", "C2", 2),
         ("q", "A2", "C1", 2),
         ("r", "C1", "C2", 2),
     ];
     let links = [("A1", 1, 10, "C1"), ("A2", 1, 10, "C2")];
-    let net = network(rt.alloc(), &["A1", "C1", "A2", "C2"], &bounds, &links)?;
-    try_rows(&rt, rt.alloc(), &net, TWO_LINKS, OVER_TWO_LINKS)?;
-    Ok(())
+    try_over(
+        &rt,
+        rt.alloc(),
+        &points,
+        &bounds,
+        &links,
+        TWO_LINKS,
+        OVER_TWO_LINKS,
+    )
 }
