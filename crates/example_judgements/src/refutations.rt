@@ -77,6 +77,35 @@ fn name(text: &str) -> Result<Name, NameFault> {
     Name::new(text.as_bytes())
 }
 
+fn bound(item: &str, from: &str, to: &str, most: Weight) -> Result<Part, NameFault> {
+    Ok(Part::Bound(name(item)?, name(from)?, name(to)?, most))
+}
+
+fn link(from: &str, low: Weight, high: Weight, to: &str) -> Result<Part, NameFault> {
+    Ok(Part::Link(name(from)?, low, high, name(to)?))
+}
+
+fn push_points(parts: &mut Vec<Part>, points: &[&str]) -> Result<(), Fail> {
+    for point in points {
+        parts.push(Part::Point(name(point)?))?;
+    }
+    Ok(())
+}
+
+fn push_bounds(parts: &mut Vec<Part>, bounds: &[(&str, &str, &str, Weight)]) -> Result<(), Fail> {
+    for (item, from, to, most) in bounds {
+        parts.push(bound(item, from, to, *most)?)?;
+    }
+    Ok(())
+}
+
+fn push_links(parts: &mut Vec<Part>, links: &[(&str, Weight, Weight, &str)]) -> Result<(), Fail> {
+    for (from, low, high, to) in links {
+        parts.push(link(from, *low, *high, to)?)?;
+    }
+    Ok(())
+}
+
 /// A network of these points, bounds `(name, from, to, most)` and links `(from, low, high, to)`.
 fn network(
     alloc: Global,
@@ -85,15 +114,9 @@ fn network(
     links: &[(&str, Weight, Weight, &str)],
 ) -> Result<Network, Fail> {
     let mut parts = Vec::new(alloc);
-    for point in points {
-        parts.push(Part::Point(name(point)?))?;
-    }
-    for (item, from, to, most) in bounds {
-        parts.push(Part::Bound(name(item)?, name(from)?, name(to)?, *most))?;
-    }
-    for (from, low, high, to) in links {
-        parts.push(Part::Link(name(from)?, *low, *high, name(to)?))?;
-    }
+    push_points(&mut parts, points)?;
+    push_bounds(&mut parts, bounds)?;
+    push_links(&mut parts, links)?;
     built(alloc, parts.as_slice())
 }
 
@@ -179,39 +202,73 @@ fn try_rows<R: Abort>(
     Ok(())
 }
 
+/// Tries rows over a network of these points, bounds and links.
+fn try_over<R: Abort>(
+    rt: &R,
+    alloc: Global,
+    points: &[&str],
+    bounds: &[(&str, &str, &str, Weight)],
+    links: &[(&str, Weight, Weight, &str)],
+    lines: &str,
+    rows: &str,
+) -> Result<(), Fail> {
+    let net = network(alloc, points, bounds, links)?;
+    try_rows(rt, alloc, &net, lines, rows)?;
+    Ok(())
+}
+
 #[test]
 fn over_two_bounds(rt: HostRuntime) -> Result<(), Fail> {
     let bounds = [("b1", "A", "B", 3), ("b2", "B", "A", -5)];
-    let net = network(rt.alloc(), &["A", "B"], &bounds, &[])?;
-    try_rows(&rt, rt.alloc(), &net, "", OVER_TWO_BOUNDS)?;
-    Ok(())
+    try_over(
+        &rt,
+        rt.alloc(),
+        &["A", "B"],
+        &bounds,
+        &[],
+        "",
+        OVER_TWO_BOUNDS,
+    )
 }
 
 #[test]
 fn over_a_ring(rt: HostRuntime) -> Result<(), Fail> {
     let links = [("A", 1, 2, "B"), ("B", 1, 2, "A")];
-    let net = network(rt.alloc(), &["A", "B"], &[], &links)?;
-    try_rows(&rt, rt.alloc(), &net, "", OVER_RING)?;
-    Ok(())
+    try_over(&rt, rt.alloc(), &["A", "B"], &[], &links, "", OVER_RING)
 }
 
 #[test]
 fn over_one_link(rt: HostRuntime) -> Result<(), Fail> {
+    let points = ["A", "C", "D"];
     let bounds = [("b1", "D", "C", 1), ("b2", "C", "D", -1)];
-    let net = network(rt.alloc(), &["A", "C", "D"], &bounds, &[("A", 3, 8, "C")])?;
-    try_rows(&rt, rt.alloc(), &net, ONE_LINK, OVER_ONE_LINK)?;
-    Ok(())
+    let links = [("A", 3, 8, "C")];
+    try_over(
+        &rt,
+        rt.alloc(),
+        &points,
+        &bounds,
+        &links,
+        ONE_LINK,
+        OVER_ONE_LINK,
+    )
 }
 
 #[test]
 fn over_two_links(rt: HostRuntime) -> Result<(), Fail> {
+    let points = ["A1", "C1", "A2", "C2"];
     let bounds = [
         ("p", "A1", "C2", 2),
         ("q", "A2", "C1", 2),
         ("r", "C1", "C2", 2),
     ];
     let links = [("A1", 1, 10, "C1"), ("A2", 1, 10, "C2")];
-    let net = network(rt.alloc(), &["A1", "C1", "A2", "C2"], &bounds, &links)?;
-    try_rows(&rt, rt.alloc(), &net, TWO_LINKS, OVER_TWO_LINKS)?;
-    Ok(())
+    try_over(
+        &rt,
+        rt.alloc(),
+        &points,
+        &bounds,
+        &links,
+        TWO_LINKS,
+        OVER_TWO_LINKS,
+    )
 }
