@@ -5,9 +5,11 @@ mod certificate_text;
 mod dispatch;
 mod faults;
 mod judging;
+mod laws;
 mod plan_text;
 mod status;
 mod words;
 
 pub use dispatch::run;
+pub use laws::judge_keeps_its_promise;
 pub use status::Status;
