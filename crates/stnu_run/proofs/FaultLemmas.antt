@@ -1,13 +1,11 @@
 -- The line of a refusal is short.
-use Rattle.std.proofs.Common.{ℕ, ◌+◌, ◌≤◌, ◌<◌, ◌^◌, List, [], ◌∷◌, ◌++◌, length, length-append, refl, ap, arith, lit≤, rules}
+use Rattle.std.proofs.Common.{ℕ, ◌+◌, ◌≤◌, List, [], ◌∷◌, ◌++◌, length, length-append, arith, lit≤}
 use Rattle.std.specs.Prelude.{codes}
-use Rattle.std.specs.List.{flat_map}
-use Rattle.texts.specs.Printing.{after_blank, printed_line}
+use Rattle.texts.specs.Printing.{printed_line}
 use Rattle.net_model.specs.Formats.{format_word}
-use Rattle.net_model.specs.Building.{word_of, which_word}
+use Rattle.net_model.specs.Building.{which_word}
 use Rattle.net_model.specs.declared.format.FormatKind.{FormatKind}
 use Rattle.net_model.specs.declared.format.FormatKind.TheVariants as kind
-use Rattle.net_model.specs.declared.fault.BuildFault.{BuildFault}
 use Rattle.net_model.specs.declared.fault.BuildFault.TheVariants as part
 use Rattle.net_model.specs.declared.part.Which.{Which}
 use Rattle.net_model.specs.declared.part.Which.TheVariants as which

@@ -1,11 +1,11 @@
 -- `judge` keeps its promise.
-use Rattle.std.proofs.Common.{◌≡◌, ◌≢◌, ◌⊎◌, ℕ, ◌+◌, ◌-◌, List, [], ◌∷◌, ◌++◌, length, get_or, Result, Ok, refl, sym, ap, ◌∙◌, subst, arith, inl, inr, append_assoc, length-append, codes}
-use Rattle.std.proofs.lemmas.List.{append-nil, map-append, length-map, append_cancel_right}
+use Rattle.std.proofs.Common.{◌≡◌, ◌≢◌, ℕ, ◌+◌, ◌-◌, List, [], ◌∷◌, ◌++◌, length, get_or, refl, sym, ap, ◌∙◌, subst, arith, inl, inr, append_assoc, length-append, codes}
+use Rattle.std.proofs.lemmas.List.{append-nil, map-append, length-map}
 use Rattle.std.proofs.lemmas.List.Elements.{All-nil}
 use Rattle.texts.specs.Lines.{InputLine, input_lines, lines, line_size}
 use Rattle.texts.specs.Printing.{printed_line}
 use Rattle.texts.proofs.InputLemmas.{lines-texts}
-use Rattle.net_model.specs.Network.{Plan, IsPlan}
+use Rattle.net_model.specs.Network.{Plan}
 use Rattle.net_model.specs.declared.format.FormatKind.{FormatKind}
 use Rattle.strategy_model.specs.Control.{IsControllable}
 use Rattle.plan_port.specs.Limits.{most_line}
@@ -14,7 +14,6 @@ use Rattle.plan_format.specs.PlanGrammar.{IsLine}
 use Rattle.plan_format.specs.PlanNetwork.{DeclaresNetwork, RefusesPart}
 use Rattle.plan_format.specs.PlanReading as plan
 use Rattle.plan_format.specs.declared.plan_line.PlanLine.TheVariants as line
-use Rattle.cert_format.specs.CertificateGrammar as certificate
 use Rattle.cert_format.specs.declared.certificate.Certificate.{Certificate}
 use Rattle.cert_checker.specs.Judgement.{judgement_of}
 use Rattle.cert_checker.specs.Laws.{AcceptedExcludes}
@@ -31,16 +30,16 @@ use Rattle.commands.specs.declared.machines.Stop.TheVariants.{LineTooLong as Lon
 use Rattle.commands.specs.declared.pairs.Then.TheVariants.{First, Second}
 use Rattle.commands.specs.declared.reading.Step.TheVariants.{Goes, Gives, Refused}
 use Rattle.commands.proofs.AskedLemmas.{runs_are}
-use Rattle.stnu_run.specs.Faults.{fault_line, fault_class, refusing, stop_fault}
+use Rattle.stnu_run.specs.Faults.{fault_line, refusing, stop_fault}
 use Rattle.stnu_run.specs.Judging.{judge_answers, judge_machine, judge_start, judgement_line}
-use Rattle.stnu_run.specs.JudgePromise.{JudgePromise, JudgesOrRefuses, PutsJudgement, PutsRefusal}
-use Rattle.stnu_run.specs.ToJudge.{DeclareBoth, IsFormatFault, RefusesAtEnd, IsUnderway, IsFirstRefusal, Causes, IsThere, Meets, Come, texts, room_after}
+use Rattle.stnu_run.specs.JudgePromise.{JudgePromise, JudgesOrRefuses, PutsJudgement}
+use Rattle.stnu_run.specs.ToJudge.{DeclareBoth, IsFormatFault, RefusesAtEnd, IsUnderway, IsFirstRefusal, Causes, Come, texts, room_after}
 use Rattle.stnu_run.specs.declared.faults.Fault.{Fault}
 use Rattle.stnu_run.specs.declared.faults.Fault.TheVariants.{Format, Part, LineTooLong, InputTooMuch}
-use Rattle.stnu_run.proofs.PathLemmas.{Leads, Last, ended, too_long, too_much, refused, given, Path, path, path_reads}
+use Rattle.stnu_run.proofs.PathLemmas.{Leads, Last, ended, too_long, too_much, refused, given, path, path_reads}
 use Rattle.stnu_run.proofs.NetworkLemmas.{declared_sound}
 use Rattle.stnu_run.proofs.StandingLemmas.{Both, BothStep, both_reader, Stands, stands_step, stands_on, missing_of, ended_fault, RefusesThere, refused_fault, gives_both}
-use Rattle.stnu_run.proofs.ReachingLemmas.{at_plan, at_certificate, reach}
+use Rattle.stnu_run.proofs.ReachingLemmas.{at_plan, reach}
 use Rattle.stnu_run.proofs.OnceLemmas.{format_one, format_no_part, part_one, both_no_format, both_no_part, both_one, network_one, format_later, part_later}
 
 longest : (state : Both) → both_reader.longest state ≡ most_line
@@ -215,6 +214,9 @@ refusal_read input fault first =
     })
 
 -- ---- what is declared within the limits is judged
+past_more : (used before : List InputLine) (first next : InputLine) → next ≡ first → (more : List InputLine) × (before ≡ used ++ more) → (more : List InputLine) × (next ∷ before ≡ first ∷ used ++ more)
+past_more used before first next head (more, same) = (more, cc)
+
 -- lines that do not come stand after those that do
 past_used : (room : ℕ) (used rest before : List InputLine) (line : InputLine) (others : List InputLine) → Come room used → used ++ rest ≡ before ++ line ∷ others → coming most_line (room_after room before) line ≢ Comes → (more : List InputLine) × (before ≡ used ++ more)
 past_used room [] rest before line others come same not = (before, refl)
@@ -224,9 +226,7 @@ past_used room (first ∷ used) rest [] line others come same not =
 past_used room (first ∷ used) rest (next ∷ before) line others come same not =
     let head : next ≡ first = cc in
     let tail : used ++ rest ≡ before ++ line ∷ others = cc in
-    let moved = subst (λ (l : InputLine). coming most_line (room_after (room - line_size l) before) line ≢ Comes) head not in
-    let on = past_used (room - line_size first) used rest before line others come.1 tail moved in
-    (on.0, ap (λ (l : InputLine). l ∷ before) head ∙ ap (λ (ls : List InputLine). first ∷ ls) on.1)
+    past_more used before first next head (past_used (room - line_size first) used rest before line others come.1 tail (subst (λ (l : InputLine). coming most_line (room_after (room - line_size l) before) line ≢ Comes) head not))
 
 -- what stands before ends of one length is the same
 front_same : (a b c d : List (List ℕ)) → a ++ b ≡ c ++ d → length b ≡ length d → a ≡ c
@@ -252,7 +252,7 @@ declare_before used rest more net cert after size both =
     let declared = both.declared in
     let front : List (List ℕ) = declared.front ++ declared.last ∷ [] in
     let join : (ends : List (List ℕ)) → network.plan ++ (declared.front ++ declared.last ∷ ends) ≡ (network.plan ++ front) ++ ends = λ ends.
-        ap (λ (ls : List (List ℕ)). network.plan ++ ls) (sym (append_assoc declared.front (declared.last ∷ []) ends)) ∙ sym (append_assoc network.plan front ends) in
+    ap (λ (ls : List (List ℕ)). network.plan ++ ls) (sym (append_assoc declared.front (declared.last ∷ []) ends)) ∙ sym (append_assoc network.plan front ends) in
     let whole : used ++ rest ≡ (network.plan ++ front) ++ after = network.whole ∙ (ap (λ (ls : List (List ℕ)). network.plan ++ ls) declared.whole ∙ join after) in
     let same : used ≡ network.plan ++ front = front_same used rest (network.plan ++ front) after whole size in
     record {
@@ -305,7 +305,7 @@ none_refused input used rest net cert after before others (Part number why) divi
 
 -- ---- the promise
 abbrev Answered : Outcome (Plan × Certificate) Fault → List ℕ → End → Type 0
-Answered outcome put end = AnswersOutcome judge_answers both_reader refusing (record { }) outcome put end
+Answered outcome put end = AnswersOutcome judge_answers both_reader refusing (record {}) outcome put end
 
 answers_by : (input put : List ℕ) (end : End) (outcome : Outcome (Plan × Certificate) Fault) → OutcomeIs (input_lines input) outcome → Answered outcome put end → JudgesOrRefuses input put end
 answers_by input put end (Given value number room rest) is answered =
@@ -348,7 +348,7 @@ pub judge_keeps : AcceptedExcludes → (input put : List ℕ) (end : End) → Ru
 unfolding accepted
 judge_keeps law input put end runs =
     let outcome = reading both_reader (begins (at_plan plan.begun)) (input_lines input) in
-    let answered : Answered outcome put end = runs_are judge_answers both_reader refusing (record { }) (at_plan plan.begun) input put end runs in
+    let answered : Answered outcome put end = runs_are judge_answers both_reader refusing (record {}) (at_plan plan.begun) input put end runs in
     let is = outcome_is (input_lines input) in
     let answers = answers_by input put end outcome is answered in
     record {

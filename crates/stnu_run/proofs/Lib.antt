@@ -5,3 +5,5 @@ pub mod StandingLemmas
 pub mod ReachingLemmas
 pub mod OnceLemmas
 pub mod JudgeLemmas
+pub mod KeptLemmas
+pub mod SingleLemmas

@@ -1,5 +1,5 @@
 -- What a list of parts builds.
-use Rattle.std.proofs.Common.{◌≡◌, ◌≢◌, ◌++◌, ◌∷◌, [], ℕ, ℤ, ◌+◌, ◌<◌, ◌≤ℤ◌, Bool, true, false, List, Option, Some, None, Result, Ok, Err, IfOk, IsTrue, refl, sym, ap, ◌∙◌, subst, arith, rules, not, is_some, nat_le, int_lt, pos, ◌==◌, ◌||◌, length, position}
+use Rattle.std.proofs.Common.{◌≡◌, ◌≢◌, ◌∷◌, [], ℕ, ℤ, ◌+◌, ◌<◌, ◌≤ℤ◌, Bool, true, false, List, Option, Some, None, Result, Ok, Err, IfOk, IsTrue, refl, sym, ap, ◌∙◌, subst, arith, rules, not, is_some, nat_le, int_lt, pos, ◌==◌, ◌||◌, length, position}
 use Rattle.std.specs.Prelude.{unwrap_or}
 use Rattle.std.specs.List.{All}
 use Rattle.std.specs.Option.{option_map}

@@ -1,12 +1,12 @@
 -- The lines of an input to `judge` give one thing at most.
-use Rattle.std.proofs.Common.{◌≡◌, ℕ, ◌+◌, ◌≤◌, List, [], ◌∷◌, ◌++◌, length, Result, Ok, Err, refl, sym, ap, ◌∙◌, subst, arith, inl, inr, append_assoc}
+use Rattle.std.proofs.Common.{◌≡◌, ℕ, ◌+◌, ◌≤◌, List, [], ◌∷◌, ◌++◌, length, Result, Ok, Err, sym, ap, ◌∙◌, subst, arith, inl, inr, append_assoc}
 use Rattle.texts.specs.Words.{words}
 use Rattle.net_model.specs.Network.{Plan}
 use Rattle.net_model.specs.declared.fault.BuildFault.{BuildFault}
 use Rattle.net_model.specs.declared.format.FormatKind.{FormatKind}
 use Rattle.net_model.specs.declared.format.FormatFault.{FormatFault}
 use Rattle.plan_format.specs.PlanFaults as plan_fault
-use Rattle.plan_format.specs.PlanNetwork.{DeclaresNetwork, RefusesPart, Reading, network, faulty, refused}
+use Rattle.plan_format.specs.PlanNetwork.{DeclaresNetwork, RefusesPart, network, faulty, refused}
 use Rattle.plan_format.specs.PlanReading as plan
 use Rattle.plan_format.specs.declared.plan_line.PlanLine.{PlanLine}
 use Rattle.plan_format.specs.declared.plan_line.PlanLine.TheVariants as line
@@ -23,7 +23,7 @@ use Rattle.cert_format.proofs.FrontLemmas.{front_read}
 use Rattle.cert_format.proofs.OnceLemmas as certificate_once
 use Rattle.cert_format.proofs.ReadingLemmas.{ReadsSo, lines_read}
 use Rattle.commands.specs.declared.pairs.Then.TheVariants.{First, Second}
-use Rattle.stnu_run.specs.ToJudge.{DeclareBoth, IsFaultAfterPlan, IsFormatFault, RefusesAtEnd}
+use Rattle.stnu_run.specs.ToJudge.{DeclareBoth, IsFormatFault, RefusesAtEnd}
 use Rattle.stnu_run.proofs.StandingLemmas.{Both, Stands, declares_more, after_plan}
 
 -- ---- one plan

@@ -1,5 +1,5 @@
 -- The lines that lead the reading of a plan and of a certificate to a place, by the grammars.
-use Rattle.std.proofs.Common.{◌≡◌, ℕ, ◌+◌, List, [], ◌∷◌, ◌++◌, length, map, Result, Ok, Err, refl, sym, ap, ◌∙◌, subst, arith, inl, inr}
+use Rattle.std.proofs.Common.{◌≡◌, ℕ, ◌+◌, List, [], ◌∷◌, ◌++◌, length, Result, Ok, Err, refl, sym, ap, ◌∙◌, subst, arith, inl, inr}
 use Rattle.std.specs.List.{All}
 use Rattle.std.proofs.lemmas.List.{append-nil}
 use Rattle.std.proofs.lemmas.List.Elements.{All-head, All-tail}
@@ -11,7 +11,6 @@ use Rattle.net_model.specs.declared.format.FormatKind.{FormatKind}
 use Rattle.net_model.specs.declared.format.FormatFault.{FormatFault}
 use Rattle.net_model.specs.declared.part.Part.{Part}
 use Rattle.plan_format.specs.PlanGrammar.{IsLine, IsBegun, header, blank, declares, IsPlanText}
-use Rattle.plan_format.specs.PlanNetwork.{DeclaresNetwork}
 use Rattle.plan_format.specs.PlanReading as plan
 use Rattle.plan_format.specs.declared.plan_line.PlanLine.{PlanLine}
 use Rattle.plan_format.specs.declared.plan_line.PlanLine.TheVariants as line
@@ -30,7 +29,7 @@ use Rattle.stnu_run.specs.CertificateTexts.{certificate_begun, certificate_step}
 use Rattle.stnu_run.specs.PlanText.{built_step, plan_step}
 use Rattle.stnu_run.specs.ToJudge.{IsUnderway}
 use Rattle.stnu_run.proofs.PathLemmas.{Leads, leads_on}
-use Rattle.stnu_run.proofs.StandingLemmas.{Both, BothStep, both_reader, after_first, after_second}
+use Rattle.stnu_run.proofs.StandingLemmas.{Both, both_reader, after_first, after_second}
 
 -- a plan, or a certificate after a plan, of which this was read
 abbrev pub at_plan : plan.Progress → Both

@@ -1,5 +1,5 @@
 -- Where the reading of a plan and of a certificate stands after some lines, by the grammars, and what one line more brings.
-use Rattle.std.proofs.Common.{◌≡◌, ℕ, ◌+◌, ◌-◌, ◌<◌, ◌≤◌, List, [], ◌∷◌, ◌++◌, length, map, get_or, Option, Some, None, Result, Ok, Err, refl, sym, ap, ◌∙◌, subst, arith, inl, inr, append_assoc, length-append}
+use Rattle.std.proofs.Common.{◌≡◌, ℕ, ◌+◌, ◌-◌, List, [], ◌∷◌, ◌++◌, length, map, get_or, Option, Some, None, Result, Ok, Err, refl, sym, ap, ◌∙◌, subst, arith, inl, inr, append_assoc, length-append}
 use Rattle.std.specs.Prelude.{unwrap_or, slice_get}
 use Rattle.std.specs.Option.{option_and_then}
 use Rattle.std.proofs.lemmas.List.{append-nil, length-map}
@@ -230,14 +230,17 @@ second_refused lines net rest next others read (Ok text.End) number fault at is 
 second_refused lines net rest next others read (Err kind) number fault at is network front refused =
     let same : Format number kind ≡ fault = cc in
     let all = after_plan lines net rest network in
-    subst (RefusesThere (lines ++ next ∷ others) (length lines + 1)) same (at, inr (record {
-      net = net;
-      rest = rest ++ next ∷ others;
-      place = length rest + 1;
-      network = declares_more lines net rest (next ∷ others) network;
-      fault = front_refused rest next read kind others front is;
-      at_line = omega (arith, all);
-    }))
+    subst (RefusesThere (lines ++ next ∷ others) (length lines + 1)) same (
+      at,
+      inr (record {
+        net = net;
+        rest = rest ++ next ∷ others;
+        place = length rest + 1;
+        network = declares_more lines net rest (next ∷ others) network;
+        fault = front_refused rest next read kind others front is;
+        at_line = omega (arith, all);
+      }),
+    )
 
 pub refused_fault : (lines : List (List ℕ)) (state : Both) (number : ℕ) (next : List ℕ) (others : List (List ℕ)) (fault : Fault) → number ≡ length lines + 1 → Stands lines state → both_reader.reads state number next ≡ Refused fault → RefusesThere (lines ++ next ∷ others) (length lines + 1) fault
 refused_fault lines (First text other) number next others fault at stands refused =

@@ -11,5 +11,5 @@ mod status;
 mod words;
 
 pub use dispatch::run;
-pub use laws::judge_keeps_its_promise;
+pub use laws::{defined_run_is_one, judge_keeps_its_promise, promises_hold};
 pub use status::Status;

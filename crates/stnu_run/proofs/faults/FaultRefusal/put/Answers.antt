@@ -1,7 +1,6 @@
-use Rattle.std.proofs.Common.{◌≡◌, ◌<◌, ◌≤◌, ◌^◌, ℕ, length, List, subst, sym, arith, lit<}
+use Rattle.std.proofs.Common.{◌<◌, ◌≤◌, ◌^◌, ℕ, length, List, subst, sym, arith}
 use Rattle.std.specs.Fmt.{decimal}
 use Rattle.std.proofs.lemmas.Fmt.{length-decimal-le}
-use Rattle.stnu_run.specs.Faults.{fault_class, fault_word}
 use Rattle.stnu_run.proofs.FaultLemmas.{class_short, word_short, line_short}
 use Rattle.stnu_run.proofs.faults.FaultRefusal.put.Goals as goal
 
