@@ -145,7 +145,8 @@ LastAt before state rest fault = Last both_reader state (0 + length before) (roo
 one_on : (before : List InputLine) (line : InputLine) (state to : Both) → Stands (texts before) state → both_reader.reads state (0 + length before + 1) line.text ≡ Goes to → Stands (texts before ++ line.text ∷ []) to
 one_on before line state to stands reads = stands_step (texts before) state to (0 + length before + 1) line.text stands reads
 
-format_last : (before : List InputLine) (line : InputLine) (others : List InputLine) (state : Both) (kind : FormatKind) (step : BothStep) → both_reader.reads state (0 + length before + 1) line.text ≡ step → coming most_line (room_after most_input before) line ≡ Comes → Stands (texts before) state → IsFormatFault (texts (before ++ line ∷ others)) (length before + 1) kind → LastAt before state (line ∷ others) (Format (length before + 1) kind)
+format_last : (before : List InputLine) (line : InputLine) (others : List InputLine) (state : Both) (kind : FormatKind) (step : BothStep) → both_reader.reads state (0 + length before + 1) line.text ≡ step
+    → coming most_line (room_after most_input before) line ≡ Comes → Stands (texts before) state → IsFormatFault (texts (before ++ line ∷ others)) (length before + 1) kind → LastAt before state (line ∷ others) (Format (length before + 1) kind)
 format_last before line others state kind (Refused fault) reads comes stands is =
     let told = format_told (texts (before ++ line ∷ others)) (length before + 1) kind fault is (refused_here before line others state fault stands reads) in
     subst (LastAt before state (line ∷ others)) told (refused line others fault comes reads)
@@ -164,7 +165,8 @@ part_told lines number told (Part other also) why is there =
 part_told lines number told (LineTooLong other) why is there = absurd there
 part_told lines number told (InputTooMuch other) why is there = absurd there
 
-part_last : (before : List InputLine) (line : InputLine) (others : List InputLine) (state : Both) (told : ℕ) (why : _) (step : BothStep) → both_reader.reads state (0 + length before + 1) line.text ≡ step → coming most_line (room_after most_input before) line ≡ Comes → Stands (texts before) state → RefusesAtEnd (texts (before ++ line ∷ others)) (length before + 1) told why → LastAt before state (line ∷ others) (Part told why)
+part_last : (before : List InputLine) (line : InputLine) (others : List InputLine) (state : Both) (told : ℕ) (why : _) (step : BothStep) → both_reader.reads state (0 + length before + 1) line.text ≡ step
+    → coming most_line (room_after most_input before) line ≡ Comes → Stands (texts before) state → RefusesAtEnd (texts (before ++ line ∷ others)) (length before + 1) told why → LastAt before state (line ∷ others) (Part told why)
 part_last before line others state told why (Refused fault) reads comes stands is =
     let same = part_told (texts (before ++ line ∷ others)) (length before + 1) told fault why is (refused_here before line others state fault stands reads) in
     subst (LastAt before state (line ∷ others)) same (refused line others fault comes reads)
@@ -276,7 +278,8 @@ declare_before used rest more net cert after size both =
     }
 
 -- no line of lines that come and declare both is too long, or too much
-none_stops : (input used rest : List InputLine) (net : Plan) (cert : Certificate) (after : List (List ℕ)) (before : List InputLine) (line : InputLine) (others : List InputLine) → input ≡ used ++ rest → Come most_input used → length rest ≡ length after → DeclareBoth (texts input) net cert after → input ≡ before ++ line ∷ others → IsUnderway (texts before) → coming most_line (room_after most_input before) line ≢ Comes → ⊥
+none_stops : (input used rest : List InputLine) (net : Plan) (cert : Certificate) (after : List (List ℕ)) (before : List InputLine) (line : InputLine) (others : List InputLine) → input ≡ used ++ rest
+    → Come most_input used → length rest ≡ length after → DeclareBoth (texts input) net cert after → input ≡ before ++ line ∷ others → IsUnderway (texts before) → coming most_line (room_after most_input before) line ≢ Comes → ⊥
 none_stops input used rest net cert after before line others divided come size both other on not =
     let past = past_used most_input used rest before line others come (sym divided ∙ other) not in
     let many : length (texts rest) ≡ length after = texts_many rest ∙ size in
@@ -312,7 +315,8 @@ answers_by input put end (Given value number room rest) is answered =
     inl (value.0, value.1, texts rest, subst (λ (ls : List (List ℕ)). DeclareBoth ls value.0 value.1 (texts rest)) (sym (lines-texts input)) is, answered)
 answers_by input put end (Faulty fault) is answered = inr (fault, is, answered)
 
-judges_by : (input put : List ℕ) (end : End) (outcome : Outcome (Plan × Certificate) Fault) (used rest : List InputLine) (net : Plan) (cert : Certificate) (after : List (List ℕ)) → OutcomeIs (input_lines input) outcome → Answered outcome put end → input_lines input ≡ used ++ rest → Come most_input used → length rest ≡ length after → DeclareBoth (texts (input_lines input)) net cert after → PutsJudgement net cert put end
+judges_by : (input put : List ℕ) (end : End) (outcome : Outcome (Plan × Certificate) Fault) (used rest : List InputLine) (net : Plan) (cert : Certificate) (after : List (List ℕ)) → OutcomeIs (input_lines input) outcome
+    → Answered outcome put end → input_lines input ≡ used ++ rest → Come most_input used → length rest ≡ length after → DeclareBoth (texts (input_lines input)) net cert after → PutsJudgement net cert put end
 judges_by input put end (Given value number room left) used rest net cert after is answered divided come size both =
     let same = both_one (texts (input_lines input)) value.0 net value.1 cert (texts left) after is both in
     subst (λ (n : Plan). PutsJudgement n cert put end) same.0 (subst (λ (c : Certificate). PutsJudgement value.0 c put end) same.1 answered)
@@ -353,8 +357,7 @@ judge_keeps law input put end runs =
     let answers = answers_by input put end outcome is answered in
     record {
       answers = answers;
-      judges = λ used rest net cert after divided come size both.
-          judges_by input put end outcome used rest net cert after is answered divided come size (subst (λ (ls : List (List ℕ)). DeclareBoth ls net cert after) (lines-texts input) both);
+      judges = λ net cert within. judges_by input put end outcome within.used within.rest net cert (texts within.rest) is answered within.divided within.come (sym (texts_many within.rest)) within.both;
       refuses = λ fault first. subst (λ (o : Outcome (Plan × Certificate) Fault). Answered o put end) (refusal_read (input_lines input) fault first) answered;
       excludes = λ same net rest network controllable. excludes_by law input put end answers same net rest network controllable;
     }

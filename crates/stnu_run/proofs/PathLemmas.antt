@@ -53,7 +53,8 @@ module _ {S V F : Type 0} (reader : Reader S V F) where
     last = let none : here.number ≡ here.number + 0 = omega arith in subst (λ (n : ℕ). Last here.state n here.room rest outcome) none last;
   }
 
-  path_by : (how : Coming) (step : Step S V F) (here : Here S) (line : InputLine) (lines : List InputLine) → coming most_line here.room line ≡ how → reader.reads here.state (here.number + 1) line.text ≡ step → ((state : S) → Path (after_line here line state) lines (reading reader (after_line here line state) lines)) → Path here (line ∷ lines) (outcome_by reader how step here line lines (λ state. reading reader (after_line here line state) lines))
+  path_by : (how : Coming) (step : Step S V F) (here : Here S) (line : InputLine) (lines : List InputLine) → coming most_line here.room line ≡ how → reader.reads here.state (here.number + 1) line.text ≡ step
+      → ((state : S) → Path (after_line here line state) lines (reading reader (after_line here line state) lines)) → Path here (line ∷ lines) (outcome_by reader how step here line lines (λ state. reading reader (after_line here line state) lines))
   path_by Comes (Goes next) here line lines comes reads later =
       let on = later next in
       let count : here.number + 1 + length on.before ≡ here.number + length (line ∷ on.before) = omega arith in

@@ -108,7 +108,8 @@ certificate_brings net read number next said is = ap (λ (r : Result CertText Fo
 leads_said : (net : Plan) (read more : certificate.Progress) (number : ℕ) (next : List ℕ) (lines : List (List ℕ)) → both_reader.reads (at_certificate net read) (number + 1) next ≡ Goes (at_certificate net more) → LeadsOn net more (number + 1) lines → LeadsOn net read number (next ∷ lines)
 leads_said net read more number next lines reads later = (later.0, (at_certificate net more, reads, later.1))
 
-leads_by : (net : Plan) (read : certificate.Progress) (number at : ℕ) (next : List ℕ) (lines : List (List ℕ)) (said : Result CertText FormatKind) (kind : FormatKind) → line_in read.section (words next) ≡ said → said_from read at said lines (λ more. read_from more (at + 1) lines) ≡ Err (record { line = at + length (next ∷ lines); kind = kind }) → ((more : certificate.Progress) → read_from more (at + 1) lines ≡ Err (record { line = at + length (next ∷ lines); kind = kind }) → LeadsOn net more (number + 1) lines) → LeadsOn net read number (next ∷ lines)
+leads_by : (net : Plan) (read : certificate.Progress) (number at : ℕ) (next : List ℕ) (lines : List (List ℕ)) (said : Result CertText FormatKind) (kind : FormatKind) → line_in read.section (words next) ≡ said → said_from read at said lines (λ more. read_from more (at + 1) lines) ≡ Err (record { line = at + length (next ∷ lines); kind = kind })
+    → ((more : certificate.Progress) → read_from more (at + 1) lines ≡ Err (record { line = at + length (next ∷ lines); kind = kind }) → LeadsOn net more (number + 1) lines) → LeadsOn net read number (next ∷ lines)
 leads_by net read number at next lines (Ok text.End) kind is fails later = absurd (cc)
 leads_by net read number at next lines (Err other) kind is fails later = let line : at ≡ at + length (next ∷ lines) = ap line_told fails in absurd (omega arith)
 leads_by net read number at next lines (Ok text.Blank) kind is fails later =

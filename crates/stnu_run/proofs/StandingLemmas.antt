@@ -118,7 +118,8 @@ on_by lines net rest next more to network front goes =
     let same : Second net (record { reader = more }) ≡ to = cc in
     subst (Stands (lines ++ next ∷ [])) same (rest ++ next ∷ [], declares_more lines net rest (next ∷ []) network, front)
 
-second_stands : (lines : List (List ℕ)) (net : Plan) (rest : List (List ℕ)) (next : List ℕ) (read : certificate.Progress) (said : Result CertText FormatKind) (number : ℕ) (to : Both) → certificate_text.line_in read.section (words next) ≡ said → DeclaresNetwork lines net rest → certificate.IsFront rest read → GoesTo (after_second net (certificate_step (record { reader = read }) number said)) to → Stands (lines ++ next ∷ []) to
+second_stands : (lines : List (List ℕ)) (net : Plan) (rest : List (List ℕ)) (next : List ℕ) (read : certificate.Progress) (said : Result CertText FormatKind) (number : ℕ) (to : Both) → certificate_text.line_in read.section (words next) ≡ said
+    → DeclaresNetwork lines net rest → certificate.IsFront rest read → GoesTo (after_second net (certificate_step (record { reader = read }) number said)) to → Stands (lines ++ next ∷ []) to
 second_stands lines net rest next read (Ok text.Blank) number to is network front goes =
     on_by lines net rest next read to network (said_brings rest next read text.Blank front is).1 goes
 second_stands lines net rest next read (Ok text.Header) number to is network front goes =
@@ -195,7 +196,8 @@ RefusesThere lines number (PartFault told why) = RefusesAtEnd lines number told 
 RefusesThere lines number (LineTooLong told) = ⊥
 RefusesThere lines number (InputTooMuch told) = ⊥
 
-refused_end : (lines : List (List ℕ)) (next : List ℕ) (others : List (List ℕ)) (read : plan.Progress) (answer : Result Plan BuildFault) (fault : Fault) → plan.line_in read.section (words next) ≡ Ok line.End → plan.IsFront lines read → built read.parts ≡ answer → RefusesBy (after_first certificate_begun (built_step read.lines answer)) fault → RefusesThere (lines ++ next ∷ others) (length lines + 1) fault
+refused_end : (lines : List (List ℕ)) (next : List ℕ) (others : List (List ℕ)) (read : plan.Progress) (answer : Result Plan BuildFault) (fault : Fault) → plan.line_in read.section (words next) ≡ Ok line.End
+    → plan.IsFront lines read → built read.parts ≡ answer → RefusesBy (after_first certificate_begun (built_step read.lines answer)) fault → RefusesThere (lines ++ next ∷ others) (length lines + 1) fault
 refused_end lines next others read (Ok net) fault is front builds refused = absurd (cc)
 refused_end lines next others read (Err why) fault is front builds refused =
     let same : PartFault (line_of_part read.lines why) why ≡ fault = cc in
@@ -211,7 +213,8 @@ refused_end lines next others read (Err why) fault is front builds refused =
     } in
     subst (RefusesThere (lines ++ next ∷ others) (length lines + 1)) same (refuses, sym (one_more lines next))
 
-first_refused : (lines : List (List ℕ)) (next : List ℕ) (others : List (List ℕ)) (read : plan.Progress) (said : Result PlanLine FormatKind) (number : ℕ) (fault : Fault) → number ≡ length lines + 1 → plan.line_in read.section (words next) ≡ said → plan.IsFront lines read → RefusesBy (after_first certificate_begun (plan_step (record { reader = read }) number said)) fault → RefusesThere (lines ++ next ∷ others) (length lines + 1) fault
+first_refused : (lines : List (List ℕ)) (next : List ℕ) (others : List (List ℕ)) (read : plan.Progress) (said : Result PlanLine FormatKind) (number : ℕ) (fault : Fault) → number ≡ length lines + 1
+    → plan.line_in read.section (words next) ≡ said → plan.IsFront lines read → RefusesBy (after_first certificate_begun (plan_step (record { reader = read }) number said)) fault → RefusesThere (lines ++ next ∷ others) (length lines + 1) fault
 first_refused lines next others read (Ok line.Blank) number fault at is front refused = absurd (cc)
 first_refused lines next others read (Ok line.Header) number fault at is front refused = absurd (cc)
 first_refused lines next others read (Ok (line.Part part)) number fault at is front refused = absurd (cc)
@@ -220,7 +223,8 @@ first_refused lines next others read (Err kind) number fault at is front refused
     let same : Format number kind ≡ fault = cc in
     subst (RefusesThere (lines ++ next ∷ others) (length lines + 1)) same (at, inl (fault_in_line lines read next kind front is others))
 
-second_refused : (lines : List (List ℕ)) (net : Plan) (rest : List (List ℕ)) (next : List ℕ) (others : List (List ℕ)) (read : certificate.Progress) (said : Result CertText FormatKind) (number : ℕ) (fault : Fault) → number ≡ length lines + 1 → certificate_text.line_in read.section (words next) ≡ said → DeclaresNetwork lines net rest → certificate.IsFront rest read → RefusesBy (after_second net (certificate_step (record { reader = read }) number said)) fault → RefusesThere (lines ++ next ∷ others) (length lines + 1) fault
+second_refused : (lines : List (List ℕ)) (net : Plan) (rest : List (List ℕ)) (next : List ℕ) (others : List (List ℕ)) (read : certificate.Progress) (said : Result CertText FormatKind) (number : ℕ) (fault : Fault) → number ≡ length lines + 1
+    → certificate_text.line_in read.section (words next) ≡ said → DeclaresNetwork lines net rest → certificate.IsFront rest read → RefusesBy (after_second net (certificate_step (record { reader = read }) number said)) fault → RefusesThere (lines ++ next ∷ others) (length lines + 1) fault
 second_refused lines net rest next others read (Ok text.Blank) number fault at is network front refused = absurd (cc)
 second_refused lines net rest next others read (Ok text.Header) number fault at is network front refused = absurd (cc)
 second_refused lines net rest next others read (Ok text.Refutation) number fault at is network front refused = absurd (cc)
@@ -255,7 +259,8 @@ first_gives other (Goes text) value gives = absurd (cc)
 first_gives other (Gives net) value gives = absurd (cc)
 first_gives other (Refused fault) value gives = absurd (cc)
 
-second_gives : (lines : List (List ℕ)) (net : Plan) (rest : List (List ℕ)) (next : List ℕ) (others : List (List ℕ)) (read : certificate.Progress) (said : Result CertText FormatKind) (number : ℕ) (value : Plan × Certificate) → certificate_text.line_in read.section (words next) ≡ said → DeclaresNetwork lines net rest → certificate.IsFront rest read → GivesThis (after_second net (certificate_step (record { reader = read }) number said)) value → DeclareBoth (lines ++ next ∷ others) value.0 value.1 others
+second_gives : (lines : List (List ℕ)) (net : Plan) (rest : List (List ℕ)) (next : List ℕ) (others : List (List ℕ)) (read : certificate.Progress) (said : Result CertText FormatKind) (number : ℕ) (value : Plan × Certificate)
+    → certificate_text.line_in read.section (words next) ≡ said → DeclaresNetwork lines net rest → certificate.IsFront rest read → GivesThis (after_second net (certificate_step (record { reader = read }) number said)) value → DeclareBoth (lines ++ next ∷ others) value.0 value.1 others
 second_gives lines net rest next others read (Ok text.Blank) number value is network front gives = absurd (cc)
 second_gives lines net rest next others read (Ok text.Header) number value is network front gives = absurd (cc)
 second_gives lines net rest next others read (Ok text.Refutation) number value is network front gives = absurd (cc)

@@ -45,6 +45,14 @@ pub record DeclareBoth (lines : List (List ℕ)) (net : Plan) (cert : Certificat
   pub network : DeclaresNetwork lines net rest
   pub declared : certificate.DeclareCertificate rest cert after
 
+-- the input declares a network and a certificate, and its lines up to the certificate's end come; nothing after them counts
+pub record DeclaresWithinLimits (lines : List InputLine) (net : Plan) (cert : Certificate) : Type 0 where
+  pub used : List InputLine
+  pub rest : List InputLine
+  pub divided : lines ≡ used ++ rest
+  pub come : Come most_input used
+  pub both : DeclareBoth (texts lines) net cert (texts rest)
+
 -- lines after which more is wanted: the front of a plan, or a plan that declares a network and the front of a certificate
 abbrev pub IsUnderway : List (List ℕ) → Type 0
 IsUnderway lines =
