@@ -1,17 +1,16 @@
 -- What `judge` promises of what it puts for an input. This project's own choice.
-use Rattle.std.specs.Prelude.{◌≡◌, ◌⊎◌, ℕ, List, [], ◌∷◌, ◌++◌, length, codes}
-use Rattle.texts.specs.Lines.{InputLine, input_lines, lines}
+use Rattle.std.specs.Prelude.{◌≡◌, ◌⊎◌, ℕ, List, [], ◌∷◌, codes}
+use Rattle.texts.specs.Lines.{input_lines, lines}
 use Rattle.texts.specs.Printing.{printed_line}
 use Rattle.net_model.specs.Network.{Plan}
 use Rattle.strategy_model.specs.Control.{IsControllable}
 use Rattle.plan_format.specs.PlanNetwork.{DeclaresNetwork}
 use Rattle.cert_format.specs.declared.certificate.Certificate.{Certificate}
 use Rattle.cert_checker.specs.Judgement.{judgement_of}
-use Rattle.commands.specs.Limits.{most_input}
 use Rattle.commands.specs.declared.endings.End.{End}
 use Rattle.stnu_run.specs.Faults.{fault_line, fault_end}
 use Rattle.stnu_run.specs.Judging.{judgement_line, judgement_end}
-use Rattle.stnu_run.specs.ToJudge.{DeclareBoth, IsFirstRefusal, Come}
+use Rattle.stnu_run.specs.ToJudge.{DeclareBoth, DeclaresWithinLimits, IsFirstRefusal}
 use Rattle.stnu_run.specs.declared.faults.Fault.{Fault}
 
 -- the judgement of a certificate of a network is put
@@ -34,6 +33,6 @@ JudgesOrRefuses input put end =
 -- the input declares.
 pub record JudgePromise (input put : List ℕ) (end : End) : Type 0 where
   pub answers : JudgesOrRefuses input put end
-  pub judges : (used rest : List InputLine) (net : Plan) (cert : Certificate) (after : List (List ℕ)) → input_lines input ≡ used ++ rest → Come most_input used → length rest ≡ length after → DeclareBoth (lines input) net cert after → PutsJudgement net cert put end
+  pub judges : (net : Plan) (cert : Certificate) → DeclaresWithinLimits (input_lines input) net cert → PutsJudgement net cert put end
   pub refuses : (fault : Fault) → IsFirstRefusal (input_lines input) fault → PutsRefusal fault put end
   pub excludes : put ≡ printed_line (codes "accepted not controllable" ∷ []) → (net : Plan) (rest : List (List ℕ)) → DeclaresNetwork (lines input) net rest → ¬ IsControllable net

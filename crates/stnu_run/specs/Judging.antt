@@ -42,7 +42,7 @@ Judging = Asked Judge (Then PlanText Plan CertificateText)
 
 -- before the first line
 abbrev pub judge_start : Judging
-judge_start = record { question = record { }; text = First plan_begun certificate_begun }
+judge_start = record { question = record {}; text = First plan_begun certificate_begun }
 
 -- what `judge` means
 abbrev pub judge_machine : Machine Judging

@@ -1,17 +1,16 @@
 -- A plan text as a text that is read line by line, which says the network that it declares. This project's own choice.
-use Rattle.std.specs.Prelude.{ℕ, ◌-◌, List, Result, Ok, Err, Option, unwrap_or, slice_get}
+use Rattle.std.specs.Prelude.{ℕ, ◌-◌, List, Result, Ok, Err, unwrap_or, slice_get}
 use Rattle.std.specs.Option.{option_and_then}
 use Rattle.texts.specs.Words.{words}
 use Rattle.net_model.specs.Network.{Plan}
 use Rattle.net_model.specs.Building.{built, place_of}
 use Rattle.net_model.specs.declared.fault.BuildFault.{BuildFault}
 use Rattle.net_model.specs.declared.format.FormatKind.{FormatKind}
-use Rattle.plan_format.specs.PlanReading.{Progress, begun, line_in, advanced, missing}
+use Rattle.plan_format.specs.PlanReading.{begun, line_in, advanced, missing}
 use Rattle.plan_format.specs.declared.plan_line.PlanLine.{PlanLine}
 use Rattle.plan_format.specs.declared.plan_line.PlanLine.TheVariants as line
 use Rattle.plan_port.specs.Limits.{most_line}
 use Rattle.commands.specs.Reading.{Reader}
-use Rattle.commands.specs.declared.machines.Stop.{Stop}
 use Rattle.commands.specs.declared.reading.Step.{Step}
 use Rattle.commands.specs.declared.reading.Step.TheVariants.{Goes, Gives, Refused}
 use Rattle.stnu_run.specs.Faults.{stop_fault}

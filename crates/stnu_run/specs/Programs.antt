@@ -8,6 +8,7 @@ use Rattle.plan_port.specs.declared.writing.Written.{Written}
 use Rattle.plan_port.specs.declared.writing.Written.TheVariants.{All, Part}
 use Rattle.commands.specs.Endings.{end_number, status_number}
 use Rattle.commands.specs.Machine.{Machine}
+use Rattle.commands.specs.Runs.{Runs}
 use Rattle.commands.specs.Serves.{Serves, WhereBothTold}
 use Rattle.commands.specs.declared.endings.End.{End}
 use Rattle.commands.specs.declared.endings.Status.{Status as Ending}
@@ -15,6 +16,7 @@ use Rattle.stnu_run.specs.Judging.{judge_machine, judge_start}
 use Rattle.stnu_run.specs.Promises.{Promise}
 use Rattle.stnu_run.specs.JudgePromise.{JudgePromise}
 use Rattle.stnu_run.specs.declared.status.Status.{Status}
+use Rattle.stnu_run.specs.Words.{task_named}
 use Rattle.stnu_run.specs.declared.words.Task.{Task}
 use Rattle.stnu_run.specs.declared.words.Task.TheVariants.{Judge}
 
@@ -33,6 +35,15 @@ abbrev pub program_of : Option Task → Program
 program_of (Some Judge) = serves judge_machine judge_start JudgePromise
 program_of None = says words_line 2
 
+-- the bytes and the exit status that a program defines for an input: those of a run of its command, or its line and status
+abbrev pub Defines : Program → (input put : List ℕ) → Status → Type 0
+Defines (serves machine start promise) input put status = (end : End) × (status ≡ record { 0 = end_number end }) × Runs machine start input put end
+Defines (says line number) input put status = (put ≡ line) × (status ≡ record { 0 = number })
+
+-- the defined run: the bytes and the exit status for the words of a command, of which the first is the program's name, and an input
+abbrev pub DefinedRun : (words : List (List ℕ)) (input put : List ℕ) → Status → Type 0
+DefinedRun words input put status = Defines (program_of (task_named words)) input put status
+
 -- the exit status after a line was said, or a part of it
 abbrev pub said_number : ℕ → Written → ℕ
 said_number number All = number
@@ -45,6 +56,11 @@ ServesProgram (serves machine start promise) status before after =
     (ending : Ending) × (status ≡ record { 0 = status_number ending }) × Serves machine start ending before after
 ServesProgram (says line number) status before after =
     (written : Written) × (status ≡ record { 0 = said_number number written }) × Writes before after written line
+
+-- each run of the program's command keeps what the command promises
+abbrev pub PromiseHolds : Program → Type 0
+PromiseHolds (serves machine start promise) = (input put : List ℕ) (end : End) → Runs machine start input put end → promise input put end
+PromiseHolds (says line number) = Unit {0}
 
 -- Over a port that tells its bytes, a run that its command ended keeps the command's promise.
 abbrev pub KeepsPromise : Program → Status → (before after : Seen) → Type 0

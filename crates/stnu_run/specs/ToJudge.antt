@@ -2,6 +2,7 @@
 use Rattle.std.specs.Prelude.{◌≡◌, ◌⊎◌, ℕ, ◌+◌, ◌-◌, List, [], ◌∷◌, ◌++◌, length, map}
 use Rattle.texts.specs.Lines.{InputLine, line_size}
 use Rattle.net_model.specs.Network.{Plan}
+use Rattle.net_model.specs.declared.fault.BuildFault.{BuildFault}
 use Rattle.net_model.specs.declared.format.FormatKind.{FormatKind}
 use Rattle.plan_port.specs.Limits.{most_line}
 use Rattle.plan_port.specs.Lines.{Coming, Comes, TooLong, TooMuch, coming}
@@ -44,26 +45,43 @@ pub record DeclareBoth (lines : List (List ℕ)) (net : Plan) (cert : Certificat
   pub network : DeclaresNetwork lines net rest
   pub declared : certificate.DeclareCertificate rest cert after
 
+-- the input declares a network and a certificate, and its lines up to the certificate's end come; nothing after them counts
+pub record DeclaresWithinLimits (lines : List InputLine) (net : Plan) (cert : Certificate) : Type 0 where
+  pub used : List InputLine
+  pub rest : List InputLine
+  pub divided : lines ≡ used ++ rest
+  pub come : Come most_input used
+  pub both : DeclareBoth (texts lines) net cert (texts rest)
+
 -- lines after which more is wanted: the front of a plan, or a plan that declares a network and the front of a certificate
 abbrev pub IsUnderway : List (List ℕ) → Type 0
 IsUnderway lines =
     ((read : plan.Progress) × plan.IsFront lines read)
     ⊎ ((net : Plan) × (rest : List (List ℕ)) × (read : certificate.Progress) × DeclaresNetwork lines net rest × certificate.IsFront rest read)
 
--- the first fault of the lines, by the number of its line: that of a plan, or, after a plan that declares a network, that of a
--- certificate
+-- the first fault of a certificate that stands after a plan which declares a network, by the number of its line in the whole
+pub record IsFaultAfterPlan (lines : List (List ℕ)) (number : ℕ) (kind : FormatKind) : Type 0 where
+  pub net : Plan
+  pub rest : List (List ℕ)
+  pub place : ℕ
+  pub network : DeclaresNetwork lines net rest
+  pub fault : certificate.IsFirstFault rest (record { line = place; kind = kind })
+  pub at_line : number ≡ length network.plan + place
+
+-- the first fault of the lines, by the number of its line: that of a plan, or that of a certificate after one
 abbrev pub IsFormatFault : List (List ℕ) → ℕ → FormatKind → Type 0
-IsFormatFault lines number kind =
-    plan_fault.IsFirstFault lines (record { line = number; kind = kind })
-    ⊎ ((net : Plan) × (used : List (List ℕ)) × (rest : List (List ℕ)) × (place : ℕ) × (lines ≡ used ++ rest) × (number ≡ length used + place)
-    × DeclaresNetwork lines net rest × certificate.IsFirstFault rest (record { line = place; kind = kind }))
+IsFormatFault lines number kind = plan_fault.IsFirstFault lines (record { line = number; kind = kind }) ⊎ IsFaultAfterPlan lines number kind
+
+-- the plan text ends with the line of this number, and a part of it is refused: the first such part stands in line `number`
+abbrev pub RefusesAtEnd : List (List ℕ) → (last number : ℕ) → BuildFault → Type 0
+RefusesAtEnd lines last number fault = (refuses : RefusesPart lines number fault) × (length refuses.plan ≡ last)
 
 -- why the first refusal stands after the lines before it
 abbrev pub Causes : (before rest : List InputLine) → Fault → Type 0
 Causes before rest (LineTooLong number) = (number ≡ length before + 1) × Meets TooLong before rest
 Causes before rest (InputTooMuch number) = (number ≡ length before + 1) × Meets TooMuch before rest
 Causes before rest (Format number kind) = (number ≡ length before + 1) × IsThere before rest × IsFormatFault (texts (before ++ rest)) number kind
-Causes before rest (Part number fault) = Meets Comes before rest × RefusesPart (texts (before ++ rest)) number fault
+Causes before rest (Part number fault) = Meets Comes before rest × RefusesAtEnd (texts (before ++ rest)) (length before + 1) number fault
 
 -- The first refusal of an input to `judge`: the lines before it come, and more is wanted after them; then a line is too long, or
 -- the input too much, or the text has its first fault there, or ends there and a part of the plan is refused.

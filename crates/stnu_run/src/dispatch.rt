@@ -3,6 +3,7 @@ ghost use Rattle.stnu_run.specs.Programs.{ServesProgram, KeepsPromise, HasCauses
 ghost use Rattle.stnu_run.specs.Words.{task_named};
 
 use crate::judging::judging;
+use crate::laws::promises_hold;
 use crate::status::Status;
 use crate::words::{Task, task_of};
 use commands::serve;
@@ -36,6 +37,7 @@ fn run_task<P: Port>(alloc: Global, task: Task, port: &mut P) -> Status
     ensures kept { KeepsPromise (program_of (Some task)) result (P.seen port.old) (P.seen port.new) }
     ensures causes { HasCauses (program_of (Some task)) result (P.seen port.old) (P.seen port.new) }
 {
+    promises_hold();
     match task {
         Task::Judge => Status(serve(alloc, judging(alloc), port).number()),
     }

@@ -42,11 +42,7 @@ pub fn judging(alloc: Global) -> Asked<Judge, Then<PlanText, Network, Certificat
 }
 
 /// Puts the line of a judgement into the buffer.
-fn put_judgement(
-    alloc: Global,
-    answer: &mut Answer,
-    judgement: Judgement,
-) -> Result<(), AllocError>
+fn put_judgement(alloc: Global, answer: &mut Answer, judgement: Judgement) -> Result<(), AllocError>
     ensures { OnOk result (answer.new.text ≡ answer.old.text ++ judgement_line judgement) }
 {
     let text = judgement.to_string(alloc)?;

@@ -5,9 +5,11 @@ mod certificate_text;
 mod dispatch;
 mod faults;
 mod judging;
+mod laws;
 mod plan_text;
 mod status;
 mod words;
 
 pub use dispatch::run;
+pub use laws::{defined_run_is_one, judge_keeps_its_promise, promises_hold};
 pub use status::Status;

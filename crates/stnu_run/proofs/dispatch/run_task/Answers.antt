@@ -1,4 +1,4 @@
-use Rattle.std.proofs.Common.{◌≡◌, ℕ, ap, subst, Some}
+use Rattle.std.proofs.Common.{ℕ, ap, subst, Some}
 use Rattle.plan_port.specs.Talk.{Seen}
 use Rattle.commands.specs.Serves.{Serves}
 use Rattle.stnu_run.specs.Judging.{judge_machine, Judging}
@@ -6,6 +6,7 @@ use Rattle.stnu_run.specs.Programs.{ServesProgram, program_of}
 use Rattle.stnu_run.specs.declared.status.Status.{Status}
 use Rattle.stnu_run.specs.declared.words.Task.{Task}
 use Rattle.stnu_run.specs.declared.words.Task.TheVariants.{Judge}
+use Rattle.stnu_run.proofs.KeptLemmas.{kept}
 use Rattle.stnu_run.proofs.dispatch.run_task.Goals as goal
 
 -- there is one task
@@ -15,6 +16,13 @@ only Judge status before after served = served
 pub returns-clause-served : goal.returns-clause-served
 returns-clause-served g c =
     let number : ℕ → Status = λ n. record { 0 = n } in
-    only c.args.task (number c.number.result) (g.P.Port.seen c.args.port.now) (g.P.Port.seen c.serve.new.port)
-    (c.serve.result, ap number c.number.ensures,
-    subst (λ (start : Judging). Serves judge_machine start c.serve.result (g.P.Port.seen c.args.port.now) (g.P.Port.seen c.serve.new.port)) c.judging.ensures c.serve.ensures)
+    only c.args.task (number c.number.result) (g.P.Port.seen c.args.port.now) (g.P.Port.seen c.serve.new.port) (
+      c.serve.result,
+      ap number c.number.ensures,
+      subst (λ (start : Judging). Serves judge_machine start c.serve.result (g.P.Port.seen c.args.port.now) (g.P.Port.seen c.serve.new.port)) c.judging.ensures c.serve.ensures,
+    )
+
+pub returns-clause-kept : goal.returns-clause-kept
+returns-clause-kept g c =
+    let number : ℕ → Status = λ n. record { 0 = n } in
+    kept (program_of (Some c.args.task)) (number c.number.result) (g.P.Port.seen c.args.port.now) (g.P.Port.seen c.serve.new.port) (c.promises_hold.ensures (Some c.args.task)) (returns-clause-served g c)

@@ -1,0 +1,62 @@
+-- A run of a program keeps what its command promises, where each run of the command does.
+use Rattle.std.proofs.Common.{◌≡◌, ℕ, ◌==◌, List, ◌++◌, Option, Some, None, refl, sym, ap, ◌∙◌, subst, if◌then◌else◌}
+use Rattle.std.proofs.lemmas.List.{append_cancel_left}
+use Rattle.plan_port.specs.Talk.{Seen, Talk, WhereTold}
+use Rattle.commands.specs.Endings.{status_number}
+use Rattle.commands.specs.Machine.{Machine}
+use Rattle.commands.specs.Runs.{Runs}
+use Rattle.commands.specs.Serves.{Puts, PutsFor}
+use Rattle.commands.specs.declared.endings.End.{End}
+use Rattle.commands.specs.declared.endings.End.TheVariants.{Done, Refused, Fault, Limit, EventRefused}
+use Rattle.commands.specs.declared.endings.Status.{Status as Ending}
+use Rattle.commands.specs.declared.endings.Status.TheVariants.{Ended, ReadFault, WriteFault, NoMemory}
+use Rattle.stnu_run.specs.Programs.{Program, serves, says, ServesProgram, PromiseHolds, KeepsPromise}
+use Rattle.stnu_run.specs.declared.status.Status.{Status}
+
+-- what follows on what is told is told
+told : {A : Type 0} (old new : Option A) (P Q : A → A → Type 0) → ((was is : A) → P was is → Q was is) → WhereTold old new P → WhereTold old new Q
+told old None P Q follows is = tt
+told None (Some after) P Q follows is = absurd is
+told (Some before) (Some after) P Q follows is = follows before after is
+
+-- the ending of a number
+ending_of : ℕ → Ending
+ending_of number =
+    if number == 0 then Ended Done
+    else (if number == 1 then Ended Refused
+    else (if number == 3 then Ended Fault
+    else (if number == 4 then Ended Limit
+    else (if number == 7 then Ended EventRefused
+    else (if number == 5 then ReadFault
+    else (if number == 6 then WriteFault
+    else NoMemory))))))
+
+numbered : (ending : Ending) → ending_of (status_number ending) ≡ ending
+unfolding ending_of
+numbered (Ended Done) = refl
+numbered (Ended Refused) = refl
+numbered (Ended Fault) = refl
+numbered (Ended Limit) = refl
+numbered (Ended EventRefused) = refl
+numbered ReadFault = refl
+numbered WriteFault = refl
+numbered NoMemory = refl
+
+-- endings of one number are one
+pub ending_one : (ending other : Ending) → status_number ending ≡ status_number other → ending ≡ other
+ending_one ending other same = sym (numbered ending) ∙ (ap ending_of same ∙ numbered other)
+
+-- what was put is what a run puts
+puts_run : {C : Type 0} (machine : Machine C) (start : C) (end : End) (ending : Ending) (was is : Talk) (input behind put : List ℕ) → ending ≡ Ended end → Puts machine start ending was is input behind → is.put ≡ was.put ++ put → Runs machine start input put end
+puts_run machine start end ending was is input behind put same puts all =
+    let one : puts.put ≡ put = append_cancel_left was.put puts.put put (sym puts.all ∙ all) in
+    let runs : PutsFor machine start (Ended end) input behind puts.put puts.pieces = subst (λ (e : Ending). PutsFor machine start e input behind puts.put puts.pieces) same puts.puts in
+    subst (λ (p : List ℕ). Runs machine start input p end) one runs
+
+pub kept : (program : Program) (status : Status) (before after : Seen) → PromiseHolds program → ServesProgram program status before after → KeepsPromise program status before after
+kept (serves {C} machine start promise) status before after holds (ending, number, ran) = λ end is.
+    let same : ending ≡ Ended end = ending_one ending (Ended end) (ap (λ (s : Status). s.0) (sym number ∙ is)) in
+    told before.talk after.talk _ _ (λ was is inner.
+    told before.left after.left _ _ (λ input behind puts put all.
+    holds input put end (puts_run machine start end ending was is input behind put same puts all)) inner) ran.puts
+kept (says line number) status before after holds ran = tt

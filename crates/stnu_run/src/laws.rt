@@ -1,0 +1,33 @@
+//! Laws about the commands of the program, each the contract of a function without parameters.
+
+ghost use Rattle.std.specs.Prelude.{◌≡◌, ℕ, List, Option};
+ghost use Rattle.commands.specs.Runs.{Runs};
+ghost use Rattle.commands.specs.declared.endings.End.{End};
+ghost use Rattle.stnu_run.specs.JudgePromise.{JudgePromise};
+ghost use Rattle.stnu_run.specs.Judging.{judge_machine, judge_start};
+ghost use Rattle.stnu_run.specs.Programs.{DefinedRun, PromiseHolds, program_of};
+ghost use Rattle.stnu_run.specs.declared.status.Status.{Status};
+ghost use Rattle.stnu_run.specs.declared.words.Task.{Task};
+
+use cert_checker::laws;
+
+/// A run of `judge` keeps what the command promises: it puts the judgement of the network and the certificate that the input
+/// declares, or the first refusal of the input.
+pub fn judge_keeps_its_promise()
+    ensures { (input put : List ℕ) (end : End) → Runs judge_machine judge_start input put end → JudgePromise input put end }
+{
+    laws::accepted_excludes();
+}
+
+/// Every command of the program keeps what it promises.
+pub fn promises_hold()
+    ensures { (task : Option Task) → PromiseHolds (program_of task) }
+{
+    judge_keeps_its_promise();
+}
+
+/// For given words and a given input at most one pair of bytes and status stands in the defined run.
+pub fn defined_run_is_one()
+    ensures { (words : List (List ℕ)) (input a b : List ℕ) (x y : Status)
+        → DefinedRun words input a x → DefinedRun words input b y → (a ≡ b) × (x ≡ y) }
+{}
