@@ -1,0 +1,9 @@
+//! Reductions and derivation lists of small networks: examples, tried as tests.
+#![tactic(auto)]
+
+#[cfg(test)]
+mod derivations;
+#[cfg(test)]
+mod networks;
+#[cfg(test)]
+mod reductions;
