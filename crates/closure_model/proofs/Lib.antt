@@ -8,3 +8,12 @@ pub mod Tabulated
 pub mod Listed
 pub mod SoundTables
 pub mod OrderLemmas
+pub mod Deriving
+pub mod Applying
+pub mod Closing
+pub mod Basing
+pub mod Nodes
+pub mod Made
+pub mod Newest
+pub mod Standing
+pub mod LawProofs

@@ -4,3 +4,8 @@ pub mod TableLaws
 pub mod Codes
 pub mod Orders
 pub mod OrderLaws
+pub mod Derivable
+pub mod Closure
+pub mod Derivations
+pub mod ClosureLaws
+pub mod DerivationLaws

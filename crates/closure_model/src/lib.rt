@@ -1,6 +1,10 @@
-//! What a table of the labelled distance graph is, and when it is closed: definitions, and laws about them. Nothing here makes
-//! an edge.
+//! What a table of the labelled distance graph is, and when it is closed; derivable weights, closures and derivation lists:
+//! definitions, and laws about them. Nothing here makes an edge.
 #![tactic(auto)]
 
+mod derivation;
+pub mod laws;
 pub mod order_laws;
 pub mod table_laws;
+
+pub use derivation::{Item, Node, NodeId, Rule};

@@ -1,0 +1,4 @@
+pub mod MarkLemmas
+pub mod RestLemmas
+pub mod NumberLemmas
+pub mod PlainLemmas

@@ -1,0 +1,125 @@
+-- The number of the node of each key, after one node more.
+use Rattle.std.proofs.Common.{◌≡◌, ◌≢◌, ◌==◌, ◌&&◌, ℕ, ℤ, ◌≤ℤ◌, ◌<ℤ◌, Bool, true, false, cond, List, [], ◌∷◌, ◌++◌, length, Option, Some, None, refl, ap, sym, ◌∙◌, subst, arith}
+use Rattle.std.specs.Prelude.{int_lt}
+use Rattle.std.specs.Bool.{MatchBool}
+use Rattle.std.specs.Map.{lookup}
+use Rattle.std.proofs.lemmas.Int.{ints}
+use Rattle.std.proofs.lemmas.Bool.{eq-eqb, eqb-true}
+use Rattle.std.specs.Option.{option_eq}
+use Rattle.indexmap.specs.IndexMap.{get}
+use Rattle.net_model.specs.contracts.ids.LinkIdPartialEq.TheImpl as link_eq
+use Rattle.net_model.specs.declared.ids.LinkId.{LinkId}
+use Rattle.net_model.specs.declared.part.Edge.{Edge}
+use Rattle.closure_model.specs.Keys.{key_of}
+use Rattle.closure_model.specs.Derivations.{node_at, IsNodeOf, IsNewest}
+use Rattle.closure_model.specs.declared.derivation.Node.{Node}
+use Rattle.closure_model.specs.declared.derivation.NodeId.{NodeId}
+use Rattle.closure_model.proofs.Newest.{none_after, kept_after, new_after}
+use Rattle.derivation_dag.specs.declared.key.EdgeKey.{EdgeKey}
+use Rattle.derivation_dag.specs.Numbers.{Ids, same_edge_key, edge_key, number_of, NumbersNodes, IsBelowAll, IsHeld}
+
+-- ---- edge keys that pass the test are the same
+both_true : (a b : Bool) → (a && b) ≡ true → (a ≡ true) × (b ≡ true)
+both_true true b is = (refl, is)
+both_true false b is = absurd cc
+
+true_both : (a b : Bool) → a ≡ true → b ≡ true → (a && b) ≡ true
+true_both true b one two = two
+true_both false b one two = absurd cc
+
+same_label : (E : LinkId → LinkId → Bool) → ((x y : LinkId) → E x y ≡ true → x ≡ y) → (o p : Option LinkId) → option_eq E o p ≡ true → o ≡ p
+same_label E tells None None is = refl
+same_label E tells None (Some y) is = absurd cc
+same_label E tells (Some x) None is = absurd cc
+same_label E tells (Some x) (Some y) is = ap Some (tells x y is)
+
+label_itself : (E : LinkId → LinkId → Bool) → ((x : LinkId) → E x x ≡ true) → (o : Option LinkId) → option_eq E o o ≡ true
+label_itself E itself None = refl
+label_itself E itself (Some x) = itself x
+
+tested : (a b : EdgeKey) → same_edge_key a b ≡ true → a ≡ b
+tested a b is =
+    let (to, rest) = both_true (a.to.0 == b.to.0) ((a.from.0 == b.from.0) && option_eq (link_eq.ghosts).eq a.label b.label) is in
+    let (from, label) = both_true (a.from.0 == b.from.0) (option_eq (link_eq.ghosts).eq a.label b.label) rest in
+    let to_same : a.to.0 ≡ b.to.0 = eqb-true a.to.0 b.to.0 to in
+    let from_same : a.from.0 ≡ b.from.0 = eqb-true a.from.0 b.from.0 from in
+    let label_same : a.label ≡ b.label = same_label (link_eq.ghosts).eq (λ x y e. ap (λ (k : ℕ). record { 0 = k }) (eqb-true x.0 y.0 e)) a.label b.label label in
+    λ i. record { to = record { 0 = to_same i }; from = record { 0 = from_same i }; label = label_same i }
+
+passes : (a : EdgeKey) → same_edge_key a a ≡ true
+passes a =
+    true_both (a.to.0 == a.to.0) ((a.from.0 == a.from.0) && option_eq (link_eq.ghosts).eq a.label a.label) (eq-eqb a.to.0 a.to.0 refl)
+    (true_both (a.from.0 == a.from.0) (option_eq (link_eq.ghosts).eq a.label a.label) (eq-eqb a.from.0 a.from.0 refl) (label_itself (link_eq.ghosts).eq (λ x. eq-eqb x.0 x.0 refl) a.label))
+
+below_then : (w v u : ℤ) → int_lt w v ≡ true → v ≤ℤ u → w <ℤ u
+below_then w v u test less = grind (arith, ints)
+
+no_less : (w v : ℤ) → int_lt w v ≡ false → v ≤ℤ w
+no_less w v test = grind (arith, ints)
+
+-- ---- whether an edge is below every node of its key
+pub below_or_held : (nodes : List Node) (edge : Edge) (id : NodeId) (node : Node) → IsNodeOf nodes (key_of edge) id → node_at nodes id ≡ Some node → (b : Bool) → b ≡ int_lt edge.weight node.edge.weight → MatchBool b (IsBelowAll nodes edge) (IsHeld nodes edge)
+below_or_held nodes edge id node was here b is = by b is
+  where
+    same : was.node ≡ node
+    same = let both : Some was.node ≡ Some node = sym was.here ∙ here in cc
+
+    by : (b : Bool) → b ≡ int_lt edge.weight node.edge.weight → MatchBool b (IsBelowAll nodes edge) (IsHeld nodes edge)
+    by true is' = λ other m there of_key.
+        let least : was.node.edge.weight ≤ℤ m.edge.weight = was.least other m there of_key in
+        let weight : was.node.edge.weight ≡ node.edge.weight = ap (λ (n : Node). n.edge.weight) same in
+        below_then edge.weight node.edge.weight m.edge.weight (sym is') (subst (λ (w : ℤ). w ≤ℤ m.edge.weight) weight least)
+    by false is' = record {
+      id = id;
+      of_key = was;
+      less = let weight : was.node.edge.weight ≡ node.edge.weight = ap (λ (n : Node). n.edge.weight) same in no_less edge.weight was.node.edge.weight (ap (int_lt edge.weight) weight ∙ sym is');
+    }
+
+-- ---- one node more
+module _ (nodes : List Node) (node : Node) (ids : Ids) (numbers : NumbersNodes nodes ids) where
+  -- one that is not below all of its key
+  pub numbers_held : (after : Ids) → after.entries ≡ ids.entries → IsHeld nodes node.edge → (all : List Node) → all ≡ nodes ++ node ∷ [] → NumbersNodes all after
+  numbers_held after same held all is key =
+      subst (λ (ns : List Node). IsNewest ns key (number_of after key)) (sym is)
+      (subst (λ o. IsNewest (nodes ++ node ∷ []) key o) (sym kept) (by (number_of ids key) (numbers key)))
+    where
+      kept : number_of after key ≡ number_of ids key
+      kept = ap (λ es. lookup (same_edge_key (edge_key key)) es) same
+
+      by : (o : Option NodeId) → IsNewest nodes key o → IsNewest (nodes ++ node ∷ []) key o
+      by None none = none_after nodes node key (λ of_key. none held.id held.of_key.node held.of_key.here (held.of_key.of_key ∙ of_key)) none
+      by (Some id) was = kept_after nodes node key id was (λ of_key.
+          let least : was.node.edge.weight ≤ℤ held.of_key.node.edge.weight = was.least held.id held.of_key.node held.of_key.here (held.of_key.of_key ∙ of_key) in
+          let under : held.of_key.node.edge.weight ≤ℤ node.edge.weight = held.less in
+          omega (arith, ints))
+
+  -- one that is below all of its key
+  pub numbers_below : (roomy after : Ids) (name : EdgeKey) (id : NodeId) → roomy.entries ≡ ids.entries → name ≡ edge_key (key_of node.edge) → id.0 ≡ length nodes
+      → ((q : EdgeKey) → get same_edge_key after q ≡ cond (same_edge_key name q) (Some id) (get same_edge_key roomy q))
+      → IsBelowAll nodes node.edge → (all : List Node) → all ≡ nodes ++ node ∷ [] → NumbersNodes all after
+  numbers_below roomy after name id same named last updated below all is key =
+      subst (λ (ns : List Node). IsNewest ns key (number_of after key)) (sym is)
+      (subst (λ o. IsNewest (nodes ++ node ∷ []) key o) (sym (updated (edge_key key))) (by (same_edge_key name (edge_key key)) refl))
+    where
+      new : NodeId
+      new = record { 0 = length nodes }
+
+      by : (b : Bool) → same_edge_key name (edge_key key) ≡ b → IsNewest (nodes ++ node ∷ []) key (cond b (Some id) (number_of roomy key))
+      by true test =
+          let one : edge_key (key_of node.edge) ≡ edge_key key = sym named ∙ tested name (edge_key key) test in
+          let of_key : key_of node.edge ≡ key = λ i. record { to = (one i).to; from = (one i).from; label = (one i).label } in
+          let number : record { 0 = length nodes } ≡ id = ap (λ (k : ℕ). record { 0 = k }) (sym last) in
+          subst (IsNodeOf (nodes ++ node ∷ []) key) number (new_after nodes node key of_key (λ other m here m_key. below other m here (m_key ∙ sym of_key)))
+      by false test =
+          let kept : number_of roomy key ≡ number_of ids key = ap (λ es. lookup (same_edge_key (edge_key key)) es) same in
+          subst (λ o. IsNewest (nodes ++ node ∷ []) key o) (sym kept) (otherwise (number_of ids key) (numbers key))
+        where
+          apart : key_of node.edge ≢ key
+          apart of_key =
+              let both : same_edge_key name (edge_key key) ≡ true = ap (λ k. same_edge_key k (edge_key key)) (named ∙ ap edge_key of_key) ∙ passes (edge_key key) in
+              let no : true ≡ false = sym both ∙ test in
+              absurd cc
+
+          otherwise : (o : Option NodeId) → IsNewest nodes key o → IsNewest (nodes ++ node ∷ []) key o
+          otherwise None none = none_after nodes node key apart none
+          otherwise (Some other) was = kept_after nodes node key other was (λ of_key. absurd (apart of_key))

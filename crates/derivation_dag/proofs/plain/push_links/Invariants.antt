@@ -1,0 +1,7 @@
+use Rattle.std.proofs.Common.{◌≡◌, ◌++◌, map, take}
+use Rattle.std.specs.List.{enumerate_from}
+use Rattle.closure_model.specs.Derivations.{link_node}
+use Rattle.derivation_dag.proofs.plain.push_links.Given as goal
+
+abbrev pub invariant-loop-place : goal.invariant-loop-place
+invariant-loop-place l = l.list ≡ l.initial.list ++ map link_node (take l.place (enumerate_from 0 l.net.links))

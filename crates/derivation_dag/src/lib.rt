@@ -1,0 +1,17 @@
+//! Derivation lists: edges in the order of making, each with its rule and its premises; and stores of derivations, which have the
+//! table of their edges besides.
+#![tactic(auto)]
+
+mod ancestors;
+mod dag;
+mod key;
+mod keyed;
+mod plain;
+mod premises;
+mod resting;
+mod supports;
+
+pub use closure_model::{Item, Node, NodeId, Rule};
+pub use dag::Dag;
+pub use plain::Plain;
+pub use supports::Supports;
