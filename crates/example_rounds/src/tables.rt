@@ -51,21 +51,13 @@ const FOUND: [(&str, bool, &[u32]); 7] = [
     ),
     ("point A|point B|bound b A B -2", true, &[1, 0]),
     (ONE_LINK, true, &[0, 2, 1]),
-    (
-        "point A|point B|bound a A B 0|bound b B A 0",
-        true,
-        &[0, 1],
-    ),
+    ("point A|point B|bound a A B 0|bound b B A 0", true, &[0, 1]),
     (
         "point A|point B|point C|bound a B C -1|bound b C B -1",
         false,
         &[1, 2],
     ),
-    (
-        "point A|point B|bound a A B -1|bound b B B -1",
-        false,
-        &[1],
-    ),
+    ("point A|point B|bound a A B -1|bound b B B -1", false, &[1]),
     (
         "point A|point B|point C|bound a A C -1|bound b C B -1|bound c B C -1|bound d A B 1",
         false,
@@ -136,7 +128,11 @@ fn is_wanted(found: &Found, is_order: bool, wanted: &[u32]) -> bool {
 }
 
 fn are_numbers(points: &[PointId], wanted: &[u32]) -> bool {
-    points.len() == wanted.len() && points.iter().zip(wanted).all(|(point, number)| point.0 == *number)
+    points.len() == wanted.len()
+        && points
+            .iter()
+            .zip(wanted)
+            .all(|(point, number)| point.0 == *number)
 }
 
 fn try_found<R: Abort>(
