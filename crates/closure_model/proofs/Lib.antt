@@ -15,6 +15,7 @@ pub mod BaseLemmas
 pub mod Tabulated
 pub mod Listed
 pub mod SoundTables
+pub mod OrderLemmas
 pub mod Deriving
 pub mod Applying
 pub mod Closing

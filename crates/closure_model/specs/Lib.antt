@@ -6,10 +6,10 @@ pub mod Least
 pub mod ReferenceRow
 pub mod ReferenceRound
 pub mod ReferenceRounds
+pub mod Orders
+pub mod OrderLaws
 pub mod Derivable
 pub mod Closure
 pub mod Derivations
 pub mod ClosureLaws
 pub mod DerivationLaws
-pub mod Orders
-pub mod OrderLaws
