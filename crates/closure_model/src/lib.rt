@@ -4,8 +4,8 @@
 
 mod derivation;
 pub mod laws;
-pub mod rows;
 pub mod order_laws;
+pub mod rows;
 pub mod table_laws;
 
 pub use derivation::{Item, Node, NodeId, Rule};
