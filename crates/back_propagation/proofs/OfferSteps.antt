@@ -67,7 +67,7 @@ offer_sets slots place made d at =
     ap (λ (s : Slot). slice_set slots place (taken made s)) same ∙ sym (offered_set made slots place at.slot at.here at.of_key at.only)
 
 -- ---- rows against a table
-labels_few : (to : PointId) (n : ℕ) (begins : List PointId) → length (filter (λ (e : ℕ × PointId). e.1.0 == to.0) (enumerate_from n begins)) ≤ length begins
+pub labels_few : (to : PointId) (n : ℕ) (begins : List PointId) → length (filter (λ (e : ℕ × PointId). e.1.0 == to.0) (enumerate_from n begins)) ≤ length begins
 labels_few to n [] = omega arith
 labels_few to n (p ∷ ps) = by (p.0 == to.0) (labels_few to (n + 1) ps)
   where

@@ -116,16 +116,20 @@ ends_there net sound name link point declared ends = first (position_or_len_is (
   where
     within : name.0 < length net.links
     within = slice_get_within net.links name.0 link declared
+
     is_link : get_or net.links name.0 link ≡ link
     is_link = get_or_from_slice_get net.links name.0 link link declared
+
     here : (get_or net.links name.0 link).to.0 == point.0 ≡ true
     here = let same : link.to.0 ≡ point.0 = ap (λ (p : PointId). p.0) (sym ends) in rw is_link (grind (arith, nat_tests))
+
     before : (k : ℕ) → k < name.0 → (get_or net.links k link).to.0 == point.0 ≡ false
     before k earlier =
         let same : point.0 ≡ link.to.0 = ap (λ (p : PointId). p.0) ends in
         let other : (get_or net.links k link).to.0 ≢ (get_or net.links name.0 link).to.0 = sound.links_apart k name.0 link earlier within in
         let other' : (get_or net.links k link).to.0 ≢ link.to.0 = rw is_link at other in
         grind (arith, nat_tests)
+
     first : position_or_len (λ (l : Link). l.to.0 == point.0) net.links ≡ name.0 → activation net point ≡ Some name
     first place = let inside = within in rw place (grind (arith, nat_tests))
 
@@ -169,6 +173,7 @@ module _ (net : Plan) (table : Graph) (premise : Edge) where
           let (first, at, is) = Contains-flat_map_from (from_first premise) (ordinary_into table premise.from) made there in
           let (has, none, ends) = ordinary_from table premise.from first at in
           from_first_is first made has is
+
       by : Contains (from_removal net premise) made ⊎ Contains (from_link net premise ++ flat_map (from_first premise) (ordinary_into table premise.from)) made → IsConsequence net table premise made
       by (inl here) = let (is, why) = given_from (Drop premise) (removal net premise) made here in removed is why
       by (inr there) = later (Contains-append_cases (from_link net premise) (flat_map (from_first premise) (ordinary_into table premise.from)) made there)
@@ -202,27 +207,39 @@ module _ (net : Plan) (table : Graph) (premise : Edge) where
   pub lower_case_stands : IsPlan net → (name : LinkId) (edge : Edge) → lower_case net name premise ≡ Some edge → Follows edge
   lower_case_stands sound name edge is =
       let gives = lower_case_gives net name premise edge is in
-      let made : Made = record { edge = edge; why = Low name premise } in
-      (made, over_link_stands name made (ends_there net sound name gives.link premise.from gives.declared gives.begins)
-        (Contains-append_left (given (Low name premise) (lower_case net name premise)) (given (Cross name premise) (cross_case net name premise)) made (given_holds (Low name premise) (lower_case net name premise) edge is)), refl)
+      let made : Made = record { edge = edge; why = Low name premise } in (
+        made,
+        over_link_stands name made (ends_there net sound name gives.link premise.from gives.declared gives.begins)
+            (Contains-append_left (given (Low name premise) (lower_case net name premise)) (given (Cross name premise) (cross_case net name premise)) made (given_holds (Low name premise) (lower_case net name premise) edge is)),
+        refl,
+      )
 
   pub cross_case_stands : IsPlan net → (name : LinkId) (edge : Edge) → cross_case net name premise ≡ Some edge → Follows edge
   cross_case_stands sound name edge is =
       let gives = cross_case_gives net name premise edge is in
-      let made : Made = record { edge = edge; why = Cross name premise } in
-      (made, over_link_stands name made (ends_there net sound name gives.link premise.from gives.declared gives.begins)
-        (Contains-append_right (given (Low name premise) (lower_case net name premise)) (given (Cross name premise) (cross_case net name premise)) made (given_holds (Cross name premise) (cross_case net name premise) edge is)), refl)
+      let made : Made = record { edge = edge; why = Cross name premise } in (
+        made,
+        over_link_stands name made (ends_there net sound name gives.link premise.from gives.declared gives.begins)
+            (Contains-append_right (given (Low name premise) (lower_case net name premise)) (given (Cross name premise) (cross_case net name premise)) made (given_holds (Cross name premise) (cross_case net name premise) edge is)),
+        refl,
+      )
 
   pub no_case_stands : IsGraph table → (first edge : Edge) → HasEdge table first → no_case first premise ≡ Some edge → Follows edge
   no_case_stands sound first edge has is =
       let gives = no_case_gives first premise edge is in
-      let made : Made = record { edge = edge; why = No first premise } in
-      (made, third_part sound first made has gives.first_ordinary gives.meeting
-        (Contains-append_left (given (No first premise) (no_case first premise)) (given (Up first premise) (upper_case first premise)) made (given_holds (No first premise) (no_case first premise) edge is)), refl)
+      let made : Made = record { edge = edge; why = No first premise } in (
+        made,
+        third_part sound first made has gives.first_ordinary gives.meeting
+            (Contains-append_left (given (No first premise) (no_case first premise)) (given (Up first premise) (upper_case first premise)) made (given_holds (No first premise) (no_case first premise) edge is)),
+        refl,
+      )
 
   pub upper_case_stands : IsGraph table → (first edge : Edge) → HasEdge table first → upper_case first premise ≡ Some edge → Follows edge
   upper_case_stands sound first edge has is =
       let gives = upper_case_gives first premise edge is in
-      let made : Made = record { edge = edge; why = Up first premise } in
-      (made, third_part sound first made has gives.first_ordinary gives.meeting
-        (Contains-append_right (given (No first premise) (no_case first premise)) (given (Up first premise) (upper_case first premise)) made (given_holds (Up first premise) (upper_case first premise) edge is)), refl)
+      let made : Made = record { edge = edge; why = Up first premise } in (
+        made,
+        third_part sound first made has gives.first_ordinary gives.meeting
+            (Contains-append_right (given (No first premise) (no_case first premise)) (given (Up first premise) (upper_case first premise)) made (given_holds (Up first premise) (upper_case first premise) edge is)),
+        refl,
+      )

@@ -35,16 +35,17 @@ module _ {A : Type 0} (weight : A → Option ℤ) (start : ℕ) (x : A) (xs : Li
   -- the next of the others stays it where it is below what the first item has, if it has a weight
   later : (next : ℕ × ℤ) → ((w : ℤ) → weight x ≡ Some w → next.1 <ℤ w) → IsFirstFrom weight (suc start) xs next → IsFirstFrom weight start (x ∷ xs) next
   later next above rest = record {
-        place = suc rest.place;
-        at_place = let at = rest.at_place in omega arith;
-        here = rest.here;
-        least = least;
-        first = first;
-      }
+    place = suc rest.place;
+    at_place = let at = rest.at_place in omega arith;
+    here = rest.here;
+    least = least;
+    first = first;
+  }
     where
       least : (other : ℕ) (w : ℤ) → weight_at weight (x ∷ xs) other ≡ Some w → next.1 ≤ℤ w
       least zero w there = lt_is_le next.1 w (above w there)
       least (suc other) w there = rest.least other w there
+
       first : (other : ℕ) (w : ℤ) → weight_at weight (x ∷ xs) other ≡ Some w → other < suc rest.place → next.1 <ℤ w
       first zero w there earlier = above w there
       first (suc other) w there earlier = rest.first other w there (omega arith)
@@ -95,12 +96,16 @@ both_first weight xs one other is_one is_other = together one other same_place w
   where
     weights : one.1 ≡ other.1
     weights = between one.1 other.1 (is_one.least other.0 other.1 is_other.here) (is_other.least one.0 one.1 is_one.here)
+
     not_before : one.0 < other.0 → ⊥
     not_before earlier = not_below other.1 one.1 (sym weights) (is_other.first one.0 one.1 is_one.here earlier)
+
     not_after : other.0 < one.0 → ⊥
     not_after earlier = not_below one.1 other.1 weights (is_one.first other.0 other.1 is_other.here earlier)
+
     same_place : one.0 ≡ other.0
     same_place = let no = not_before in let not = not_after in omega arith
+
     together : (a b : ℕ × ℤ) → a.0 ≡ b.0 → a.1 ≡ b.1 → a ≡ b
     together a b places same = λ i. (places i, same i)
 
@@ -135,6 +140,7 @@ module _ {A : Type 0} (weight : A → Option ℤ) (xs : List A) (x : A) where
       sort : (y : A) → weight y ≡ Some w → (slice_get xs place ≡ Some y) ⊎ ((place ≡ length xs) × (x ≡ y)) → (weight_at weight xs place ≡ Some w) ⊎ ((place ≡ length xs) × (weight x ≡ Some w))
       sort y has (inl here) = inl (rw here has)
       sort y has (inr (last, same)) = inr (last, ap weight same ∙ has)
+
       by : (o : Option A) → slice_get (xs ++ x ∷ []) place ≡ o → option_and_then weight o ≡ Some w → (weight_at weight xs place ≡ Some w) ⊎ ((place ≡ length xs) × (weight x ≡ Some w))
       by None here has = absurd cc
       by (Some y) here has = sort y has (push_cases xs x place y here)
@@ -156,6 +162,7 @@ module _ {A : Type 0} (weight : A → Option ℤ) (xs : List A) (x : A) where
           by : (weight_at weight xs place ≡ Some v) ⊎ ((place ≡ length xs) × (weight x ≡ Some v)) → w ≤ℤ v
           by (inl old) = lt_is_le w v (lt_then w best.1 v less (was.least place v old))
           by (inr (last, same)) = le_of_same w v (same_weight w v (sym has ∙ same))
+
       first : (place : ℕ) (v : ℤ) → weight_at weight (xs ++ x ∷ []) place ≡ Some v → place < length xs → w <ℤ v
       first place v there earlier = by (at_cases place v there)
         where
@@ -172,6 +179,7 @@ module _ {A : Type 0} (weight : A → Option ℤ) (xs : List A) (x : A) where
           by : (weight_at weight xs place ≡ Some v) ⊎ ((place ≡ length xs) × (weight x ≡ Some v)) → best.1 ≤ℤ v
           by (inl old) = was.least place v old
           by (inr (last, same)) = above v same
+
       first : (place : ℕ) (v : ℤ) → weight_at weight (xs ++ x ∷ []) place ≡ Some v → place < best.0 → best.1 <ℤ v
       first place v there earlier = by (at_cases place v there)
         where
@@ -188,6 +196,7 @@ module _ {A : Type 0} (weight : A → Option ℤ) (xs : List A) (x : A) where
           by : (weight_at weight xs place ≡ Some v) ⊎ ((place ≡ length xs) × (weight x ≡ Some v)) → w ≤ℤ v
           by (inl old) = let absent = none place in absurd cc
           by (inr (last, same)) = le_of_same w v (same_weight w v (sym has ∙ same))
+
       first : (place : ℕ) (v : ℤ) → weight_at weight (xs ++ x ∷ []) place ≡ Some v → place < length xs → w <ℤ v
       first place v there earlier = by (at_cases place v there)
         where
@@ -201,6 +210,7 @@ module _ {A : Type 0} (weight : A → Option ℤ) (xs : List A) (x : A) where
       either : (w : ℤ) → (weight_at weight xs place ≡ Some w) ⊎ ((place ≡ length xs) × (weight x ≡ Some w)) → weight_at weight (xs ++ x ∷ []) place ≡ None
       either w (inl old) = let no = none place in absurd cc
       either w (inr (last, same)) = absurd cc
+
       by : (o : Option ℤ) → weight_at weight (xs ++ x ∷ []) place ≡ o → weight_at weight (xs ++ x ∷ []) place ≡ None
       by None is = is
       by (Some w) is = either w (at_cases place w is)

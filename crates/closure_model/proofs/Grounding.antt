@@ -94,7 +94,9 @@ pub below_agreeing : (to : PointId) (one other : Graph) (edge : Edge) → AgreeA
 below_agreeing to one other edge agree ends below weight has = below weight (agree.same (key_of edge) ends ∙ has)
 
 pub agree_lowered : (to : PointId) (one other : Graph) (edge : Edge) → AgreeAt to one other → IsBelow one edge → IsBelow other edge → AgreeAt to (lowered one edge) (lowered other edge)
-agree_lowered to one other edge agree below_one below_other = record { same = λ key ends.
-  ap (λ (t : Graph). weight_of t key) (lowered_below one edge below_one)
-  ∙ (weight_of-with_edge one edge key ∙ (ap (cond (eq_by_cmp key_cmp key (key_of edge)) (Some edge.weight)) (agree.same key ends)
-  ∙ (sym (weight_of-with_edge other edge key) ∙ ap (λ (t : Graph). weight_of t key) (sym (lowered_below other edge below_other))))) }
+agree_lowered to one other edge agree below_one below_other = record {
+  same = λ key ends.
+      ap (λ (t : Graph). weight_of t key) (lowered_below one edge below_one)
+      ∙ (weight_of-with_edge one edge key ∙ (ap (cond (eq_by_cmp key_cmp key (key_of edge)) (Some edge.weight)) (agree.same key ends)
+      ∙ (sym (weight_of-with_edge other edge key) ∙ ap (λ (t : Graph). weight_of t key) (sym (lowered_below other edge below_other)))));
+}

@@ -78,6 +78,7 @@ module _ (net : Plan) (low high : Graph) (within_low : (edge : Edge) → HasEdge
     where
       lt : (a b c : ℤ) → a ≤ℤ b → b <ℤ c → a <ℤ c
       lt a b c one two = grind (arith, ints)
+
       by : (w : ℤ) → weight_of low (key_of edge) ≡ Some w → w ≤ℤ edge.weight → (o : Option ℤ) → weight_of high (key_of edge) ≡ o → room_of most (weight_of low (key_of edge)) < room_of most o
       by w has less None none = subst (λ (p : Option ℤ). room_of most p < 2 * most + 1) (sym has) (within_room most w (within_low (edge_of (key_of edge) w) has))
       by w has less (Some v) there =
@@ -102,11 +103,11 @@ round_falls net support plan stands some = by (round_made net support.table) ref
         let (first, below) = grounded_first net support.table support.table one made (subst (AreGrounded net support.table support.table) is grounded) in
         let inside : Contains (round_made net support.table) one = subst (λ (list : List Made). Contains list one) (sym is) (Contains-head one made) in
         let lowered : HasAtMost (with_made support.table (round_made net support.table)) one.edge =
-          all_lowered-has support.table (map (λ (m : Made). m.edge) (round_made net support.table)) one.edge (Contains-map (λ (m : Made). m.edge) (round_made net support.table) one inside) in
+        all_lowered-has support.table (map (λ (m : Made). m.edge) (round_made net support.table)) one.edge (Contains-map (λ (m : Made). m.edge) (round_made net support.table) one inside) in
         let met : HasAtMost (after_round net support).table one.edge = subst (λ (t : Graph). HasAtMost t one.edge) (sym after.table_is) lowered in
         let (weight, has, less) = at_most_gives (after_round net support).table one.edge met in
         let known : IsKey (shape_of net) (key_of one.edge) = subst (λ (s : Shape). IsKey s (key_of one.edge)) (standing_fits net plan (after_round net support) after.stands)
-          ((standing_sound net plan (after_round net support) after.stands).keys (edge_of (key_of one.edge) weight) has) in
+        ((standing_sound net plan (after_round net support) after.stands).keys (edge_of (key_of one.edge) weight) has) in
         room_falls net (after_round net support).table support.table (standing_within net plan (after_round net support) after.stands) (standing_within net plan support stands) (rounds_keep_standing net support plan stands).1 one.edge known met below
 
 -- ---- the room at the start

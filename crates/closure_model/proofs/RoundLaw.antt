@@ -64,6 +64,7 @@ weight_for_is edge nodes place weight is = by (slice_get nodes place) refl is
     one : (node : Node) (b : Bool) → is_same_key edge node.edge ≡ b → cond b (Some node.edge.weight) None ≡ Some weight → (key_of node.edge ≡ key_of edge) × (node.edge.weight ≡ weight)
     one node true same has = (same_key_is edge node.edge same, same_Some node.edge.weight weight has)
     one node false same has = absurd cc
+
     by : (o : Option Node) → slice_get nodes place ≡ o → option_and_then (weight_for edge) o ≡ Some weight → (node : Node) × (slice_get nodes place ≡ Some node) × (key_of node.edge ≡ key_of edge) × (node.edge.weight ≡ weight)
     by None here has = absurd cc
     by (Some node) here has = let (key, same) = one node (is_same_key edge node.edge) refl has in (node, here, key, same)
@@ -78,6 +79,7 @@ node_for_is nodes edge None none = ap (option_map (λ (first : ℕ × ℤ). reco
     weightless : (place : ℕ) (o : Option ℤ) → weight_at (weight_for edge) nodes place ≡ o → o ≡ None
     weightless place None is = refl
     weightless place (Some weight) is = let (node, here, key, same) = weight_for_is edge nodes place weight is in absurd (none (record { 0 = place }) node here key)
+
     absent : HasNoWeight (weight_for edge) nodes
     absent place = weightless place (weight_at (weight_for edge) nodes place) refl
 node_for_is nodes edge (Some id) was = ap (option_map (λ (first : ℕ × ℤ). record { 0 = first.0 })) (first_least_of (weight_for edge) nodes (Some (id.0, was.node.edge.weight)) first)
@@ -217,8 +219,8 @@ module _ (net : Plan) (table : Graph) (plan : IsPlan net) (fits : IsFor net tabl
       let row : List Made = reference_row net table to in
       let here : AgreeAt to table now = record { same = λ key ends. (let at : key.to.0 ≡ first = ap (λ (p : PointId). p.0) ends in sym (agrees key (omega arith))) } in
       let later : (key : Key) → first + 1 ≤ key.to.0 → weight_of (with_made now row) key ≡ weight_of table key = λ key above.
-        with_made_other now row key (λ one inside same. (let ends : one.edge.to.0 ≡ first = ap (λ (p : PointId). p.0) (ends_in to one inside) in let keys : one.edge.to.0 ≡ key.to.0 = ap (λ (k : Key). k.to.0) same in omega arith))
-        ∙ agrees key (omega arith) in
+      with_made_other now row key (λ one inside same. (let ends : one.edge.to.0 ≡ first = ap (λ (p : PointId). p.0) (ends_in to one inside) in let keys : one.edge.to.0 ≡ key.to.0 = ap (λ (k : Key). k.to.0) same in omega arith))
+      ∙ agrees key (omega arith) in
       grounded_append net table now row (flat_map (reference_row net table) (map (λ k. record { 0 = k }) (range_with_len (first + 1) count)))
       (grounded_moves to table now row (ends_in to) here (row_is_grounded net table to plan fits sound))
       (rows_grounded (first + 1) count (with_made now row) later)

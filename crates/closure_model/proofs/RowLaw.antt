@@ -225,6 +225,7 @@ module _ (net : Plan) (table : Graph) (to : PointId) (plan : IsPlan net) (fits :
         by place slot after weight here is_open has (stays is not) = around.from_there place after weight (here ∙ ap Some is) is_open has
         by place slot after weight here is_open has (takes of is_above is) =
             le_then low made.edge.weight weight not_less (le_of_same made.edge.weight weight (same_weight made.edge.weight weight (ap (λ (s : Slot). s.weight) is ∙ has)))
+
         from_there : (place : ℕ) (after : Slot) (weight : ℤ) → slice_get (offered slots made) place ≡ Some after → after.settled ≡ false → after.weight ≡ Some weight → low ≤ℤ weight
         from_there place after weight there is_open has = let was = was_slot slots made place after there in by place was.slot after weight was.here is_open has was.change
 
@@ -337,7 +338,9 @@ module _ (net : Plan) (table : Graph) (to : PointId) (plan : IsPlan net) (fits :
             let at : slice_get slots place ≡ Some met.slot = subst (λ (k : ℕ). slice_get slots k ≡ Some met.slot) same met.here in
             let one : slot ≡ met.slot = same_Some slot met.slot (sym here ∙ at) in
             record {
-              place = place; slot = marked slot; weight = met.weight;
+              place = place;
+              slot = marked slot;
+              weight = met.weight;
               here = set_same slots place slot (marked slot) here;
               of_key = ap (key_in to) one ∙ met.of_key;
               has = ap (λ (s : Slot). s.weight) one ∙ met.has;
@@ -346,9 +349,13 @@ module _ (net : Plan) (table : Graph) (to : PointId) (plan : IsPlan net) (fits :
         by false is =
             let apart : met.place ≢ place = λ same. (let test : (met.place == place) ≡ true = rw same (grind (arith, nat_tests)) in absurd cc) in
             record {
-              place = met.place; slot = met.slot; weight = met.weight;
+              place = met.place;
+              slot = met.slot;
+              weight = met.weight;
               here = set_other slots place met.place (marked slot) apart ∙ met.here;
-              of_key = met.of_key; has = met.has; less = met.less;
+              of_key = met.of_key;
+              has = met.has;
+              less = met.less;
             }
 
     mark_derivable : IsRow slots → (other : ℕ) (after : Slot) (weight : ℤ) → slice_get mark other ≡ Some after → after.weight ≡ Some weight → IsInRow net table to (edge_in to after weight)
@@ -392,12 +399,14 @@ module _ (net : Plan) (table : Graph) (to : PointId) (plan : IsPlan net) (fits :
             by : ((other ≡ place) × (marked slot ≡ after)) ⊎ ((other ≢ place) × (slice_get slots other ≡ Some after)) → (weight : ℤ) × (after.weight ≡ Some weight)
             by (inl (same, one)) = (low, ap (λ (s : Slot). s.weight) (sym one) ∙ has)
             by (inr (apart, at)) = partly.has other after at is
+
         below : (other : ℕ) (after : Slot) (weight : ℤ) → slice_get mark other ≡ Some after → after.settled ≡ true → after.weight ≡ Some weight → weight ≤ℤ low
         below other after weight there is has_it = by (was_marked other after there)
           where
             by : ((other ≡ place) × (marked slot ≡ after)) ⊎ ((other ≢ place) × (slice_get slots other ≡ Some after)) → weight ≤ℤ low
             by (inl (same, one)) = le_of_same weight low (same_weight weight low (sym has_it ∙ (ap (λ (s : Slot). s.weight) (sym one) ∙ has)))
             by (inr (apart, at)) = partly.ordered other place after slot weight low at here is has_it is_open has
+
         from_there : (other : ℕ) (after : Slot) (weight : ℤ) → slice_get mark other ≡ Some after → after.settled ≡ false → after.weight ≡ Some weight → low ≤ℤ weight
         from_there other after weight there is has_it = by (was_marked other after there)
           where
@@ -435,7 +444,7 @@ module _ (net : Plan) (table : Graph) (to : PointId) (plan : IsPlan net) (fits :
           row = after.row;
           has = after.around.has;
           ordered = λ one_place two_place one two weight more one_here two_here one_is one_has two_is two_has.
-            le_then weight low more (after.around.below one_place one weight one_here one_is one_has) (after.around.from_there two_place two more two_here two_is two_has);
+              le_then weight low more (after.around.below one_place one weight one_here one_is one_has) (after.around.from_there two_place two more two_here two_is two_has);
           closed = settling_closed partly next;
         }
 
@@ -483,7 +492,9 @@ module _ (net : Plan) (table : Graph) (to : PointId) (plan : IsPlan net) (fits :
       let inside : Contains (row_keys table.shape to) (key_of edge) = subst (λ (p : PointId). Contains (row_keys table.shape p) (key_of edge)) ends (row_keys_whole table.shape (key_of edge) (sound.keys edge has)) in
       let (place, at) = slice_get-contained (row_keys table.shape to) (key_of edge) inside in
       record {
-        place = place; slot = slot_from (key_of edge); weight = edge.weight;
+        place = place;
+        slot = slot_from (key_of edge);
+        weight = edge.weight;
         here = slice_get-map slot_from (row_keys table.shape to) place ∙ ap (option_map slot_from) at;
         of_key = λ i. record { to = sym ends i; from = edge.from; label = edge.label };
         has = has;
@@ -506,6 +517,7 @@ module _ (net : Plan) (table : Graph) (to : PointId) (plan : IsPlan net) (fits :
     where
       never_fell : (slot : Slot) → IsFirstSlot slot → (why : Why) → slot.why ≡ Some why → ⊥
       never_fell slot first why some = let none : None ≡ slot.why = ap (λ (s : Slot). s.why) first.is in absurd cc
+
       never_settled : (slot : Slot) → IsFirstSlot slot → slot.settled ≡ true → ⊥
       never_settled slot first is = let not : false ≡ slot.settled = ap (λ (s : Slot). s.settled) first.is in absurd cc
 
@@ -526,7 +538,10 @@ module _ (net : Plan) (table : Graph) (to : PointId) (plan : IsPlan net) (fits :
         let same : edge_in to met.slot met.weight ≡ at_weight premise met.weight = ap (λ (k : Key). edge_of k met.weight) met.of_key in
         let found = partly.closed met.place met.slot met.weight met.here (is_settled met.place met.slot met.weight met.here met.has) met.has made (subst (λ (e : Edge). Contains (consequences net table e) made) (sym same) inside) in
         record {
-          place = found.place; slot = found.slot; weight = found.weight; here = found.here;
+          place = found.place;
+          slot = found.slot;
+          weight = found.weight;
+          here = found.here;
           of_key = found.of_key ∙ ap key_of is;
           has = found.has;
           less = le_then found.weight less.weight edge.weight (subst (λ (e : Edge). found.weight ≤ℤ e.weight) is found.less) less.less;
@@ -620,19 +635,29 @@ module _ (net : Plan) (table : Graph) (to : PointId) (plan : IsPlan net) (fits :
         by (inl old) =
             let from = is.each one old in
             let apart : from.place ≢ place = λ same. (let at : slice_get making.slots place ≡ Some from.slot = subst (λ (k : ℕ). slice_get making.slots k ≡ Some from.slot) same from.here in
-              let one_slot : slot ≡ from.slot = same_Some slot from.slot (sym here ∙ at) in
-              let open' : from.slot.settled ≡ false = ap (λ (s : Slot). s.settled) (sym one_slot) ∙ is_open in let settled = from.settled in absurd cc) in
+            let one_slot : slot ≡ from.slot = same_Some slot from.slot (sym here ∙ at) in
+            let open' : from.slot.settled ≡ false = ap (λ (s : Slot). s.settled) (sym one_slot) ∙ is_open in let settled = from.settled in absurd cc) in
             record {
-              place = from.place; slot = from.slot; weight = from.weight;
+              place = from.place;
+              slot = from.slot;
+              weight = from.weight;
               here = later_after.kept from.place from.slot (set_other making.slots place from.place (marked slot) apart ∙ from.here) from.settled;
-              settled = from.settled; why = from.why; has = from.has; is = from.is;
+              settled = from.settled;
+              why = from.why;
+              has = from.has;
+              is = from.is;
             }
         by (inr new) =
             let (why, same) = fell_from slot low one new in
             record {
-              place = place; slot = marked slot; weight = low;
+              place = place;
+              slot = marked slot;
+              weight = low;
               here = later_after.kept place (marked slot) (set_same making.slots place slot (marked slot) here) refl;
-              settled = refl; why = why; has = has; is = same;
+              settled = refl;
+              why = why;
+              has = has;
+              is = same;
             }
 
     -- an edge that fell before is of another key, and no heavier
@@ -720,12 +745,16 @@ module _ (net : Plan) (table : Graph) (to : PointId) (plan : IsPlan net) (fits :
     ready_kept : (one : Made) → IsReady making.slots one → IsReady later.slots one
     ready_kept one from =
         let apart : from.place ≢ place = λ same. (let at : slice_get making.slots place ≡ Some from.slot = subst (λ (k : ℕ). slice_get making.slots k ≡ Some from.slot) same from.here in
-          let one_slot : slot ≡ from.slot = same_Some slot from.slot (sym here ∙ at) in
-          let open' : from.slot.settled ≡ false = ap (λ (s : Slot). s.settled) (sym one_slot) ∙ is_open in let settled = from.settled in absurd cc) in
+        let one_slot : slot ≡ from.slot = same_Some slot from.slot (sym here ∙ at) in
+        let open' : from.slot.settled ≡ false = ap (λ (s : Slot). s.settled) (sym one_slot) ∙ is_open in let settled = from.settled in absurd cc) in
         record {
-          place = from.place; slot = from.slot; weight = from.weight;
+          place = from.place;
+          slot = from.slot;
+          weight = from.weight;
           here = later_after.kept from.place from.slot (set_other making.slots place from.place (marked slot) apart ∙ from.here) from.settled;
-          settled = from.settled; has = from.has; follows = from.follows;
+          settled = from.settled;
+          has = from.has;
+          follows = from.follows;
         }
 
     ready_new : (one : Made) → Contains (consequences net table (edge_in to slot low)) one → (one.edge.to ≡ to) × IsReady later.slots one
@@ -733,9 +762,13 @@ module _ (net : Plan) (table : Graph) (to : PointId) (plan : IsPlan net) (fits :
         let (derived, not_less) = can_be_offered making.slots place slot low here is_open has is.partly.row one inside in (
           (in_row_there one.edge derived).ends,
           record {
-            place = place; slot = marked slot; weight = low;
+            place = place;
+            slot = marked slot;
+            weight = low;
             here = later_after.kept place (marked slot) (set_same making.slots place slot (marked slot) here) refl;
-            settled = refl; has = has; follows = consequence_is net table (edge_in to slot low) one inside;
+            settled = refl;
+            has = has;
+            follows = consequence_is net table (edge_in to slot low) one inside;
           },
         )
 
@@ -805,11 +838,20 @@ module _ (net : Plan) (table : Graph) (to : PointId) (plan : IsPlan net) (fits :
           subst (λ (n : ℕ). IsMaking (settled_times net table to n after) × IsAllSettled (settled_times net table to n after).slots) one (given after (omega arith) made)
 
   pub first_making : IsMaking (record { slots = first_slots table to; made = [] })
-  first_making = record { partly = first_partly; listed = λ place slot why weight here is some has. absurd (never place slot here is); each = λ one inside. absurd (Contains-none one inside); once = λ i j d before inside. absurd (omega arith); in_order = λ i j d before inside. absurd (omega arith);
-    grounded = grounded_none net table table; stand = λ place slot weight here is has. absurd (never place slot here is); ready = λ place slot why weight here is some has. absurd (never_fell place slot here why some) }
+  first_making = record {
+    partly = first_partly;
+    listed = λ place slot why weight here is some has. absurd (never place slot here is);
+    each = λ one inside. absurd (Contains-none one inside);
+    once = λ i j d before inside. absurd (omega arith);
+    in_order = λ i j d before inside. absurd (omega arith);
+    grounded = grounded_none net table table;
+    stand = λ place slot weight here is has. absurd (never place slot here is);
+    ready = λ place slot why weight here is some has. absurd (never_fell place slot here why some);
+  }
     where
       never : (place : ℕ) (slot : Slot) → slice_get (first_slots table to) place ≡ Some slot → slot.settled ≡ true → ⊥
       never place slot here is = let first = first_slot place slot here in let not : false ≡ slot.settled = ap (λ (s : Slot). s.settled) first.is in absurd cc
+
       never_fell : (place : ℕ) (slot : Slot) → slice_get (first_slots table to) place ≡ Some slot → (why : Why) → slot.why ≡ Some why → ⊥
       never_fell place slot here why some = let first = first_slot place slot here in let none : None ≡ slot.why = ap (λ (s : Slot). s.why) first.is in absurd cc
 

@@ -58,7 +58,7 @@ module _ (net : Plan) (table : Graph) (to : PointId) where
       record {
         is = λ plan fits sound. later_making net table to plan fits sound making (way.is plan fits sound) next.0 there.slot next.1 there.here there.is_open there.has (next_is making next some);
         rest = sym (settled_times-some net table to (unsettled (after_slot net table to making next there.slot).slots) making next there.slot some there.here)
-          ∙ (ap (λ (n : ℕ). settled_times net table to n making) (sym count) ∙ way.rest);
+            ∙ (ap (λ (n : ℕ). settled_times net table to n making) (sym count) ∙ way.rest);
       }
 
   pub under_way_done : (making : Making) → next_slot making.slots ≡ None → IsUnderWay net table to making → making.made ≡ reference_row net table to

@@ -61,6 +61,7 @@ slot_there slots next is = by (slice_get slots next.0) refl is
     open_parts : (slot : Slot) → slice_get slots next.0 ≡ Some slot → (b : Bool) → slot.settled ≡ b → open_weight slot ≡ Some next.1 → IsSlotThere slots next
     open_parts slot here true settled opens = let none : open_weight slot ≡ None = ap (λ (b : Bool). cond b None slot.weight) settled in absurd cc
     open_parts slot here false settled opens = record { slot = slot; here = here; is_open = settled; has = sym (ap (λ (b : Bool). cond b None slot.weight) settled) ∙ opens }
+
     by : (o : Option Slot) → slice_get slots next.0 ≡ o → option_and_then open_weight o ≡ Some next.1 → IsSlotThere slots next
     by None here opens = absurd cc
     by (Some slot) here opens = open_parts slot here slot.settled refl opens

@@ -163,13 +163,19 @@ met_after to slots made edge met = let next = slot_after slots made met.place me
   where
     by : (after : Slot) → slice_get (offered slots made) met.place ≡ Some after → Change made met.slot after → IsMet to (offered slots made) edge
     by after there (stays is not) = record {
-      place = met.place; slot = after; weight = met.weight; here = there;
+      place = met.place;
+      slot = after;
+      weight = met.weight;
+      here = there;
       of_key = change_key to made met.slot after (stays is not) ∙ met.of_key;
       has = ap (λ (s : Slot). s.weight) (sym is) ∙ met.has;
       less = met.less;
     }
     by after there (takes of is_above is) = record {
-      place = met.place; slot = after; weight = made.edge.weight; here = there;
+      place = met.place;
+      slot = after;
+      weight = made.edge.weight;
+      here = there;
       of_key = change_key to made met.slot after (takes of is_above is) ∙ met.of_key;
       has = ap (λ (s : Slot). s.weight) (sym is);
       less = le_then made.edge.weight met.weight edge.weight (lt_is_le made.edge.weight met.weight (above met.slot made.edge.weight met.weight is_above met.has)) met.less;
@@ -192,13 +198,19 @@ offer_met to shape slots made keys known ends =
     by place slot of_key after there (stays is not) =
         let (old, has, less) = not_above slot made.edge.weight (not (key_of_slot to made.edge slot of_key)) in
         record {
-          place = place; slot = after; weight = old; here = there;
+          place = place;
+          slot = after;
+          weight = old;
+          here = there;
           of_key = change_key to made slot after (stays is not) ∙ of_key;
           has = ap (λ (s : Slot). s.weight) (sym is) ∙ has;
           less = less;
         }
     by place slot of_key after there (takes of is_above is) = record {
-      place = place; slot = after; weight = made.edge.weight; here = there;
+      place = place;
+      slot = after;
+      weight = made.edge.weight;
+      here = there;
       of_key = change_key to made slot after (takes of is_above is) ∙ of_key;
       has = ap (λ (s : Slot). s.weight) (sym is);
       less = le_refl made.edge.weight;

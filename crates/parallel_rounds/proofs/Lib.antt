@@ -1,0 +1,2 @@
+pub mod AddingSteps
+pub mod RoundsSteps

@@ -1,0 +1,3 @@
+pub mod Adding
+pub mod Propagated
+pub mod Rows
