@@ -27,7 +27,6 @@ pub mod Standing
 pub mod LawProofs
 pub mod RoundLaw
 pub mod RoundClosing
-pub mod OrderLemmas
 pub mod RowRun
 pub mod RoundsLaw
 pub mod Rooms
