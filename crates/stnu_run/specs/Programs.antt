@@ -1,6 +1,7 @@
 -- What the program does for a task, as data: a command that it serves, with what the command promises, or a line that it says
 -- without an input. This project's own choice.
-use Rattle.std.specs.Prelude.{◌≡◌, ℕ, List, [], ◌∷◌, ◌++◌, codes, Option, Some, None}
+use Rattle.std.specs.Prelude.{◌≡◌, ℕ, List, [], ◌∷◌, ◌++◌, codes, Option, Some, None, if◌then◌else◌}
+use Rattle.std.specs.Str.{bytes_eq}
 use Rattle.texts.specs.Printing.{printed_line}
 use Rattle.plan_port.specs.Talk.{Seen, raised}
 use Rattle.plan_port.specs.Writing.{Writes}
@@ -16,7 +17,6 @@ use Rattle.stnu_run.specs.Judging.{judge_machine, judge_start}
 use Rattle.stnu_run.specs.Promises.{Promise}
 use Rattle.stnu_run.specs.JudgePromise.{JudgePromise}
 use Rattle.stnu_run.specs.declared.status.Status.{Status}
-use Rattle.stnu_run.specs.Words.{task_named}
 use Rattle.stnu_run.specs.declared.words.Task.{Task}
 use Rattle.stnu_run.specs.declared.words.Task.TheVariants.{Judge}
 
@@ -29,6 +29,11 @@ pub data Program : Type 1 where
 -- the line that refuses the words
 abbrev pub words_line : List ℕ
 words_line = printed_line (codes "error" ∷ codes "words" ∷ [])
+
+-- the task of the words, of which the first is the program's name
+abbrev pub task_named : List (List ℕ) → Option Task
+task_named (program ∷ command ∷ []) = if bytes_eq command (codes "judge") then Some Judge else None
+task_named others = None
 
 -- the program of a task, or of words that are those of none
 abbrev pub program_of : Option Task → Program

@@ -1,6 +1,6 @@
 ghost use Rattle.std.specs.Prelude.{map, string_bytes};
 ghost use Rattle.stnu_run.specs.Programs.{ServesProgram, KeepsPromise, HasCauses, program_of, words_line};
-ghost use Rattle.stnu_run.specs.Words.{task_named};
+ghost use Rattle.stnu_run.specs.Programs.{task_named};
 
 use crate::judging::judging;
 use crate::laws::promises_hold;

@@ -1,5 +1,5 @@
 use Rattle.stnu_run.specs.Programs.{program_of}
-use Rattle.stnu_run.specs.Words.{task_named}
+use Rattle.stnu_run.specs.Programs.{task_named}
 use Rattle.stnu_run.proofs.SingleLemmas.{defines_one, each_single}
 use Rattle.stnu_run.proofs.laws.defined_run_is_one.Goals as goal
 
