@@ -15,6 +15,7 @@ pub mod BaseLemmas
 pub mod Tabulated
 pub mod Listed
 pub mod SoundTables
+pub mod OrderLemmas
 pub mod Deriving
 pub mod Applying
 pub mod Closing
@@ -27,6 +28,5 @@ pub mod LawProofs
 pub mod RoundLaw
 pub mod RoundClosing
 pub mod RowRun
-pub mod OrderLemmas
 pub mod RoundsLaw
 pub mod Rooms

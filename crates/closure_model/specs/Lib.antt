@@ -4,12 +4,12 @@ pub mod Least
 pub mod ReferenceRow
 pub mod ReferenceRound
 pub mod ReferenceRounds
+pub mod TableLaws
+pub mod Codes
+pub mod Orders
+pub mod OrderLaws
 pub mod Derivable
 pub mod Closure
 pub mod Derivations
-pub mod TableLaws
-pub mod Codes
 pub mod ClosureLaws
 pub mod DerivationLaws
-pub mod Orders
-pub mod OrderLaws

@@ -4,7 +4,7 @@ ghost use Rattle.std.specs.Option.{option_map};
 ghost use Rattle.net_model.specs.Limits.{most_links};
 ghost use Rattle.net_model.specs.Rules.{bound_edge, link_edge};
 ghost use Rattle.closure_model.specs.Keys.{IsKey, shape_of, key_of, edge_of, ordinary_key, labelled_key, labels_at, keys_between};
-ghost use Rattle.closure_model.specs.Tables.{weight_of, row_of, edges_at, with_edge, without_key, no_edges, has_at_most, lowered, base_table, IsWeight, IsGraph};
+ghost use Rattle.closure_model.specs.Tables.{weight_of, row_of, edges_at, with_edge, without_key, no_edges, has_at_most, lowered, base_table, IsFor, IsWeight, IsGraph};
 ghost use Rattle.labelled_graph.specs.Changes.{with_weight, IsEdgeFor};
 
 use crate::row::Row;
@@ -42,6 +42,7 @@ impl Table {
     /// want of memory.
     pub fn of(alloc: Global, net: &Network) -> Result<Table, AllocError>
         ensures base { IfOk result (λ table. table ≡ base_table net.now) }
+        ensures shape { IfOk result (IsFor net.now) }
         ensures sound { IfOk result IsGraph }
     {
         let mut table = Table::without_edges(alloc, net)?;

@@ -1,6 +1,7 @@
 use Rattle.std.proofs.Common.{refl, arith}
 use Rattle.std.specs.Vec.{with_item}
 use Rattle.closure_model.specs.Keys.{key_of}
+use Rattle.labelled_graph.specs.declared.table.Table.TheInside.{Inside}
 use Rattle.labelled_graph.proofs.DenseLemmas.{IsPut, row_of_label, place_of_label, ordinary_put, labelled_put}
 use Rattle.labelled_graph.proofs.table.Table.put.Goals as goal
 
@@ -27,9 +28,11 @@ returns-in-None c =
 pub invariant_of-self-in-Some : goal.invariant_of-self-in-Some
 invariant_of-self-in-Some c =
     let put : IsPut c.self.inside c.args.self.now (key_of c.args.edge.now) c.args.weight = record { dense = c.self.invariant; view = c.self.view_is; is_key = c.requires.key; small = c.requires.weight } in
-    (labelled_put c.self.inside (record { ordinary = c.self.inside.ordinary; labelled = with_item c.self.inside.labelled c.in-Some.label.0 c.set-in-Some.new.self; activations = c.self.inside.activations }) c.args.self.now (key_of c.args.edge.now) c.args.weight put c.in-Some.label c.index_mut-row-in-Some.result.now c.set-in-Some.new.self c.in-Some.is c.index_mut-row-in-Some.ensures.value c.set-in-Some.ensures refl refl refl).0
+    let new : Inside = record { ordinary = c.self.inside.ordinary; labelled = with_item c.self.inside.labelled c.in-Some.label.0 c.set-in-Some.new.self; activations = c.self.inside.activations } in
+    (labelled_put c.self.inside new c.args.self.now (key_of c.args.edge.now) c.args.weight put c.in-Some.label c.index_mut-row-in-Some.result.now c.set-in-Some.new.self c.in-Some.is c.index_mut-row-in-Some.ensures.value c.set-in-Some.ensures refl refl refl).0
 
 pub returns-in-Some : goal.returns-in-Some
 returns-in-Some c =
     let put : IsPut c.self.inside c.args.self.now (key_of c.args.edge.now) c.args.weight = record { dense = c.self.invariant; view = c.self.view_is; is_key = c.requires.key; small = c.requires.weight } in
-    (labelled_put c.self.inside (record { ordinary = c.self.inside.ordinary; labelled = with_item c.self.inside.labelled c.in-Some.label.0 c.set-in-Some.new.self; activations = c.self.inside.activations }) c.args.self.now (key_of c.args.edge.now) c.args.weight put c.in-Some.label c.index_mut-row-in-Some.result.now c.set-in-Some.new.self c.in-Some.is c.index_mut-row-in-Some.ensures.value c.set-in-Some.ensures refl refl refl).1
+    let new : Inside = record { ordinary = c.self.inside.ordinary; labelled = with_item c.self.inside.labelled c.in-Some.label.0 c.set-in-Some.new.self; activations = c.self.inside.activations } in
+    (labelled_put c.self.inside new c.args.self.now (key_of c.args.edge.now) c.args.weight put c.in-Some.label c.index_mut-row-in-Some.result.now c.set-in-Some.new.self c.in-Some.is c.index_mut-row-in-Some.ensures.value c.set-in-Some.ensures refl refl refl).1

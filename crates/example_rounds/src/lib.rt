@@ -1,0 +1,11 @@
+//! Reductions, derivation lists, tables and orders of small networks: examples, tried as tests.
+#![tactic(auto)]
+
+#[cfg(test)]
+mod derivations;
+#[cfg(test)]
+mod networks;
+#[cfg(test)]
+mod reductions;
+#[cfg(test)]
+mod tables;
