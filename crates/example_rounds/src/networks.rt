@@ -7,61 +7,54 @@ use net_model::{BuildFault, Edge, LinkId, Name, Network, Part, PointId};
 use std::alloc::Global;
 use std::test::Fail;
 
-fn name(word: Option<&str>) -> Result<Name, Fail> {
-    let word = word.ok_or("a name is missing")?;
-    Ok(Name::new(word.as_bytes())?)
+fn name(word: Option<&str>) -> Option<Name> {
+    Name::new(word?.as_bytes()).ok()
 }
 
-fn number(word: Option<&str>) -> Result<i64, Fail> {
-    let word = word.ok_or("a number is missing")?;
-    Ok(word.parse().ok().ok_or("no number")?)
+fn number(word: Option<&str>) -> Option<i64> {
+    word?.parse().ok()
 }
 
 /// The part of a line: `point NAME`, `bound NAME FROM TO MOST` or `link FROM LOW HIGH TO`.
-fn part(line: &str) -> Result<Part, Fail> {
+fn part(line: &str) -> Option<Part> {
     let mut words = line.split_whitespace();
-    match words.next() {
-        Some("point") => Ok(Part::Point(name(words.next())?)),
-        Some("bound") => bound(
-            name(words.next())?,
-            name(words.next())?,
-            words.next(),
-            words.next(),
-        ),
-        Some("link") => link_part(
-            name(words.next())?,
-            words.next(),
-            words.next(),
-            words.next(),
-        ),
-        _ => Err("no part".into()),
+    match words.next()? {
+        "point" => Some(Part::Point(name(words.next())?)),
+        "bound" => bound(words.next(), words.next(), words.next(), words.next()),
+        "link" => link_part(words.next(), words.next(), words.next(), words.next()),
+        _ => None,
     }
 }
 
-fn bound(item: Name, from: Name, to: Option<&str>, most: Option<&str>) -> Result<Part, Fail> {
-    Ok(Part::Bound(item, from, name(to)?, number(most)?))
+fn bound(
+    item: Option<&str>,
+    from: Option<&str>,
+    to: Option<&str>,
+    most: Option<&str>,
+) -> Option<Part> {
+    Some(Part::Bound(name(item)?, name(from)?, name(to)?, number(most)?))
 }
 
 fn link_part(
-    from: Name,
+    from: Option<&str>,
     low: Option<&str>,
     high: Option<&str>,
     to: Option<&str>,
-) -> Result<Part, Fail> {
-    Ok(Part::Link(from, number(low)?, number(high)?, name(to)?))
+) -> Option<Part> {
+    Some(Part::Link(name(from)?, number(low)?, number(high)?, name(to)?))
 }
 
-fn parts_of(alloc: Global, lines: &str) -> Result<Vec<Part>, Fail> {
-    let mut parts = Vec::new(alloc);
+fn push_parts(parts: &mut Vec<Part>, lines: &str) -> Result<(), Fail> {
     for line in lines.split('|') {
-        parts.push(part(line)?)?;
+        parts.push(part(line).ok_or("no part")?)?;
     }
-    Ok(parts)
+    Ok(())
 }
 
 /// The network of these lines, with `|` between them.
 pub(crate) fn network(alloc: Global, lines: &str) -> Result<Network, Fail> {
-    let parts = parts_of(alloc, lines)?;
+    let mut parts = Vec::new(alloc);
+    push_parts(&mut parts, lines)?;
     built(alloc, parts.as_slice())
 }
 
