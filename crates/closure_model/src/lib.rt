@@ -5,6 +5,7 @@
 mod derivation;
 pub mod laws;
 pub mod order_laws;
+pub mod round_laws;
 pub mod rows;
 pub mod table_laws;
 
