@@ -6,8 +6,6 @@ pub mod Least
 pub mod ReferenceRow
 pub mod ReferenceRound
 pub mod ReferenceRounds
-pub mod TableLaws
-pub mod Codes
 pub mod Orders
 pub mod OrderLaws
 pub mod Derivable
