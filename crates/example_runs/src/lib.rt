@@ -3,3 +3,5 @@
 
 #[cfg(test)]
 mod ports;
+#[cfg(test)]
+mod runs;

@@ -1,0 +1,155 @@
+//! Runs of the program over ports in memory.
+
+use plan_port::MemoryPort;
+use std::alloc::{AllocError, Global};
+use std::process::Abort;
+use std::test::Fail;
+use stnu_run::run;
+
+/// Rows: the words, the input, what is put, and the exit status; `|` stands for a line end.
+const RUNS: &str = "stnu judge => stnu 1|point A|point B|bound b1 A B 3|bound b2 B A -5|end|certificate 1|refutation|bound b1 A B 3|bound b2 B A -5|no 1 2 A A -2|walk 3|end| => accepted not controllable| => 0
+stnu judge => # a plan|stnu 1|point A|point B|bound b1 A B 3|bound b2 B A -5|end||certificate 1|refutation|bound b1 A B 3|bound b2 B A -5|no 1 2 A A -2|walk 3|end => accepted not controllable| => 0
+stnu judge => stnu 1|point A|point B|bound b1 A B 3|bound b2 B A -5|end|certificate 1|refutation|bound b1 A B 3|bound b2 B A -5|no 1 2 A A -2|walk 3|end|nothing here|is looked at => accepted not controllable| => 0
+stnu judge => stnu 1|point A|point C|point D|bound b1 D C 1|bound b2 C D -1|link A 3 8 C|end|certificate 1|refutation|bound b1 D C 1|bound b2 C D -1|link C C A -8|low C 2 A D 2|up 1 3 D A C -7|drop 5 D A -3|no 4 6 A A -1|walk 7|end| => accepted not controllable| => 0
+stnu judge => stnu 1|point A|point C|point D|bound b1 D C 1|bound b2 C D -1|link A 3 8 C|end|certificate 1|refutation|bound b1 D C 1|bound b2 C D -1|link C C A -8|low C 2 A D 1|up 1 3 D A C -7|drop 5 D A -3|no 4 6 A A -1|walk 7|end| => refused 4 too-low 1 2| => 1
+stnu judge => stnu 1|point A|point C|point D|bound b1 D C 1|bound b2 C D -1|link A 3 8 C|end|certificate 1|refutation|bound b1 D C 1|bound b2 C D -1|link C C A -8|low C 2 A D 3|up 1 3 D A C -7|drop 5 D A -3|no 4 6 A A 0|walk 7|end| => refused 8 walk-not-negative 0| => 1
+stnu judge => stnu 1|point A|point C|point D|bound b1 D C 1|bound b2 C D -1|link A 3 8 C|end|certificate 1|refutation|bound b1 D C 1|bound b2 C D -1|link C C A -8|low C 2 A D 2|up 1 3 D A C -7|drop 5 D A -3|no 4 7 A A -1|walk 7|end| => refused 7 premise| => 1
+stnu judge => stnu 1|end|certificate 1|refutation|end| => refused 1 walk-broken| => 1
+stnu judge => stnu 1|point A|point C|point D|bound b1 D C 1|bound b2 C D -1|link A 3 8 C| => error format 8 no-end| => 3
+stnu judge =>  => error format 1 no-header| => 3
+stnu judge => point A|end| => error format 1 no-header| => 3
+stnu judge => stnu 1|point A|point A|end| => error plan 3 duplicate-name| => 3
+stnu judge => stnu 1|point A|point B|link A 0 4 B|end| => error plan 4 bad-interval| => 3
+stnu judge => stnu 1|point A|link A 1 2 A|end| => error plan 3 link-to-itself| => 3
+stnu judge => stnu 1|point A|point A| => error format 4 no-end| => 3
+stnu judge => stnu 1|end|certificate 2|end| => error format 3 no-header| => 3
+stnu judge => stnu 1|end|certificate 1|refutation|walk 1 => error format 6 no-end| => 3
+stnu judge => stnu 1|end|certificate 1|refutation|walk|end| => error format 5 word-count| => 3
+stnu judge => stnu 1|point A|point B|bound b1 A B 1000000001|bound b2 B A -2|end| => error limit 4 number| => 4
+stnu chek => stnu 1|end| => error words| => 2
+stnu judge judge => stnu 1|end| => error words| => 2
+stnu => stnu 1|end| => error words| => 2";
+
+/// Rows: how many bytes a take gives at most, where that is above 0, which take and which put fails; and then as above.
+const FAILING_CALLS: &str = "0 2 0 => stnu judge => stnu 1|point A| => error read| => 5
+1 4 0 => stnu judge => stnu 1|end|certificate 1|refutation|end| => error read| => 5
+1 9 0 => stnu judge => point A|end| => error format 1 no-header| => 3
+0 0 1 => stnu judge => stnu 1|end|certificate 1|refutation|end| =>  => 6
+1 0 1 => stnu judge => point A|end| =>  => 6
+1 4 1 => stnu judge => stnu 1|end| =>  => 6
+0 1 1 => stnu chek => stnu 1|end| =>  => 6";
+
+/// How a port gives its bytes: so many of a take at most, where that is above 0, and which take and which put fails.
+#[derive(Clone, Copy)]
+struct Calls {
+    cut: u32,
+    failing_take: u32,
+    failing_put: u32,
+}
+
+/// A row: the words, the input, what is put, and the exit status.
+#[derive(Clone, Copy)]
+struct Row<'a> {
+    words: &'a str,
+    input: &'a str,
+    put: &'a str,
+    status: u8,
+}
+
+fn row_of(text: &str) -> Option<Row<'_>> {
+    let (words, others) = text.split_once(" => ")?;
+    let (input, others) = others.split_once(" => ")?;
+    let (put, status) = others.split_once(" => ")?;
+    Some(Row {
+        words,
+        input,
+        put,
+        status: status.parse().ok()?,
+    })
+}
+
+fn calls_of(text: &str) -> Option<Calls> {
+    let (cut, others) = text.split_once(' ')?;
+    let (take, put) = others.split_once(' ')?;
+    Some(Calls {
+        cut: cut.parse().ok()?,
+        failing_take: take.parse().ok()?,
+        failing_put: put.parse().ok()?,
+    })
+}
+
+/// The bytes of a text, with line ends.
+fn with_line_ends(alloc: Global, text: &str) -> Result<Vec<u8>, AllocError> {
+    text.bytes()
+        .map(|byte| if byte == b'|' { b'\n' } else { byte })
+        .collect(alloc)
+}
+
+fn words_of(alloc: Global, text: &str) -> Result<Vec<String>, AllocError> {
+    let mut words = Vec::new(alloc);
+    for word in text.split(' ') {
+        words.push(String::from_str(alloc, word)?)?;
+    }
+    Ok(words)
+}
+
+fn port_over(alloc: Global, input: &str, calls: Calls) -> Result<MemoryPort, AllocError> {
+    let input = with_line_ends(alloc, input)?;
+    let cuts = vec![in alloc; calls.cut; 1000]?;
+    let failing_takes = vec![in alloc; calls.failing_take; 1]?;
+    let failing_puts = vec![in alloc; calls.failing_put; 1]?;
+    Ok(MemoryPort::new(alloc, input, cuts, failing_takes, failing_puts))
+}
+
+fn expect_run<R: Abort>(
+    rt: &R,
+    alloc: Global,
+    row: Row<'_>,
+    port: &mut MemoryPort,
+) -> Result<(), AllocError> {
+    let words = words_of(alloc, row.words)?;
+    let put = with_line_ends(alloc, row.put)?;
+    let status = run(alloc, &words, port);
+    assert_eq!(rt; status.0, row.status);
+    assert_eq!(rt; port.written(), put.as_slice());
+    Ok(())
+}
+
+fn try_row<R: Abort>(
+    rt: &R,
+    alloc: Global,
+    text: &str,
+    calls: Option<Calls>,
+) -> Result<(), AllocError> {
+    if let (Some(row), Some(calls)) = (row_of(text), calls) {
+        let mut port = port_over(alloc, row.input, calls)?;
+        expect_run(rt, alloc, row, &mut port)
+    } else {
+        assert!(rt; false, "{text}");
+        Ok(())
+    }
+}
+
+#[test]
+fn runs_are_the_same_however_the_input_is_cut(rt: HostRuntime) -> Result<(), Fail> {
+    for text in RUNS.split('\n') {
+        for cut in [0, 1] {
+            let calls = Calls {
+                cut,
+                failing_take: 0,
+                failing_put: 0,
+            };
+            try_row(&rt, rt.alloc(), text, Some(calls))?;
+        }
+    }
+    Ok(())
+}
+
+#[test]
+fn failed_calls_are_told(rt: HostRuntime) -> Result<(), Fail> {
+    for text in FAILING_CALLS.split('\n') {
+        let (calls, row) = text.split_once(" => ").unwrap_or(("", ""));
+        try_row(&rt, rt.alloc(), row, calls_of(calls))?;
+    }
+    Ok(())
+}
