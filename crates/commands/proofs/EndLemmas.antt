@@ -267,9 +267,9 @@ module _ {C : Type 0} (machine : Machine C) (start : C) where
         };
   }
 
-  puts_are : (s : Status) (command : C) (old new : Reader) (line : Line) (left_first left_now : Option (List ℕ)) (was is fin : Talk) (written : Written) (bytes input behind : List ℕ) (read : ReadSoFar machine start command old new line left_first left_now was is) →
-      Wrote written bytes is fin → PutsFor machine start s input behind (read.said ++ bytes_put written bytes) read.pieces → Puts machine start s was fin input behind
-  puts_are s command old new line left_first left_now was is fin written bytes input behind read wrote puts = record {
+  puts_are : (s : Status) (command : C) (old new : Reader) (line : Line) (left_first left_now : Option (List ℕ)) (was is fin : Talk) (written : Written) (bytes input untaken : List ℕ) (read : ReadSoFar machine start command old new line left_first left_now was is) →
+      Wrote written bytes is fin → PutsFor machine start s input untaken (read.said ++ bytes_put written bytes) read.pieces → Puts machine start s was fin input untaken
+  puts_are s command old new line left_first left_now was is fin written bytes input untaken read wrote puts = record {
     pieces = read.pieces;
     put = read.said ++ bytes_put written bytes;
     taken = wrote.taken ∙ read.taken;
@@ -317,16 +317,16 @@ module _ {C : Type 0} (machine : Machine C) (start : C) where
   }
 
   -- what is ahead of a run, where what is left is told
-  pub record Ahead (command : C) (old new : Reader) (line : Line) (lines : List InputLine) (pieces : List Piece) (input behind : List ℕ) : Type 0 where
+  pub record Ahead (command : C) (old new : Reader) (line : Line) (lines : List InputLine) (pieces : List Piece) (input untaken : List ℕ) : Type 0 where
     pub before : List ℕ
     pub divided : input_lines input ≡ lines ++ input_lines (remaining old before)
-    pub gives : GivesFirst (machine.longest command) old new line before behind
-    pub all : input ≡ bytes_of pieces ++ behind
+    pub gives : GivesFirst (machine.longest command) old new line before untaken
+    pub all : input ≡ bytes_of pieces ++ untaken
 
   -- a run that ends so, by what was put for what was ahead
   serves_by : (s : Status) (command : C) (old new : Reader) (line : Line) (first before between after : Seen) (written : Written) (answer : List ℕ) →
       ReadFrom line command old new first before between → Writes between after written answer → Calls s first after →
-      ((was is : Talk) (input behind : List ℕ) (read : ReadSoFar machine start command old new line first.left between.left was is) → Ahead command old new line read.lines read.pieces input behind → PutsFor machine start s input behind (read.said ++ bytes_put written answer) read.pieces) →
+      ((was is : Talk) (input untaken : List ℕ) (read : ReadSoFar machine start command old new line first.left between.left was is) → Ahead command old new line read.lines read.pieces input untaken → PutsFor machine start s input untaken (read.said ++ bytes_put written answer) read.pieces) →
       Serves machine start s first after
   serves_by s command old new line first before between after written answer from writes calls puts = record {
     calls = calls;
@@ -334,8 +334,8 @@ module _ {C : Type 0} (machine : Machine C) (start : C) where
         (λ was is fin read changed. is_prompt command old new line first.left between.left was is fin written answer read (wrote written answer is fin changed)) (read_seen command old new line first before between from) writes.talk;
     puts = WhereTold-twice first.talk between.talk after.talk (ReadSoFar machine start command old new line first.left between.left) (λ is fin. fin ≡ after_writing written answer is) (λ was fin. WhereTold first.left after.left (Puts machine start s was fin))
         (λ was is fin read changed. subst (λ (l : Option (List ℕ)). WhereTold first.left l (Puts machine start s was fin)) (sym writes.left)
-        (WhereTold-so first.left between.left (λ input behind. ((b : List ℕ) × (input_lines input ≡ read.lines ++ input_lines (remaining old b)) × GivesFirst (machine.longest command) old new line b behind) × (input ≡ bytes_of read.pieces ++ behind)) (Puts machine start s was fin)
-        (λ input behind told. puts_are s command old new line first.left between.left was is fin written answer input behind read (wrote written answer is fin changed) (puts was is input behind read (record { before = told.0.0; divided = told.0.1; gives = told.0.2; all = told.1 })))
+        (WhereTold-so first.left between.left (λ input untaken. ((b : List ℕ) × (input_lines input ≡ read.lines ++ input_lines (remaining old b)) × GivesFirst (machine.longest command) old new line b untaken) × (input ≡ bytes_of read.pieces ++ untaken)) (Puts machine start s was fin)
+        (λ input untaken told. puts_are s command old new line first.left between.left was is fin written answer input untaken read (wrote written answer is fin changed) (puts was is input untaken read (record { before = told.0.0; divided = told.0.1; gives = told.0.2; all = told.1 })))
         (told_left first.left between.left (bytes_of read.pieces) (λ input rest. (b : List ℕ) × (input_lines input ≡ read.lines ++ input_lines (remaining old b)) × GivesFirst (machine.longest command) old new line b rest) read.left read.ahead))) (read_seen command old new line first before between from) writes.talk;
     told = ap (λ (l : Option (List ℕ)). is_some l) writes.left ∙ (still_told before.left between.left (concat from.reads.pieces) from.reads.takes.left ∙ from.serving.told);
   }
@@ -360,8 +360,8 @@ module _ {C : Type 0} (machine : Machine C) (start : C) where
   ends_whole end command old new line first before between after answer reply fault from writes replies is =
       serves_by (status.Ended end) command old new line first before between after All answer from writes
       (no_take_failed command old new line first before between after All answer fault from writes, no_put_failed command old new line first before between after answer from writes)
-      (λ was it input behind read ahead.
-      let one = proper line command old new ahead.before behind answer reply fault from.reads.number ahead.gives replies in
+      (λ was it input untaken read ahead.
+      let one = proper line command old new ahead.before untaken answer reply fault from.reads.number ahead.gives replies in
       let how = same_end one.how end (is ∙ one.is) in
       record {
         first = read.lines;
@@ -380,8 +380,8 @@ module _ {C : Type 0} (machine : Machine C) (start : C) where
   breaks_at_put command old new line first before between after count answer reply fault from writes replies =
       serves_by status.WriteFault command old new line first before between after (Part count) answer from writes
       (inl (no_take_failed command old new line first before between after (Part count) answer fault from writes), last_put_failed command old new line first before between after count answer from writes)
-      (λ was it input behind read ahead.
-      let one = proper line command old new ahead.before behind answer reply fault from.reads.number ahead.gives replies in
+      (λ was it input untaken read ahead.
+      let one = proper line command old new ahead.before untaken answer reply fault from.reads.number ahead.gives replies in
       inl (record {
         first = read.lines;
         rest = input_lines (remaining old ahead.before);
@@ -402,7 +402,7 @@ module _ {C : Type 0} (machine : Machine C) (start : C) where
   breaks_at_take command old new first before between after from writes =
       serves_by status.ReadFault command old new ReadFault first before between after All read_fault_line from writes
       (last_take_failed command old new ReadFault first before between after All read_fault_line refl from writes, no_put_failed command old new ReadFault first before between after read_fault_line from writes)
-      (λ was it input behind read ahead. record { taken = bytes_of read.pieces; said = read.said; all_taken = ahead.all; answered = read.cut_off refl; all = refl })
+      (λ was it input untaken read ahead. record { taken = bytes_of read.pieces; said = read.said; all_taken = ahead.all; answered = read.cut_off refl; all = refl })
 
   -- a take failed, and then a put
   breaks_at_both : (command : C) (old new : Reader) (first before between after : Seen) (count : ℕ) → ReadFrom ReadFault command old new first before between → Writes between after (Part count) read_fault_line → Serves machine start status.WriteFault first after
@@ -410,7 +410,7 @@ module _ {C : Type 0} (machine : Machine C) (start : C) where
       let part = part_is count read_fault_line writes.part in
       serves_by status.WriteFault command old new ReadFault first before between after (Part count) read_fault_line from writes
       (inr (take count read_fault_line, part, last_take_failed command old new ReadFault first before between after (Part count) read_fault_line refl from writes), last_put_failed command old new ReadFault first before between after count read_fault_line from writes)
-      (λ was it input behind read ahead. inr (take count read_fault_line, part, record { taken = bytes_of read.pieces; said = read.said; all_taken = ahead.all; answered = read.cut_off refl; all = refl }))
+      (λ was it input untaken read ahead. inr (take count read_fault_line, part, record { taken = bytes_of read.pieces; said = read.said; all_taken = ahead.all; answered = read.cut_off refl; all = refl }))
 
   -- there was no memory at a line
   nothing_writes : (now : Seen) → Writes now now All []
@@ -431,10 +431,10 @@ module _ {C : Type 0} (machine : Machine C) (start : C) where
   wants command old new first before between from may_want =
       serves_by status.NoMemory command old new Text first before between between All [] from (nothing_writes between)
       (no_take_failed command old new Text first before between between All [] refl from (nothing_writes between), no_put_failed command old new Text first before between between [] from (nothing_writes between))
-      (λ was it input behind read ahead. inl (record {
+      (λ was it input untaken read ahead. inl (record {
         first = read.lines;
         line = ahead.gives.0;
-        rest = input_lines (remaining new behind);
+        rest = input_lines (remaining new untaken);
         there = here command old;
         divided = ahead.divided ∙ ap (λ (l : List InputLine). read.lines ++ l) ahead.gives.1.lines;
         answers = subst (λ (l : List ℕ). Answers machine (begins start) read.lines l (here command old)) (sym (append-nil read.said)) read.answers;
@@ -497,6 +497,6 @@ module _ {C : Type 0} (machine : Machine C) (start : C) where
   nothing_served now = record {
     calls = (record { count = refl; place = WhereTold-same now.talk (λ was is. is.failed_take ≡ was.failed_take) (λ t. refl) }, record { count = refl; place = WhereTold-same now.talk (λ was is. is.failed_put ≡ was.failed_put) (λ t. refl) });
     prompt = WhereTold-same now.talk (IsPrompt machine start) (λ t. record { pieces = []; taken = sym (append-nil t.taken); promptly = λ seen later piece split. no_piece seen later piece (IsTakenPromptly machine start t t seen piece) split });
-    puts = WhereTold-same now.talk (λ was is. WhereTold now.left now.left (λ input behind. Puts machine start status.NoMemory was is input behind)) (λ t. WhereTold-same now.left (λ input behind. Puts machine start status.NoMemory t t input behind) (λ input. record { pieces = []; put = []; taken = sym (append-nil t.taken); all = sym (append-nil t.put); puts = inr (refl, refl) }));
+    puts = WhereTold-same now.talk (λ was is. WhereTold now.left now.left (λ input untaken. Puts machine start status.NoMemory was is input untaken)) (λ t. WhereTold-same now.left (λ input untaken. Puts machine start status.NoMemory t t input untaken) (λ input. record { pieces = []; put = []; taken = sym (append-nil t.taken); all = sym (append-nil t.put); puts = inr (refl, refl) }));
     told = refl;
   }

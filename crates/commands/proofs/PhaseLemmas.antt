@@ -188,9 +188,9 @@ module _ {B S V F P : Type 0} (begin : B → V → List ℕ → Onward P → Typ
       (λ text later. quiet start (after_line here line text) first so_far.1 there none wants later)
 
   -- where the phase wants no memory, a run that breaks off for want of it has put nothing
-  pub wants_while_reading : WantsNone phase → (start : B) (text : S) (input behind put : List ℕ) (pieces : List Piece) → BreaksForMemory machine (Reading start text) input behind put pieces → put ≡ []
-  wants_while_reading none start text input behind put pieces (inl wants) = quiet start (begins text) wants.first put wants.there none wants.may_want wants.answers
-  wants_while_reading none start text input behind put pieces (inr nothing) = nothing.1
+  pub wants_while_reading : WantsNone phase → (start : B) (text : S) (input untaken put : List ℕ) (pieces : List Piece) → BreaksForMemory machine (Reading start text) input untaken put pieces → put ≡ []
+  wants_while_reading none start text input untaken put pieces (inl wants) = quiet start (begins text) wants.first put wants.there none wants.may_want wants.answers
+  wants_while_reading none start text input untaken put pieces (inr nothing) = nothing.1
 
   -- at most one reply
   takes_same : (start : B) (step : Step S V F) (a b : List ℕ) (x y : Onward (Planned B S P)) → IsSingleAnswer begin → RepliesToStep begin reader refusing phase start step a x → RepliesToStep begin reader refusing phase start step b y → (a ≡ b) × (x ≡ y)

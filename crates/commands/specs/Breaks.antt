@@ -18,11 +18,11 @@ IsPart front whole = (more : List ℕ) × (whole ≡ front ++ more) × (0 < leng
 
 module _ {C : Type 0} (machine : Machine C) (start : C) where
   -- A take failed: the whole lines of the bytes taken were answered, the bytes after them decide nothing, and this was put last.
-  -- Of the input `behind` was never taken.
-  pub record AfterReadFault (input behind put last : List ℕ) : Type 0 where
+  -- Of the input `untaken` was never taken.
+  pub record AfterReadFault (input untaken put last : List ℕ) : Type 0 where
     pub taken : List ℕ
     pub said : List ℕ
-    pub all_taken : input ≡ taken ++ behind
+    pub all_taken : input ≡ taken ++ untaken
     pub answered : Answered machine start taken said
     pub all : put ≡ said ++ last
 
@@ -55,14 +55,14 @@ module _ {C : Type 0} (machine : Machine C) (start : C) where
     pub not_whole : (seen later : List Piece) (piece : Piece) → pieces ≡ seen ++ piece ∷ later → (more : List InputLine) × (first ≡ map whole_line (whole_lines (bytes_of seen)) ++ more)
 
   -- a take failed before the next line was decided
-  abbrev pub BreaksAtTake : (input behind put : List ℕ) → Type 0
-  BreaksAtTake input behind put = AfterReadFault input behind put read_fault_line
+  abbrev pub BreaksAtTake : (input untaken put : List ℕ) → Type 0
+  BreaksAtTake input untaken put = AfterReadFault input untaken put read_fault_line
 
   -- a put failed: a part of what was to be put next was put
-  abbrev pub BreaksAtPut : (input behind put : List ℕ) → Type 0
-  BreaksAtPut input behind put =
-      WithinReply input put ⊎ ((last : List ℕ) × IsPart last read_fault_line × AfterReadFault input behind put last)
+  abbrev pub BreaksAtPut : (input untaken put : List ℕ) → Type 0
+  BreaksAtPut input untaken put =
+      WithinReply input put ⊎ ((last : List ℕ) × IsPart last read_fault_line × AfterReadFault input untaken put last)
 
   -- there was no memory at a line, or none to begin with, when nothing had been taken
-  abbrev pub BreaksForMemory : (input behind put : List ℕ) → List Piece → Type 0
-  BreaksForMemory input behind put pieces = WantsMemory input put pieces ⊎ ((pieces ≡ []) × (put ≡ []))
+  abbrev pub BreaksForMemory : (input untaken put : List ℕ) → List Piece → Type 0
+  BreaksForMemory input untaken put pieces = WantsMemory input put pieces ⊎ ((pieces ≡ []) × (put ≡ []))

@@ -68,7 +68,7 @@ pub fn planned_runs<T: Text, B: Begin<T::Value>>()
 
 /// Where the phase wants no memory, a run that breaks off for want of it has put nothing.
 pub fn planned_wants<T: Text, B: Begin<T::Value>>()
-    ensures { WantsNone B.Phase.machine → (start : B) (text : T) (input behind put : List ℕ) (pieces : List Piece)
-        → BreaksForMemory (planned_machine B.begins T.reader T.Fault.refusing B.Phase.machine) (Planned.Reading start text) input behind put pieces
+    ensures { WantsNone B.Phase.machine → (start : B) (text : T) (input untaken put : List ℕ) (pieces : List Piece)
+        → BreaksForMemory (planned_machine B.begins T.reader T.Fault.refusing B.Phase.machine) (Planned.Reading start text) input untaken put pieces
         → put ≡ [] }
 {}

@@ -47,16 +47,16 @@ pub ending_one : (ending other : Ending) → status_number ending ≡ status_num
 ending_one ending other same = sym (numbered ending) ∙ (ap ending_of same ∙ numbered other)
 
 -- what was put is what a run puts
-puts_run : {C : Type 0} (machine : Machine C) (start : C) (end : End) (ending : Ending) (was is : Talk) (input behind put : List ℕ) → ending ≡ Ended end → Puts machine start ending was is input behind → is.put ≡ was.put ++ put → Runs machine start input put end
-puts_run machine start end ending was is input behind put same puts all =
+puts_run : {C : Type 0} (machine : Machine C) (start : C) (end : End) (ending : Ending) (was is : Talk) (input untaken put : List ℕ) → ending ≡ Ended end → Puts machine start ending was is input untaken → is.put ≡ was.put ++ put → Runs machine start input put end
+puts_run machine start end ending was is input untaken put same puts all =
     let one : puts.put ≡ put = append_cancel_left was.put puts.put put (sym puts.all ∙ all) in
-    let runs : PutsFor machine start (Ended end) input behind puts.put puts.pieces = subst (λ (e : Ending). PutsFor machine start e input behind puts.put puts.pieces) same puts.puts in
+    let runs : PutsFor machine start (Ended end) input untaken puts.put puts.pieces = subst (λ (e : Ending). PutsFor machine start e input untaken puts.put puts.pieces) same puts.puts in
     subst (λ (p : List ℕ). Runs machine start input p end) one runs
 
 pub kept : (program : Program) (status : Status) (before after : Seen) → PromiseHolds program → ServesProgram program status before after → KeepsPromise program status before after
 kept (serves {C} machine start promise) status before after holds (ending, number, ran) = λ end is.
     let same : ending ≡ Ended end = ending_one ending (Ended end) (ap (λ (s : Status). s.0) (sym number ∙ is)) in
     told before.talk after.talk _ _ (λ was is inner.
-    told before.left after.left _ _ (λ input behind puts put all.
-    holds input put end (puts_run machine start end ending was is input behind put same puts all)) inner) ran.puts
+    told before.left after.left _ _ (λ input untaken puts put all.
+    holds input put end (puts_run machine start end ending was is input untaken put same puts all)) inner) ran.puts
 kept (says line number) status before after holds ran = tt

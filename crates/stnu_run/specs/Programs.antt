@@ -71,7 +71,7 @@ PromiseHolds (says line number) = Unit {0}
 abbrev pub KeepsPromise : Program → Status → (before after : Seen) → Type 0
 KeepsPromise (serves machine start promise) status before after =
     (end : End) → status ≡ record { 0 = end_number end }
-    → WhereBothTold before after (λ was is input behind. (put : List ℕ) → is.put ≡ was.put ++ put → promise input put end)
+    → WhereBothTold before after (λ was is input untaken. (put : List ℕ) → is.put ≡ was.put ++ put → promise input put end)
 KeepsPromise (says line number) status before after = Unit {0}
 
 -- the exit statuses of a program that are not for failed calls or want of memory
