@@ -7,7 +7,8 @@ use std::test::Fail;
 use stnu_run::run;
 
 /// Rows: the words, the input, what is put, and the exit status; `|` stands for a line end.
-const RUNS: &str = "stnu judge => stnu 1|point A|point B|bound b1 A B 3|bound b2 B A -5|end|certificate 1|refutation|bound b1 A B 3|bound b2 B A -5|no 1 2 A A -2|walk 3|end| => accepted not controllable| => 0
+const RUNS: &str =
+    "stnu judge => stnu 1|point A|point B|bound b1 A B 3|bound b2 B A -5|end|certificate 1|refutation|bound b1 A B 3|bound b2 B A -5|no 1 2 A A -2|walk 3|end| => accepted not controllable| => 0
 stnu judge => # a plan|stnu 1|point A|point B|bound b1 A B 3|bound b2 B A -5|end||certificate 1|refutation|bound b1 A B 3|bound b2 B A -5|no 1 2 A A -2|walk 3|end => accepted not controllable| => 0
 stnu judge => stnu 1|point A|point B|bound b1 A B 3|bound b2 B A -5|end|certificate 1|refutation|bound b1 A B 3|bound b2 B A -5|no 1 2 A A -2|walk 3|end|nothing here|is looked at => accepted not controllable| => 0
 stnu judge => stnu 1|point A|point C|point D|bound b1 D C 1|bound b2 C D -1|link A 3 8 C|end|certificate 1|refutation|bound b1 D C 1|bound b2 C D -1|link C C A -8|low C 2 A D 2|up 1 3 D A C -7|drop 5 D A -3|no 4 6 A A -1|walk 7|end| => accepted not controllable| => 0
