@@ -8,4 +8,6 @@ mod networks;
 #[cfg(test)]
 mod reductions;
 #[cfg(test)]
+mod rounds;
+#[cfg(test)]
 mod tables;

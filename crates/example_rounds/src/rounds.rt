@@ -1,0 +1,280 @@
+//! Rounds of small networks, node by node, and the refutations in which they end.
+
+ghost use Rattle.std.specs.Prelude.{◌<◌, length, IfSome, IfOk};
+ghost use Rattle.std.specs.List.{All};
+
+use crate::networks::network;
+use derivation_dag::{Dag, Node, NodeId, Plain, Rule, Supports};
+use net_model::{Edge, LinkId, Network, PointId};
+use parallel_rounds::{NoGate, Outcome, propagate};
+use std::alloc::Global;
+use std::process::Abort;
+use std::test::Fail;
+
+/// The name of a point.
+fn point_name(alloc: Global, net: &Network, point: PointId) -> Result<String, Fail> {
+    let name = net
+        .points()
+        .get(point.0 as usize)
+        .copied()
+        .ok_or("no point")?;
+    Ok(format!(in alloc; "{name}")?)
+}
+
+/// The name of a link: that of the point in which it ends.
+fn link_name(alloc: Global, net: &Network, link: LinkId) -> Result<String, Fail> {
+    let link = net.links().get(link.0 as usize).copied().ok_or("no link")?;
+    point_name(alloc, net, link.to)
+}
+
+/// The number of the line of a node, from 1.
+fn line_of(lines: &[NodeId], id: NodeId) -> Result<usize, Fail> {
+    match lines.iter().position(|line| *line == id) {
+        Some(place) => Ok(place + 1),
+        None => Err(Fail::from("no line")),
+    }
+}
+
+/// The first words of a line: the rule and its premises.
+fn rule_words(alloc: Global, net: &Network, lines: &[NodeId], rule: Rule) -> Result<String, Fail> {
+    match rule {
+        Rule::Bound(bound) => {
+            let bound = net
+                .bounds()
+                .get(bound.0 as usize)
+                .copied()
+                .ok_or("no bound")?;
+            Ok(format!(in alloc; "bound {}", bound.name)?)
+        }
+        Rule::Link(link) => Ok(format!(in alloc; "link {}", link_name(alloc, net, link)?)?),
+        Rule::No(first, second) => {
+            Ok(format!(in alloc; "no {} {}", line_of(lines, first)?, line_of(lines, second)?)?)
+        }
+        Rule::Up(first, second) => {
+            Ok(format!(in alloc; "up {} {}", line_of(lines, first)?, line_of(lines, second)?)?)
+        }
+        Rule::Low(link, second) => {
+            Ok(format!(in alloc;
+                "low {} {}",
+                link_name(alloc, net, link)?,
+                line_of(lines, second)?
+            )?)
+        }
+        Rule::Cross(link, second) => {
+            Ok(format!(in alloc;
+                "cross {} {}",
+                link_name(alloc, net, link)?,
+                line_of(lines, second)?
+            )?)
+        }
+        Rule::Drop(premise) => Ok(format!(in alloc; "drop {}", line_of(lines, premise)?)?),
+    }
+}
+
+/// The label as a line has it: a link's own edge goes without.
+fn label_word(alloc: Global, net: &Network, node: &Node) -> Result<String, Fail> {
+    match (node.rule, node.edge.label) {
+        (Rule::Link(_), _) => Ok(String::new(alloc)),
+        (_, None) => Ok(String::new(alloc)),
+        (_, Some(label)) => Ok(format!(in alloc; " {}", link_name(alloc, net, label)?)?),
+    }
+}
+
+/// A node as the line of a refutation.
+fn line(alloc: Global, net: &Network, lines: &[NodeId], node: &Node) -> Result<String, Fail> {
+    let rule = rule_words(alloc, net, lines, node.rule)?;
+    let from = point_name(alloc, net, node.edge.from)?;
+    let to = point_name(alloc, net, node.edge.to)?;
+    let label = label_word(alloc, net, node)?;
+    let weight = node.edge.weight;
+    Ok(format!(in alloc; "{rule} {from} {to}{label} {weight}|")?)
+}
+
+/// The lines of nodes of a list.
+fn push_lines(
+    alloc: Global,
+    net: &Network,
+    dag: &Dag,
+    lines: &[NodeId],
+    text: &mut String,
+) -> Result<(), Fail> {
+    for id in lines {
+        if id.0 < dag.len() {
+            let line = line(alloc, net, lines, dag.node(*id))?;
+            text.push_str(line.as_str())?;
+        }
+    }
+    Ok(())
+}
+
+fn all_ids(alloc: Global, dag: &Dag) -> Result<Vec<NodeId>, Fail> {
+    let mut ids = Vec::new(alloc);
+    for id in 0..dag.len() {
+        ids.push(NodeId(id))?;
+    }
+    Ok(ids)
+}
+
+/// The nodes of the edges of a cycle, in its order.
+fn steps(alloc: Global, store: &Plain, cycle: &[PointId]) -> Result<Vec<NodeId>, Fail>
+    ensures { IfOk result (λ ids. All (λ id. id.0 < length store.now.nodes) ids.items) }
+{
+    let mut ids = Vec::new(alloc);
+    for (place, from) in cycle.iter().enumerate() {
+        let to = cycle
+            .get(place + 1)
+            .copied()
+            .or(cycle.first().copied())
+            .ok_or("no point")?;
+        let id = node_of(store, *from, to).ok_or("no edge")?;
+        ids.push(id)?;
+    }
+    Ok(ids)
+}
+
+fn node_of(store: &Plain, from: PointId, to: PointId) -> Option<NodeId>
+    ensures { IfSome result (λ id. id.0 < length store.now.nodes) }
+{
+    let id = store.newest(&Edge {
+        from,
+        to,
+        label: None,
+        weight: 0,
+    })?;
+    if id.0 >= store.dag().len() {
+        return None;
+    }
+    Some(id)
+}
+
+/// All nodes, the count of rounds, and the refutation if they end in a cycle.
+fn shown(alloc: Global, parts: &str) -> Result<(String, String), Fail> {
+    let net = network(alloc, parts)?;
+    let mut nodes = String::new(alloc);
+    let mut end = String::new(alloc);
+    show(alloc, &net, &mut nodes, &mut end)?;
+    Ok((nodes, end))
+}
+
+fn show(alloc: Global, net: &Network, nodes: &mut String, end: &mut String) -> Result<(), Fail> {
+    let mut store = Plain::of(alloc, net)?;
+    let outcome = propagate(alloc, net, &mut store, 1, &NoGate)?;
+    let ids = all_ids(alloc, store.dag())?;
+    push_lines(alloc, net, store.dag(), ids.as_slice(), nodes)?;
+    show_end(alloc, net, &store, &outcome, end)
+}
+
+fn show_end(
+    alloc: Global,
+    net: &Network,
+    store: &Plain,
+    outcome: &Outcome,
+    end: &mut String,
+) -> Result<(), Fail> {
+    match outcome {
+        Outcome::Closed { rounds, order } => {
+            end.push_str(format!(in alloc; "closed {rounds}")?.as_str())?;
+            push_order(alloc, net, order.as_slice(), end)
+        }
+        Outcome::Looped { rounds, cycle } => {
+            end.push_str(format!(in alloc; "looped {rounds}|")?.as_str())?;
+            push_refutation(alloc, net, store, cycle.as_slice(), end)
+        }
+    }
+}
+
+fn push_order(
+    alloc: Global,
+    net: &Network,
+    order: &[PointId],
+    end: &mut String,
+) -> Result<(), Fail> {
+    for point in order {
+        let name = point_name(alloc, net, *point)?;
+        end.push_str(format!(in alloc; " {name}")?.as_str())?;
+    }
+    Ok(())
+}
+
+fn push_refutation(
+    alloc: Global,
+    net: &Network,
+    store: &Plain,
+    cycle: &[PointId],
+    end: &mut String,
+) -> Result<(), Fail> {
+    let steps = steps(alloc, store, cycle)?;
+    let lines = store.dag().ancestors(alloc, steps.as_slice())?;
+    push_lines(alloc, net, store.dag(), lines.as_slice(), end)?;
+    push_walk(alloc, lines.as_slice(), steps.as_slice(), end)
+}
+
+fn push_walk(
+    alloc: Global,
+    lines: &[NodeId],
+    steps: &[NodeId],
+    end: &mut String,
+) -> Result<(), Fail> {
+    for step in steps {
+        let number = line_of(lines, *step)?;
+        end.push_str(format!(in alloc; "walk {number}|")?.as_str())?;
+    }
+    Ok(())
+}
+
+fn check(rt: &impl Abort, alloc: Global, parts: &str, end: &str) -> Result<(), Fail> {
+    let shown = shown(alloc, parts)?;
+    assert_eq!(rt; shown.1.as_str(), end, "{parts}");
+    Ok(())
+}
+
+/// The plan whose rounds are told one by one.
+const ONE_LINK: &str = "point A|point C|point D|bound b1 D C 1|bound b2 C D -1|link A 3 8 C";
+
+/// Its nodes: those of the bounds and the link, six of round 1, two of round 2.
+const ONE_LINK_NODES: &str =
+    "bound b1 D C 1|bound b2 C D -1|link C C A -8|up 1 3 D A C -7|drop 3 C A -3|drop 4 D A -3|low C 5 A A 0|no 1 2 D D 0|low C 2 A D 2|up 9 4 A A C -5|drop 10 A A -3|";
+
+/// Plans, and how their rounds end.
+const ENDS: [(&str, &str); 7] = [
+    (
+        ONE_LINK,
+        "looped 2|bound b1 D C 1|bound b2 C D -1|link C C A -8|up 1 3 D A C -7|low C 2 A D 2|up 5 4 A A C -5|drop 6 A A -3|walk 7|",
+    ),
+    (
+        "point A|point B|bound b1 A B 3|bound b2 B A -5",
+        "looped 1|bound b1 A B 3|bound b2 B A -5|no 1 2 A A -2|walk 3|",
+    ),
+    (
+        "point A|point B|link A 1 2 B|link B 1 2 A",
+        "looped 1|link B B A -2|link A A B -2|drop 1 B A -1|drop 2 A B -1|walk 4|walk 3|",
+    ),
+    (
+        "point A1|point C1|point A2|point C2|bound p A1 C2 2|bound q A2 C1 2|link A1 1 10 C1|link A2 1 10 C2",
+        "looped 1|bound p A1 C2 2|bound q A2 C1 2|link C1 C1 A1 -10|link C2 C2 A2 -10|up 2 3 A2 A1 C1 -8|drop 5 A2 A1 -1|up 1 4 A1 A2 C2 -8|drop 7 A1 A2 -1|walk 8|walk 6|",
+    ),
+    (
+        "point X|point Y|point Z|bound a X Y 0|bound b Y X 0|bound g X Z -5|bound c Z X 3",
+        "looped 1|bound g X Z -5|bound c Z X 3|no 2 1 Z Z -2|walk 3|",
+    ),
+    (
+        "point A|point B|bound b1 A B 5|bound b2 B A -2",
+        "closed 2 A B",
+    ),
+    ("point A", "closed 1 A"),
+];
+
+#[test]
+fn nodes_of_rounds(rt: HostRuntime) -> Result<(), Fail> {
+    let shown = shown(rt.alloc(), ONE_LINK)?;
+    assert_eq!(rt; shown.0.as_str(), ONE_LINK_NODES);
+    Ok(())
+}
+
+#[test]
+fn ends_of_rounds(rt: HostRuntime) -> Result<(), Fail> {
+    for (parts, end) in ENDS {
+        check(&rt, rt.alloc(), parts, end)?;
+    }
+    Ok(())
+}
