@@ -1,0 +1,10 @@
+pub mod Places
+pub mod Named
+pub mod Stating
+pub mod RulesPass
+pub mod LinesPass
+pub mod WalkPasses
+pub mod LawProofs
+pub mod Numbering
+pub mod CycleSteps
+pub mod CanBeMade
