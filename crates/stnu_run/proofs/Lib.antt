@@ -1,9 +1,11 @@
 pub mod FaultLemmas
 pub mod PathLemmas
 pub mod NetworkLemmas
+pub mod TextFacts
 pub mod StandingLemmas
 pub mod ReachingLemmas
 pub mod OnceLemmas
+pub mod TextLemmas
 pub mod JudgeLemmas
 pub mod KeptLemmas
 pub mod SingleLemmas

@@ -23,7 +23,8 @@ use Rattle.cert_format.proofs.FrontLemmas.{front_read}
 use Rattle.cert_format.proofs.OnceLemmas as certificate_once
 use Rattle.cert_format.proofs.ReadingLemmas.{ReadsSo, lines_read}
 use Rattle.commands.specs.declared.pairs.Then.TheVariants.{First, Second}
-use Rattle.stnu_run.specs.ToJudge.{DeclareBoth, IsFormatFault, RefusesAtEnd}
+use Rattle.stnu_run.specs.ToJudge.{DeclareBoth, IsFormatFault}
+use Rattle.stnu_run.specs.ToRead.{RefusesAtEnd}
 use Rattle.stnu_run.proofs.StandingLemmas.{Both, Stands, declares_more, after_plan}
 
 -- ---- one plan
