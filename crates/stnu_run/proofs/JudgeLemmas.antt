@@ -49,7 +49,7 @@ underway before (First text other) stands = inl (text.reader, stands.0)
 underway before (Second net text) stands = inr (net, stands.0, text.reader, stands.1, stands.2)
 
 -- what stands before ends of one length is the same
-front_same : (a b c d : List (List ℕ)) → a ++ b ≡ c ++ d → length b ≡ length d → a ≡ c
+pub front_same : (a b c d : List (List ℕ)) → a ++ b ≡ c ++ d → length b ≡ length d → a ≡ c
 front_same [] b [] d same size = refl
 front_same [] b (x ∷ c) d same size =
     let all : length b ≡ length (x ∷ (c ++ d)) = ap length same in

@@ -7,5 +7,6 @@ pub mod ReachingLemmas
 pub mod OnceLemmas
 pub mod TextLemmas
 pub mod JudgeLemmas
+pub mod PlanLemmas
 pub mod KeptLemmas
 pub mod SingleLemmas
