@@ -1,2 +1,4 @@
 //! The certificate that refutes a network, made from a derivation list and a cycle of negative ordinary edges of its table.
 #![tactic(auto)]
+
+pub mod laws;
