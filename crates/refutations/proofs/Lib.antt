@@ -5,3 +5,6 @@ pub mod RulesPass
 pub mod LinesPass
 pub mod WalkPasses
 pub mod LawProofs
+pub mod Numbering
+pub mod CycleSteps
+pub mod CanBeMade

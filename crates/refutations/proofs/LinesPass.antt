@@ -55,7 +55,8 @@ pub record Passes (net : Plan) (earlier : List CertLine) (line : CertLine) (kind
 pub line_ok : (net : Plan) (earlier : List CertLine) (line : CertLine) → is_some (point_named net line.from) ≡ true → is_some (point_named net line.to) ≡ true → in_range line.weight ≡ true → Passes net earlier line line.kind → line_passes net earlier line ≡ Ok tt
 unfolding line_passes names_known
 line_ok net earlier line from to weight passes =
-    let names : names_known net line ≡ true = both (is_some (point_named net line.from) && is_some (point_named net line.to) && item_known net line.kind) (label_known net line.label) (both (is_some (point_named net line.from) && is_some (point_named net line.to)) (item_known net line.kind) (both (is_some (point_named net line.from)) (is_some (point_named net line.to)) from to) passes.item) passes.label in
+    let names : names_known net line ≡ true = both (is_some (point_named net line.from) && is_some (point_named net line.to) && item_known net line.kind) (label_known net line.label) (both (is_some (point_named net line.from) && is_some (point_named net line.to)) (item_known net line.kind)
+    (both (is_some (point_named net line.from)) (is_some (point_named net line.to)) from to) passes.item) passes.label in
     goes_on (unless (names_known net line) UnknownItem) _ tt (Ok tt) (unless_is (names_known net line) UnknownItem names) (goes_on (unless (in_range line.weight) WeightRange) _ tt (Ok tt) (unless_is (in_range line.weight) WeightRange weight) passes.rule)
 
 within_range : (weight : ℤ) (most : ℕ) → unsigned_abs weight ≤ most → most ≤ most_size → in_range weight ≡ true
@@ -182,7 +183,8 @@ module _ (net : Plan) (plan : IsPlan net) (nodes : List Node) (list : IsDerivati
       line_passes_by rule edge (made_no first second one two from_one from_two gave) inside sound states = record {
         item = refl;
         label = refl;
-        rule = no_ok net plan (line_by net lines (record { rule = by_rule.No first second; edge = edge })) edge states (take k (lines_by net nodes lines)) (line_of lines first) (line_of lines second) (line_by net lines from_one.node) (line_by net lines from_two.node) one two (premise_line k id.0 id first one from_one refl at (inside first (Contains-head first (second ∷ [])))) (premise_line k id.0 id second two from_two refl at (inside second (Contains-tail first (second ∷ []) second (Contains-head second [])))) (premise_says id.0 first one from_one) (premise_says id.0 second two from_two) (no_case_gives one two edge gave);
+        rule = no_ok net plan (line_by net lines (record { rule = by_rule.No first second; edge = edge })) edge states (take k (lines_by net nodes lines)) (line_of lines first) (line_of lines second) (line_by net lines from_one.node) (line_by net lines from_two.node) one two
+            (premise_line k id.0 id first one from_one refl at (inside first (Contains-head first (second ∷ [])))) (premise_line k id.0 id second two from_two refl at (inside second (Contains-tail first (second ∷ []) second (Contains-head second [])))) (premise_says id.0 first one from_one) (premise_says id.0 second two from_two) (no_case_gives one two edge gave);
       }
       line_passes_by rule edge (made_up first second one two from_one from_two gave) inside sound states =
           let gives = upper_case_gives one two edge gave in
@@ -190,7 +192,9 @@ module _ (net : Plan) (plan : IsPlan net) (nodes : List Node) (list : IsDerivati
           record {
             item = refl;
             label = named_label edge gives.label sound label;
-            rule = up_ok net plan (line_by net lines (record { rule = by_rule.Up first second; edge = edge })) edge states (take k (lines_by net nodes lines)) (line_of lines first) (line_of lines second) (line_by net lines from_one.node) (line_by net lines from_two.node) one two (premise_line k id.0 id first one from_one refl at (inside first (Contains-head first (second ∷ [])))) (premise_line k id.0 id second two from_two refl at (inside second (Contains-tail first (second ∷ []) second (Contains-head second [])))) (premise_says id.0 first one from_one) (premise_says id.0 second two from_two) gives (ap (λ o. Some (label_name net o)) label);
+            rule = up_ok net plan (line_by net lines (record { rule = by_rule.Up first second; edge = edge })) edge states (take k (lines_by net nodes lines)) (line_of lines first) (line_of lines second) (line_by net lines from_one.node) (line_by net lines from_two.node) one two
+                (premise_line k id.0 id first one from_one refl at (inside first (Contains-head first (second ∷ [])))) (premise_line k id.0 id second two from_two refl at (inside second (Contains-tail first (second ∷ []) second (Contains-head second [])))) (premise_says id.0 first one from_one)
+                (premise_says id.0 second two from_two) gives (ap (λ o. Some (label_name net o)) label);
           }
       line_passes_by rule edge (made_low name second two from_two gave) inside sound states =
           let gives = lower_case_gives net name two edge gave in
@@ -205,12 +209,14 @@ module _ (net : Plan) (plan : IsPlan net) (nodes : List Node) (list : IsDerivati
           record {
             item = link_is_known name gives.link gives.declared;
             label = named_label edge gives.label sound label;
-            rule = cross_ok net plan (line_by net lines (record { rule = by_rule.Cross name second; edge = edge })) edge states (take k (lines_by net nodes lines)) name (line_of lines second) (line_by net lines from_two.node) two (premise_line k id.0 id second two from_two refl at (inside second (Contains-head second []))) (premise_says id.0 second two from_two) gives (premise_edge id.0 second two from_two) (ap (λ o. Some (label_name net o)) label);
+            rule = cross_ok net plan (line_by net lines (record { rule = by_rule.Cross name second; edge = edge })) edge states (take k (lines_by net nodes lines)) name (line_of lines second) (line_by net lines from_two.node) two
+                (premise_line k id.0 id second two from_two refl at (inside second (Contains-head second []))) (premise_says id.0 second two from_two) gives (premise_edge id.0 second two from_two) (ap (λ o. Some (label_name net o)) label);
           }
       line_passes_by rule edge (made_drop premise one from_one gave) inside sound states = record {
         item = refl;
         label = refl;
-        rule = drop_ok net plan (line_by net lines (record { rule = by_rule.Drop premise; edge = edge })) edge states (take k (lines_by net nodes lines)) (line_of lines premise) (line_by net lines from_one.node) one (premise_line k id.0 id premise one from_one refl at (inside premise (Contains-head premise []))) (premise_says id.0 premise one from_one) (removal_gives net one edge gave);
+        rule = drop_ok net plan (line_by net lines (record { rule = by_rule.Drop premise; edge = edge })) edge states (take k (lines_by net nodes lines)) (line_of lines premise) (line_by net lines from_one.node) one
+            (premise_line k id.0 id premise one from_one refl at (inside premise (Contains-head premise []))) (premise_says id.0 premise one from_one) (removal_gives net one edge gave);
       }
 
       pub node_passes : (node : Node) → node_at nodes id ≡ Some node → line_passes net (take k (lines_by net nodes lines)) (line_by net lines node) ≡ Ok tt

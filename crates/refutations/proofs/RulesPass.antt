@@ -76,7 +76,8 @@ module _ (net : Plan) (plan : IsPlan net) where
         let sound = bound_at net plan id.0 bound here in
         let from = stands_for line.from edge.from bound.from says.from (sym (ap (λ (e : Edge). e.from) is)) sound.from_point in
         let to = stands_for line.to edge.to bound.to says.to (sym (ap (λ (e : Edge). e.to) is)) sound.to_point in
-        goes_on (there (bound_of net (bound_name net id)) UnknownItem) _ bound (Ok tt) (there_is (bound_of net (bound_name net id)) UnknownItem bound (bound_known net plan id bound here).1) (goes_on (unless (goes net line bound.from bound.to) Ends) _ tt (Ok tt) (unless_is (goes net line bound.from bound.to) Ends (both (names_point net line.from bound.from) (names_point net line.to bound.to) from to)) (at_least_is line bound.most edge.weight says.weight (same_le bound.most edge.weight (ap (λ (e : Edge). e.weight) is))))
+        goes_on (there (bound_of net (bound_name net id)) UnknownItem) _ bound (Ok tt) (there_is (bound_of net (bound_name net id)) UnknownItem bound (bound_known net plan id bound here).1) (goes_on (unless (goes net line bound.from bound.to) Ends) _ tt (Ok tt)
+        (unless_is (goes net line bound.from bound.to) Ends (both (names_point net line.from bound.from) (names_point net line.to bound.to) from to)) (at_least_is line bound.most edge.weight says.weight (same_le bound.most edge.weight (ap (λ (e : Edge). e.weight) is))))
 
     pub link_ok : (id : LinkId) (link : Link) → slice_get net.links id.0 ≡ Some link → link_edge id link ≡ edge → link_passes net line (link_name net id) ≡ Ok tt
     unfolding link_passes
@@ -84,7 +85,8 @@ module _ (net : Plan) (plan : IsPlan net) where
         let sound = link_at net plan id link here in
         let from = stands_for line.from edge.from link.to says.from (sym (ap (λ (e : Edge). e.from) is)) sound.to_point in
         let to = stands_for line.to edge.to link.from says.to (sym (ap (λ (e : Edge). e.to) is)) sound.from_point in
-        goes_on (there (link_named net (link_name net id)) UnknownItem) _ link (Ok tt) (there_is (link_named net (link_name net id)) UnknownItem link (link_known net plan id link here).1) (goes_on (unless (goes net line link.to link.from) Ends) _ tt (Ok tt) (unless_is (goes net line link.to link.from) Ends (both (names_point net line.from link.to) (names_point net line.to link.from) from to)) (at_least_is line (pos 0 -ℤ link.high) edge.weight says.weight (same_le (pos 0 -ℤ link.high) edge.weight (ap (λ (e : Edge). e.weight) is))))
+        goes_on (there (link_named net (link_name net id)) UnknownItem) _ link (Ok tt) (there_is (link_named net (link_name net id)) UnknownItem link (link_known net plan id link here).1) (goes_on (unless (goes net line link.to link.from) Ends) _ tt (Ok tt)
+        (unless_is (goes net line link.to link.from) Ends (both (names_point net line.from link.to) (names_point net line.to link.from) from to)) (at_least_is line (pos 0 -ℤ link.high) edge.weight says.weight (same_le (pos 0 -ℤ link.high) edge.weight (ap (λ (e : Edge). e.weight) is))))
 
     sum_ok : (first second : CertLine) (one two : Edge) → Says net first one → Says net second two → one.to ≡ two.from → edge.from ≡ one.from → edge.to ≡ two.to → (one.weight +ℤ two.weight) ≤ℤ edge.weight → sum_passes first second line ≡ Ok tt
     unfolding sum_passes
@@ -93,7 +95,8 @@ module _ (net : Plan) (plan : IsPlan net) where
         let joined = meet_there first.to second.from one.to two.from says_one.to says_two.from meet in
         let ends = meet_there second.to line.to two.to edge.to says_two.to says.to (sym to) in
         let sum : (first.weight +ℤ second.weight) ≡ (one.weight +ℤ two.weight) = ap (λ w. w +ℤ second.weight) says_one.weight ∙ ap (λ w. one.weight +ℤ w) says_two.weight in
-        goes_on (unless (joins first second line) Ends) _ tt (Ok tt) (unless_is (joins first second line) Ends (both (bytes_eq first.from line.from && bytes_eq first.to second.from) (bytes_eq second.to line.to) (both (bytes_eq first.from line.from) (bytes_eq first.to second.from) begins joined) ends)) (ap (at_least line) sum ∙ at_least_is line (one.weight +ℤ two.weight) edge.weight says.weight less)
+        goes_on (unless (joins first second line) Ends) _ tt (Ok tt) (unless_is (joins first second line) Ends (both (bytes_eq first.from line.from && bytes_eq first.to second.from) (bytes_eq second.to line.to)
+        (both (bytes_eq first.from line.from) (bytes_eq first.to second.from) begins joined) ends)) (ap (at_least line) sum ∙ at_least_is line (one.weight +ℤ two.weight) edge.weight says.weight less)
 
     unlabelled : (premise : CertLine) (e : Edge) → Says net premise e → e.label ≡ None → label_of premise ≡ None
     unlabelled premise e states is = states.label ∙ ap (option_map (link_name net)) is
@@ -106,14 +109,16 @@ module _ (net : Plan) (plan : IsPlan net) where
       unfolding no_passes
       no_ok i j first second one two at_i at_j says_one says_two gives =
           let plain = both (is_none (label_of first)) (is_none (label_of second)) (ap is_none (unlabelled first one says_one gives.first_ordinary)) (ap is_none (unlabelled second two says_two gives.second_ordinary)) in
-          goes_on (there (line_at earlier i) Premise) _ first (Ok tt) (there_is (line_at earlier i) Premise first at_i) (goes_on (there (line_at earlier j) Premise) _ second (Ok tt) (there_is (line_at earlier j) Premise second at_j) (goes_on (unless (are_ordinary first second) Label) _ tt (Ok tt) (unless_is (are_ordinary first second) Label plain) (sum_ok first second one two says_one says_two gives.meeting (sym (ap (λ (e : Edge). e.from) gives.is)) (sym (ap (λ (e : Edge). e.to) gives.is)) (joined_least one.weight two.weight edge.weight (ap (λ (e : Edge). e.weight) gives.is)))))
+          goes_on (there (line_at earlier i) Premise) _ first (Ok tt) (there_is (line_at earlier i) Premise first at_i) (goes_on (there (line_at earlier j) Premise) _ second (Ok tt) (there_is (line_at earlier j) Premise second at_j)
+          (goes_on (unless (are_ordinary first second) Label) _ tt (Ok tt) (unless_is (are_ordinary first second) Label plain) (sum_ok first second one two says_one says_two gives.meeting (sym (ap (λ (e : Edge). e.from) gives.is)) (sym (ap (λ (e : Edge). e.to) gives.is)) (joined_least one.weight two.weight edge.weight (ap (λ (e : Edge). e.weight) gives.is)))))
 
       pub up_ok : (i j : ℕ) (first second : CertLine) (one two : Edge) → line_at earlier i ≡ Some first → line_at earlier j ≡ Some second → Says net first one → Says net second two → (gives : UpperCaseGives one two edge) → line.label ≡ Some (link_name net gives.label) → up_passes earlier line i j ≡ Ok tt
       unfolding up_passes
       up_ok i j first second one two at_i at_j says_one says_two gives own =
           let label = same_labels line.label (label_of second) (link_name net gives.label) own (labelled second two gives.label says_two gives.second_labelled) in
           let labels = both (is_none (label_of first)) (has_label_of line second) (ap is_none (unlabelled first one says_one gives.first_ordinary)) label in
-          goes_on (there (line_at earlier i) Premise) _ first (Ok tt) (there_is (line_at earlier i) Premise first at_i) (goes_on (there (line_at earlier j) Premise) _ second (Ok tt) (there_is (line_at earlier j) Premise second at_j) (goes_on (unless (takes_label line first second) Label) _ tt (Ok tt) (unless_is (takes_label line first second) Label labels) (sum_ok first second one two says_one says_two gives.meeting (sym (ap (λ (e : Edge). e.from) gives.is)) (sym (ap (λ (e : Edge). e.to) gives.is)) (joined_least one.weight two.weight edge.weight (ap (λ (e : Edge). e.weight) gives.is)))))
+          goes_on (there (line_at earlier i) Premise) _ first (Ok tt) (there_is (line_at earlier i) Premise first at_i) (goes_on (there (line_at earlier j) Premise) _ second (Ok tt) (there_is (line_at earlier j) Premise second at_j)
+          (goes_on (unless (takes_label line first second) Label) _ tt (Ok tt) (unless_is (takes_label line first second) Label labels) (sum_ok first second one two says_one says_two gives.meeting (sym (ap (λ (e : Edge). e.from) gives.is)) (sym (ap (λ (e : Edge). e.to) gives.is)) (joined_least one.weight two.weight edge.weight (ap (λ (e : Edge). e.weight) gives.is)))))
 
       back_ok : (link : Link) (second : CertLine) (two : Edge) → Says net second two → IsLink net link → two.from ≡ link.to → edge.from ≡ link.from → edge.to ≡ two.to → (link.low +ℤ two.weight) ≡ edge.weight → back_passes net link second line ≡ Ok tt
       unfolding back_passes
@@ -122,13 +127,17 @@ module _ (net : Plan) (plan : IsPlan net) where
           let at_start = stands_for line.from edge.from link.from says.from from sound.from_point in
           let ends = meet_there second.to line.to two.to edge.to says_two.to says.to (sym to) in
           let sum : (link.low +ℤ second.weight) ≡ edge.weight = ap (λ w. link.low +ℤ w) says_two.weight ∙ weight in
-          goes_on (unless (reaches_back net link second line) Ends) _ tt (Ok tt) (unless_is (reaches_back net link second line) Ends (both (names_point net second.from link.to && names_point net line.from link.from) (bytes_eq second.to line.to) (both (names_point net second.from link.to) (names_point net line.from link.from) at_end at_start) ends)) (at_least_is line (link.low +ℤ second.weight) edge.weight says.weight (same_le (link.low +ℤ second.weight) edge.weight sum))
+          goes_on (unless (reaches_back net link second line) Ends) _ tt (Ok tt) (unless_is (reaches_back net link second line) Ends (both (names_point net second.from link.to && names_point net line.from link.from) (bytes_eq second.to line.to)
+          (both (names_point net second.from link.to) (names_point net line.from link.from) at_end at_start) ends)) (at_least_is line (link.low +ℤ second.weight) edge.weight says.weight (same_le (link.low +ℤ second.weight) edge.weight sum))
 
       pub low_ok : (name : LinkId) (j : ℕ) (second : CertLine) (two : Edge) → line_at earlier j ≡ Some second → Says net second two → LowerCaseGives net name two edge → low_passes net earlier line (link_name net name) j ≡ Ok tt
       unfolding low_passes
       low_ok name j second two at_j says_two gives =
           let sound = link_at net plan name gives.link gives.declared in
-          goes_on (there (line_at earlier j) Premise) _ second (Ok tt) (there_is (line_at earlier j) Premise second at_j) (goes_on (unless (is_none (label_of second)) Label) _ tt (Ok tt) (unless_is (is_none (label_of second)) Label (ap is_none (unlabelled second two says_two gives.second_ordinary))) (goes_on (unless (is_negative second.weight) RuleCondition) _ tt (Ok tt) (unless_is (is_negative second.weight) RuleCondition (negative_test second two.weight says_two.weight gives.negative)) (goes_on (there (link_named net (link_name net name)) UnknownItem) _ gives.link (Ok tt) (there_is (link_named net (link_name net name)) UnknownItem gives.link (link_known net plan name gives.link gives.declared).1) (back_ok gives.link second two says_two sound gives.begins (sym (ap (λ (e : Edge). e.from) gives.is)) (sym (ap (λ (e : Edge). e.to) gives.is)) (ap (λ (e : Edge). e.weight) gives.is)))))
+          goes_on (there (line_at earlier j) Premise) _ second (Ok tt) (there_is (line_at earlier j) Premise second at_j) (goes_on (unless (is_none (label_of second)) Label) _ tt (Ok tt) (unless_is (is_none (label_of second)) Label (ap is_none (unlabelled second two says_two gives.second_ordinary)))
+          (goes_on (unless (is_negative second.weight) RuleCondition) _ tt (Ok tt) (unless_is (is_negative second.weight) RuleCondition (negative_test second two.weight says_two.weight gives.negative))
+          (goes_on (there (link_named net (link_name net name)) UnknownItem) _ gives.link (Ok tt) (there_is (link_named net (link_name net name)) UnknownItem gives.link (link_known net plan name gives.link gives.declared).1) (back_ok gives.link second two says_two sound gives.begins (sym (ap (λ (e : Edge). e.from) gives.is)) (sym (ap (λ (e : Edge).
+          e.to) gives.is)) (ap (λ (e : Edge). e.weight) gives.is)))))
 
       pub cross_ok : (name : LinkId) (j : ℕ) (second : CertLine) (two : Edge) → line_at earlier j ≡ Some second → Says net second two → (gives : CrossCaseGives net name two edge) → IsEdge net two → line.label ≡ Some (link_name net gives.label) → cross_passes net earlier line (link_name net name) j ≡ Ok tt
       unfolding cross_passes
@@ -139,7 +148,10 @@ module _ (net : Plan) (plan : IsPlan net) where
           let apart = links_differ net plan gives.label name of_label.0 gives.link of_label.1 gives.declared gives.another in
           let another : not (same_label line.label (Some (link_name net name))) ≡ true = ap (λ o. not (same_label o (Some (link_name net name)))) own ∙ ap not apart in
           let condition = both (is_negative second.weight) (not (same_label line.label (Some (link_name net name)))) (negative_test second two.weight says_two.weight gives.negative) another in
-          goes_on (there (line_at earlier j) Premise) _ second (Ok tt) (there_is (line_at earlier j) Premise second at_j) (goes_on (unless (has_label_of line second) Label) _ tt (Ok tt) (unless_is (has_label_of line second) Label label) (goes_on (unless (may_cross line second (link_name net name)) RuleCondition) _ tt (Ok tt) (unless_is (may_cross line second (link_name net name)) RuleCondition condition) (goes_on (there (link_named net (link_name net name)) UnknownItem) _ gives.link (Ok tt) (there_is (link_named net (link_name net name)) UnknownItem gives.link (link_known net plan name gives.link gives.declared).1) (back_ok gives.link second two says_two sound gives.begins (sym (ap (λ (e : Edge). e.from) gives.is)) (sym (ap (λ (e : Edge). e.to) gives.is)) (ap (λ (e : Edge). e.weight) gives.is)))))
+          goes_on (there (line_at earlier j) Premise) _ second (Ok tt) (there_is (line_at earlier j) Premise second at_j) (goes_on (unless (has_label_of line second) Label) _ tt (Ok tt) (unless_is (has_label_of line second) Label label)
+          (goes_on (unless (may_cross line second (link_name net name)) RuleCondition) _ tt (Ok tt) (unless_is (may_cross line second (link_name net name)) RuleCondition condition)
+          (goes_on (there (link_named net (link_name net name)) UnknownItem) _ gives.link (Ok tt) (there_is (link_named net (link_name net name)) UnknownItem gives.link (link_known net plan name gives.link gives.declared).1) (back_ok gives.link second two says_two sound gives.begins (sym (ap (λ (e : Edge). e.from) gives.is)) (sym (ap (λ (e : Edge).
+          e.to) gives.is)) (ap (λ (e : Edge). e.weight) gives.is)))))
 
       pub drop_ok : (j : ℕ) (premise : CertLine) (one : Edge) → line_at earlier j ≡ Some premise → Says net premise one → RemovalGives net one edge → drop_passes net earlier line j ≡ Ok tt
       unfolding drop_passes
@@ -148,4 +160,7 @@ module _ (net : Plan) (plan : IsPlan net) where
           let begins = meet_there premise.from line.from one.from edge.from says_one.from says.from (ap (λ (e : Edge). e.from) gives.is) in
           let ends = meet_there premise.to line.to one.to edge.to says_one.to says.to (ap (λ (e : Edge). e.to) gives.is) in
           let least : int_max premise.weight (pos 0 -ℤ gives.link.low) ≡ edge.weight = ap (λ w. int_max w (pos 0 -ℤ gives.link.low)) says_one.weight ∙ ap (λ (e : Edge). e.weight) gives.is in
-          goes_on (there (line_at earlier j) Premise) _ premise (Ok tt) (there_is (line_at earlier j) Premise premise at_j) (goes_on (there (label_of premise) Label) _ (link_name net gives.name) (Ok tt) (there_is (label_of premise) Label (link_name net gives.name) label) (goes_on (unless (has_ends_of line premise) Ends) _ tt (Ok tt) (unless_is (has_ends_of line premise) Ends (both (bytes_eq premise.from line.from) (bytes_eq premise.to line.to) begins ends)) (goes_on (there (link_named net (link_name net gives.name)) UnknownItem) _ gives.link (Ok tt) (there_is (link_named net (link_name net gives.name)) UnknownItem gives.link (link_known net plan gives.name gives.link gives.declared).1) (at_least_is line (int_max premise.weight (pos 0 -ℤ gives.link.low)) edge.weight says.weight (same_le (int_max premise.weight (pos 0 -ℤ gives.link.low)) edge.weight least)))))
+          goes_on (there (line_at earlier j) Premise) _ premise (Ok tt) (there_is (line_at earlier j) Premise premise at_j) (goes_on (there (label_of premise) Label) _ (link_name net gives.name) (Ok tt) (there_is (label_of premise) Label (link_name net gives.name) label)
+          (goes_on (unless (has_ends_of line premise) Ends) _ tt (Ok tt) (unless_is (has_ends_of line premise) Ends (both (bytes_eq premise.from line.from) (bytes_eq premise.to line.to) begins ends))
+          (goes_on (there (link_named net (link_name net gives.name)) UnknownItem) _ gives.link (Ok tt) (there_is (link_named net (link_name net gives.name)) UnknownItem gives.link (link_known net plan gives.name gives.link gives.declared).1) (at_least_is line (int_max premise.weight (pos 0 -ℤ gives.link.low)) edge.weight says.weight (same_le (int_max
+          premise.weight (pos 0 -ℤ gives.link.low)) edge.weight least)))))

@@ -129,7 +129,8 @@ module _ (net : Plan) (plan : IsPlan net) (support : Support) (stands : StandsOn
       )
 
   -- each step names a line, and these go by the keys
-  steps_ok : (keys : List Key) (steps : List NodeId) (place : ℕ) → AllZip (IsNodeOf support.nodes) keys steps → AllByRecursion (IsNegativeKey support.table) keys → ((id : NodeId) → Contains steps id → Contains tops id) → (steps_known (lines_by net support.nodes lines) place (map (line_of lines) steps) ≡ Ok tt) × AllZip (GoesBy net) keys (walked (lines_by net support.nodes lines) (map (line_of lines) steps))
+  steps_ok : (keys : List Key) (steps : List NodeId) (place : ℕ) → AllZip (IsNodeOf support.nodes) keys steps → AllByRecursion (IsNegativeKey support.table) keys → ((id : NodeId) → Contains steps id → Contains tops id)
+      → (steps_known (lines_by net support.nodes lines) place (map (line_of lines) steps) ≡ Ok tt) × AllZip (GoesBy net) keys (walked (lines_by net support.nodes lines) (map (line_of lines) steps))
   steps_ok [] [] place zip negative among = (refl, tt)
   steps_ok [] (step ∷ steps) place zip negative among = absurd zip
   steps_ok (key ∷ keys) [] place zip negative among = absurd zip

@@ -48,6 +48,7 @@ kind_of net lines (by_rule.Drop premise) = kind.Drop (line_of lines premise)
 abbrev pub only_if : {A : Type 0} → Bool → A → Option A
 only_if wanted item = if wanted then Some item else None
 
+-- it is there exactly then
 pub is_there : {A : Type 0} (wanted : Bool) (item : A) → is_some (only_if wanted item) ≡ wanted
 is_there true item = refl
 is_there false item = refl
@@ -70,15 +71,19 @@ line_by net lines node =
       labelled = is_there (has_label kind) name;
     }
 
+-- some of the lines' nodes as rule lines, in their order
+abbrev pub lines_among : Plan → List Node → (lines ids : List NodeId) → List CertLine
+lines_among net nodes lines ids = filter_map (λ id. option_map (line_by net lines) (node_at nodes id)) ids
+
 -- nodes as rule lines, in their order
 abbrev pub lines_by : Plan → List Node → List NodeId → List CertLine
-lines_by net nodes lines = filter_map (λ id. option_map (line_by net lines) (node_at nodes id)) lines
+lines_by net nodes lines = lines_among net nodes lines lines
 
 -- the certificate with nodes of a list as its rule lines, and with a walk
 abbrev pub certificate_by : Plan → List Node → List NodeId → List ℕ → Certificate
 certificate_by net nodes lines walk = Refutation (lines_by net nodes lines) walk
 
--- a certificate is the one by the refutation of a network by a cycle
+-- a certificate is the one by the refutation by a cycle, of which nodes are lines and which gives the walk
 pub record IsCertificateBy (net : Plan) (nodes : List Node) (cycle : List PointId) (certificate : Certificate) : Type 0 where
   pub lines : List NodeId
   pub walk : List ℕ

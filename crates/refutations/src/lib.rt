@@ -2,3 +2,8 @@
 #![tactic(auto)]
 
 pub mod laws;
+mod lines;
+mod names;
+mod refuting;
+
+pub use refuting::refutation;

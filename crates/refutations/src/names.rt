@@ -1,0 +1,29 @@
+//! The names of what a rule line states.
+
+ghost use Rattle.std.specs.Prelude.{◌≡◌, ◌<◌, length};
+ghost use Rattle.net_model.specs.Network.{IsPoint};
+ghost use Rattle.refutations.specs.Certifying.{point_name, bound_name, link_name};
+
+use net_model::{BoundId, LinkId, Name, Network, PointId};
+
+pub(crate) fn point_name(net: &Network, point: PointId) -> Name
+    requires { IsPoint net.now point }
+    ensures { result ≡ point_name net.now point }
+{
+    net.points()[point.0 as usize]
+}
+
+pub(crate) fn bound_name(net: &Network, bound: BoundId) -> Name
+    requires { bound.0 < length net.now.bounds }
+    ensures { result ≡ bound_name net.now bound }
+{
+    net.bounds()[bound.0 as usize].name
+}
+
+/// The name of the contingent point of a link.
+pub(crate) fn link_name(net: &Network, link: LinkId) -> Name
+    requires { link.0 < length net.now.links }
+    ensures { result ≡ link_name net.now link }
+{
+    point_name(net, net.links()[link.0 as usize].to)
+}
