@@ -1,10 +1,9 @@
 -- The words of a refusal are short.
 use Rattle.std.proofs.Common.{◌≤◌, length, lit≤}
 use Rattle.net_model.specs.Formats.{format_word}
-use Rattle.net_model.specs.Building.{word_of, which_word}
+use Rattle.net_model.specs.Building.{which_word}
 use Rattle.net_model.specs.declared.format.FormatKind.{FormatKind}
 use Rattle.net_model.specs.declared.format.FormatKind.TheVariants as kind
-use Rattle.net_model.specs.declared.fault.BuildFault.{BuildFault}
 use Rattle.net_model.specs.declared.fault.BuildFault.TheVariants as part
 use Rattle.net_model.specs.declared.part.Which.{Which}
 use Rattle.net_model.specs.declared.part.Which.TheVariants as which

@@ -1,5 +1,5 @@
 -- `judge` keeps its promise.
-use Rattle.std.proofs.Common.{◌≡◌, ◌≢◌, ℕ, ◌+◌, List, [], ◌∷◌, ◌++◌, length, get_or, refl, sym, ap, ◌∙◌, subst, arith, inl, inr, append_assoc, length-append, codes}
+use Rattle.std.proofs.Common.{◌≡◌, ℕ, ◌+◌, List, [], ◌∷◌, ◌++◌, length, get_or, refl, sym, ap, ◌∙◌, subst, arith, inl, inr, append_assoc, length-append, codes}
 use Rattle.std.proofs.lemmas.List.Elements.{All-nil}
 use Rattle.texts.specs.Lines.{lines}
 use Rattle.texts.specs.Printing.{printed_line}

@@ -8,5 +8,10 @@ pub mod OnceLemmas
 pub mod TextLemmas
 pub mod JudgeLemmas
 pub mod PlanLemmas
+pub mod OrderedLemmas
+pub mod VerdictLemmas
+pub mod CheckLemmas
+pub mod AnswerLemmas
 pub mod KeptLemmas
+pub mod RefutationLemmas
 pub mod SingleLemmas

@@ -1,11 +1,10 @@
 -- The reader of plans reads by their grammar.
-use Rattle.std.proofs.Common.{◌≡◌, ℕ, ◌+◌, List, [], ◌∷◌, ◌++◌, length, refl, sym, ap, ◌∙◌, subst, arith, inl, append_assoc}
+use Rattle.std.proofs.Common.{◌≡◌, ℕ, ◌+◌, List, [], ◌∷◌, ◌++◌, length, refl, sym, ap, subst, inl}
 use Rattle.std.proofs.lemmas.List.Elements.{All-nil}
 use Rattle.texts.specs.Words.{words}
 use Rattle.net_model.specs.Network.{Plan}
 use Rattle.net_model.specs.declared.format.FormatKind.{FormatKind}
 use Rattle.net_model.specs.declared.format.FormatFault.{FormatFault}
-use Rattle.plan_format.specs.PlanFaults.{IsFirstFault}
 use Rattle.plan_format.specs.PlanGrammar.{IsLine}
 use Rattle.plan_format.specs.PlanNetwork.{DeclaresNetwork}
 use Rattle.plan_format.specs.PlanReading as plan

@@ -7,4 +7,6 @@ pub mod ToRead
 pub mod ToJudge
 pub mod ToCheck
 pub mod JudgePromise
+pub mod Checking
+pub mod CheckPromise
 pub mod Programs

@@ -1,5 +1,4 @@
 use Rattle.std.proofs.Common.{◌≤◌, ℕ, length, List, subst, sym, arith}
-use Rattle.stnu_run.specs.Faults.{fault_class, fault_word}
 use Rattle.stnu_run.proofs.FaultLemmas.{class_short, word_short}
 use Rattle.stnu_run.proofs.faults.FaultRefusal.put.Goals as goal
 
