@@ -1,9 +1,17 @@
 pub mod FaultLemmas
 pub mod PathLemmas
 pub mod NetworkLemmas
+pub mod TextFacts
 pub mod StandingLemmas
 pub mod ReachingLemmas
 pub mod OnceLemmas
+pub mod TextLemmas
 pub mod JudgeLemmas
+pub mod PlanLemmas
+pub mod OrderedLemmas
+pub mod VerdictLemmas
+pub mod CheckLemmas
+pub mod AnswerLemmas
 pub mod KeptLemmas
+pub mod RefutationLemmas
 pub mod SingleLemmas

@@ -23,21 +23,22 @@ use Rattle.cert_format.proofs.FrontLemmas.{front_read}
 use Rattle.cert_format.proofs.OnceLemmas as certificate_once
 use Rattle.cert_format.proofs.ReadingLemmas.{ReadsSo, lines_read}
 use Rattle.commands.specs.declared.pairs.Then.TheVariants.{First, Second}
-use Rattle.stnu_run.specs.ToJudge.{DeclareBoth, IsFormatFault, RefusesAtEnd}
+use Rattle.stnu_run.specs.ToJudge.{DeclareBoth, IsFormatFault}
+use Rattle.stnu_run.specs.ToRead.{RefusesAtEnd}
 use Rattle.stnu_run.proofs.StandingLemmas.{Both, Stands, declares_more, after_plan}
 
 -- ---- one plan
-same_network : (lines : List (List ℕ)) (net other : Plan) (rest after : List (List ℕ)) → DeclaresNetwork lines net rest → DeclaresNetwork lines other after → (net ≡ other) × (rest ≡ after)
+pub same_network : (lines : List (List ℕ)) (net other : Plan) (rest after : List (List ℕ)) → DeclaresNetwork lines net rest → DeclaresNetwork lines other after → (net ≡ other) × (rest ≡ after)
 same_network lines net other rest after is also =
     let same : network net rest ≡ network other after = one_reading lines (network net rest) (network other after) is also in
     (cc, cc)
 
-no_fault : (lines : List (List ℕ)) (net : Plan) (rest : List (List ℕ)) (fault : FormatFault) → DeclaresNetwork lines net rest → plan_fault.IsFirstFault lines fault → ⊥
+pub no_fault : (lines : List (List ℕ)) (net : Plan) (rest : List (List ℕ)) (fault : FormatFault) → DeclaresNetwork lines net rest → plan_fault.IsFirstFault lines fault → ⊥
 no_fault lines net rest fault is first =
     let same : network net rest ≡ faulty fault = one_reading lines (network net rest) (faulty fault) is first in
     absurd (cc)
 
-no_refusal : (lines : List (List ℕ)) (net : Plan) (rest : List (List ℕ)) (number : ℕ) (why : BuildFault) → DeclaresNetwork lines net rest → RefusesPart lines number why → ⊥
+pub no_refusal : (lines : List (List ℕ)) (net : Plan) (rest : List (List ℕ)) (number : ℕ) (why : BuildFault) → DeclaresNetwork lines net rest → RefusesPart lines number why → ⊥
 no_refusal lines net rest number why is refuses =
     let same : network net rest ≡ refused number why = one_reading lines (network net rest) (refused number why) is refuses in
     absurd (cc)

@@ -8,7 +8,7 @@ use Rattle.commands.specs.Reading.{Reader, Outcome, Given, Faulty, outcome_by, r
 use Rattle.commands.specs.declared.machines.Stop.TheVariants.{LineTooLong, InputTooMuch, InputEnded}
 use Rattle.commands.specs.declared.reading.Step.{Step}
 use Rattle.commands.specs.declared.reading.Step.TheVariants.{Goes, Gives, Refused}
-use Rattle.stnu_run.specs.ToJudge.{texts, room_after, Come}
+use Rattle.stnu_run.specs.ToRead.{texts, room_after, Come}
 
 module _ {S V F : Type 0} (reader : Reader S V F) where
   -- these lines lead from a state to another, where so many came before them

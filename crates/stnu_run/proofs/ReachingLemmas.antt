@@ -77,7 +77,7 @@ leads_begun lines parts numbers (declares front next ps more ns begins declared)
     (plan_brings (reached section.Declarations ps ns (length front)) (0 + length front + 1) next (Ok (line.Part part)) (line_is section.Declarations next (line.Part part) declared.2 refl))
     (at_same section.Declarations (ps ++ part ∷ []) (ns ++ (length front + 1) ∷ []) (length front + 1) (length (front ++ next ∷ [])) (one_more front next)))
 
-leads_front_by : (s : PlanSection) (parts : List Part) (numbers : List ℕ) (count : ℕ) (lines : List (List ℕ)) → plan.IsFront lines (reached s parts numbers count) → Leads both_reader (at_plan plan.begun) 0 lines (at_plan (reached s parts numbers count))
+pub leads_front_by : (s : PlanSection) (parts : List Part) (numbers : List ℕ) (count : ℕ) (lines : List (List ℕ)) → plan.IsFront lines (reached s parts numbers count) → Leads both_reader (at_plan plan.begun) 0 lines (at_plan (reached s parts numbers count))
 leads_front_by section.Header parts numbers count lines front =
     let bare : at_plan (reached section.Header [] [] count) ≡ at_plan (reached section.Header parts numbers count) = ap (λ (ps : List Part). at_plan (reached section.Header ps [] count)) (sym front.declared.1) ∙ ap (λ (ns : List ℕ). at_plan (reached section.Header parts ns count)) (sym front.declared.2) in
     subst (λ (to : Both). Leads both_reader (at_plan plan.begun) 0 lines to) bare (leads_blanks lines 0 count front.declared.0 (omega (arith, front.counted)))

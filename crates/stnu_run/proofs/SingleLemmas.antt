@@ -9,6 +9,7 @@ use Rattle.commands.specs.declared.endings.End.{End}
 use Rattle.commands.proofs.AskedLemmas.{asked_single}
 use Rattle.commands.proofs.SingleLemmas.{runs_same}
 use Rattle.stnu_run.specs.CertificateTexts.{certificate_reader}
+use Rattle.stnu_run.specs.Checking.{check_answers, check_machine}
 use Rattle.stnu_run.specs.Faults.{refusing}
 use Rattle.stnu_run.specs.Judging.{judge_answers, judge_machine}
 use Rattle.stnu_run.specs.PlanText.{plan_reader}
@@ -17,6 +18,7 @@ use Rattle.stnu_run.specs.declared.judging.Judge.{Judge}
 use Rattle.stnu_run.specs.declared.status.Status.{Status}
 use Rattle.stnu_run.specs.declared.words.Task.{Task}
 use Rattle.stnu_run.specs.declared.words.Task.TheVariants as task
+use Rattle.stnu_run.proofs.RefutationLemmas.{check_answers_once}
 
 -- a program whose command has at most one reply
 abbrev pub HasOneReply : Program → Type 0
@@ -36,6 +38,10 @@ judge_answers_once question value a b x y one other = (one.0 ∙ sym other.0, on
 judge_single : IsSingle judge_machine
 judge_single = asked_single judge_answers (then_reader plan_reader certificate_reader) refusing judge_answers_once
 
+check_single : IsSingle check_machine
+check_single = asked_single check_answers plan_reader refusing check_answers_once
+
 pub each_single : (task : Option Task) → HasOneReply (program_of task)
 each_single (Some task.Judge) = judge_single
+each_single (Some task.Check) = check_single
 each_single None = tt

@@ -33,13 +33,14 @@ use Rattle.commands.specs.declared.reading.Step.{Step}
 use Rattle.commands.specs.declared.reading.Step.TheVariants.{Goes, Gives, Refused}
 use Rattle.stnu_run.specs.CertificateTexts.{certificate_begun, certificate_step, certificate_reader}
 use Rattle.stnu_run.specs.PlanText.{line_of_part, built_step, plan_step, plan_reader}
-use Rattle.stnu_run.specs.ToJudge.{DeclareBoth, IsFormatFault, RefusesAtEnd}
+use Rattle.stnu_run.specs.ToCheck.{plan_grammar}
+use Rattle.stnu_run.specs.ToJudge.{DeclareBoth, IsFormatFault, judge_grammar}
 use Rattle.stnu_run.specs.declared.certificate_text.CertificateText.{CertificateText}
 use Rattle.stnu_run.specs.declared.faults.Fault.{Fault}
 use Rattle.stnu_run.specs.declared.faults.Fault.TheVariants.{Format, Part as PartFault, LineTooLong, InputTooMuch}
 use Rattle.stnu_run.specs.declared.plan_text.PlanText.{PlanText}
-use Rattle.stnu_run.proofs.PathLemmas.{Leads}
 use Rattle.stnu_run.proofs.NetworkLemmas.{no_memory}
+use Rattle.stnu_run.proofs.TextFacts.{RefusesThere}
 
 -- how far a plan and a certificate were read
 abbrev pub Both : Type 0
@@ -140,14 +141,6 @@ stands_step lines (First text other) to number next stands goes =
 stands_step lines (Second net text) to number next stands goes =
     second_stands lines net stands.0 next text.reader (certificate_text.line_in text.reader.section (words next)) number to refl stands.1 stands.2 goes
 
--- where the reading stands after lines that lead on
-pub stands_on : (lines : List (List ℕ)) (from : Both) (number : ℕ) (others : List (List ℕ)) (to : Both) → Stands lines from → Leads both_reader from number others to → Stands (lines ++ others) to
-stands_on lines from number [] to stands leads =
-    subst (λ (ls : List (List ℕ)). Stands ls to) (sym (append-nil lines)) (subst (Stands lines) leads stands)
-stands_on lines from number (next ∷ others) to stands leads =
-    subst (λ (ls : List (List ℕ)). Stands ls to) (append_assoc lines (next ∷ []) others)
-    (stands_on (lines ++ next ∷ []) leads.0 (number + 1) others to (stands_step lines from leads.0 (number + 1) next stands leads.1) leads.2)
-
 -- ---- the lines end
 abbrev pub missing_of : Both → FormatKind
 missing_of (First text other) = plan.missing text.reader.section
@@ -157,9 +150,13 @@ missing_of (Second net text) = certificate.missing text.reader.section
 pub after_plan : (lines : List (List ℕ)) (net : Plan) (rest : List (List ℕ)) (is : DeclaresNetwork lines net rest) → length lines ≡ length is.plan + length rest
 after_plan lines net rest is = ap length is.whole ∙ length-append is.plan rest
 
+-- a plan is not ended
+pub plan_ended : (lines : List (List ℕ)) (text : PlanText) → plan.IsFront lines text.reader → IsFirstFault lines (record { line = length lines + 1; kind = plan.missing text.reader.section })
+plan_ended lines text front =
+    subst (λ (n : ℕ). IsFirstFault lines (record { line = n + 1; kind = plan.missing text.reader.section })) front.counted (fault_after lines text.reader front)
+
 pub ended_fault : (lines : List (List ℕ)) (state : Both) → Stands lines state → IsFormatFault lines (length lines + 1) (missing_of state)
-ended_fault lines (First text other) stands =
-    inl (subst (λ (n : ℕ). IsFirstFault lines (record { line = n + 1; kind = plan.missing text.reader.section })) stands.0.counted (fault_after lines text.reader stands.0))
+ended_fault lines (First text other) stands = inl (plan_ended lines text stands.0)
 ended_fault lines (Second net text) stands = inr (record {
   net = net;
   rest = stands.0;
@@ -189,15 +186,8 @@ refused_part parts numbers why (Some place) refused count is =
     let next : place ≡ place - 1 + 1 = omega (arith, within.0) in
     record { index = place - 1; refused = refused; place = is ∙ ap Some next; at_line = found ∙ ap Some (sym told) }
 
--- a line is refused by this fault
-abbrev pub RefusesThere : List (List ℕ) → ℕ → Fault → Type 0
-RefusesThere lines number (Format told kind) = (told ≡ number) × IsFormatFault lines number kind
-RefusesThere lines number (PartFault told why) = RefusesAtEnd lines number told why
-RefusesThere lines number (LineTooLong told) = ⊥
-RefusesThere lines number (InputTooMuch told) = ⊥
-
 refused_end : (lines : List (List ℕ)) (next : List ℕ) (others : List (List ℕ)) (read : plan.Progress) (answer : Result Plan BuildFault) (fault : Fault) → plan.line_in read.section (words next) ≡ Ok line.End
-    → plan.IsFront lines read → built read.parts ≡ answer → RefusesBy (after_first certificate_begun (built_step read.lines answer)) fault → RefusesThere (lines ++ next ∷ others) (length lines + 1) fault
+    → plan.IsFront lines read → built read.parts ≡ answer → built_step read.lines answer ≡ Refused fault → RefusesThere plan_grammar (lines ++ next ∷ others) (length lines + 1) fault
 refused_end lines next others read (Ok net) fault is front builds refused = absurd (cc)
 refused_end lines next others read (Err why) fault is front builds refused =
     let same : PartFault (line_of_part read.lines why) why ≡ fault = cc in
@@ -211,20 +201,54 @@ refused_end lines next others read (Err why) fault is front builds refused =
       is_plan = plan_text;
       part = refused_part read.parts read.lines why (place_of why) builds (numbered plan_text.begun read.parts read.lines plan_text.begins) refl;
     } in
-    subst (RefusesThere (lines ++ next ∷ others) (length lines + 1)) same (refuses, sym (one_more lines next))
+    subst (RefusesThere plan_grammar (lines ++ next ∷ others) (length lines + 1)) same (refuses, sym (one_more lines next))
 
-first_refused : (lines : List (List ℕ)) (next : List ℕ) (others : List (List ℕ)) (read : plan.Progress) (said : Result PlanLine FormatKind) (number : ℕ) (fault : Fault) → number ≡ length lines + 1
-    → plan.line_in read.section (words next) ≡ said → plan.IsFront lines read → RefusesBy (after_first certificate_begun (plan_step (record { reader = read }) number said)) fault → RefusesThere (lines ++ next ∷ others) (length lines + 1) fault
-first_refused lines next others read (Ok line.Blank) number fault at is front refused = absurd (cc)
-first_refused lines next others read (Ok line.Header) number fault at is front refused = absurd (cc)
-first_refused lines next others read (Ok (line.Part part)) number fault at is front refused = absurd (cc)
-first_refused lines next others read (Ok line.End) number fault at is front refused = refused_end lines next others read (built read.parts) fault is front refl refused
-first_refused lines next others read (Err kind) number fault at is front refused =
+-- a line of a plan is refused
+pub plan_refused : (lines : List (List ℕ)) (next : List ℕ) (others : List (List ℕ)) (read : plan.Progress) (said : Result PlanLine FormatKind) (number : ℕ) (fault : Fault) → number ≡ length lines + 1
+    → plan.line_in read.section (words next) ≡ said → plan.IsFront lines read → plan_step (record { reader = read }) number said ≡ Refused fault → RefusesThere plan_grammar (lines ++ next ∷ others) (length lines + 1) fault
+plan_refused lines next others read (Ok line.Blank) number fault at is front refused = absurd (cc)
+plan_refused lines next others read (Ok line.Header) number fault at is front refused = absurd (cc)
+plan_refused lines next others read (Ok (line.Part part)) number fault at is front refused = absurd (cc)
+plan_refused lines next others read (Ok line.End) number fault at is front refused = refused_end lines next others read (built read.parts) fault is front refl refused
+plan_refused lines next others read (Err kind) number fault at is front refused =
     let same : Format number kind ≡ fault = cc in
-    subst (RefusesThere (lines ++ next ∷ others) (length lines + 1)) same (at, inl (fault_in_line lines read next kind front is others))
+    subst (RefusesThere plan_grammar (lines ++ next ∷ others) (length lines + 1)) same (at, fault_in_line lines read next kind front is others)
+
+-- what refuses a plan refuses a plan and a certificate
+refuses_both : (lines : List (List ℕ)) (number : ℕ) (fault : Fault) → RefusesThere plan_grammar lines number fault → RefusesThere judge_grammar lines number fault
+refuses_both lines number (Format told kind) there = (there.0, inl there.1)
+refuses_both lines number (PartFault told why) there = there
+refuses_both lines number (LineTooLong told) there = there
+refuses_both lines number (InputTooMuch told) there = there
+
+first_refuses : (other : CertificateText) (step : Step PlanText Plan Fault) (fault : Fault) → RefusesBy (after_first other step) fault → step ≡ Refused fault
+first_refuses other (Goes text) fault refused = absurd (cc)
+first_refuses other (Gives net) fault refused = absurd (cc)
+first_refuses other (Refused told) fault refused = let same : told ≡ fault = cc in ap Refused same
+
+-- a plan ends
+end_gives : (lines : List (List ℕ)) (next : List ℕ) (others : List (List ℕ)) (read : plan.Progress) (answer : Result Plan BuildFault) (net : Plan) → plan.line_in read.section (words next) ≡ Ok line.End → plan.IsFront lines read → built read.parts ≡ answer → built_step read.lines answer ≡ Gives net → DeclaresNetwork (lines ++ next ∷ others) net others
+end_gives lines next others read (Ok made) net is front builds gives =
+    let same : made ≡ net = cc in
+    record {
+      plan = lines ++ next ∷ [];
+      parts = read.parts;
+      numbers = read.lines;
+      whole = sym (append_assoc lines (next ∷ []) others);
+      is_plan = advance lines next line.End read is front;
+      builds = builds ∙ ap Ok same;
+    }
+end_gives lines next others read (Err why) net is front builds gives = absurd (cc)
+
+pub plan_gives : (lines : List (List ℕ)) (next : List ℕ) (others : List (List ℕ)) (read : plan.Progress) (said : Result PlanLine FormatKind) (number : ℕ) (net : Plan) → plan.line_in read.section (words next) ≡ said → plan.IsFront lines read → plan_step (record { reader = read }) number said ≡ Gives net → DeclaresNetwork (lines ++ next ∷ others) net others
+plan_gives lines next others read (Ok line.Blank) number net is front gives = absurd (cc)
+plan_gives lines next others read (Ok line.Header) number net is front gives = absurd (cc)
+plan_gives lines next others read (Ok (line.Part part)) number net is front gives = absurd (cc)
+plan_gives lines next others read (Ok line.End) number net is front gives = end_gives lines next others read (built read.parts) net is front refl gives
+plan_gives lines next others read (Err kind) number net is front gives = absurd (cc)
 
 second_refused : (lines : List (List ℕ)) (net : Plan) (rest : List (List ℕ)) (next : List ℕ) (others : List (List ℕ)) (read : certificate.Progress) (said : Result CertText FormatKind) (number : ℕ) (fault : Fault) → number ≡ length lines + 1
-    → certificate_text.line_in read.section (words next) ≡ said → DeclaresNetwork lines net rest → certificate.IsFront rest read → RefusesBy (after_second net (certificate_step (record { reader = read }) number said)) fault → RefusesThere (lines ++ next ∷ others) (length lines + 1) fault
+    → certificate_text.line_in read.section (words next) ≡ said → DeclaresNetwork lines net rest → certificate.IsFront rest read → RefusesBy (after_second net (certificate_step (record { reader = read }) number said)) fault → RefusesThere judge_grammar (lines ++ next ∷ others) (length lines + 1) fault
 second_refused lines net rest next others read (Ok text.Blank) number fault at is network front refused = absurd (cc)
 second_refused lines net rest next others read (Ok text.Header) number fault at is network front refused = absurd (cc)
 second_refused lines net rest next others read (Ok text.Refutation) number fault at is network front refused = absurd (cc)
@@ -234,7 +258,7 @@ second_refused lines net rest next others read (Ok text.End) number fault at is 
 second_refused lines net rest next others read (Err kind) number fault at is network front refused =
     let same : Format number kind ≡ fault = cc in
     let all = after_plan lines net rest network in
-    subst (RefusesThere (lines ++ next ∷ others) (length lines + 1)) same (
+    subst (RefusesThere judge_grammar (lines ++ next ∷ others) (length lines + 1)) same (
       at,
       inr (record {
         net = net;
@@ -246,10 +270,11 @@ second_refused lines net rest next others read (Err kind) number fault at is net
       }),
     )
 
-pub refused_fault : (lines : List (List ℕ)) (state : Both) (number : ℕ) (next : List ℕ) (others : List (List ℕ)) (fault : Fault) → number ≡ length lines + 1 → Stands lines state → both_reader.reads state number next ≡ Refused fault → RefusesThere (lines ++ next ∷ others) (length lines + 1) fault
+pub refused_fault : (lines : List (List ℕ)) (state : Both) (number : ℕ) (next : List ℕ) (others : List (List ℕ)) (fault : Fault) → number ≡ length lines + 1 → Stands lines state → both_reader.reads state number next ≡ Refused fault → RefusesThere judge_grammar (lines ++ next ∷ others) (length lines + 1) fault
 refused_fault lines (First text other) number next others fault at stands refused =
-    first_refused lines next others text.reader (plan.line_in text.reader.section (words next)) number fault at refl stands.0
-    (subst (λ (o : CertificateText). RefusesBy (after_first o (plan_step text number (plan.line_in text.reader.section (words next)))) fault) stands.1 refused)
+    let step = plan_step text number (plan.line_in text.reader.section (words next)) in
+    refuses_both (lines ++ next ∷ others) (length lines + 1) fault
+    (plan_refused lines next others text.reader (plan.line_in text.reader.section (words next)) number fault at refl stands.0 (first_refuses other step fault refused))
 refused_fault lines (Second net text) number next others fault at stands refused =
     second_refused lines net stands.0 next others text.reader (certificate_text.line_in text.reader.section (words next)) number fault at refl stands.1 stands.2 refused
 

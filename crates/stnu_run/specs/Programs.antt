@@ -13,12 +13,14 @@ use Rattle.commands.specs.Runs.{Runs}
 use Rattle.commands.specs.Serves.{Serves, WhereBothTold}
 use Rattle.commands.specs.declared.endings.End.{End}
 use Rattle.commands.specs.declared.endings.Status.{Status as Ending}
+use Rattle.stnu_run.specs.Checking.{check_machine, check_start}
+use Rattle.stnu_run.specs.CheckPromise.{CheckPromise}
 use Rattle.stnu_run.specs.Judging.{judge_machine, judge_start}
 use Rattle.stnu_run.specs.Promises.{Promise}
 use Rattle.stnu_run.specs.JudgePromise.{JudgePromise}
 use Rattle.stnu_run.specs.declared.status.Status.{Status}
 use Rattle.stnu_run.specs.declared.words.Task.{Task}
-use Rattle.stnu_run.specs.declared.words.Task.TheVariants.{Judge}
+use Rattle.stnu_run.specs.declared.words.Task.TheVariants.{Judge, Check}
 
 -- a command that is served from a state, and what it promises of what it puts for an input; or a line that is said, with its
 -- exit status
@@ -30,14 +32,22 @@ pub data Program : Type 1 where
 abbrev pub words_line : List ℕ
 words_line = printed_line (codes "error" ∷ codes "words" ∷ [])
 
+-- the task of the word of a command
+abbrev pub command_named : List ℕ → Option Task
+command_named command =
+    if bytes_eq command (codes "judge") then Some Judge
+    else (if bytes_eq command (codes "check") then Some Check
+    else None)
+
 -- the task of the words, of which the first is the program's name
 abbrev pub task_named : List (List ℕ) → Option Task
-task_named (program ∷ command ∷ []) = if bytes_eq command (codes "judge") then Some Judge else None
+task_named (program ∷ command ∷ []) = command_named command
 task_named others = None
 
 -- the program of a task, or of words that are those of none
 abbrev pub program_of : Option Task → Program
 program_of (Some Judge) = serves judge_machine judge_start JudgePromise
+program_of (Some Check) = serves check_machine check_start CheckPromise
 program_of None = says words_line 2
 
 -- the bytes and the exit status that a program defines for an input: those of a run of its command, or its line and status

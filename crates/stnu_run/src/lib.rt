@@ -2,6 +2,7 @@
 #![tactic(auto)]
 
 mod certificate_text;
+mod checking;
 mod dispatch;
 mod faults;
 mod judging;
@@ -11,5 +12,7 @@ mod status;
 mod words;
 
 pub use dispatch::run;
-pub use laws::{defined_run_is_one, judge_keeps_its_promise, promises_hold};
+pub use laws::{
+    check_keeps_its_promise, defined_run_is_one, judge_keeps_its_promise, promises_hold,
+};
 pub use status::Status;

@@ -1,0 +1,29 @@
+-- What `check` promises of what it puts for an input. This project's own choice.
+use Rattle.std.specs.Prelude.{◌≡◌, ◌⊎◌, ℕ, List, ◌++◌}
+use Rattle.texts.specs.Lines.{lines}
+use Rattle.net_model.specs.Network.{Plan}
+use Rattle.strategy_model.specs.Control.{IsControllable}
+use Rattle.plan_format.specs.PlanNetwork.{DeclaresNetwork}
+use Rattle.cert_format.specs.declared.certificate.Certificate.{Certificate}
+use Rattle.cert_checker.specs.Judgement.{judgement_of}
+use Rattle.cert_checker.specs.declared.judgement.Claim.TheVariants.{NotControllable}
+use Rattle.cert_checker.specs.declared.judgement.Judgement.TheVariants.{Accepted}
+use Rattle.commands.specs.declared.endings.End.{End}
+use Rattle.stnu_run.specs.Checking.{controllable_line, refuted_line, PutsControllable, PutsRefuted}
+use Rattle.stnu_run.specs.ToCheck.{plan_grammar}
+use Rattle.stnu_run.specs.ToRead.{AnswersText}
+
+-- The verdict of a network is put: that it is controllable, and it is; or that it is not, and it is not, and a certificate that the
+-- judge accepts.
+abbrev pub PutsVerdict : Plan → List ℕ → End → Type 0
+PutsVerdict net put end =
+    (IsControllable net × PutsControllable put end)
+    ⊎ ((¬ IsControllable net) × ((cert : Certificate) × (judgement_of net cert ≡ Accepted NotControllable) × PutsRefuted cert put end))
+
+-- What `check` promises. `checks`: it puts the verdict of the network that the input declares, or the first refusal of the input.
+-- `controllable`: where it puts that a network is controllable, the network that the input declares is. `refutes`: where it puts that
+-- one is not, the network that the input declares is not.
+pub record CheckPromise (input put : List ℕ) (end : End) : Type 0 where
+  pub checks : AnswersText plan_grammar PutsVerdict input put end
+  pub controllable : put ≡ controllable_line → (net : Plan) (rest : List (List ℕ)) → DeclaresNetwork (lines input) net rest → IsControllable net
+  pub refutes : (more : List ℕ) → put ≡ refuted_line ++ more → (net : Plan) (rest : List (List ℕ)) → DeclaresNetwork (lines input) net rest → ¬ IsControllable net
