@@ -22,7 +22,8 @@ use std::alloc::Global;
 /// The run ends at its first refusal, with one line and a status that say which: `error words` (2), `error format` and
 /// `error plan` (3), `error limit` (4). It ends with 5 where a read failed, after the line `error read`, with 6 where a
 /// write failed, and with 8 for want of memory. Else it ends with 0 where the certificate is accepted or the network
-/// controllable, and with 1 where it is refused, or not controllable. The words, the answers and the statuses are this project's own choice.
+/// controllable, and with 1 where the one is refused or the other not controllable. The words, the answers and the statuses
+/// are this project's own choice.
 pub fn run<P: Port>(alloc: Global, words: &Vec<String>, port: &mut P) -> Status
     // What was taken and put, and when, is what the program of the words defines.
     ensures served { ServesProgram (program_of (task_named (map string_bytes words.now.items))) result (P.seen port.old) (P.seen port.new) }
