@@ -8,7 +8,8 @@ use stnu_run::run;
 /// Rows: the exit status, a plan, and what `check` prints of it; `|` stands for a line end. In order: no point at all; two bounds that
 /// can both be kept, and two that cannot; a point that comes together with the end of a link; a plan of which every single situation
 /// has a schedule, though none can be found without foresight; the same where the duration is known; a wait; a wait by the cross-case
-/// rule; a ring of two links; two waits that cross; and plans that are refused.
+/// rule; a ring of two links; two waits that cross; a drive with images, with the least number with which it can be kept and with one
+/// below; and plans that are refused.
 const ROWS: &str = "0 stnu 1|end => controllable
 0 stnu 1|point A|point B|bound b1 A B 5|bound b2 B A -2|end => controllable
 1 stnu 1|point A|point B|bound b1 A B 3|bound b2 B A -5|end => not controllable|certificate 1|refutation|bound b1 A B 3|bound b2 B A -5|no 1 2 A A -2|walk 3|end
@@ -19,6 +20,8 @@ const ROWS: &str = "0 stnu 1|end => controllable
 0 stnu 1|point A1|point C1|point A2|point C2|bound b1 C1 C2 2|link A1 1 3 C1|link A2 2 6 C2|end => controllable
 1 stnu 1|point A|point B|link A 1 2 B|link B 1 2 A|end => not controllable|certificate 1|refutation|link B B A -2|link A A B -2|drop 1 B A -1|drop 2 A B -1|walk 4|walk 3|end
 1 stnu 1|point A1|point C1|point A2|point C2|bound p A1 C2 2|bound q A2 C1 2|link A1 1 10 C1|link A2 1 10 C2|end => not controllable|certificate 1|refutation|bound p A1 C2 2|bound q A2 C1 2|link C1 C1 A1 -10|link C2 C2 A2 -10|up 2 3 A2 A1 C1 -8|drop 5 A2 A1 -1|up 1 4 A1 A2 C2 -8|drop 7 A1 A2 -1|walk 8|walk 6|end
+0 stnu 1|point leave|point arrive|point warm-up|point images|link leave 40 90 arrive|bound warm images warm-up -20|bound still-warm warm-up images 55|bound at-the-rock images arrive 0|bound before-shadow arrive images 15|end => controllable
+1 stnu 1|point leave|point arrive|point warm-up|point images|link leave 40 90 arrive|bound warm images warm-up -20|bound still-warm warm-up images 54|bound at-the-rock images arrive 0|bound before-shadow arrive images 15|end => not controllable|certificate 1|refutation|bound warm images warm-up -20|bound still-warm warm-up images 54|bound at-the-rock images arrive 0|bound before-shadow arrive images 15|link arrive arrive leave -90|up 3 5 images leave arrive -90|up 2 6 warm-up leave arrive -36|drop 7 warm-up leave -36|no 4 1 arrive warm-up -5|low arrive 9 leave warm-up 35|no 10 8 leave leave -1|walk 11|end
 3 stnu 1|point A|point A|end => error plan 3 duplicate-name
 3 stnu 1|point A|point B|link A 0 4 B|end => error plan 4 bad-interval
 3 stnu 1|point A|link A 1 2 A|end => error plan 3 link-to-itself
