@@ -1,0 +1,35 @@
+-- What the dispatchable network of a table has, and what its executions are.
+use Rattle.std.specs.Prelude.{◌≡◌, ℕ, ℤ, pos, ◌<ℤ◌, ◌-ℤ◌, ◌↔◌, ◌<◌, List, Some, None, slice_get}
+use Rattle.std.specs.List.{AllPairs, Contains}
+use Rattle.net_model.specs.Network.{Plan, IsPlan, IsPoint, IsExecutable}
+use Rattle.net_model.specs.declared.ids.PointId.{PointId}
+use Rattle.net_model.specs.declared.ids.LinkId.{LinkId}
+use Rattle.closure_model.specs.Tables.{Graph, HasEdge, edges_of, IsFor, IsGraph, IsClosed}
+use Rattle.closure_model.specs.Orders as table_orders
+use Rattle.strategy_model.specs.Situations.{IsSituation}
+use Rattle.strategy_model.specs.Plays.{play}
+use Rattle.strategy_model.specs.Control.{Controls}
+use Rattle.strategy_model.specs.Dispatch.{IsDispatched}
+use Rattle.strategy_model.specs.declared.tree.Tree.{Tree}
+use Rattle.dispatch_net.specs.Dispatchable.{dispatchable, conditions_at}
+use Rattle.dispatch_net.specs.Execution.{IsExecution, ExecutionSatisfies}
+
+-- the executions of the dispatchable network are the schedules of lower bounds and waits of the table's edges
+abbrev pub ExecutionsAreDispatched : Type 0
+ExecutionsAreDispatched =
+    (net : Plan) (table : Graph) (situation schedule : List ℕ) → IsFor net table → IsGraph table
+    → (IsExecution net (dispatchable net table) situation schedule ↔ IsDispatched net (edges_of table) situation schedule)
+
+-- that of a closed table with an order is executed in every situation, and each execution satisfies the network
+abbrev pub ExecutionsSatisfy : Type 0
+ExecutionsSatisfy =
+    (net : Plan) (table : Graph) (order : List PointId) → IsPlan net → IsFor net table → IsGraph table → IsClosed net table
+    → table_orders.IsOrder table order → ExecutionSatisfies net (dispatchable net table)
+
+-- and a strategy that controls the network plays the execution in every situation
+abbrev pub ExecutionsArePlayed : Type 0
+ExecutionsArePlayed =
+    (net : Plan) (table : Graph) (order : List PointId) → IsPlan net → IsFor net table → IsGraph table → IsClosed net table
+    → table_orders.IsOrder table order → (strategy : Tree) × Controls strategy net
+    × ((situation : List ℕ) → IsSituation net situation
+    → (schedule : List ℕ) × (play strategy net situation ≡ Some schedule) × IsExecution net (dispatchable net table) situation schedule)

@@ -1,0 +1,18 @@
+//! Laws about the dispatchable network of a table and its executions, each the contract of a function without parameters.
+
+ghost use Rattle.dispatch_net.specs.Laws.{ExecutionsAreDispatched, ExecutionsSatisfy, ExecutionsArePlayed};
+
+/// The executions of the dispatchable network of a table are the schedules of lower bounds and waits of the table's edges.
+pub fn executions_are_dispatched()
+    ensures { ExecutionsAreDispatched }
+{}
+
+/// The dispatchable network of a closed table with an order has an execution in every situation, and each satisfies the network.
+pub fn executions_satisfy()
+    ensures { ExecutionsSatisfy }
+{}
+
+/// A strategy that controls the network plays the execution of that dispatchable network in every situation.
+pub fn executions_are_played()
+    ensures { ExecutionsArePlayed }
+{}
