@@ -1,35 +1,32 @@
 -- The executions of the dispatchable network of a table are the schedules of lower bounds and waits of its edges.
-use Rattle.std.proofs.Common.{◌≡◌, ◌≢◌, ℕ, zero, suc, ◌+◌, ℤ, pos, ◌≤◌, ◌<◌, Bool, true, false, ◌⊎◌, inl, inr, List, [], ◌∷◌, map, length, get_or, Option, Some, None, refl, ap, sym, subst, ◌∙◌, arith}
-use Rattle.std.specs.Prelude.{int_lt, is_some, is_none, slice_get, if◌then◌else◌}
-use Rattle.std.specs.List.{All, AllPairs, AllByRecursion, Contains, IsDistinct, range_with_len}
-use Rattle.std.specs.Option.{option_map_or, IsNone}
+use Rattle.std.proofs.Common.{◌≡◌, ◌≢◌, ℕ, suc, ℤ, pos, ◌≤◌, ◌<◌, Bool, true, false, ◌⊎◌, inl, inr, List, [], ◌∷◌, length, get_or, Option, Some, None, refl, ap, sym, subst, ◌∙◌, arith}
+use Rattle.std.specs.Prelude.{int_lt, slice_get, if◌then◌else◌}
+use Rattle.std.specs.List.{All, AllPairs, AllByRecursion, Contains, IsDistinct}
+use Rattle.std.specs.Option.{option_map_or}
 use Rattle.std.proofs.lemmas.Bool.{cases_lt, true≢false, ne_eqb}
 use Rattle.std.proofs.lemmas.List.{get_or-map}
 use Rattle.std.proofs.lemmas.List.Elements.{All-contains, All-weaker, All-contains_itself}
 use Rattle.std.proofs.lemmas.List.FromFn.{get_or-map-range_with_len, length-map-range_with_len}
 use Rattle.std.proofs.lemmas.Option.{slice_get_within, get_or_from_slice_get}
-use Rattle.net_model.specs.Network.{Plan, IsPlan, IsPoint, IsExecutable, activation}
-use Rattle.net_model.specs.Rules.{is_ordinary, is_negative}
+use Rattle.net_model.specs.Network.{Plan, IsPoint, IsExecutable}
 use Rattle.net_model.specs.declared.ids.PointId.{PointId}
 use Rattle.net_model.specs.declared.ids.LinkId.{LinkId}
-use Rattle.net_model.specs.declared.part.Edge.{Edge}
-use Rattle.closure_model.specs.Keys.{Shape, ordinary_key, all_points}
+use Rattle.closure_model.specs.Keys.{Shape, all_points}
 use Rattle.closure_model.specs.Orders as table_orders
 use Rattle.closure_model.specs.Orders.{goes}
-use Rattle.closure_model.specs.Tables.{Graph, HasEdge, edges_of, weight_of, IsFor, IsGraph, IsClosed}
+use Rattle.closure_model.specs.Tables.{Graph, HasEdge, edges_of, IsFor, IsGraph}
 use Rattle.closure_model.proofs.Lists.{Contains-none, Contains-head, Contains-tail, Contains-cases}
 use Rattle.closure_model.proofs.TableLemmas.{listed_edge}
-use Rattle.strategy_model.specs.Situations.{IsSituation, moment_in}
-use Rattle.strategy_model.specs.Plays.{play, same_point}
+use Rattle.strategy_model.specs.Situations.{moment_in}
+use Rattle.strategy_model.specs.Plays.{same_point}
 use Rattle.strategy_model.specs.Edges.{IsNegativeOrdinary}
-use Rattle.strategy_model.specs.Dispatch.{HoldsBack, awaited, ComesAtOnce, IsDispatched, IsOrder}
+use Rattle.strategy_model.specs.Dispatch.{awaited, ComesAtOnce, IsOrder}
 use Rattle.strategy_model.proofs.CompletenessLemmas.{closed_lists_give_strategies}
 use Rattle.strategy_model.proofs.DispatchedLemmas.{dispatched_satisfy}
 use Rattle.strategy_model.proofs.LowerLemmas.{dispatched_exist}
 use Rattle.controllability.proofs.ClosureLemmas.{closed_tables_are_closed_lists}
-use Rattle.dispatch_net.specs.declared.dispatch.Conditions.{Conditions}
 use Rattle.dispatch_net.specs.Dispatchable.{lower_bounds_in, waits_in, no_conditions, conditions_in, dispatchable, conditions_at}
-use Rattle.dispatch_net.specs.Execution.{asked_by, IsFirst, IsExecution}
+use Rattle.dispatch_net.specs.Execution.{asked_by, IsFirst}
 use Rattle.dispatch_net.specs.Laws.{ExecutionsAreDispatched, ExecutionsSatisfy, ExecutionsArePlayed}
 use Rattle.dispatch_net.proofs.HoldLemmas.{holding, asking}
 
@@ -77,16 +74,20 @@ first_reached ms t is =
 point_count : (net : Plan) (table : Graph) → IsFor net table → table.shape.points ≡ length net.points
 point_count net table for = ap (λ (s : Shape). s.points) for
 
-pub conditions_are : (net : Plan) (table : Graph) (point : PointId) → IsFor net table → IsExecutable net point
-    → conditions_at (dispatchable net table) point ≡ record { lower_bounds = lower_bounds_in table point; waits = waits_in table point }
-conditions_are net table point for executable =
+pub conditions_stand : (net : Plan) (table : Graph) (point : PointId) → IsFor net table → IsPoint net point → conditions_at (dispatchable net table) point ≡ conditions_in net table point
+conditions_stand net table point for is_point =
     let numbered : ℕ → PointId = λ k. record { 0 = k } in
     let points : List PointId = all_points table.shape in
     let none : PointId = record { 0 = 0 } in
-    let inside : point.0 < table.shape.points = omega (arith, point_count net table for, executable.0) in
+    let inside : point.0 < table.shape.points = omega (arith, point_count net table for, is_point) in
     let long : point.0 < length points = omega (arith, inside, length-map-range_with_len numbered 0 table.shape.points) in
     get_or-map (conditions_in net table) points point.0 none no_conditions long
     ∙ ap (conditions_in net table) (get_or-map-range_with_len numbered 0 table.shape.points point.0 point.0 none inside (omega arith))
+
+pub conditions_are : (net : Plan) (table : Graph) (point : PointId) → IsFor net table → IsExecutable net point
+    → conditions_at (dispatchable net table) point ≡ record { lower_bounds = lower_bounds_in table point; waits = waits_in table point }
+conditions_are net table point for executable =
+    conditions_stand net table point for executable.0
     ∙ ap (λ (b : Bool). if b then no_conditions else record { lower_bounds = lower_bounds_in table point; waits = waits_in table point }) executable.1
 
 module _ (net : Plan) (table : Graph) (for : IsFor net table) (sound : IsGraph table) (schedule : List ℕ) (point : PointId) (executable : IsExecutable net point) where

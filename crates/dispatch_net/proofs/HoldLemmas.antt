@@ -1,5 +1,5 @@
 -- The lower bounds and waits that a table gives a point ask for what its negative edges do.
-use Rattle.std.proofs.Common.{◌≡◌, ℕ, ◌+◌, ℤ, pos, ◌≤◌, ◌<◌, Bool, true, false, ◌⊎◌, inl, inr, List, [], ◌∷◌, ◌++◌, map, length, get_or, min, Option, Some, None, refl, ap, sym, subst, ◌∙◌, arith, zero-add}
+use Rattle.std.proofs.Common.{◌≡◌, ℕ, ◌+◌, ℤ, pos, ◌<◌, Bool, true, false, inl, inr, List, [], ◌∷◌, map, length, get_or, min, Option, Some, None, refl, ap, sym, subst, ◌∙◌, arith, zero-add}
 use Rattle.std.specs.Prelude.{slice_get, int_lt, unsigned_abs, ◌-ℤ◌, if◌then◌else◌}
 use Rattle.std.specs.List.{Contains, cons_option, enumerate_from, filter_map}
 use Rattle.std.specs.Option.{option_map, option_map_or}
@@ -12,7 +12,7 @@ use Rattle.net_model.specs.declared.ids.PointId.{PointId}
 use Rattle.net_model.specs.declared.ids.LinkId.{LinkId}
 use Rattle.net_model.specs.declared.part.Edge.{Edge}
 use Rattle.net_model.specs.declared.part.Link.{Link}
-use Rattle.closure_model.specs.Keys.{Shape, shape_of, IsKey, IsLabelAt, key_of, ordinary_key, labelled_key, all_points}
+use Rattle.closure_model.specs.Keys.{Shape, ordinary_key, labelled_key, all_points}
 use Rattle.closure_model.specs.Tables.{Graph, HasEdge, edges_of, weight_of, IsFor, IsGraph}
 use Rattle.closure_model.proofs.Lists.{Contains-none, Contains-head, Contains-tail, Contains-cases, Contains-map, Contains-map_from}
 use Rattle.closure_model.proofs.KeyLists.{Contains-points}
