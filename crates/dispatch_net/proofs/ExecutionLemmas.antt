@@ -45,15 +45,15 @@ greatest_of (n ∷ ms) = by (greatest_of ms)
     by g =
         elim (cases_lt g.most n) [
           | inl less ↦ record {
-              most = n;
-              above = λ m inside. elim (Contains-cases n ms m inside) [ inl same ↦ omega (arith, same) | inr later ↦ (let under = g.above m later in omega (arith, under, less)) ];
-              reached = inr (Contains-head n ms);
-            }
+            most = n;
+            above = λ m inside. elim (Contains-cases n ms m inside) [ inl same ↦ omega (arith, same) | inr later ↦ (let under = g.above m later in omega (arith, under, less)) ];
+            reached = inr (Contains-head n ms);
+          }
           | inr not_less ↦ record {
-              most = g.most;
-              above = λ m inside. elim (Contains-cases n ms m inside) [ inl same ↦ omega (arith, same, not_less) | inr later ↦ g.above m later ];
-              reached = elim g.reached [ inl none ↦ inl none | inr there ↦ inr (Contains-tail n ms g.most there) ];
-            }
+            most = g.most;
+            above = λ m inside. elim (Contains-cases n ms m inside) [ inl same ↦ omega (arith, same, not_less) | inr later ↦ g.above m later ];
+            reached = elim g.reached [ inl none ↦ inl none | inr there ↦ inr (Contains-tail n ms g.most there) ];
+          }
         ]
 
 each_contained : (ms : List ℕ) (t : ℕ) → ((m : ℕ) → Contains ms m → m ≤ t) → All (λ m. m ≤ t) ms
@@ -71,7 +71,7 @@ first_reached ms t is =
     ]
 
 -- ---- by what an executable point is executed
-point_count : (net : Plan) (table : Graph) → IsFor net table → table.shape.points ≡ length net.points
+pub point_count : (net : Plan) (table : Graph) → IsFor net table → table.shape.points ≡ length net.points
 point_count net table for = ap (λ (s : Shape). s.points) for
 
 pub conditions_stand : (net : Plan) (table : Graph) (point : PointId) → IsFor net table → IsPoint net point → conditions_at (dispatchable net table) point ≡ conditions_in net table point

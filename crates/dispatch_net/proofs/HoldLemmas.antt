@@ -117,7 +117,7 @@ module _ (net : Plan) (table : Graph) (for : IsFor net table) (sound : IsGraph t
       let inside : to.0 < table.shape.points = (sound.keys (record { from = point; to = to; label = None; weight = w }) has).to_point in
       let give : PointId → Option (PointId × ℤ) = λ other. with_moments other (weight_of table (ordinary_key point other)) in
       let listed : Contains bounds (to, pos 0 -ℤ w) =
-        Contains-filter_map give (all_points table.shape) to (to, pos 0 -ℤ w) (Contains-points 0 table.shape.points to (omega arith) (omega arith)) (ap (with_moments to) has ∙ gives to w negative) in
+      Contains-filter_map give (all_points table.shape) to (to, pos 0 -ℤ w) (Contains-points 0 table.shape.points to (omega arith) (omega arith)) (ap (with_moments to) has ∙ gives to w negative) in
       let mapped : Contains (map (bound_asks schedule) bounds) (moment_in schedule to + unsigned_abs (pos 0 -ℤ w)) = Contains-map (bound_asks schedule) bounds (to, pos 0 -ℤ w) listed in
       Contains-append_left (map (bound_asks schedule) bounds) (map (wait_asks net schedule) (waits_in table point)) (moment_in schedule to + unsigned_abs w)
       (subst (λ n. Contains (map (bound_asks schedule) bounds) (moment_in schedule to + n)) (turned w) mapped)
@@ -126,7 +126,7 @@ module _ (net : Plan) (table : Graph) (for : IsFor net table) (sound : IsGraph t
       let labelled : slice_get table.shape.activations label.0 ≡ Some to = (sound.keys (record { from = point; to = to; label = Some label; weight = w }) has).labelled in
       let give : ℕ × PointId → Option (LinkId × ℤ) = λ e. with_moments (record { 0 = e.0 }) (weight_of table (labelled_key point e.1 (record { 0 = e.0 }))) in
       let listed : Contains waits (label, pos 0 -ℤ w) =
-        Contains-filter_map give (enumerate_from 0 table.shape.activations) (label.0, to) (label, pos 0 -ℤ w) (numbered_from table.shape.activations label.0 to labelled) (ap (with_moments label) has ∙ gives label w negative) in
+      Contains-filter_map give (enumerate_from 0 table.shape.activations) (label.0, to) (label, pos 0 -ℤ w) (numbered_from table.shape.activations label.0 to labelled) (ap (with_moments label) has ∙ gives label w negative) in
       Contains-append_right (map (bound_asks schedule) (lower_bounds_in table point)) (map (wait_asks net schedule) waits) (min (completion_in net schedule label) (moment_in schedule to + unsigned_abs w))
       (subst (Contains (map (wait_asks net schedule) waits)) (wait_same label to w labelled) (Contains-map (wait_asks net schedule) waits (label, pos 0 -ℤ w) listed))
 
@@ -160,5 +160,5 @@ module _ (net : Plan) (table : Graph) (for : IsFor net table) (sound : IsGraph t
           let label : LinkId = record { 0 = e.0 } in
           let its = given label (weight_of table (labelled_key point e.1 label)) wait gave in
           let same : min (completion_in net schedule label) (moment_in schedule e.1 + unsigned_abs its.weight) ≡ m =
-            sym (wait_same label e.1 its.weight (numbered_is table.shape.activations e there)) ∙ ap (wait_asks net schedule) its.is ∙ asks in
+          sym (wait_same label e.1 its.weight (numbered_is table.shape.activations e there)) ∙ ap (wait_asks net schedule) its.is ∙ asks in
           (record { from = point; to = e.1; label = Some label; weight = its.weight }, held e.1 (Some label) its.weight its.held its.negative, same)

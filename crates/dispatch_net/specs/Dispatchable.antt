@@ -8,13 +8,19 @@ use Rattle.net_model.specs.declared.ids.PointId.{PointId}
 use Rattle.net_model.specs.declared.ids.LinkId.{LinkId}
 use Rattle.net_model.specs.declared.part.Edge.{Edge}
 use Rattle.closure_model.specs.Keys.{ordinary_key, labelled_key, all_points}
-use Rattle.closure_model.specs.Tables.{Graph, weight_of, HasEdge}
+use Rattle.closure_model.specs.Tables.{Graph, weight_of, HasEdge, IsFor, HasBase, IsClosed}
+use Rattle.closure_model.specs.Orders.{IsOrder}
 use Rattle.closure_model.specs.ReferenceRow.{IsWithin}
 use Rattle.dispatch_net.specs.declared.dispatch.Conditions.{Conditions}
 
--- the weights of a table lie from -M to M, where M is the greatest size of a number of the network
-abbrev pub AreWithin : Plan → Graph → Type 0
-AreWithin net table = (edge : Edge) → HasEdge table edge → IsWithin net edge.weight
+-- a network may be dispatched by a table in an order: the table is for the network, is closed and has the base edges, its weights
+-- lie from -M to M, where M is the greatest size of a number of the network, and the order is one of its points
+pub record MayDispatch (net : Plan) (table : Graph) (order : List PointId) : Type 0 where
+  pub for_network : IsFor net table
+  pub base : HasBase net table
+  pub closed : IsClosed net table
+  pub within : (edge : Edge) → HasEdge table edge → IsWithin net edge.weight
+  pub ordered : IsOrder table order
 
 -- n moments, where a weight is -n < 0
 abbrev pub moments_of : ℤ → Option ℤ

@@ -33,7 +33,7 @@ pub record IsFirst (asked : List ℕ) (moment : ℕ) : Type 0 where
 
 -- the execution in a situation: an executable point comes at the first moment that meets all its lower bounds and waits, a
 -- contingent point its link's duration after its activation point
-pub record IsExecution (net : Plan) (dispatch : List Conditions) (situation schedule : List ℕ) : Type 0 where
+pub record IsExecutedBy (net : Plan) (dispatch : List Conditions) (situation schedule : List ℕ) : Type 0 where
   pub complete : length schedule ≡ length net.points
   pub executable : (point : PointId) → IsExecutable net point → IsFirst (asked_by net schedule (conditions_at dispatch point)) (moment_in schedule point)
   pub contingent : (name : LinkId) (link : Link) (duration : ℕ) → IsLinkOf net name link → slice_get situation name.0 ≡ Some duration
@@ -41,5 +41,5 @@ pub record IsExecution (net : Plan) (dispatch : List Conditions) (situation sche
 
 -- in every situation there is an execution, and each satisfies the network
 pub record ExecutionSatisfies (net : Plan) (dispatch : List Conditions) : Type 0 where
-  pub executed : (situation : List ℕ) → IsSituation net situation → (schedule : List ℕ) × IsExecution net dispatch situation schedule
-  pub satisfies : (situation schedule : List ℕ) → IsSituation net situation → IsExecution net dispatch situation schedule → Satisfies net schedule
+  pub executed : (situation : List ℕ) → IsSituation net situation → (schedule : List ℕ) × IsExecutedBy net dispatch situation schedule
+  pub satisfies : (situation schedule : List ℕ) → IsSituation net situation → IsExecutedBy net dispatch situation schedule → Satisfies net schedule

@@ -13,13 +13,13 @@ use Rattle.strategy_model.specs.Dispatch.{IsDispatched}
 use Rattle.strategy_model.specs.declared.tree.Tree.{Tree}
 use Rattle.dispatch_net.specs.declared.dispatch.Conditions.{Conditions}
 use Rattle.dispatch_net.specs.Dispatchable.{no_conditions, dispatchable, conditions_at}
-use Rattle.dispatch_net.specs.Execution.{IsExecution, ExecutionSatisfies}
+use Rattle.dispatch_net.specs.Execution.{IsExecutedBy, ExecutionSatisfies}
 
 -- the executions of the dispatchable network are the schedules of lower bounds and waits of the table's edges
 abbrev pub ExecutionsAreDispatched : Type 0
 ExecutionsAreDispatched =
     (net : Plan) (table : Graph) (situation schedule : List ℕ) → IsFor net table → IsGraph table
-    → (IsExecution net (dispatchable net table) situation schedule ↔ IsDispatched net (edges_of table) situation schedule)
+    → (IsExecutedBy net (dispatchable net table) situation schedule ↔ IsDispatched net (edges_of table) situation schedule)
 
 -- that of a closed table with an order is executed in every situation, and each execution satisfies the network
 abbrev pub ExecutionsSatisfy : Type 0
@@ -33,7 +33,7 @@ ExecutionsArePlayed =
     (net : Plan) (table : Graph) (order : List PointId) → IsPlan net → IsFor net table → IsGraph table → IsClosed net table
     → table_orders.IsOrder table order → (strategy : Tree) × Controls strategy net
     × ((situation : List ℕ) → IsSituation net situation
-    → (schedule : List ℕ) × (play strategy net situation ≡ Some schedule) × IsExecution net (dispatchable net table) situation schedule)
+    → (schedule : List ℕ) × (play strategy net situation ≡ Some schedule) × IsExecutedBy net (dispatchable net table) situation schedule)
 
 -- the lower bounds and waits of an executable point are exactly the negative edges that the table has from it, each once and in
 -- order of number

@@ -2,10 +2,9 @@ ghost use Rattle.std.specs.Prelude.{◌≡◌, ◌<◌, ◌++◌, [], length, If
 ghost use Rattle.std.specs.List.{cons_option};
 ghost use Rattle.std.specs.Option.{option_and_then};
 ghost use Rattle.net_model.specs.Network.{IsPoint};
-ghost use Rattle.closure_model.specs.Orders.{IsOrder};
-ghost use Rattle.closure_model.specs.ReferenceRow.{IsWithin};
-ghost use Rattle.closure_model.specs.Tables.{HasEdge, IsFor, HasBase, IsClosed, IsWeight};
-ghost use Rattle.dispatch_net.specs.Dispatchable.{AreWithin, lower_bounds_in, waits_in, conditions_in, dispatchable, conditions_at, moments_of, with_moments};
+ghost use Rattle.closure_model.specs.Tables.{IsFor, IsGraph, IsWeight};
+ghost use Rattle.dispatch_net.specs.Dispatchable.{MayDispatch, lower_bounds_in, waits_in, conditions_in, dispatchable, conditions_at, moments_of, with_moments};
+ghost use Rattle.dispatch_net.specs.Execution.{ExecutionSatisfies};
 
 use labelled_graph::Table;
 use net_model::{Items, LinkId, Network, PointId, Weight};
@@ -38,19 +37,17 @@ impl Model for Dispatch {
 }
 
 impl Dispatch {
-    /// The dispatchable network of a closed table that has an order. `AllocError` comes only for want of memory.
+    /// The dispatchable network of a closed table that has an order: by its lower bounds and waits the network is executed in every
+    /// situation, and each execution satisfies it. `AllocError` comes only for want of memory.
     pub fn of(
         alloc: Global,
         net: &Network,
         table: &Table,
-        _order: &[PointId],
+        order: &[PointId],
     ) -> Result<Dispatch, AllocError>
-        requires network { IsFor net.now table.now }
-        requires base { HasBase net.now table.now }
-        requires closed { IsClosed net.now table.now }
-        requires within { AreWithin net.now table.now }
-        requires ordered { IsOrder table.now _order.now }
+        requires { MayDispatch net.now table.now order.now }
         ensures dispatchable { IfOk result (λ dispatch. dispatch ≡ dispatchable net.now table.now) }
+        ensures executed { IfOk result (λ dispatch. IsGraph table.now → ExecutionSatisfies net.now dispatch) }
     {
         let mut conditions = Vec::new(alloc);
         for point in 0..net.points().len() as u32 {
