@@ -38,7 +38,8 @@ impl Model for Dispatch {
 
 impl Dispatch {
     /// The dispatchable network of a closed table that has an order: by its lower bounds and waits the network is executed in every
-    /// situation, and each execution satisfies it. `AllocError` comes only for want of memory.
+    /// situation, and each execution satisfies it. The order only shows that there is one, and isn't read. `AllocError` comes only for
+    /// want of memory.
     pub fn of(
         alloc: Global,
         net: &Network,
