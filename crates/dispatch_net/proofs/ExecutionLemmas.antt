@@ -1,0 +1,193 @@
+-- The executions of the dispatchable network of a table are the schedules of lower bounds and waits of its edges.
+use Rattle.std.proofs.Common.{◌≡◌, ◌≢◌, ℕ, suc, ℤ, pos, ◌≤◌, ◌<◌, Bool, true, false, ◌⊎◌, inl, inr, List, [], ◌∷◌, length, get_or, Option, Some, None, refl, ap, sym, subst, ◌∙◌, arith}
+use Rattle.std.specs.Prelude.{int_lt, slice_get, if◌then◌else◌}
+use Rattle.std.specs.List.{All, AllPairs, AllByRecursion, Contains, IsDistinct}
+use Rattle.std.specs.Option.{option_map_or}
+use Rattle.std.proofs.lemmas.Bool.{cases_lt, true≢false, ne_eqb}
+use Rattle.std.proofs.lemmas.List.{get_or-map}
+use Rattle.std.proofs.lemmas.List.Elements.{All-contains, All-weaker, All-contains_itself}
+use Rattle.std.proofs.lemmas.List.FromFn.{get_or-map-range_with_len, length-map-range_with_len}
+use Rattle.std.proofs.lemmas.Option.{slice_get_within, get_or_from_slice_get}
+use Rattle.net_model.specs.Network.{Plan, IsPoint, IsExecutable}
+use Rattle.net_model.specs.declared.ids.PointId.{PointId}
+use Rattle.net_model.specs.declared.ids.LinkId.{LinkId}
+use Rattle.closure_model.specs.Keys.{Shape, all_points}
+use Rattle.closure_model.specs.Orders as table_orders
+use Rattle.closure_model.specs.Orders.{goes}
+use Rattle.closure_model.specs.Tables.{Graph, HasEdge, edges_of, IsFor, IsGraph}
+use Rattle.closure_model.proofs.Lists.{Contains-none, Contains-head, Contains-tail, Contains-cases}
+use Rattle.closure_model.proofs.TableLemmas.{listed_edge}
+use Rattle.strategy_model.specs.Situations.{moment_in}
+use Rattle.strategy_model.specs.Plays.{same_point}
+use Rattle.strategy_model.specs.Edges.{IsNegativeOrdinary}
+use Rattle.strategy_model.specs.Dispatch.{awaited, ComesAtOnce, IsOrder}
+use Rattle.strategy_model.proofs.CompletenessLemmas.{closed_lists_give_strategies}
+use Rattle.strategy_model.proofs.DispatchedLemmas.{dispatched_satisfy}
+use Rattle.strategy_model.proofs.LowerLemmas.{dispatched_exist}
+use Rattle.controllability.proofs.ClosureLemmas.{closed_tables_are_closed_lists}
+use Rattle.dispatch_net.specs.Dispatchable.{lower_bounds_in, waits_in, no_conditions, conditions_in, dispatchable, conditions_at}
+use Rattle.dispatch_net.specs.Execution.{asked_by, IsFirst}
+use Rattle.dispatch_net.specs.Laws.{ExecutionsAreDispatched, ExecutionsSatisfy, ExecutionsArePlayed}
+use Rattle.dispatch_net.proofs.HoldLemmas.{holding, asking}
+
+-- ---- the first moment
+-- the greatest of 0 and some moments
+record Greatest (ms : List ℕ) : Type 0 where
+  most : ℕ
+  above : (m : ℕ) → Contains ms m → m ≤ most
+  reached : (most ≡ 0) ⊎ Contains ms most
+
+greatest_of : (ms : List ℕ) → Greatest ms
+greatest_of [] = record { most = 0; above = λ m inside. absurd (Contains-none m inside); reached = inl refl }
+greatest_of (n ∷ ms) = by (greatest_of ms)
+  where
+    by : Greatest ms → Greatest (n ∷ ms)
+    by g =
+        elim (cases_lt g.most n) [
+          | inl less ↦ record {
+            most = n;
+            above = λ m inside. elim (Contains-cases n ms m inside) [ inl same ↦ omega (arith, same) | inr later ↦ (let under = g.above m later in omega (arith, under, less)) ];
+            reached = inr (Contains-head n ms);
+          }
+          | inr not_less ↦ record {
+            most = g.most;
+            above = λ m inside. elim (Contains-cases n ms m inside) [ inl same ↦ omega (arith, same, not_less) | inr later ↦ g.above m later ];
+            reached = elim g.reached [ inl none ↦ inl none | inr there ↦ inr (Contains-tail n ms g.most there) ];
+          }
+        ]
+
+each_contained : (ms : List ℕ) (t : ℕ) → ((m : ℕ) → Contains ms m → m ≤ t) → All (λ m. m ≤ t) ms
+each_contained ms t each = All-weaker (Contains ms) (λ m. m ≤ t) each ms (All-contains_itself ms)
+
+first_reached : (ms : List ℕ) (t : ℕ) → IsFirst ms t → (t ≡ 0) ⊎ Contains ms t
+first_reached ms t is =
+    let g = greatest_of ms in
+    let low : t ≤ g.most = is.first g.most (each_contained ms g.most g.above) in
+    elim g.reached [
+      | inl none ↦ inl (omega (arith, low, none))
+      | inr there ↦
+          (let high : g.most ≤ t = All-contains (λ m. m ≤ t) ms g.most is.meets there in
+          let same : g.most ≡ t = omega (arith, low, high) in inr (subst (Contains ms) same there))
+    ]
+
+-- ---- by what an executable point is executed
+pub point_count : (net : Plan) (table : Graph) → IsFor net table → table.shape.points ≡ length net.points
+point_count net table for = ap (λ (s : Shape). s.points) for
+
+pub conditions_stand : (net : Plan) (table : Graph) (point : PointId) → IsFor net table → IsPoint net point → conditions_at (dispatchable net table) point ≡ conditions_in net table point
+conditions_stand net table point for is_point =
+    let numbered : ℕ → PointId = λ k. record { 0 = k } in
+    let points : List PointId = all_points table.shape in
+    let none : PointId = record { 0 = 0 } in
+    let inside : point.0 < table.shape.points = omega (arith, point_count net table for, is_point) in
+    let long : point.0 < length points = omega (arith, inside, length-map-range_with_len numbered 0 table.shape.points) in
+    get_or-map (conditions_in net table) points point.0 none no_conditions long
+    ∙ ap (conditions_in net table) (get_or-map-range_with_len numbered 0 table.shape.points point.0 point.0 none inside (omega arith))
+
+pub conditions_are : (net : Plan) (table : Graph) (point : PointId) → IsFor net table → IsExecutable net point
+    → conditions_at (dispatchable net table) point ≡ record { lower_bounds = lower_bounds_in table point; waits = waits_in table point }
+conditions_are net table point for executable =
+    conditions_stand net table point for executable.0
+    ∙ ap (λ (b : Bool). if b then no_conditions else record { lower_bounds = lower_bounds_in table point; waits = waits_in table point }) executable.1
+
+module _ (net : Plan) (table : Graph) (for : IsFor net table) (sound : IsGraph table) (schedule : List ℕ) (point : PointId) (executable : IsExecutable net point) where
+  is_asked : (m : ℕ) → Contains (asked_by net schedule (record { lower_bounds = lower_bounds_in table point; waits = waits_in table point })) m → Contains (asked_by net schedule (conditions_at (dispatchable net table) point)) m
+  is_asked m among = subst (λ conditions. Contains (asked_by net schedule conditions) m) (sym (conditions_are net table point for executable)) among
+
+  as_asked : (m : ℕ) → Contains (asked_by net schedule (conditions_at (dispatchable net table) point)) m → Contains (asked_by net schedule (record { lower_bounds = lower_bounds_in table point; waits = waits_in table point })) m
+  as_asked m among = subst (λ conditions. Contains (asked_by net schedule conditions) m) (conditions_are net table point for executable) among
+
+  at_once : IsFirst (asked_by net schedule (conditions_at (dispatchable net table) point)) (moment_in schedule point) → ComesAtOnce net (edges_of table) schedule point
+  at_once is =
+      let asked = asked_by net schedule (conditions_at (dispatchable net table) point) in
+      record {
+        not_before = λ edge holds. All-contains (λ m. m ≤ moment_in schedule point) asked (awaited net schedule edge) is.meets (is_asked (awaited net schedule edge) (holding net table for sound schedule point edge holds));
+        reached = elim (first_reached asked (moment_in schedule point) is) [ inl none ↦ inl none | inr among ↦ inr (asking net table for sound schedule point (moment_in schedule point) (as_asked (moment_in schedule point) among)) ];
+      }
+
+  first_of_all : ComesAtOnce net (edges_of table) schedule point → IsFirst (asked_by net schedule (conditions_at (dispatchable net table) point)) (moment_in schedule point)
+  first_of_all comes = record { meets = each_contained (asked_by net schedule (conditions_at (dispatchable net table) point)) (moment_in schedule point) meets; first = first }
+    where
+      meets : (m : ℕ) → Contains (asked_by net schedule (conditions_at (dispatchable net table) point)) m → m ≤ moment_in schedule point
+      meets m among =
+          let (edge, holds, is) = asking net table for sound schedule point m (as_asked m among) in
+          subst (λ n. n ≤ moment_in schedule point) is (comes.not_before edge holds)
+
+      first : (other : ℕ) → All (λ m. m ≤ other) (asked_by net schedule (conditions_at (dispatchable net table) point)) → moment_in schedule point ≤ other
+      first other all =
+          elim comes.reached [
+            | inl none ↦ omega (arith, none)
+            | inr found ↦
+                (let (edge, holds, is) = found in
+                subst (λ n. n ≤ other) is (All-contains (λ m. m ≤ other) (asked_by net schedule (conditions_at (dispatchable net table) point)) (awaited net schedule edge) all (is_asked (awaited net schedule edge) (holding net table for sound schedule point edge holds))))
+          ]
+
+pub executions_are_dispatched : ExecutionsAreDispatched
+executions_are_dispatched net table situation schedule for sound = (
+  λ execution. record {
+    complete = execution.complete;
+    executable = λ point executable. at_once net table for sound schedule point executable (execution.executable point executable);
+    contingent = execution.contingent;
+  },
+  λ dispatched. record {
+    complete = dispatched.complete;
+    executable = λ point executable. first_of_all net table for sound schedule point executable (dispatched.executable point executable);
+    contingent = dispatched.contingent;
+  },
+)
+
+-- ---- orders
+distinct_from : (ps : List PointId) → AllPairs (λ p q. p.0 ≢ q.0) ps → IsDistinct same_point ps
+unfolding IsDistinct
+distinct_from [] apart = tt
+distinct_from (p ∷ ps) apart = (later ps (λ k d inside. apart 0 (suc k) d (omega arith) (omega (arith, inside))), distinct_from ps (λ i j d less inside. apart (suc i) (suc j) d (omega (arith, less)) (omega (arith, inside))))
+  where
+    later : (qs : List PointId) → ((k : ℕ) (d : PointId) → k < length qs → p.0 ≢ (get_or qs k d).0) → AllByRecursion (λ q. same_point p q ≡ false) qs
+    later [] each = tt
+    later (q ∷ qs) each = (ne_eqb p.0 q.0 (each 0 q (omega arith)), later qs (λ k d inside. each (suc k) d (omega (arith, inside))))
+
+order_of_edges : (net : Plan) (table : Graph) (order : List PointId) → IsFor net table → table_orders.IsOrder table order → IsOrder net (edges_of table) order
+order_of_edges net table order for ordered =
+    record {
+      complete = λ point is_point. ordered.whole point (omega (arith, point_count net table for, is_point));
+      once = distinct_from order ordered.once;
+      falls = λ edge later earlier among negative at_later at_earlier.
+          falls edge.from edge.to edge.label edge.weight later earlier (listed_edge table edge among) negative at_later at_earlier;
+    }
+  where
+    falls : (from to : PointId) (label : Option LinkId) (w : ℤ) (later earlier : ℕ) → HasEdge table (record { from = from; to = to; label = label; weight = w })
+        → IsNegativeOrdinary (record { from = from; to = to; label = label; weight = w }) → slice_get order later ≡ Some from → slice_get order earlier ≡ Some to → earlier < later
+    falls from to (Some label) w later earlier has negative at_later at_earlier = absurd (true≢false (sym negative.0))
+    falls from to None w later earlier has negative at_later at_earlier =
+        elim (cases_lt earlier later) [
+          | inl less ↦ less
+          | inr not_less ↦
+              (let inside : earlier < length order = slice_get_within order earlier to at_earlier in
+              let stays : goes table (get_or order later from) (get_or order earlier from) ≡ false = ordered.falls later earlier from not_less inside in
+              let gone : goes table from to ≡ false = sym (λ i. goes table (get_or_from_slice_get order later from from at_later i) (get_or_from_slice_get order earlier to from at_earlier i)) ∙ stays in
+              let runs : goes table from to ≡ true = ap (λ (o : Option ℤ). option_map_or (λ (weight : ℤ). int_lt weight (pos 0)) o false) has ∙ negative.1 in
+              absurd (true≢false (sym runs ∙ gone)))
+        ]
+
+-- ---- executions of a closed table
+pub executions_satisfy : ExecutionsSatisfy
+executions_satisfy net table order plan for sound closed ordered =
+    let list = closed_tables_are_closed_lists net table for sound closed in
+    let order_is = order_of_edges net table order for ordered in
+    record {
+      executed = λ situation is_situation.
+          let (schedule, dispatched) = dispatched_exist net (edges_of table) order situation plan list order_is is_situation in
+          (schedule, (executions_are_dispatched net table situation schedule for sound).1 dispatched);
+      satisfies = λ situation schedule is_situation execution.
+          dispatched_satisfy net (edges_of table) situation schedule plan list is_situation ((executions_are_dispatched net table situation schedule for sound).0 execution);
+    }
+
+pub executions_are_played : ExecutionsArePlayed
+executions_are_played net table order plan for sound closed ordered =
+    let (strategy, controls, dispatches) = closed_lists_give_strategies net (edges_of table) order plan (closed_tables_are_closed_lists net table for sound closed) (order_of_edges net table order for ordered) in (
+      strategy,
+      controls,
+      λ situation is_situation.
+          let (schedule, played, dispatched) = dispatches situation is_situation in
+          (schedule, played, (executions_are_dispatched net table situation schedule for sound).1 dispatched),
+    )

@@ -1,0 +1,164 @@
+-- The lower bounds and waits that a table gives a point ask for what its negative edges do.
+use Rattle.std.proofs.Common.{◌≡◌, ℕ, ◌+◌, ℤ, pos, ◌<◌, Bool, true, false, inl, inr, List, [], ◌∷◌, map, length, get_or, min, Option, Some, None, refl, ap, sym, subst, ◌∙◌, arith, zero-add}
+use Rattle.std.specs.Prelude.{slice_get, int_lt, unsigned_abs, ◌-ℤ◌, if◌then◌else◌}
+use Rattle.std.specs.List.{Contains, cons_option, enumerate_from, filter_map}
+use Rattle.std.specs.Option.{option_map, option_map_or}
+use Rattle.std.proofs.lemmas.Int.{ints}
+use Rattle.std.proofs.lemmas.List.Elements.{Contains-append_left, Contains-append_right, Contains-append_cases}
+use Rattle.std.proofs.lemmas.List.FromFn.{get_or-enumerate_from, length-enumerate_from}
+use Rattle.std.proofs.lemmas.Option.{none-some, same_Some, slice_get-map, slice_get_within, slice_get-get_or, get_or_from_slice_get}
+use Rattle.net_model.specs.Network.{Plan}
+use Rattle.net_model.specs.declared.ids.PointId.{PointId}
+use Rattle.net_model.specs.declared.ids.LinkId.{LinkId}
+use Rattle.net_model.specs.declared.part.Edge.{Edge}
+use Rattle.net_model.specs.declared.part.Link.{Link}
+use Rattle.closure_model.specs.Keys.{Shape, ordinary_key, labelled_key, all_points}
+use Rattle.closure_model.specs.Tables.{Graph, HasEdge, edges_of, weight_of, IsFor, IsGraph}
+use Rattle.closure_model.proofs.Lists.{Contains-none, Contains-head, Contains-tail, Contains-cases, Contains-map, Contains-map_from}
+use Rattle.closure_model.proofs.KeyLists.{Contains-points}
+use Rattle.closure_model.proofs.TableLemmas.{edge_listed, listed_edge}
+use Rattle.strategy_model.specs.Situations.{moment_in}
+use Rattle.strategy_model.specs.Dispatch.{HoldsBack, awaited, completion_in}
+use Rattle.dispatch_net.specs.Dispatchable.{with_moments, lower_bounds_in, waits_in}
+use Rattle.dispatch_net.specs.Execution.{bound_asks, wait_asks, asked_by}
+
+-- ---- lists
+module _ {X Y : Type 0} (f : X → Option Y) where
+  put_first : (ys : List Y) (y : Y) (o : Option Y) → Contains ys y → Contains (cons_option o ys) y
+  put_first ys y None inside = inside
+  put_first ys y (Some z) inside = Contains-tail z ys y inside
+
+  pub Contains-filter_map : (xs : List X) (x : X) (y : Y) → Contains xs x → f x ≡ Some y → Contains (filter_map f xs) y
+  Contains-filter_map [] x y inside is = absurd (Contains-none x inside)
+  Contains-filter_map (z ∷ zs) x y inside is =
+      elim (Contains-cases z zs x inside) [
+        | inl same ↦ subst (λ o. Contains (cons_option o (filter_map f zs)) y) (sym (ap f same ∙ is)) (Contains-head y (filter_map f zs))
+        | inr later ↦ put_first (filter_map f zs) y (f z) (Contains-filter_map zs x y later is)
+      ]
+
+  pub Contains-filter_map_from : (xs : List X) (y : Y) → Contains (filter_map f xs) y → (x : X) × Contains xs x × (f x ≡ Some y)
+  Contains-filter_map_from [] y inside = absurd (Contains-none y inside)
+  Contains-filter_map_from (z ∷ zs) y inside = by (λ there. Contains-filter_map_from zs y there) (f z) refl inside
+    where
+      further : (x : X) × Contains zs x × (f x ≡ Some y) → (x : X) × Contains (z ∷ zs) x × (f x ≡ Some y)
+      further (x, among, is) = (x, Contains-tail z zs x among, is)
+
+      by : (Contains (filter_map f zs) y → (x : X) × Contains zs x × (f x ≡ Some y)) → (o : Option Y) → f z ≡ o → Contains (cons_option o (filter_map f zs)) y → (x : X) × Contains (z ∷ zs) x × (f x ≡ Some y)
+      by rest None none there = further (rest there)
+      by rest (Some v) some there =
+          elim (Contains-cases v (filter_map f zs) y there) [
+            | inl same ↦ (z, Contains-head z zs, some ∙ ap (λ (w : Y). let o : Option Y = Some w in o) same)
+            | inr later ↦ further (rest later)
+          ]
+
+pub numbered_from : {X : Type 0} (xs : List X) (k : ℕ) (x : X) → slice_get xs k ≡ Some x → Contains (enumerate_from 0 xs) (k, x)
+numbered_from xs k x is =
+    let inside : k < length xs = slice_get_within xs k x is in
+    let read : get_or (enumerate_from 0 xs) k (k, x) ≡ (0 + k, get_or xs k x) = get_or-enumerate_from 0 xs k (k, x) inside in
+    let number : 0 + k ≡ k = zero-add k in
+    let element : get_or xs k x ≡ x = get_or_from_slice_get xs k x x is in
+    (k, omega (arith, length-enumerate_from 0 xs), read ∙ (λ i. (number i, element i)))
+
+pub numbered_is : {X : Type 0} (xs : List X) (e : ℕ × X) → Contains (enumerate_from 0 xs) e → slice_get xs e.0 ≡ Some e.1
+numbered_is {X} xs e (k, inside, at) =
+    let short : k < length xs = omega (arith, length-enumerate_from 0 xs) in
+    let is : e ≡ (0 + k, get_or xs k e.1) = sym at ∙ get_or-enumerate_from 0 xs k e short in
+    let number : e.0 ≡ k = ap (λ (p : ℕ × X). p.0) is ∙ zero-add k in
+    ap (slice_get xs) number ∙ slice_get-get_or xs k e.1 short ∙ ap (λ (x : X). let o : Option X = Some x in o) (sym (ap (λ (p : ℕ × X). p.1) is))
+
+-- ---- moments
+turned : (w : ℤ) → unsigned_abs (pos 0 -ℤ w) ≡ unsigned_abs w
+turned w = grind (arith, ints)
+
+pub gives : {X : Type 0} (x : X) (w : ℤ) → int_lt w (pos 0) ≡ true → with_moments x (Some w) ≡ Some (x, pos 0 -ℤ w)
+gives {X} x w negative = ap (λ (b : Bool). option_map (λ (n : ℤ). let p : X × ℤ = (x, n) in p) (if b then Some (pos 0 -ℤ w) else None)) negative
+
+-- a negative weight, and what it gives
+pub record IsGiven {X : Type 0} (x : X) (o : Option ℤ) (y : X × ℤ) : Type 0 where
+  pub weight : ℤ
+  pub held : o ≡ Some weight
+  pub negative : int_lt weight (pos 0) ≡ true
+  pub is : (x, pos 0 -ℤ weight) ≡ y
+
+pub given : {X : Type 0} (x : X) (o : Option ℤ) (y : X × ℤ) → with_moments x o ≡ Some y → IsGiven x o y
+given x None y gave = absurd (none-some y gave)
+given {X} x (Some w) y gave = by (int_lt w (pos 0)) refl gave
+  where
+    by : (b : Bool) → int_lt w (pos 0) ≡ b → option_map (λ (n : ℤ). let p : X × ℤ = (x, n) in p) (if b then Some (pos 0 -ℤ w) else None) ≡ Some y → IsGiven x (Some w) y
+    by true lt some = record { weight = w; held = refl; negative = lt; is = same_Some (x, pos 0 -ℤ w) y some }
+    by false lt none = absurd (none-some y none)
+
+-- ---- what is asked for
+module _ (net : Plan) (table : Graph) (for : IsFor net table) (sound : IsGraph table) (schedule : List ℕ) (point : PointId) where
+  begins : (label : LinkId) (to : PointId) → slice_get table.shape.activations label.0 ≡ Some to → (link : Link) × (slice_get net.links label.0 ≡ Some link) × (to ≡ link.from)
+  begins label to labelled = by (slice_get net.links label.0) refl
+    where
+      read : slice_get table.shape.activations label.0 ≡ option_map (λ (link : Link). link.from) (slice_get net.links label.0)
+      read = ap (λ (s : Shape). slice_get s.activations label.0) for ∙ slice_get-map (λ (link : Link). link.from) net.links label.0
+
+      by : (o : Option Link) → slice_get net.links label.0 ≡ o → (link : Link) × (slice_get net.links label.0 ≡ Some link) × (to ≡ link.from)
+      by None none = absurd (none-some to (sym (read ∙ ap (option_map (λ (link : Link). link.from)) none) ∙ labelled))
+      by (Some link) declared = (link, declared, same_Some to link.from (sym labelled ∙ read ∙ ap (option_map (λ (link : Link). link.from)) declared))
+
+  -- a wait asks for what its edge does
+  wait_same : (label : LinkId) (to : PointId) (w : ℤ) → slice_get table.shape.activations label.0 ≡ Some to
+      → wait_asks net schedule (label, pos 0 -ℤ w) ≡ min (completion_in net schedule label) (moment_in schedule to + unsigned_abs w)
+  wait_same label to w labelled =
+      let (link, declared, from) = begins label to labelled in
+      ap (λ (o : Option Link). option_map_or (λ (l : Link). min (moment_in schedule l.to) (moment_in schedule l.from + unsigned_abs (pos 0 -ℤ w))) o 0) declared
+      ∙ (λ i. min (moment_in schedule link.to) (moment_in schedule (sym from i) + turned w i))
+      ∙ sym (ap (λ (o : Option Link). min (option_map_or (λ (l : Link). moment_in schedule l.to) o 0) (moment_in schedule to + unsigned_abs w)) declared)
+
+  -- what holds the point back is asked for
+  asked_from : (to : PointId) (label : Option LinkId) (w : ℤ) → HasEdge table (record { from = point; to = to; label = label; weight = w }) → int_lt w (pos 0) ≡ true
+      → Contains (asked_by net schedule (record { lower_bounds = lower_bounds_in table point; waits = waits_in table point })) (awaited net schedule (record { from = point; to = to; label = label; weight = w }))
+  asked_from to None w has negative =
+      let bounds = lower_bounds_in table point in
+      let inside : to.0 < table.shape.points = (sound.keys (record { from = point; to = to; label = None; weight = w }) has).to_point in
+      let give : PointId → Option (PointId × ℤ) = λ other. with_moments other (weight_of table (ordinary_key point other)) in
+      let listed : Contains bounds (to, pos 0 -ℤ w) =
+      Contains-filter_map give (all_points table.shape) to (to, pos 0 -ℤ w) (Contains-points 0 table.shape.points to (omega arith) (omega arith)) (ap (with_moments to) has ∙ gives to w negative) in
+      let mapped : Contains (map (bound_asks schedule) bounds) (moment_in schedule to + unsigned_abs (pos 0 -ℤ w)) = Contains-map (bound_asks schedule) bounds (to, pos 0 -ℤ w) listed in
+      Contains-append_left (map (bound_asks schedule) bounds) (map (wait_asks net schedule) (waits_in table point)) (moment_in schedule to + unsigned_abs w)
+      (subst (λ n. Contains (map (bound_asks schedule) bounds) (moment_in schedule to + n)) (turned w) mapped)
+  asked_from to (Some label) w has negative =
+      let waits = waits_in table point in
+      let labelled : slice_get table.shape.activations label.0 ≡ Some to = (sound.keys (record { from = point; to = to; label = Some label; weight = w }) has).labelled in
+      let give : ℕ × PointId → Option (LinkId × ℤ) = λ e. with_moments (record { 0 = e.0 }) (weight_of table (labelled_key point e.1 (record { 0 = e.0 }))) in
+      let listed : Contains waits (label, pos 0 -ℤ w) =
+      Contains-filter_map give (enumerate_from 0 table.shape.activations) (label.0, to) (label, pos 0 -ℤ w) (numbered_from table.shape.activations label.0 to labelled) (ap (with_moments label) has ∙ gives label w negative) in
+      Contains-append_right (map (bound_asks schedule) (lower_bounds_in table point)) (map (wait_asks net schedule) waits) (min (completion_in net schedule label) (moment_in schedule to + unsigned_abs w))
+      (subst (Contains (map (wait_asks net schedule) waits)) (wait_same label to w labelled) (Contains-map (wait_asks net schedule) waits (label, pos 0 -ℤ w) listed))
+
+  pub holding : (edge : Edge) → HoldsBack (edges_of table) point edge
+      → Contains (asked_by net schedule (record { lower_bounds = lower_bounds_in table point; waits = waits_in table point })) (awaited net schedule edge)
+  holding edge holds =
+      let has : HasEdge table edge = listed_edge table edge holds.among in
+      asked_from edge.to edge.label edge.weight (subst (λ (p : PointId). HasEdge table (record { from = p; to = edge.to; label = edge.label; weight = edge.weight })) holds.begins has) holds.negative
+
+  -- and what is asked for is what an edge holds it back for
+  pub asking : (m : ℕ) → Contains (asked_by net schedule (record { lower_bounds = lower_bounds_in table point; waits = waits_in table point })) m
+      → (edge : Edge) × HoldsBack (edges_of table) point edge × (awaited net schedule edge ≡ m)
+  asking m among =
+      elim (Contains-append_cases (map (bound_asks schedule) (lower_bounds_in table point)) (map (wait_asks net schedule) (waits_in table point)) m among) [ inl one ↦ by_bound one | inr two ↦ by_wait two ]
+    where
+      held : (to : PointId) (label : Option LinkId) (w : ℤ) → HasEdge table (record { from = point; to = to; label = label; weight = w }) → int_lt w (pos 0) ≡ true → HoldsBack (edges_of table) point (record { from = point; to = to; label = label; weight = w })
+      held to label w has negative = record { among = edge_listed table (record { from = point; to = to; label = label; weight = w }) has; begins = refl; negative = negative }
+
+      by_bound : Contains (map (bound_asks schedule) (lower_bounds_in table point)) m → (edge : Edge) × HoldsBack (edges_of table) point edge × (awaited net schedule edge ≡ m)
+      by_bound one =
+          let (bound, listed, asks) = Contains-map_from (bound_asks schedule) (lower_bounds_in table point) m one in
+          let (other, there, gave) = Contains-filter_map_from (λ (p : PointId). with_moments p (weight_of table (ordinary_key point p))) (all_points table.shape) bound listed in
+          let its = given other (weight_of table (ordinary_key point other)) bound gave in
+          let same : moment_in schedule other + unsigned_abs its.weight ≡ m = ap (λ n. moment_in schedule other + n) (sym (turned its.weight)) ∙ ap (bound_asks schedule) its.is ∙ asks in
+          (record { from = point; to = other; label = None; weight = its.weight }, held other None its.weight its.held its.negative, same)
+
+      by_wait : Contains (map (wait_asks net schedule) (waits_in table point)) m → (edge : Edge) × HoldsBack (edges_of table) point edge × (awaited net schedule edge ≡ m)
+      by_wait two =
+          let (wait, listed, asks) = Contains-map_from (wait_asks net schedule) (waits_in table point) m two in
+          let (e, there, gave) = Contains-filter_map_from (λ (e : ℕ × PointId). let l : LinkId = record { 0 = e.0 } in with_moments l (weight_of table (labelled_key point e.1 l))) (enumerate_from 0 table.shape.activations) wait listed in
+          let label : LinkId = record { 0 = e.0 } in
+          let its = given label (weight_of table (labelled_key point e.1 label)) wait gave in
+          let same : min (completion_in net schedule label) (moment_in schedule e.1 + unsigned_abs its.weight) ≡ m =
+          sym (wait_same label e.1 its.weight (numbered_is table.shape.activations e there)) ∙ ap (wait_asks net schedule) its.is ∙ asks in
+          (record { from = point; to = e.1; label = Some label; weight = its.weight }, held e.1 (Some label) its.weight its.held its.negative, same)

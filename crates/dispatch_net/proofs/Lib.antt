@@ -1,0 +1,4 @@
+pub mod PassLemmas
+pub mod HoldLemmas
+pub mod ExecutionLemmas
+pub mod ExactLemmas

@@ -1,0 +1,71 @@
+-- What is pushed point by point and link by link, over plain variables.
+use Rattle.std.proofs.Common.{◌≡◌, ℕ, ◌+◌, ◌<◌, ℤ, List, [], ◌∷◌, ◌++◌, map, length, take, get_or, Option, Some, None, ap, sym, ◌∙◌, arith}
+use Rattle.std.specs.Prelude.{IfSome}
+use Rattle.std.specs.List.{cons_option, enumerate_from, filter_map, range_with_len}
+use Rattle.std.proofs.lemmas.Grind.{common_steps}
+use Rattle.std.proofs.lemmas.List.{take_more, map-append, length-map}
+use Rattle.std.proofs.lemmas.List.Elements.{filter_map-append}
+use Rattle.std.proofs.lemmas.List.FromFn.{map-range_with_len_more}
+use Rattle.net_model.specs.Network.{Plan}
+use Rattle.net_model.specs.declared.ids.PointId.{PointId}
+use Rattle.net_model.specs.declared.ids.LinkId.{LinkId}
+use Rattle.net_model.specs.declared.part.Link.{Link}
+use Rattle.closure_model.specs.Keys.{Key, Shape, edge_of, ordinary_key, labelled_key}
+use Rattle.closure_model.specs.Tables.{Graph, weight_of, IsFor, IsGraph, IsWeight}
+use Rattle.dispatch_net.specs.Dispatchable.{with_moments}
+use Rattle.dispatch_net.specs.declared.dispatch.Conditions.{Conditions}
+
+-- what a sound table has at a key it may hold
+pub weight_held : (graph : Graph) → IsGraph graph → (key : Key) (w : Option ℤ) → w ≡ weight_of graph key → IfSome w IsWeight
+weight_held graph sound key None is = tt
+weight_held graph sound key (Some weight) is = sound.weights (edge_of key weight) (sym is)
+
+pub link_count : (net : Plan) (graph : Graph) → IsFor net graph → length graph.shape.activations ≡ length net.links
+link_count net graph for = ap (λ (s : Shape). length s.activations) for ∙ length-map net.links (λ (link : Link). link.from)
+
+-- the points below a number, and one more
+points_more : (k : ℕ) → map (λ (n : ℕ). let p : PointId = record { 0 = n } in p) (range_with_len 0 (k + 1)) ≡ map (λ (n : ℕ). let p : PointId = record { 0 = n } in p) (range_with_len 0 k) ++ record { 0 = k } ∷ []
+points_more k = map-range_with_len_more (λ (n : ℕ). let p : PointId = record { 0 = n } in p) 0 k k (omega arith)
+
+numbered-push : {X : Type 0} (n m : ℕ) (xs : List X) (x : X) → m ≡ n + length xs → enumerate_from n (xs ++ x ∷ []) ≡ enumerate_from n xs ++ (m, x) ∷ []
+numbered-push n m [] x at = let same : n ≡ m = omega arith in ap (λ k. (k, x) ∷ []) same
+numbered-push n m (y ∷ xs) x at = ap (λ es. (n, y) ∷ es) (numbered-push (n + 1) m xs x (omega arith))
+
+numbered-more : {X : Type 0} (k : ℕ) (xs : List X) (d : X) → k < length xs → enumerate_from 0 (take (k + 1) xs) ≡ enumerate_from 0 (take k xs) ++ (k, get_or xs k d) ∷ []
+numbered-more k xs d inside = ap (enumerate_from 0) (take_more xs k d inside) ∙ numbered-push 0 k (take k xs) (get_or xs k d) (grind (arith, common_steps))
+
+-- one more lower bound, where there is one
+pub bound_pushed : (graph : Graph) (point : PointId) (k : ℕ) (before after : List (PointId × ℤ)) (w : Option ℤ)
+    → before ≡ filter_map (λ other. with_moments other (weight_of graph (ordinary_key point other))) (map (λ n. record { 0 = n }) (range_with_len 0 k))
+    → after ≡ before ++ cons_option (with_moments (record { 0 = k }) w) []
+    → w ≡ weight_of graph (ordinary_key point (record { 0 = k }))
+    → after ≡ filter_map (λ other. with_moments other (weight_of graph (ordinary_key point other))) (map (λ n. record { 0 = n }) (range_with_len 0 (k + 1)))
+bound_pushed graph point k before after w held pushed is =
+    let give : PointId → Option (PointId × ℤ) = λ other. with_moments other (weight_of graph (ordinary_key point other)) in
+    pushed
+    ∙ (λ i. held i ++ cons_option (with_moments (record { 0 = k }) (is i)) [])
+    ∙ sym (filter_map-append give (map (λ n. record { 0 = n }) (range_with_len 0 k)) (record { 0 = k } ∷ []))
+    ∙ ap (filter_map give) (sym (points_more k))
+
+-- one more wait, where there is one
+pub wait_pushed : (graph : Graph) (point : PointId) (k : ℕ) (d : PointId) (before after : List (LinkId × ℤ)) (w : Option ℤ) → k < length graph.shape.activations
+    → before ≡ filter_map (λ (e : ℕ × PointId). with_moments (record { 0 = e.0 }) (weight_of graph (labelled_key point e.1 (record { 0 = e.0 })))) (enumerate_from 0 (take k graph.shape.activations))
+    → after ≡ before ++ cons_option (with_moments (record { 0 = k }) w) []
+    → w ≡ weight_of graph (labelled_key point (get_or graph.shape.activations k d) (record { 0 = k }))
+    → after ≡ filter_map (λ (e : ℕ × PointId). with_moments (record { 0 = e.0 }) (weight_of graph (labelled_key point e.1 (record { 0 = e.0 })))) (enumerate_from 0 (take (k + 1) graph.shape.activations))
+wait_pushed graph point k d before after w inside held pushed is =
+    let begins = graph.shape.activations in
+    let give : ℕ × PointId → Option (LinkId × ℤ) = λ e. with_moments (record { 0 = e.0 }) (weight_of graph (labelled_key point e.1 (record { 0 = e.0 }))) in
+    pushed
+    ∙ (λ i. held i ++ cons_option (with_moments (record { 0 = k }) (is i)) [])
+    ∙ sym (filter_map-append give (enumerate_from 0 (take k begins)) ((k, get_or begins k d) ∷ []))
+    ∙ ap (filter_map give) (sym (numbered-more k begins d inside))
+
+-- the conditions of one more point
+pub conditions_pushed : (of : PointId → Conditions) (k : ℕ) (before after : List Conditions) (new : Conditions)
+    → before ≡ map of (map (λ n. record { 0 = n }) (range_with_len 0 k))
+    → after ≡ before ++ new ∷ []
+    → new ≡ of (record { 0 = k })
+    → after ≡ map of (map (λ n. record { 0 = n }) (range_with_len 0 (k + 1)))
+conditions_pushed of k before after new held pushed is =
+    pushed ∙ (λ i. held i ++ is i ∷ []) ∙ sym (map-append of (map (λ n. record { 0 = n }) (range_with_len 0 k)) (record { 0 = k } ∷ [])) ∙ ap (map of) (sym (points_more k))

@@ -1,0 +1,20 @@
+use Rattle.std.proofs.Common.{◌≡◌, ◌∙◌, ap, sym, subst, length, map, arith}
+use Rattle.std.specs.List.{range_with_len}
+use Rattle.dispatch_net.specs.Dispatchable.{conditions_in, dispatchable}
+use Rattle.dispatch_net.specs.Execution.{ExecutionSatisfies}
+use Rattle.dispatch_net.proofs.ExecutionLemmas.{executions_satisfy, point_count}
+use Rattle.dispatch_net.proofs.PassLemmas.{conditions_pushed}
+use Rattle.dispatch_net.proofs.dispatch.Dispatch.of.Goals as goal
+
+pub loop-point-preserved : goal.loop-point-preserved
+loop-point-preserved c =
+    conditions_pushed (conditions_in c.args.net.now c.args.table.now) c.loop-point.point c.loop-point.conditions.items c.push.new.self.items c.in_ok-conditions_of.field-0 c.loop-point.invariant c.in_ok-push.ensures.items c.in_ok-conditions_of.ensures
+
+pub returns-clause-executed : goal.returns-clause-executed
+returns-clause-executed c =
+    λ sound.
+    let net = c.args.net.now in
+    let table = c.args.table.now in
+    let done : c.loop-point.point ≡ table.shape.points = omega (arith, point_count net table c.requires.for_network, ap length c.points.ensures.points) in
+    let made : c.loop-point.conditions.items ≡ dispatchable net table = c.loop-point.invariant ∙ ap (λ n. map (conditions_in net table) (map (λ k. record { 0 = k }) (range_with_len 0 n))) done in
+    subst (ExecutionSatisfies net) (sym made) (executions_satisfy net table c.args.order.now c.points.ensures.sound c.requires.for_network sound c.requires.closed c.requires.ordered)

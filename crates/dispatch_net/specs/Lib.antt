@@ -1,0 +1,3 @@
+pub mod Dispatchable
+pub mod Execution
+pub mod Laws

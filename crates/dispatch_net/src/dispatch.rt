@@ -1,0 +1,179 @@
+ghost use Rattle.std.specs.Prelude.{◌≡◌, ◌<◌, ◌++◌, [], length, IfOk, IfSome, OnOk};
+ghost use Rattle.std.specs.List.{cons_option};
+ghost use Rattle.std.specs.Option.{option_and_then};
+ghost use Rattle.net_model.specs.Network.{IsPoint};
+ghost use Rattle.closure_model.specs.Tables.{IsFor, IsGraph, IsWeight};
+ghost use Rattle.dispatch_net.specs.Dispatchable.{MayDispatch, lower_bounds_in, waits_in, conditions_in, dispatchable, conditions_at, moments_of, with_moments};
+ghost use Rattle.dispatch_net.specs.Execution.{ExecutionSatisfies};
+
+use labelled_graph::Table;
+use net_model::{Items, LinkId, Network, PointId, Weight};
+use std::alloc::{AllocError, Global};
+use std::marker::Model;
+
+/// By what a point is executed.
+#[derive(Debug, Drop)]
+pub struct Conditions {
+    /// A point and n: n moments after that point.
+    pub lower_bounds: Items<(PointId, Weight)>,
+    /// A link and n: its contingent point, or n moments after its activation point.
+    pub waits: Items<(LinkId, Weight)>,
+}
+
+/// The dispatchable network of a closed table (Morris, Muscettola and Vidal 2001, in this project's form): the lower bounds and
+/// waits by which each executable point is executed. Contracts see it as the list of these, one for each point.
+#[derive(Debug, Drop)]
+pub struct Dispatch {
+    conditions: Vec<Conditions>,
+}
+
+impl Model for Dispatch {
+    ghost use Rattle.std.specs.Prelude.{List};
+    ghost use Rattle.dispatch_net.specs.declared.dispatch.Conditions.{Conditions};
+
+    ghost Value = { List Conditions };
+
+    ghost view = { λ dispatch. dispatch.conditions.items };
+}
+
+impl Dispatch {
+    /// The dispatchable network of a closed table that has an order: by its lower bounds and waits the network is executed in every
+    /// situation, and each execution satisfies it. The order only shows that there is one, and isn't read. `AllocError` comes only for
+    /// want of memory.
+    pub fn of(
+        alloc: Global,
+        net: &Network,
+        table: &Table,
+        order: &[PointId],
+    ) -> Result<Dispatch, AllocError>
+        requires { MayDispatch net.now table.now order.now }
+        ensures dispatchable { IfOk result (λ dispatch. dispatch ≡ dispatchable net.now table.now) }
+        ensures executed { IfOk result (λ dispatch. IsGraph table.now → ExecutionSatisfies net.now dispatch) }
+    {
+        let mut conditions = Vec::new(alloc);
+        for point in 0..net.points().len() as u32 {
+            conditions.push(conditions_of(alloc, net, table, PointId(point))?)?;
+        }
+        Ok(Dispatch { conditions })
+    }
+
+    /// The lower bounds of a point, in order of number: a point and n above 0, for n moments after that point. A contingent point
+    /// has none.
+    pub fn lower_bounds(&self, point: PointId) -> &[(PointId, Weight)]
+        requires { point.0 < length self.now }
+        ensures { result.now ≡ (conditions_at self.now point).lower_bounds }
+    {
+        self.conditions[point.0 as usize].lower_bounds.as_slice()
+    }
+
+    /// The waits of a point, in order of number: a link and n above 0, for the contingent point of the link or n moments after its
+    /// activation point. A contingent point has none.
+    pub fn waits(&self, point: PointId) -> &[(LinkId, Weight)]
+        requires { point.0 < length self.now }
+        ensures { result.now ≡ (conditions_at self.now point).waits }
+    {
+        self.conditions[point.0 as usize].waits.as_slice()
+    }
+}
+
+/// By what a point is executed.
+fn conditions_of(
+    alloc: Global,
+    net: &Network,
+    table: &Table,
+    point: PointId,
+) -> Result<Conditions, AllocError>
+    requires network { IsFor net.now table.now }
+    requires point { IsPoint net.now point }
+    ensures { IfOk result (λ conditions. conditions ≡ conditions_in net.now table.now point) }
+{
+    if net.is_contingent(point) {
+        return Ok(Conditions {
+            lower_bounds: Items::new(Vec::new(alloc)),
+            waits: Items::new(Vec::new(alloc)),
+        });
+    }
+    let lower_bounds = lower_bounds_of(alloc, net, table, point)?;
+    let waits = waits_of(alloc, net, table, point)?;
+    Ok(Conditions {
+        lower_bounds: Items::new(lower_bounds),
+        waits: Items::new(waits),
+    })
+}
+
+/// The lower bounds that a table gives a point.
+fn lower_bounds_of(
+    alloc: Global,
+    net: &Network,
+    table: &Table,
+    point: PointId,
+) -> Result<Vec<(PointId, Weight)>, AllocError>
+    requires network { IsFor net.now table.now }
+    requires point { IsPoint net.now point }
+    ensures { IfOk result (λ bounds. bounds.items ≡ lower_bounds_in table.now point) }
+{
+    let mut bounds = Vec::new(alloc);
+    for other in 0..net.points().len() as u32 {
+        let weight = table.weight(point, PointId(other));
+        push_bound(&mut bounds, PointId(other), weight)?;
+    }
+    Ok(bounds)
+}
+
+/// The waits that a table gives a point.
+fn waits_of(
+    alloc: Global,
+    net: &Network,
+    table: &Table,
+    point: PointId,
+) -> Result<Vec<(LinkId, Weight)>, AllocError>
+    requires network { IsFor net.now table.now }
+    requires point { IsPoint net.now point }
+    ensures { IfOk result (λ waits. waits.items ≡ waits_in table.now point) }
+{
+    let mut waits = Vec::new(alloc);
+    for link in 0..net.links().len() as u32 {
+        let weight = table.upper(point, LinkId(link));
+        push_wait(&mut waits, LinkId(link), weight)?;
+    }
+    Ok(waits)
+}
+
+/// The moments of a negative weight.
+fn moments(weight: Option<Weight>) -> Option<Weight>
+    requires { IfSome weight IsWeight }
+    ensures { result ≡ option_and_then moments_of weight }
+{
+    match weight {
+        Some(weight) if weight < 0 => Some(-weight),
+        _ => None,
+    }
+}
+
+fn push_bound(
+    bounds: &mut Vec<(PointId, Weight)>,
+    point: PointId,
+    weight: Option<Weight>,
+) -> Result<(), AllocError>
+    requires { IfSome weight IsWeight }
+    ensures { OnOk result (bounds.new.items ≡ bounds.old.items ++ cons_option (with_moments point weight) []) }
+{
+    if let Some(n) = moments(weight) {
+        bounds.push((point, n))?;
+    }
+    Ok(())
+}
+
+fn push_wait(
+    waits: &mut Vec<(LinkId, Weight)>,
+    link: LinkId,
+    weight: Option<Weight>,
+) -> Result<(), AllocError>
+    requires { IfSome weight IsWeight }
+    ensures { OnOk result (waits.new.items ≡ waits.old.items ++ cons_option (with_moments link weight) []) }
+{
+    if let Some(n) = moments(weight) {
+        waits.push((link, n))?;
+    }
+    Ok(())
+}

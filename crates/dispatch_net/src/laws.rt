@@ -1,0 +1,24 @@
+//! Laws about the dispatchable network of a table and its executions, each the contract of a function without parameters.
+
+ghost use Rattle.dispatch_net.specs.Laws.{ListsAreExact, ExecutionsAreDispatched, ExecutionsSatisfy, ExecutionsArePlayed};
+
+/// The lower bounds and waits of an executable point are exactly the negative edges that the table has from it, each once and in
+/// order of number. A contingent point has none.
+pub fn lists_are_exact()
+    ensures { ListsAreExact }
+{}
+
+/// The executions of the dispatchable network of a table are the schedules of lower bounds and waits of the table's edges.
+pub fn executions_are_dispatched()
+    ensures { ExecutionsAreDispatched }
+{}
+
+/// The dispatchable network of a closed table with an order has an execution in every situation, and each satisfies the network.
+pub fn executions_satisfy()
+    ensures { ExecutionsSatisfy }
+{}
+
+/// A strategy that controls the network plays the execution of that dispatchable network in every situation.
+pub fn executions_are_played()
+    ensures { ExecutionsArePlayed }
+{}
