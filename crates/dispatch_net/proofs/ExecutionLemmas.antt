@@ -146,7 +146,7 @@ distinct_from (p ∷ ps) apart = (later ps (λ k d inside. apart 0 (suc k) d (om
     later [] each = tt
     later (q ∷ qs) each = (ne_eqb p.0 q.0 (each 0 q (omega arith)), later qs (λ k d inside. each (suc k) d (omega (arith, inside))))
 
-order_of_edges : (net : Plan) (table : Graph) (order : List PointId) → IsFor net table → table_orders.IsOrder table order → IsOrder net (edges_of table) order
+pub order_of_edges : (net : Plan) (table : Graph) (order : List PointId) → IsFor net table → table_orders.IsOrder table order → IsOrder net (edges_of table) order
 order_of_edges net table order for ordered =
     record {
       complete = λ point is_point. ordered.whole point (omega (arith, point_count net table for, is_point));
