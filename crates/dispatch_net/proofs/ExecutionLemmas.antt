@@ -4,7 +4,7 @@ use Rattle.std.specs.Prelude.{int_lt, slice_get, if◌then◌else◌}
 use Rattle.std.specs.List.{All, AllPairs, AllByRecursion, Contains, IsDistinct}
 use Rattle.std.specs.Option.{option_map_or}
 use Rattle.std.proofs.lemmas.Bool.{cases_lt, true≢false, ne_eqb}
-use Rattle.std.proofs.lemmas.List.{get_or-map}
+use Rattle.std.proofs.lemmas.List.{get_or-map, length-map}
 use Rattle.std.proofs.lemmas.List.Elements.{All-contains, All-weaker, All-contains_itself}
 use Rattle.std.proofs.lemmas.List.FromFn.{get_or-map-range_with_len, length-map-range_with_len}
 use Rattle.std.proofs.lemmas.Option.{slice_get_within, get_or_from_slice_get}
@@ -73,6 +73,11 @@ first_reached ms t is =
 -- ---- by what an executable point is executed
 pub point_count : (net : Plan) (table : Graph) → IsFor net table → table.shape.points ≡ length net.points
 point_count net table for = ap (λ (s : Shape). s.points) for
+
+pub dispatchable_length : (net : Plan) (table : Graph) → IsFor net table → length (dispatchable net table) ≡ length net.points
+dispatchable_length net table for =
+    let numbered : ℕ → PointId = λ k. record { 0 = k } in
+    length-map (all_points table.shape) (conditions_in net table) ∙ length-map-range_with_len numbered 0 table.shape.points ∙ point_count net table for
 
 pub conditions_stand : (net : Plan) (table : Graph) (point : PointId) → IsFor net table → IsPoint net point → conditions_at (dispatchable net table) point ≡ conditions_in net table point
 conditions_stand net table point for is_point =
@@ -146,7 +151,7 @@ distinct_from (p ∷ ps) apart = (later ps (λ k d inside. apart 0 (suc k) d (om
     later [] each = tt
     later (q ∷ qs) each = (ne_eqb p.0 q.0 (each 0 q (omega arith)), later qs (λ k d inside. each (suc k) d (omega (arith, inside))))
 
-order_of_edges : (net : Plan) (table : Graph) (order : List PointId) → IsFor net table → table_orders.IsOrder table order → IsOrder net (edges_of table) order
+pub order_of_edges : (net : Plan) (table : Graph) (order : List PointId) → IsFor net table → table_orders.IsOrder table order → IsOrder net (edges_of table) order
 order_of_edges net table order for ordered =
     record {
       complete = λ point is_point. ordered.whole point (omega (arith, point_count net table for, is_point));

@@ -6,11 +6,10 @@ use Rattle.std.specs.Option.{option_map, option_and_then}
 use Rattle.net_model.specs.Network.{Plan, activation}
 use Rattle.net_model.specs.declared.ids.PointId.{PointId}
 use Rattle.net_model.specs.declared.ids.LinkId.{LinkId}
-use Rattle.net_model.specs.declared.part.Edge.{Edge}
 use Rattle.closure_model.specs.Keys.{ordinary_key, labelled_key, all_points}
-use Rattle.closure_model.specs.Tables.{Graph, weight_of, HasEdge, IsFor, HasBase, IsClosed}
+use Rattle.closure_model.specs.Tables.{Graph, weight_of, IsFor, HasBase, IsClosed}
 use Rattle.closure_model.specs.Orders.{IsOrder}
-use Rattle.closure_model.specs.ReferenceRow.{IsWithin}
+use Rattle.closure_model.specs.ReferenceRow.{HasWeightsWithin}
 use Rattle.dispatch_net.specs.declared.dispatch.Conditions.{Conditions}
 
 -- a network may be dispatched by a table in an order: the table is for the network, is closed and has the base edges, its weights
@@ -19,7 +18,7 @@ pub record MayDispatch (net : Plan) (table : Graph) (order : List PointId) : Typ
   pub for_network : IsFor net table
   pub base : HasBase net table
   pub closed : IsClosed net table
-  pub within : (edge : Edge) → HasEdge table edge → IsWithin net edge.weight
+  pub within : HasWeightsWithin net table
   pub ordered : IsOrder table order
 
 -- n moments, where a weight is -n < 0

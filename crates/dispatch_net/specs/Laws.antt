@@ -6,13 +6,14 @@ use Rattle.net_model.specs.declared.ids.PointId.{PointId}
 use Rattle.net_model.specs.declared.ids.LinkId.{LinkId}
 use Rattle.closure_model.specs.Tables.{Graph, HasEdge, edges_of, IsFor, IsGraph, IsClosed}
 use Rattle.closure_model.specs.Orders as table_orders
+use Rattle.closure_model.specs.Closure.{IsClosure}
 use Rattle.strategy_model.specs.Situations.{IsSituation}
 use Rattle.strategy_model.specs.Plays.{play}
-use Rattle.strategy_model.specs.Control.{Controls}
+use Rattle.strategy_model.specs.Control.{Controls, IsEarliest}
 use Rattle.strategy_model.specs.Dispatch.{IsDispatched}
 use Rattle.strategy_model.specs.declared.tree.Tree.{Tree}
 use Rattle.dispatch_net.specs.declared.dispatch.Conditions.{Conditions}
-use Rattle.dispatch_net.specs.Dispatchable.{no_conditions, dispatchable, conditions_at}
+use Rattle.dispatch_net.specs.Dispatchable.{MayDispatch, no_conditions, dispatchable, conditions_at}
 use Rattle.dispatch_net.specs.Execution.{IsExecutedBy, ExecutionSatisfies}
 
 -- the executions of the dispatchable network are the schedules of lower bounds and waits of the table's edges
@@ -50,3 +51,15 @@ ListsAreExact =
     (net : Plan) (table : Graph) (point : PointId) → IsFor net table → IsGraph table → IsPoint net point
     → (IsExecutable net point → AreExact table point (conditions_at (dispatchable net table) point))
     × (IsContingent net point → conditions_at (dispatchable net table) point ≡ no_conditions)
+
+-- a network may be dispatched by its closure in an order of it
+abbrev pub ClosuresMayDispatch : Type 0
+ClosuresMayDispatch =
+    (net : Plan) (table : Graph) (order : List PointId) → IsPlan net → IsClosure net table → table_orders.IsOrder table order → MayDispatch net table order
+
+-- and then a schedule is the earliest of a situation exactly where it is the execution
+abbrev pub ClosuresExecuteEarliest : Type 0
+ClosuresExecuteEarliest =
+    (net : Plan) (table : Graph) (order : List PointId) (situation schedule : List ℕ) → IsPlan net → IsClosure net table → IsGraph table
+    → table_orders.IsOrder table order → IsSituation net situation
+    → (IsEarliest net situation schedule ↔ IsExecutedBy net (dispatchable net table) situation schedule)

@@ -48,6 +48,7 @@ impl Dispatch {
     ) -> Result<Dispatch, AllocError>
         requires { MayDispatch net.now table.now order.now }
         ensures dispatchable { IfOk result (λ dispatch. dispatch ≡ dispatchable net.now table.now) }
+        ensures whole { IfOk result (λ dispatch. length dispatch ≡ length net.now.points) }
         ensures executed { IfOk result (λ dispatch. IsGraph table.now → ExecutionSatisfies net.now dispatch) }
     {
         let mut conditions = Vec::new(alloc);

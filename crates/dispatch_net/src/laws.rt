@@ -1,6 +1,6 @@
 //! Laws about the dispatchable network of a table and its executions, each the contract of a function without parameters.
 
-ghost use Rattle.dispatch_net.specs.Laws.{ListsAreExact, ExecutionsAreDispatched, ExecutionsSatisfy, ExecutionsArePlayed};
+ghost use Rattle.dispatch_net.specs.Laws.{ListsAreExact, ExecutionsAreDispatched, ExecutionsSatisfy, ExecutionsArePlayed, ClosuresMayDispatch, ClosuresExecuteEarliest};
 
 /// The lower bounds and waits of an executable point are exactly the negative edges that the table has from it, each once and in
 /// order of number. A contingent point has none.
@@ -21,4 +21,14 @@ pub fn executions_satisfy()
 /// A strategy that controls the network plays the execution of that dispatchable network in every situation.
 pub fn executions_are_played()
     ensures { ExecutionsArePlayed }
+{}
+
+/// A network may be dispatched by its closure, in an order of it.
+pub fn closures_may_dispatch()
+    ensures { ClosuresMayDispatch }
+{}
+
+/// For the closure a schedule is the earliest of a situation exactly where it is the execution.
+pub fn closures_execute_earliest()
+    ensures { ClosuresExecuteEarliest }
 {}

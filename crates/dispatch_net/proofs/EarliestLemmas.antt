@@ -1,0 +1,34 @@
+-- The closure: a network may be dispatched by it, and the executions are the earliest schedules.
+use Rattle.std.proofs.Common.{ℤ}
+use Rattle.std.proofs.lemmas.Option.{MatchOption-at_some}
+use Rattle.closure_model.specs.Keys.{key_of}
+use Rattle.closure_model.specs.Tables.{IsClosed}
+use Rattle.closure_model.specs.Derivable.{IsDerivableFor, IsLeastDerivable}
+use Rattle.closure_model.proofs.BaseLemmas.{closed_has_base}
+use Rattle.closure_model.proofs.Deriving.{derivable_within}
+use Rattle.closure_model.proofs.LawProofs.{closure_is_closed}
+use Rattle.controllability.proofs.ClosureLemmas.{closures_dispatch_earliest}
+use Rattle.dispatch_net.specs.Laws.{ClosuresMayDispatch, ClosuresExecuteEarliest}
+use Rattle.dispatch_net.proofs.ExecutionLemmas.{executions_are_dispatched, order_of_edges}
+
+pub closures_may_dispatch : ClosuresMayDispatch
+closures_may_dispatch net table order plan closure ordered =
+    let closed : IsClosed net table = (closure_is_closed net table closure).0 in
+    record {
+      for_network = closure.for_network;
+      base = closed_has_base net table closed;
+      closed = closed;
+      within = λ edge has.
+          let key = key_of edge in
+          let least : IsLeastDerivable net key edge.weight = MatchOption-at_some ((weight : ℤ) → ¬ IsDerivableFor net key weight) (IsLeastDerivable net key) edge.weight has (closure.weights key) in
+          derivable_within net plan edge least.derivable;
+      ordered = ordered;
+    }
+
+pub closures_execute_earliest : ClosuresExecuteEarliest
+closures_execute_earliest net table order situation schedule plan closure sound ordered is_situation =
+    let dispatch = closures_dispatch_earliest net table order situation schedule plan closure (order_of_edges net table order closure.for_network ordered) is_situation in
+    let executed = executions_are_dispatched net table situation schedule closure.for_network sound in (
+      λ earliest. executed.1 (dispatch.0 earliest),
+      λ execution. dispatch.1 (executed.0 execution),
+    )
