@@ -1,0 +1,150 @@
+"""`check` once more, by the definitions of rows and rounds in docs/DEFINITIONS.md, without a line of the program.
+
+`check(text)` takes a plan without faults, and returns what `check` prints of it, how many rounds were made and how many nodes the
+derivation list has in the end. It is slow: every row looks through all its keys for the least.
+"""
+
+
+class Plan:
+    def __init__(self, text):
+        self.points, self.bounds, self.links = [], [], []
+        place = {}
+        for line in text.splitlines():
+            words = line.split()
+            if not words or words[0].startswith("#"):
+                continue
+            if words[0] == "end":
+                break
+            if words[0] == "point":
+                place[words[1]] = len(self.points)
+                self.points.append(words[1])
+            elif words[0] == "bound":
+                self.bounds.append((words[1], place[words[2]], place[words[3]], int(words[4])))
+            elif words[0] == "link":
+                self.links.append((place[words[1]], int(words[2]), int(words[3]), place[words[4]]))
+
+
+class Rounds:
+    """Nodes are (rule words, premises, source, target, label, weight); a key is (target, source, label), label -1 for none."""
+
+    def __init__(self, plan):
+        self.plan = plan
+        self.nodes, self.newest = [], {}
+        self.link_to = {link[3]: number for number, link in enumerate(plan.links)}
+        for name, source, target, most in plan.bounds:
+            self.add(("bound", name), (), source, target, -1, most)
+        for number, (source, _, high, target) in enumerate(plan.links):
+            self.add(("link", plan.points[target]), (), target, source, number, -high)
+
+    def weight(self, key):
+        return self.nodes[self.newest[key]][5] if key in self.newest else None
+
+    def add(self, rule, premises, source, target, label, weight):
+        self.nodes.append((rule, premises, source, target, label, weight))
+        key = (target, source, label)
+        if self.weight(key) is None or weight < self.weight(key):
+            self.newest[key] = len(self.nodes) - 1
+
+    def negative(self, source, target):
+        weight = self.weight((target, source, -1))
+        return weight is not None and weight < 0
+
+    def cycle(self):
+        """The cycle of negative ordinary edges, or None where the points have an order."""
+        left = set(range(len(self.plan.points)))
+        while True:
+            free = [x for x in sorted(left) if not any(self.negative(x, y) for y in left)]
+            if not free:
+                break
+            left.remove(free[0])
+        if not left:
+            return None
+        path = [min(left)]
+        while True:
+            following = min(y for y in left if self.negative(path[-1], y))
+            if following in path:
+                return path[path.index(following) :]
+            path.append(following)
+
+    def row(self, target):
+        """The edges that fell in the row of a target, in the order of settling."""
+        count, links = len(self.plan.points), self.plan.links
+        labels = [-1] + [number for number, link in enumerate(links) if link[0] == target]
+        slots = {(s, label): self.weight((target, s, label)) for s in range(count) for label in labels}
+        why, settled, fell = {}, set(), []
+        enter = {}
+        for (t, s, label), number in self.newest.items():
+            if label < 0:
+                enter.setdefault(t, []).append((s, self.nodes[number][5]))
+
+        def offer(slot, weight, reason):
+            if slots[slot] is None or weight < slots[slot]:
+                assert slot not in settled
+                slots[slot], why[slot] = weight, reason
+
+        while True:
+            open_slots = [(w, s, label) for (s, label), w in slots.items() if w is not None and (s, label) not in settled]
+            if not open_slots:
+                return fell
+            weight, source, label = min(open_slots)
+            settled.add((source, label))
+            if (source, label) in why:
+                fell.append((source, label, weight, why[(source, label)]))
+            if label >= 0:
+                offer((source, -1), max(weight, -links[label][1]), ("drop", (source, label)))
+            if weight >= 0:
+                continue
+            own = self.link_to.get(source)
+            if own is not None and own != label:
+                word = "low" if label < 0 else "cross"
+                offer((links[own][0], label), links[own][1] + weight, (word, own, (source, label)))
+            for begin, first in sorted(enter.get(source, [])):
+                word = "no" if label < 0 else "up"
+                offer((begin, label), max(first, 0) + weight, (word, (source, begin, -1), (source, label)))
+
+    def round(self):
+        before = dict(self.newest)
+        rows = [self.row(target) for target in range(len(self.plan.points))]
+        for target, fell in enumerate(rows):
+            for source, label, weight, why in fell:
+                last = self.newest[(target, *why[-1])]
+                if why[0] == "drop":
+                    rule, premises = ("drop",), (last,)
+                elif why[0] in ("low", "cross"):
+                    rule, premises = (why[0], self.plan.points[self.plan.links[why[1]][3]]), (last,)
+                else:
+                    rule, premises = (why[0],), (before[why[1]], last)
+                self.add(rule, premises, source, target, label, weight)
+        return any(rows)
+
+    def refutation(self, cycle):
+        points, links = self.plan.points, self.plan.links
+        steps = [self.newest[(y, x, -1)] for x, y in zip(cycle, cycle[1:] + cycle[:1])]
+        used, todo = set(), list(steps)
+        while todo:
+            node = todo.pop()
+            if node not in used:
+                used.add(node)
+                todo += self.nodes[node][1]
+        number = {node: place for place, node in enumerate(sorted(used), 1)}
+        lines = []
+        for node in sorted(used):
+            rule, premises, source, target, label, weight = self.nodes[node]
+            words = [*rule, *(str(number[p]) for p in premises), points[source], points[target]]
+            if rule[0] in ("up", "cross"):
+                words.append(points[links[label][3]])
+            lines.append(" ".join([*words, str(weight)]))
+        walk = [f"walk {number[step]}" for step in steps]
+        return ["not controllable", "certificate 1", "refutation", *lines, *walk, "end"]
+
+
+def check(text):
+    rounds = Rounds(Plan(text))
+    made = 0
+    while True:
+        cycle = rounds.cycle()
+        if cycle is not None:
+            return "\n".join(rounds.refutation(cycle)) + "\n", made, len(rounds.nodes)
+        made += 1
+        if not rounds.round():
+            return "controllable\n", made, len(rounds.nodes)
