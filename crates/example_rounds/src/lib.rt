@@ -4,6 +4,8 @@
 #[cfg(test)]
 mod derivations;
 #[cfg(test)]
+mod dispatches;
+#[cfg(test)]
 mod networks;
 #[cfg(test)]
 mod reductions;
