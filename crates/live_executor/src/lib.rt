@@ -1,0 +1,7 @@
+//! Executes a dispatchable network over a stream of completions, moment by moment. After the start nothing takes memory.
+#![tactic(auto)]
+
+// mod dispatched;
+mod met;
+
+pub use execution_model::{Act, Fed, Finished, MOST_MOMENT, Why};
