@@ -1,3 +1,4 @@
 pub mod Limits
 pub mod Due
 pub mod Sound
+pub mod Course

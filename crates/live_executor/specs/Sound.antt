@@ -1,12 +1,15 @@
 -- By what a network is executed, as an executor keeps it.
-use Rattle.std.specs.Prelude.{◌≡◌, ℕ, ℤ, ◌<◌, ◌≤◌, List, length, map, unsigned_abs, Option}
-use Rattle.std.specs.List.{All}
+use Rattle.std.specs.Prelude.{◌≡◌, ◌==◌, ℕ, ℤ, ◌<◌, ◌≤◌, List, length, find, unsigned_abs, Option, None}
+use Rattle.std.specs.List.{All, slice_index_or}
+use Rattle.net_model.specs.Network.{Plan, IsPlan}
+use Rattle.closure_model.specs.Tables.{Graph, IsGraph}
+use Rattle.dispatch_net.specs.Dispatchable.{MayDispatch, dispatchable}
 use Rattle.net_model.specs.Limits.{most_points, most_size}
 use Rattle.net_model.specs.declared.ids.PointId.{PointId}
 use Rattle.net_model.specs.declared.ids.LinkId.{LinkId}
 use Rattle.net_model.specs.declared.part.Link.{Link}
 use Rattle.dispatch_net.specs.declared.dispatch.Conditions.{Conditions}
-use Rattle.execution_model.specs.Execution.{Setting, points_of, link_to}
+use Rattle.execution_model.specs.Execution.{Setting}
 
 -- a lower bound is after one of so many points, by a number that a network may have
 pub record IsLowerBound (points : ℕ) (bound : PointId × ℤ) : Type 0 where
@@ -31,3 +34,25 @@ pub record IsSound (setting : Setting) : Type 0 where
   pub waits : All (λ (conditions : Conditions). All (IsWait (length setting.links)) conditions.waits) setting.dispatch
   pub links : All (IsLinkOf (length setting.dispatch)) setting.links
   pub few : length setting.dispatch ≤ most_points
+
+-- a dispatchable network is one of a network: that of a table by which the network may be dispatched in some order
+pub record IsDispatchOf (net : Plan) (dispatch : List Conditions) : Type 0 where
+  pub table : Graph
+  pub order : List PointId
+  pub graph : IsGraph table
+  pub may : MayDispatch net table order
+  pub made : dispatch ≡ dispatchable net table
+
+-- for each of so many points the link that ends in it
+pub record AreEnds (links : List Link) (points : ℕ) (ends : List (Option Link)) : Type 0 where
+  pub count : length ends ≡ points
+  pub each : (point : ℕ) → point < points → slice_index_or ends point None ≡ find (λ (link : Link). link.to.0 == point) links
+
+-- what is kept of a network and its dispatchable network: the links, the conditions, and for each point the link that ends in it
+pub record IsKept (setting : Setting) (ends : List (Option Link)) : Type 0 where
+  pub net : Plan
+  pub is_net : IsPlan net
+  pub links : setting.links ≡ net.links
+  pub dispatched : IsDispatchOf net setting.dispatch
+  pub sound : IsSound setting
+  pub ends_are : AreEnds setting.links (length setting.dispatch) ends

@@ -1,7 +1,8 @@
 //! Executes a dispatchable network over a stream of completions, moment by moment. After the start nothing takes memory.
 #![tactic(auto)]
 
-// mod dispatched;
+mod course;
+mod dispatched;
 mod met;
 
 pub use execution_model::{Act, Fed, Finished, MOST_MOMENT, Why};

@@ -1,0 +1,133 @@
+//! How far an execution has come.
+
+ghost use Rattle.std.specs.Prelude.{◌≡◌, ◌+◌, ◌-◌, ◌||◌, ◌<◌, ◌≤◌, ◌++◌, ◌∷◌, [], ℕ, None, Some, length, slice_set, replicate, true, if◌then◌else◌, IfOk};
+ghost use Rattle.std.specs.List.{list_any};
+ghost use Rattle.net_model.specs.Limits.{most_points};
+ghost use Rattle.std.specs.Vec.{vec_capacity};
+ghost use Rattle.execution_model.specs.Execution.{moment_of, acts_at, acted, time_runs, acts_while};
+ghost use Rattle.live_executor.specs.Course.{left_of, AreOpen, AreActed, acts_among, first_points, is_due_in};
+ghost use Rattle.live_executor.specs.Due.{AreDue, PassesFrom, has_begun, due_in};
+ghost use Rattle.live_executor.specs.Limits.{AreBefore, end_of_time};
+
+use crate::dispatched::Dispatched;
+use execution_model::Act;
+use net_model::PointId;
+use std::alloc::{AllocError, Global};
+
+/// The moments so far, from when on each point is due with them, and the acts that were made. There is room for an act of each
+/// point.
+#[derive(Drop)]
+pub(crate) struct Course {
+    pub(crate) moments: Vec<Option<u64>>,
+    pub(crate) due: Vec<Option<u64>>,
+    pub(crate) acts: Vec<Act>,
+    ghost whole: { length due.items ≡ length moments.items },
+    ghost room: { length acts.items + left_of moments.items ≤ length moments.items },
+    ghost reserved: { length moments.items ≤ vec_capacity acts },
+}
+
+impl Course {
+    /// That of so many points of which none has come. `AllocError` comes only for want of memory.
+    pub(crate) fn new(alloc: Global, points: usize) -> Result<Course, AllocError>
+        ensures moments { IfOk result (λ course. course.moments.items ≡ replicate points None) }
+        ensures acts { IfOk result (λ course. course.acts.items ≡ []) }
+    {
+        let moments = vec![in alloc; None; points]?;
+        let due = vec![in alloc; None; points]?;
+        let acts = Vec::with_capacity(alloc, points)?;
+        Ok(Course { moments, due, acts })
+    }
+
+    /// Takes over the moments and what is due of another, without its acts.
+    fn follow(&mut self, other: &Course)
+        requires { length self.old.moments.items ≡ length other.now.moments.items }
+        ensures moments { self.new.moments.items ≡ other.now.moments.items }
+        ensures due { self.new.due.items ≡ other.now.due.items }
+        ensures acts { self.new.acts.items ≡ [] }
+    {
+        self.acts.clear();
+        self.moments.copy_from_slice(other.moments.as_slice());
+        self.due.copy_from_slice(other.due.as_slice());
+    }
+
+    /// Finds from when on each point is due with the moments so far.
+    fn find_due(&mut self, dispatched: &Dispatched)
+        requires count { length self.old.moments.items ≡ length dispatched.now.dispatch }
+        requires early { AreBefore end_of_time self.old.moments.items }
+        ensures due { AreDue dispatched.now self.new.moments.items self.new.due.items }
+        ensures moments { self.new.moments.items ≡ self.old.moments.items }
+        ensures acts { self.new.acts.items ≡ self.old.acts.items }
+    {
+        for point in 0..dispatched.points() {
+            let due = dispatched.due_from(self.moments.as_slice(), PointId(point));
+            self.due[point as usize] = due;
+        }
+    }
+
+    /// The moment from which on some point is due, or `None` where none is.
+    pub(crate) fn first_due(&self) -> Option<u64>
+        ensures { PassesFrom (λ t. list_any (λ due. has_begun due t) self.now.due.items) result }
+    {
+        let mut first = None;
+        for due in &self.due {
+            first = earlier(first, *due);
+        }
+        first
+    }
+
+    /// Executes a point at t.
+    fn execute(&mut self, point: PointId, t: u64)
+        requires open { moment_of self.old.moments.items point ≡ None }
+        requires point { point.0 < length self.old.moments.items }
+        ensures moments { self.new.moments.items ≡ slice_set self.old.moments.items point.0 (Some t) }
+        ensures acts { self.new.acts.items ≡ self.old.acts.items ++ record { moment = t; point = point } ∷ [] }
+        ensures due { self.new.due.items ≡ self.old.due.items }
+    {
+        self.acts.push_reserved(Act { moment: t, point });
+        self.moments[point.0 as usize] = Some(t);
+    }
+
+    /// Executes a point at t if it is due then.
+    fn execute_if_due(&mut self, point: PointId, t: u64)
+        requires open { is_due_in self.old.due.items t point ≡ true → moment_of self.old.moments.items point ≡ None }
+        requires point { point.0 < length self.old.moments.items }
+        ensures moments { self.new.moments.items ≡ (if is_due_in self.old.due.items t point then slice_set self.old.moments.items point.0 (Some t) else self.old.moments.items) }
+        ensures acts { self.new.acts.items ≡ self.old.acts.items ++ (if is_due_in self.old.due.items t point then record { moment = t; point = point } ∷ [] else []) }
+        ensures due { self.new.due.items ≡ self.old.due.items }
+    {
+        if has_begun(self.due[point.0 as usize], t) {
+            self.execute(point, t);
+        }
+    }
+
+    /// Executes each point that is due at t.
+    fn execute_due(&mut self, t: u64)
+        requires open { AreOpen self.old.due.items self.old.moments.items }
+        requires few { length self.old.moments.items ≤ most_points }
+        ensures moments { AreActed self.old.due.items t (length self.old.moments.items) self.old.moments.items self.new.moments.items }
+        ensures acts { self.new.acts.items ≡ self.old.acts.items ++ acts_among self.old.due.items t (length self.old.moments.items) }
+        ensures due { self.new.due.items ≡ self.old.due.items }
+    {
+        for point in 0..self.moments.len() as u32 {
+            self.execute_if_due(PointId(point), t);
+        }
+    }
+}
+
+/// Whether t is no earlier than a moment, where there is one.
+fn has_begun(first: Option<u64>, t: u64) -> bool
+    ensures { result ≡ has_begun first t }
+{
+    first.is_some_and(|moment| moment <= t)
+}
+
+/// The earlier of two moments; `None` is later than each.
+fn earlier(first: Option<u64>, second: Option<u64>) -> Option<u64>
+    ensures { PassesFrom (λ t. has_begun first t || has_begun second t) result }
+{
+    match (first, second) {
+        (Some(a), Some(b)) => Some(a.min(b)),
+        (Some(a), None) => Some(a),
+        (None, b) => b,
+    }
+}
