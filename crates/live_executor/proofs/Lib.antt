@@ -1,2 +1,4 @@
 pub mod DueLemmas
 pub mod SoundLemmas
+pub mod CourseLemmas
+pub mod TimeLemmas

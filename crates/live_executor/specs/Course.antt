@@ -2,9 +2,10 @@
 use Rattle.std.specs.Prelude.{◌≡◌, ℕ, ◌<◌, ◌≤◌, Bool, true, List, length, map, filter, Option, Some, None, is_none, if◌then◌else◌}
 use Rattle.std.specs.List.{range_with_len, count_by}
 use Rattle.net_model.specs.declared.ids.PointId.{PointId}
-use Rattle.execution_model.specs.Execution.{Moments, moment_of}
+use Rattle.execution_model.specs.Execution.{Moments, Setting, moment_of}
 use Rattle.execution_model.specs.declared.feeding.Act.{Act}
-use Rattle.live_executor.specs.Due.{has_begun, due_in}
+use Rattle.live_executor.specs.Due.{has_begun, due_in, AreDue}
+use Rattle.live_executor.specs.Limits.{AreBefore, end_of_time}
 
 -- how many points have not come
 abbrev pub left_of : Moments → ℕ
@@ -31,3 +32,9 @@ pub record AreActed (due : List (Option ℕ)) (t : ℕ) (count : ℕ) (old new :
   pub whole : length new ≡ length old
   pub each : (point : PointId) → point.0 < count → moment_of new point ≡ (if is_due_in due t point then Some t else moment_of old point)
   pub others : (point : PointId) → count ≤ point.0 → moment_of new point ≡ moment_of old point
+
+-- what is kept of the moments so far: one for each point, none too late, and from when on each point is due with them
+pub record IsCourseOf (setting : Setting) (moments : Moments) (due : List (Option ℕ)) : Type 0 where
+  pub count : length moments ≡ length setting.dispatch
+  pub early : AreBefore end_of_time moments
+  pub known : AreDue setting moments due

@@ -2,11 +2,10 @@
 
 ghost use Rattle.std.specs.Prelude.{◌≡◌, ◌+◌, ◌-◌, ◌||◌, ◌<◌, ◌≤◌, ◌++◌, ◌∷◌, [], ℕ, None, Some, length, slice_set, replicate, true, if◌then◌else◌, IfOk};
 ghost use Rattle.std.specs.List.{list_any};
-ghost use Rattle.net_model.specs.Limits.{most_points};
 ghost use Rattle.std.specs.Vec.{vec_capacity};
 ghost use Rattle.execution_model.specs.Execution.{moment_of, acts_at, acted, time_runs, acts_while};
-ghost use Rattle.live_executor.specs.Course.{left_of, AreOpen, AreActed, acts_among, first_points, is_due_in};
-ghost use Rattle.live_executor.specs.Due.{AreDue, PassesFrom, has_begun, due_in};
+ghost use Rattle.live_executor.specs.Course.{left_of, is_due_in, IsCourseOf};
+ghost use Rattle.live_executor.specs.Due.{AreDue, PassesFrom, IsFirstFrom, IsFirstBefore, has_begun};
 ghost use Rattle.live_executor.specs.Limits.{AreBefore, end_of_time};
 
 use crate::dispatched::Dispatched;
@@ -101,15 +100,58 @@ impl Course {
     }
 
     /// Executes each point that is due at t.
-    fn execute_due(&mut self, t: u64)
-        requires open { AreOpen self.old.due.items self.old.moments.items }
-        requires few { length self.old.moments.items ≤ most_points }
-        ensures moments { AreActed self.old.due.items t (length self.old.moments.items) self.old.moments.items self.new.moments.items }
-        ensures acts { self.new.acts.items ≡ self.old.acts.items ++ acts_among self.old.due.items t (length self.old.moments.items) }
-        ensures due { self.new.due.items ≡ self.old.due.items }
+    fn execute_due(&mut self, dispatched: &Dispatched, t: u64)
+        requires { IsCourseOf dispatched.now self.old.moments.items self.old.due.items }
+        ensures moments { self.new.moments.items ≡ acted dispatched.now self.old.moments.items t }
+        ensures acts { self.new.acts.items ≡ self.old.acts.items ++ acts_at dispatched.now self.old.moments.items t }
     {
-        for point in 0..self.moments.len() as u32 {
+        for point in 0..dispatched.points() {
             self.execute_if_due(PointId(point), t);
+        }
+    }
+
+    /// Makes the acts of t, and finds what is due afterwards.
+    fn act(&mut self, dispatched: &Dispatched, t: u64)
+        requires course { IsCourseOf dispatched.now self.old.moments.items self.old.due.items }
+        requires early { t < end_of_time }
+        ensures moments { self.new.moments.items ≡ acted dispatched.now self.old.moments.items t }
+        ensures acts { self.new.acts.items ≡ self.old.acts.items ++ acts_at dispatched.now self.old.moments.items t }
+        ensures course { IsCourseOf dispatched.now self.new.moments.items self.new.due.items }
+    {
+        self.execute_due(dispatched, t);
+        self.find_due(dispatched);
+    }
+
+    /// The first moment from one on at which a point is due, or `None` where there is none.
+    pub(crate) fn next_due(&self, from: u64) -> Option<u64>
+        ensures { IsFirstFrom self.now.due.items from result }
+    {
+        let due = self.first_due()?;
+        Some(due.max(from))
+    }
+
+    /// The first moment from one on and before another at which a point is due, or `None` where there is none.
+    fn next_before(&self, from: u64, until: u64) -> Option<u64>
+        ensures { IsFirstBefore self.now.due.items from until result }
+    {
+        match self.next_due(from) {
+            Some(moment) if moment < until => Some(moment),
+            _ => None,
+        }
+    }
+
+    /// Lets time run from a moment to the one before another, from due moment to due moment, and makes the acts.
+    pub(crate) fn run(&mut self, dispatched: &Dispatched, from: u64, until: u64)
+        requires course { IsCourseOf dispatched.now self.old.moments.items self.old.due.items }
+        requires early { until ≤ end_of_time }
+        ensures moments { self.new.moments.items ≡ time_runs dispatched.now self.old.moments.items from (until - from) }
+        ensures acts { self.new.acts.items ≡ self.old.acts.items ++ acts_while dispatched.now self.old.moments.items from (until - from) }
+        ensures course { IsCourseOf dispatched.now self.new.moments.items self.new.due.items }
+    {
+        let mut next = from;
+        while let Some(moment) = self.next_before(next, until) {
+            self.act(dispatched, moment);
+            next = moment + 1;
         }
     }
 }

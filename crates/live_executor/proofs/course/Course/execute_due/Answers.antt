@@ -1,0 +1,27 @@
+use Rattle.std.proofs.Common.{◌∙◌, ap, ◌++◌, sym, arith}
+use Rattle.live_executor.proofs.TimeLemmas.{leaps, rests}
+use Rattle.live_executor.proofs.CourseLemmas.{acted_more, acts_pushed, open_next, due_are_open, acts_are, acted_are}
+use Rattle.live_executor.proofs.course.Course.execute_due.Goals as goal
+
+pub execute_if_due-requires-clause-open : goal.execute_if_due-requires-clause-open
+execute_if_due-requires-clause-open c =
+    let i = c.loop-point.invariant in
+    let old = c.args.self.now in
+    open_next old.due.items c.loop-point.self.due.items c.args.t c.loop-point.point old.moments.items c.loop-point.self.moments.items (omega arith)
+        (due_are_open c.args.dispatched.now old.moments.items old.due.items c.requires.count c.requires.known) i.moments i.due
+
+pub loop-point-preserved : goal.loop-point-preserved
+loop-point-preserved c =
+    let i = c.loop-point.invariant in
+    let e = c.execute_if_due.ensures in
+    let old = c.args.self.now in
+    record {
+      moments = acted_more old.due.items c.args.t c.loop-point.point old.moments.items c.loop-point.self.moments.items c.execute_if_due.new.self.moments.items
+          (omega arith) i.moments (rw (← i.due) e.moments);
+      acts = acts_pushed old.due.items c.loop-point.self.due.items c.args.t c.loop-point.point old.acts.items c.loop-point.self.acts.items c.execute_if_due.new.self.acts.items
+          i.acts e.acts i.due;
+      due = e.due ∙ i.due;
+    }
+
+pub returns : goal.returns
+returns c = ?
