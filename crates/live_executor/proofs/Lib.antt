@@ -2,3 +2,4 @@ pub mod DueLemmas
 pub mod SoundLemmas
 pub mod CourseLemmas
 pub mod TimeLemmas
+pub mod MomentLemmas

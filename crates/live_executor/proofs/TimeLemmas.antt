@@ -1,5 +1,5 @@
 -- Time by leaps is time by steps: where no point is due nothing changes.
-use Rattle.std.proofs.Common.{◌≡◌, ℕ, zero, suc, ◌+◌, ◌-◌, ◌<◌, ◌≤◌, Bool, true, false, cond, List, [], ◌∷◌, ◌++◌, length, map, get_or, Option, Some, None, refl, ap, sym, subst, ◌∙◌, arith, append_assoc, add-one}
+use Rattle.std.proofs.Common.{◌≡◌, ℕ, zero, suc, ◌+◌, ◌-◌, ◌<◌, ◌≤◌, Bool, true, false, cond, List, [], ◌∷◌, ◌++◌, length, map, get_or, Option, Some, None, refl, ap, sym, subst, ◌∙◌, arith, append_assoc, append-nil, add-one}
 use Rattle.std.specs.Prelude.{filter}
 use Rattle.std.specs.List.{range_with_len}
 use Rattle.std.proofs.lemmas.List.FromFn.{filter_of_map_range_with_len_more, fill_by_all, length-map-range_with_len}
@@ -25,6 +25,9 @@ none_numbered p (suc n) none =
 
 plus_zero : (t : ℕ) → t ≡ t + 0
 plus_zero t = omega arith
+
+zero_plus : (b : ℕ) → 0 + b ≡ b
+zero_plus b = omega arith
 
 plus_suc : (t a : ℕ) → suc t + a ≡ t + suc a
 plus_suc t a = omega arith
@@ -71,13 +74,13 @@ module _ (setting : Setting) where
 
   -- time is that of its two parts, one after the other
   pub runs_split : (moments : Moments) (t a b : ℕ) → time_runs setting moments t (a + b) ≡ time_runs setting (time_runs setting moments t a) (t + a) b
-  runs_split moments t zero b = ap (λ u. time_runs setting moments u b) (plus_zero t)
+  runs_split moments t zero b = ap (time_runs setting moments t) (zero_plus b) ∙ ap (λ u. time_runs setting moments u b) (plus_zero t)
   runs_split moments t (suc a) b =
       ap (time_runs setting moments t) (suc_plus a b) ∙ runs_split (acted setting moments t) (suc t) a b
       ∙ ap (λ u. time_runs setting (time_runs setting (acted setting moments t) (suc t) a) u b) (plus_suc t a)
 
   pub acts_split : (moments : Moments) (t a b : ℕ) → acts_while setting moments t (a + b) ≡ acts_while setting moments t a ++ acts_while setting (time_runs setting moments t a) (t + a) b
-  acts_split moments t zero b = ap (λ u. acts_while setting moments u b) (plus_zero t)
+  acts_split moments t zero b = ap (acts_while setting moments t) (zero_plus b) ∙ ap (λ u. acts_while setting moments u b) (plus_zero t)
   acts_split moments t (suc a) b =
       let now = acts_at setting moments t in
       let next = acted setting moments t in
@@ -85,17 +88,40 @@ module _ (setting : Setting) where
       ∙ sym (append_assoc now (acts_while setting next (suc t) a) (acts_while setting (time_runs setting next (suc t) a) (suc t + a) b))
       ∙ ap (λ u. (now ++ acts_while setting next (suc t) a) ++ acts_while setting (time_runs setting next (suc t) a) u b) (plus_suc t a)
 
-  -- the acts at the end of a leap
-  pub record Leaps (first : Moments) (from next moment : ℕ) (moments : Moments) : Type 0 where
-    pub moments_are : acted setting moments moment ≡ time_runs setting first from (moment + 1 - from)
-    pub acts_are : acts_while setting first from (next - from) ++ acts_at setting moments moment ≡ acts_while setting first from (moment + 1 - from)
+  -- time goes on from the moments that it has come to
+  module _ (first : Moments) (from a : ℕ) (moments : Moments) (next : ℕ) (start : from + a ≡ next) (are : moments ≡ time_runs setting first from a) where
+    runs_on : (c : ℕ) → time_runs setting first from (a + c) ≡ time_runs setting moments next c
+    runs_on c =
+        runs_split first from a c ∙ ap (λ (m : Moments). time_runs setting m (from + a) c) (sym are) ∙ ap (λ u. time_runs setting moments u c) start
 
-  pub leaps : (first : Moments) (from next moment : ℕ) (moments : Moments) → from ≤ next → next ≤ moment → length moments ≡ length setting.dispatch
-      → moments ≡ time_runs setting first from (next - from) → ((u : ℕ) → next ≤ u → u < moment → IsIdle setting moments u) → Leaps first from next moment moments
-  leaps first from next moment moments after later whole are idle = record { moments_are = ?; acts_are = ? }
+    acts_on : (c : ℕ) → acts_while setting first from (a + c) ≡ acts_while setting first from a ++ acts_while setting moments next c
+    acts_on c =
+        acts_split first from a c ∙ ap (λ (m : Moments). acts_while setting first from a ++ acts_while setting m (from + a) c) (sym are)
+        ∙ ap (λ u. acts_while setting first from a ++ acts_while setting moments u c) start
 
-  -- the end of time that runs, where no point is due any more
-  pub rests : (first : Moments) (from next until : ℕ) (moments : Moments) → from ≤ next → length moments ≡ length setting.dispatch
-      → moments ≡ time_runs setting first from (next - from) → ((u : ℕ) → next ≤ u → u < until → IsIdle setting moments u) → until ≤ from ⊎ (next ≤ until)
-      → (moments ≡ time_runs setting first from (until - from)) × (acts_while setting first from (next - from) ≡ acts_while setting first from (until - from))
-  rests first from next until moments after whole are idle range = ?
+  module _ (first : Moments) (from next moment : ℕ) (moments : Moments) (after : from ≤ next) (later : next ≤ moment) (whole : length moments ≡ length setting.dispatch)
+      (are : moments ≡ time_runs setting first from (next - from)) (idle : (u : ℕ) → next ≤ u → u < moment → IsIdle setting moments u) where
+    rest : IsStill moments next (moment - next)
+    rest = still moments next (moment - next) whole (λ u above below. idle u above (omega arith))
+
+    -- at the end of time in which no point is due the moments are the same
+    pub rests : (moments ≡ time_runs setting first from (moment - from)) × (acts_while setting first from (next - from) ≡ acts_while setting first from (moment - from))
+    rests =
+        let a = next - from in
+        let b = moment - next in
+        let start : from + (next - from) ≡ next = omega arith in
+        let total : moment - from ≡ (next - from) + (moment - next) = omega arith in
+        (sym (ap (time_runs setting first from) total ∙ runs_on first from a moments next start are b ∙ rest.same),
+         sym (ap (acts_while setting first from) total ∙ acts_on first from a moments next start are b ∙ ap (λ acts. acts_while setting first from a ++ acts) rest.no_acts ∙ append-nil (acts_while setting first from a)))
+
+    -- and then the acts of the next moment are made
+    pub leaps : (acted setting moments moment ≡ time_runs setting first from (moment + 1 - from))
+        × (acts_while setting first from (next - from) ++ acts_at setting moments moment ≡ acts_while setting first from (moment + 1 - from))
+    leaps =
+        let a = moment - from in
+        let start : from + (moment - from) ≡ moment = omega arith in
+        let total : moment + 1 - from ≡ (moment - from) + 1 = omega arith in
+        let before = rests in
+        (sym (ap (time_runs setting first from) total ∙ runs_on first from a moments moment start before.0 1),
+         sym (ap (acts_while setting first from) total ∙ acts_on first from a moments moment start before.0 1 ∙ ap (λ acts. acts ++ (acts_at setting moments moment ++ [])) (sym before.1)
+         ∙ ap (λ acts. acts_while setting first from (next - from) ++ acts) (append-nil (acts_at setting moments moment))))

@@ -2,3 +2,4 @@ pub mod Limits
 pub mod Due
 pub mod Sound
 pub mod Course
+pub mod Taking

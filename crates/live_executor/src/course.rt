@@ -53,7 +53,7 @@ impl Course {
     fn find_due(&mut self, dispatched: &Dispatched)
         requires count { length self.old.moments.items ≡ length dispatched.now.dispatch }
         requires early { AreBefore end_of_time self.old.moments.items }
-        ensures due { AreDue dispatched.now self.new.moments.items self.new.due.items }
+        ensures course { IsCourseOf dispatched.now self.new.moments.items self.new.due.items }
         ensures moments { self.new.moments.items ≡ self.old.moments.items }
         ensures acts { self.new.acts.items ≡ self.old.acts.items }
     {
@@ -143,6 +143,7 @@ impl Course {
     /// Lets time run from a moment to the one before another, from due moment to due moment, and makes the acts.
     pub(crate) fn run(&mut self, dispatched: &Dispatched, from: u64, until: u64)
         requires course { IsCourseOf dispatched.now self.old.moments.items self.old.due.items }
+        requires range { from ≤ until }
         requires early { until ≤ end_of_time }
         ensures moments { self.new.moments.items ≡ time_runs dispatched.now self.old.moments.items from (until - from) }
         ensures acts { self.new.acts.items ≡ self.old.acts.items ++ acts_while dispatched.now self.old.moments.items from (until - from) }

@@ -4,5 +4,6 @@
 mod course;
 mod dispatched;
 mod met;
+mod taking;
 
 pub use execution_model::{Act, Fed, Finished, MOST_MOMENT, Why};

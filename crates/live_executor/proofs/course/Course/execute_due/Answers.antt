@@ -1,4 +1,6 @@
-use Rattle.std.proofs.Common.{◌∙◌, ap, ◌++◌, sym, arith}
+use Rattle.std.proofs.Common.{◌≡◌, ◌∙◌, ap, ◌++◌, List, length, arith}
+use Rattle.execution_model.specs.declared.feeding.Act.{Act}
+use Rattle.live_executor.specs.Course.{acts_among}
 use Rattle.live_executor.proofs.TimeLemmas.{leaps, rests}
 use Rattle.live_executor.proofs.CourseLemmas.{acted_more, acts_pushed, open_next, due_are_open, acts_are, acted_are}
 use Rattle.live_executor.proofs.course.Course.execute_due.Goals as goal
@@ -24,4 +26,14 @@ loop-point-preserved c =
     }
 
 pub returns : goal.returns
-returns c = ?
+returns c =
+    let i = c.loop-point.invariant in
+    let old = c.args.self.now in
+    let setting = c.args.dispatched.now in
+    let reached : c.loop-point.point ≡ length setting.dispatch = omega arith in
+    let whole : c.loop-point.point ≡ length old.moments.items = omega (arith, c.requires.count) in
+    record {
+      moments = acted_are setting old.moments.items c.loop-point.self.moments.items old.due.items c.args.t c.requires.count c.requires.known
+          (rw (← whole) i.moments);
+      acts = i.acts ∙ ap (λ n. old.acts.items ++ acts_among old.due.items c.args.t n) reached ∙ ap (λ (acts : List Act). old.acts.items ++ acts) (acts_are setting old.moments.items old.due.items c.args.t c.requires.known);
+    }
