@@ -3,3 +3,4 @@ pub mod SoundLemmas
 pub mod CourseLemmas
 pub mod TimeLemmas
 pub mod MomentLemmas
+pub mod TakingLemmas

@@ -1,11 +1,11 @@
 -- What a network is executed by is of its points and links, and not too great.
-use Rattle.std.proofs.Common.{◌≡◌, ℕ, ℤ, pos, ◌-ℤ◌, ◌<◌, ◌≤◌, ◌≤ℤ◌, Bool, true, false, List, length, map, get_or, Option, Some, None, refl, ap, sym, subst, ◌∙◌, arith}
-use Rattle.std.specs.Prelude.{slice_get, unsigned_abs, is_some}
+use Rattle.std.proofs.Common.{◌≡◌, ℕ, ℤ, pos, ◌-ℤ◌, ◌<◌, ◌≤◌, ◌≤ℤ◌, Bool, true, false, List, [], ◌∷◌, cond, length, map, get_or, Option, Some, None, refl, ap, sym, subst, ◌∙◌, arith}
+use Rattle.std.specs.Prelude.{slice_get, unsigned_abs, is_some, find, IfSome, ◌==◌}
 use Rattle.std.specs.List.{All, Contains}
 use Rattle.std.proofs.lemmas.Int.{ints}
 use Rattle.std.proofs.lemmas.Bool.{leb-true}
 use Rattle.std.proofs.lemmas.List.{length-map, get_or_default}
-use Rattle.std.proofs.lemmas.List.Elements.{All-weaker, All-contains_itself, All-nil}
+use Rattle.std.proofs.lemmas.List.Elements.{All-weaker, All-contains_itself, All-nil, All-head, All-tail}
 use Rattle.std.proofs.lemmas.Option.{slice_get_within}
 use Rattle.net_model.specs.Limits.{most_size}
 use Rattle.net_model.specs.Network.{Plan, IsPlan, IsLink, IsPoint, IsContingent, IsExecutable, activation, greatest}
@@ -21,6 +21,7 @@ use Rattle.dispatch_net.specs.Laws.{AreExact}
 use Rattle.dispatch_net.specs.declared.dispatch.Conditions.{Conditions}
 use Rattle.dispatch_net.proofs.ExecutionLemmas.{dispatchable_length, point_count}
 use Rattle.dispatch_net.proofs.ExactLemmas.{lists_are_exact}
+use Rattle.execution_model.specs.Execution.{Setting}
 use Rattle.live_executor.specs.Sound.{IsLowerBound, IsWait, IsLinkOf, IsSound, IsDispatchOf, AreEnds, IsKept}
 
 each_contained : {X : Type 0} (P : X → Type 0) (xs : List X) → ((x : X) → Contains xs x → P x) → All P xs
@@ -103,3 +104,21 @@ module _ (net : Plan) (plan : IsPlan net) (dispatch : List Conditions) (of : IsD
     sound = rw same dispatch_sound;
     ends_are = subst (λ n. AreEnds links n ends) (same_points ∙ sym count) are;
   }
+
+-- what holds of each item holds of the first that passes a test
+pub found_has : {X : Type 0} (P : X → Type 0) (p : X → Bool) (xs : List X) → All P xs → IfSome (find p xs) P
+found_has P p [] all = tt
+found_has P p (x ∷ xs) all = either P x (find p xs) (p x) (All-head P x xs all) (found_has P p xs (All-tail P x xs all))
+  where
+    either : {X : Type 0} (P : X → Type 0) (x : X) (later : Option X) (b : Bool) → P x → IfSome later P → IfSome (cond b (Some x) later) P
+    either P x later true here there = here
+    either P x later false here there = there
+
+-- the link that is kept of a point is sound
+pub kept_link : (setting : Setting) (ends : List (Option Link)) (k : ℕ) (x : Option Link) → IsKept setting ends → k < length setting.dispatch → x ≡ get_or ends k x
+    → IfSome x (IsLinkOf (length setting.dispatch))
+kept_link setting ends k x is inside read =
+    let test : Link → Bool = λ link. link.to.0 == k in
+    let found : find test setting.links ≡ x =
+        sym (is.ends_are.each k inside) ∙ get_or_default ends k None x (omega (arith, is.ends_are.count, inside)) ∙ sym read in
+    subst (λ (o : Option Link). IfSome o (IsLinkOf (length setting.dispatch))) found (found_has (IsLinkOf (length setting.dispatch)) test setting.links is.sound.links)

@@ -3,3 +3,4 @@ pub mod Due
 pub mod Sound
 pub mod Course
 pub mod Taking
+pub mod Kept

@@ -27,7 +27,7 @@ pub(crate) struct Course {
 
 impl Course {
     /// That of so many points of which none has come. `AllocError` comes only for want of memory.
-    pub(crate) fn new(alloc: Global, points: usize) -> Result<Course, AllocError>
+    fn new(alloc: Global, points: usize) -> Result<Course, AllocError>
         ensures moments { IfOk result (λ course. course.moments.items ≡ replicate points None) }
         ensures acts { IfOk result (λ course. course.acts.items ≡ []) }
     {
@@ -37,8 +37,19 @@ impl Course {
         Ok(Course { moments, due, acts })
     }
 
+    /// That of a dispatchable network, of whose points none has come. `AllocError` comes only for want of memory.
+    pub(crate) fn fresh(alloc: Global, dispatched: &Dispatched) -> Result<Course, AllocError>
+        ensures moments { IfOk result (λ course. course.moments.items ≡ replicate (length dispatched.now.dispatch) None) }
+        ensures acts { IfOk result (λ course. course.acts.items ≡ []) }
+        ensures course { IfOk result (λ course. IsCourseOf dispatched.now course.moments.items course.due.items) }
+    {
+        let mut course = Course::new(alloc, dispatched.points() as usize)?;
+        course.find_due(dispatched);
+        Ok(course)
+    }
+
     /// Takes over the moments and what is due of another, without its acts.
-    fn follow(&mut self, other: &Course)
+    pub(crate) fn follow(&mut self, other: &Course)
         requires { length self.old.moments.items ≡ length other.now.moments.items }
         ensures moments { self.new.moments.items ≡ other.now.moments.items }
         ensures due { self.new.due.items ≡ other.now.due.items }
@@ -111,7 +122,7 @@ impl Course {
     }
 
     /// Makes the acts of t, and finds what is due afterwards.
-    fn act(&mut self, dispatched: &Dispatched, t: u64)
+    pub(crate) fn act(&mut self, dispatched: &Dispatched, t: u64)
         requires course { IsCourseOf dispatched.now self.old.moments.items self.old.due.items }
         requires early { t < end_of_time }
         ensures moments { self.new.moments.items ≡ acted dispatched.now self.old.moments.items t }

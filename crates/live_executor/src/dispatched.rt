@@ -1,12 +1,12 @@
 //! A network as it is dispatched.
 
-ghost use Rattle.std.specs.Prelude.{◌≡◌, ◌<◌, ◌==◌, find, length, IfOk};
+ghost use Rattle.std.specs.Prelude.{◌≡◌, ◌<◌, ◌==◌, find, length, IfOk, IfSome};
 ghost use Rattle.std.specs.List.{slice_index_or};
 ghost use Rattle.net_model.specs.declared.part.Link.{Link};
 ghost use Rattle.execution_model.specs.Execution.{is_due, link_to};
 ghost use Rattle.live_executor.specs.Due.{PassesFrom};
 ghost use Rattle.live_executor.specs.Limits.{AreBefore, end_of_time};
-ghost use Rattle.live_executor.specs.Sound.{IsDispatchOf, IsSound, AreEnds};
+ghost use Rattle.live_executor.specs.Sound.{IsDispatchOf, IsLinkOf, AreEnds};
 
 use crate::met::{bounds_met, waits_met};
 use dispatch_net::Dispatch;
@@ -64,7 +64,8 @@ impl Dispatched {
     /// The link that ends in a point.
     pub(crate) fn link_to(&self, point: PointId) -> Option<Link>
         requires { point.0 < length self.now.dispatch }
-        ensures { result ≡ link_to self.now point }
+        ensures link { result ≡ link_to self.now point }
+        ensures sound { IfSome result (IsLinkOf (length self.now.dispatch)) }
     {
         self.ends[point.0 as usize]
     }

@@ -3,7 +3,9 @@
 
 mod course;
 mod dispatched;
+mod executor;
 mod met;
 mod taking;
 
+pub use executor::Executor;
 pub use execution_model::{Act, Fed, Finished, MOST_MOMENT, Why};

@@ -1,0 +1,104 @@
+//! The executor.
+
+ghost use Rattle.std.specs.Prelude.{◌≡◌, ◌+◌, ◌<◌, Ok, Err, Some, None, length, IfOk, OnOk, OnErr};
+ghost use Rattle.std.specs.List.{All};
+ghost use Rattle.std.specs.Option.{option_map_or};
+ghost use Rattle.execution_model.specs.Execution.{moment_of};
+ghost use Rattle.execution_model.specs.Feeding.{started, next_moment, IsFed, IsFinished, IsDueAnswer};
+ghost use Rattle.live_executor.specs.Sound.{IsDispatchOf};
+
+use crate::course::Course;
+use crate::dispatched::Dispatched;
+use dispatch_net::Dispatch;
+use execution_model::{Act, Why};
+use net_model::{Network, PointId};
+use std::alloc::{AllocError, Global};
+use std::marker::Model;
+
+/// An execution of a dispatchable network, fed with completions moment by moment. Contracts see it as an execution: by what the
+/// network is executed, the moments so far, the last moment fed, the last acts, and why a feed was refused.
+#[derive(Drop)]
+pub struct Executor {
+    dispatched: Dispatched,
+    course: Course,
+    trial: Course,
+    last: Option<u64>,
+    refused: Option<Why>,
+}
+
+impl Model for Executor {
+    ghost use Rattle.execution_model.specs.Feeding.{Execution};
+    ghost use Rattle.live_executor.specs.Kept.{IsKeptExecution};
+
+    ghost Value = { Execution };
+
+    ghost view = { λ kept. record {
+      setting = kept.dispatched;
+      moments = kept.course.moments.items;
+      last = kept.last;
+      acts = kept.course.acts.items;
+      refused = kept.refused;
+    } };
+
+    ghost invariant = { λ kept. IsKeptExecution kept.dispatched kept.course.moments.items kept.course.due.items kept.trial.moments.items kept.last };
+}
+
+impl Executor {
+    /// Starts an execution of a network on a dispatchable network of it. All memory that it ever needs is taken here.
+    /// `AllocError` comes only for want of memory.
+    pub fn start(
+        alloc: Global,
+        net: &Network,
+        dispatch: Dispatch,
+    ) -> Result<Executor, AllocError>
+        requires { IsDispatchOf net.now dispatch }
+        ensures { IfOk result (λ executor. executor ≡ started (record { links = net.now.links; dispatch = dispatch })) }
+    {
+        let dispatched = Dispatched::new(alloc, net, dispatch)?;
+        let course = Course::fresh(alloc, &dispatched)?;
+        let trial = Course::fresh(alloc, &dispatched)?;
+        Ok(Executor {
+            dispatched,
+            course,
+            trial,
+            last: None,
+            refused: None,
+        })
+    }
+
+    /// The acts of the last feed that was answered `Acts`, or of the end, by moment and then by number of the point.
+    pub fn acts(&self) -> &[Act]
+        ensures { result.now ≡ self.now.acts }
+    {
+        self.course.acts.as_slice()
+    }
+
+    /// The moment at which a point was executed or has completed, or `None` where it has not.
+    pub fn moment_of(&self, point: PointId) -> Option<u64>
+        requires { point.0 < length self.now.setting.dispatch }
+        ensures { result ≡ moment_of self.now.moments point }
+    {
+        self.course.moments[point.0 as usize]
+    }
+
+    /// The next moment at which a point will be executed if nothing completes before, or `None` where there is none, and after a
+    /// refusal.
+    pub fn next_due(&self) -> Option<u64>
+        ensures { IsDueAnswer self.now result }
+    {
+        match self.refused {
+            Some(_) => None,
+            None => self.course.next_due(self.next_moment()),
+        }
+    }
+
+    /// The first moment that has not gone by.
+    fn next_moment(&self) -> u64
+        ensures { result ≡ next_moment self.now }
+    {
+        match self.last {
+            Some(last) => last + 1,
+            None => 0,
+        }
+    }
+}
