@@ -4,3 +4,4 @@ pub mod CourseLemmas
 pub mod TimeLemmas
 pub mod MomentLemmas
 pub mod TakingLemmas
+pub mod ExecutorLemmas
