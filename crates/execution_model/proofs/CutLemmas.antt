@@ -63,6 +63,22 @@ pub record IsRun (net : Plan) (table : Graph) (schedule : List ℕ) : Type 0 whe
   pub is_situation : IsSituation net situation
   pub executed : IsExecutedBy net (dispatchable net table) situation schedule
 
+-- a point without a moment comes no sooner, and a moment is that of the schedule
+module _ (net : Plan) (schedule : List ℕ) (moments : Moments) (t : ℕ) (cut : IsCut net schedule moments t) where
+  pub not_sooner : (point : PointId) → IsPoint net point → moment_of moments point ≡ None → t ≤ moment_in schedule point
+  not_sooner point within unknown =
+      elim (cases_lt (moment_in schedule point) t) [
+        | inl less ↦ absurd (none-some (moment_in schedule point) (sym unknown ∙ cut.known point within less))
+        | inr above ↦ above
+      ]
+
+  pub cut_value : (point : PointId) (m : ℕ) → IsPoint net point → moment_of moments point ≡ Some m → (m ≡ moment_in schedule point) × (m < t)
+  cut_value point m within found =
+      elim (cases_lt (moment_in schedule point) t) [
+        | inl less ↦ (let is : moment_in schedule point ≡ m = same_Some (moment_in schedule point) m (sym (cut.known point within less) ∙ found) in (sym is, omega (arith, is, less)))
+        | inr above ↦ absurd (none-some m (sym (cut.unknown point within above) ∙ found))
+      ]
+
 -- ---- lists of conditions
 list_passes : {X : Type 0} (test : X → Bool) (xs : List X) → ((x : X) → Contains xs x → test x ≡ true) → list_all test xs ≡ true
 list_passes test xs each = list_all-from_AllPass test xs (All-weaker (Contains xs) (λ x. test x ≡ true) each xs (All-contains_itself xs))

@@ -1,3 +1,4 @@
 pub mod PlaceLemmas
 pub mod CutLemmas
 pub mod TimeLemmas
+pub mod FittingLemmas
