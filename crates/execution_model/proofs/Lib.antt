@@ -2,3 +2,4 @@ pub mod PlaceLemmas
 pub mod CutLemmas
 pub mod TimeLemmas
 pub mod FittingLemmas
+pub mod StreamLemmas

@@ -1,0 +1,287 @@
+-- What a stream shows of a schedule, listing by listing; and what a list of feeds that are taken comes to.
+use Rattle.std.proofs.Common.{◌≡◌, ℕ, zero, suc, ◌+◌, ◌≤◌, ◌<◌, Bool, true, false, List, [], ◌∷◌, length, map, get_or, Option, Some, None, ◌⊎◌, inl, inr, refl, ap, sym, subst, ◌∙◌, arith}
+use Rattle.std.specs.Prelude.{Result, Ok, Err, IsSome, fold, nat_le, nat_lt, if◌then◌else◌}
+use Rattle.std.specs.List.{All, AllPairs, Contains, IsDistinct, range_with_len}
+use Rattle.std.specs.Option.{option_map, option_map_or}
+use Rattle.std.proofs.lemmas.Bool.{cases_lt, le-leb, lt-leb, ltb-true, ltb-false, false≢true}
+use Rattle.std.proofs.lemmas.List.{same_lists, get_or-map, get_or_default, length-map}
+use Rattle.std.proofs.lemmas.List.Elements.{All-nil, All-cons, All-head, All-tail, All-contains, All-weaker, All-contains_itself}
+use Rattle.std.proofs.lemmas.List.FromFn.{length-map-range_with_len}
+use Rattle.std.proofs.lemmas.List.Kept.{AllPairs-cons}
+use Rattle.std.proofs.lemmas.Option.{none-some, same_Some}
+use Rattle.net_model.specs.Network.{Plan, IsPoint, IsContingent}
+use Rattle.net_model.specs.declared.ids.PointId.{PointId}
+use Rattle.closure_model.specs.Tables.{Graph, IsFor}
+use Rattle.closure_model.proofs.Lists.{Contains-none, Contains-head, Contains-tail, Contains-cases}
+use Rattle.strategy_model.specs.Situations.{moment_in}
+use Rattle.strategy_model.specs.Plays.{same_point}
+use Rattle.dispatch_net.proofs.ExecutionLemmas.{dispatchable_length}
+use Rattle.execution_model.specs.Execution.{Moments, Setting, moment_of, points_of}
+use Rattle.execution_model.specs.Feeding.{Execution, started, next_moment, most_moment, refusal_of_moment, completed_in, taken, after_feed}
+use Rattle.execution_model.specs.Streams.{Listing, Stream, IsListed, HasGoneBy, Shows, last_moment, cut_at}
+use Rattle.execution_model.specs.Timely.{IsInTime, with_completed, AreInTime, fed_all}
+use Rattle.execution_model.specs.Laws.{setting_of, going_on, ended, AreWithinLimit, FeedsAreTakenInTime}
+use Rattle.execution_model.specs.declared.feeding.Why.{Why}
+use Rattle.execution_model.specs.declared.feeding.Why.TheVariants as why
+use Rattle.execution_model.proofs.CutLemmas.{IsCut}
+use Rattle.execution_model.proofs.FittingLemmas.{IsNext, AreNext, end_of, after_all, KeepsTo}
+
+-- what listings show of a schedule from a moment on
+record ShowsFrom (net : Plan) (schedule : List ℕ) (from : ℕ) (listings : List Listing) : Type 0 where
+  rises : AllPairs (λ earlier later. earlier.moment < later.moment) listings
+  each : (listing : Listing) → Contains listings listing → from ≤ listing.moment
+  once : All (λ (listing : Listing). IsDistinct same_point listing.points) listings
+  comes : (listing : Listing) (point : PointId) → Contains listings listing → Contains listing.points point → IsContingent net point × (moment_in schedule point ≡ listing.moment)
+  complete : (point : PointId) → IsContingent net point → from ≤ moment_in schedule point → (last : Listing) → Contains listings last → moment_in schedule point ≤ last.moment
+      → IsListed (going_on listings) point (moment_in schedule point)
+
+-- the first of rising listings comes before the others
+first_rises : (listing : Listing) (others : List Listing) → AllPairs (λ (earlier later : Listing). earlier.moment < later.moment) (listing ∷ others) → (later : Listing) → Contains others later → listing.moment < later.moment
+first_rises listing others rises later (k, inside, at) =
+    let less : listing.moment < (get_or others k later).moment = rises 0 (suc k) later (omega arith) (omega (arith, inside)) in
+    subst (λ (l : Listing). listing.moment < l.moment) at less
+
+listed_later : (listing : Listing) (others : List Listing) (point : PointId) (moment : ℕ) → IsListed (going_on others) point moment → IsListed (going_on (listing ∷ others)) point moment
+listed_later listing others point moment is = record { listing = is.listing; among = Contains-tail listing others is.listing is.among; at = is.at; named = is.named }
+
+module _ (net : Plan) (schedule : List ℕ) where
+  shows_first : (from : ℕ) (listing : Listing) (others : List Listing) → ShowsFrom net schedule from (listing ∷ others) → IsNext net schedule from listing
+  shows_first from listing others shows = record {
+    later = shows.each listing (Contains-head listing others);
+    once = All-head (λ (l : Listing). IsDistinct same_point l.points) listing others shows.once;
+    comes = λ point among. shows.comes listing point (Contains-head listing others) among;
+    listed = λ point contingent at_least by_then. here point by_then (shows.complete point contingent at_least listing (Contains-head listing others) by_then);
+  }
+    where
+      here : (point : PointId) → moment_in schedule point ≤ listing.moment → IsListed (going_on (listing ∷ others)) point (moment_in schedule point) → Contains listing.points point
+      here point by_then is =
+          elim (Contains-cases listing others is.listing is.among) [
+            | inl same ↦ subst (λ (l : Listing). Contains l.points point) (sym same) is.named
+            | inr later ↦ (let less = first_rises listing others shows.rises is.listing later in let at = is.at in absurd (omega (arith, less, at, by_then)))
+          ]
+
+  shows_others : (from : ℕ) (listing : Listing) (others : List Listing) → ShowsFrom net schedule from (listing ∷ others) → ShowsFrom net schedule (listing.moment + 1) others
+  shows_others from listing others shows = record {
+    rises = λ i j d less within. shows.rises (suc i) (suc j) d (omega (arith, less)) (omega (arith, within));
+    each = λ later among. let less = first_rises listing others shows.rises later among in omega (arith, less);
+    once = All-tail (λ (l : Listing). IsDistinct same_point l.points) listing others shows.once;
+    comes = λ later point among. shows.comes later point (Contains-tail listing others later among);
+    complete = λ point contingent at_least last among by_then.
+        after point at_least (shows.complete point contingent (let first = shows.each listing (Contains-head listing others) in omega (arith, at_least, first)) last (Contains-tail listing others last among) by_then);
+  }
+    where
+      after : (point : PointId) → listing.moment + 1 ≤ moment_in schedule point → IsListed (going_on (listing ∷ others)) point (moment_in schedule point) → IsListed (going_on others) point (moment_in schedule point)
+      after point at_least is =
+          elim (Contains-cases listing others is.listing is.among) [
+            | inl same ↦ (let at = is.at in let moment = ap (λ (l : Listing). l.moment) same in absurd (omega (arith, at, moment, at_least)))
+            | inr later ↦ record { listing = is.listing; among = later; at = is.at; named = is.named }
+          ]
+
+  shown_are_next : (from : ℕ) (listings : List Listing) → ShowsFrom net schedule from listings → AreNext net schedule from listings
+  shown_are_next from [] shows = tt
+  shown_are_next from (listing ∷ others) shows =
+      (shows_first from listing others shows, shown_are_next (listing.moment + 1) others (shows_others from listing others shows))
+
+  -- and back
+  next_shown : (from : ℕ) (listing : Listing) (others : List Listing) → IsNext net schedule from listing → ShowsFrom net schedule (listing.moment + 1) others → ShowsFrom net schedule from (listing ∷ others)
+  next_shown from listing others is shows = record {
+    rises = AllPairs-cons (λ (earlier later : Listing). earlier.moment < later.moment) listing others
+    (All-weaker (Contains others) (λ (later : Listing). listing.moment < later.moment) (λ later among. let above = shows.each later among in omega (arith, above)) others (All-contains_itself others)) shows.rises;
+    each = λ one among. elim (Contains-cases listing others one among) [
+      | inl same ↦ subst (λ (l : Listing). from ≤ l.moment) same is.later
+      | inr later ↦ (let above = shows.each one later in let first = is.later in omega (arith, above, first))
+    ];
+    once = All-cons (λ (l : Listing). IsDistinct same_point l.points) listing others is.once shows.once;
+    comes = comes;
+    complete = complete;
+  }
+    where
+      comes : (one : Listing) (point : PointId) → Contains (listing ∷ others) one → Contains one.points point → IsContingent net point × (moment_in schedule point ≡ one.moment)
+      comes one point among named =
+          elim (Contains-cases listing others one among) [
+            | inl same ↦ subst (λ (l : Listing). IsContingent net point × (moment_in schedule point ≡ l.moment)) same (is.comes point (subst (λ (l : Listing). Contains l.points point) (sym same) named))
+            | inr later ↦ shows.comes one point later named
+          ]
+
+      complete : (point : PointId) → IsContingent net point → from ≤ moment_in schedule point → (last : Listing) → Contains (listing ∷ others) last → moment_in schedule point ≤ last.moment → IsListed (going_on (listing ∷ others)) point (moment_in schedule point)
+      complete point contingent at_least last among by_then =
+          elim (cases_lt listing.moment (moment_in schedule point)) [
+            | inl after ↦ (elim (Contains-cases listing others last among) [
+              | inl same ↦ (let moment = ap (λ (l : Listing). l.moment) same in absurd (omega (arith, moment, after, by_then)))
+              | inr later ↦ listed_later listing others point (moment_in schedule point) (shows.complete point contingent (omega (arith, after)) last later by_then)
+            ])
+            | inr by_first ↦
+                (let named = is.listed point contingent at_least by_first in
+                record { listing = listing; among = Contains-head listing others; at = sym (is.comes point named).1; named = named })
+          ]
+
+  next_are_shown : (from : ℕ) (listings : List Listing) → AreNext net schedule from listings → ShowsFrom net schedule from listings
+  next_are_shown from [] are = record {
+    rises = λ i j d less within. absurd (omega (arith, within, less));
+    each = λ listing among. absurd (Contains-none listing among);
+    once = All-nil (λ (l : Listing). IsDistinct same_point l.points);
+    comes = λ listing point among. absurd (Contains-none listing among);
+    complete = λ point contingent at_least last among. absurd (Contains-none last among);
+  }
+  next_are_shown from (listing ∷ others) (is, are) = next_shown from listing others is (next_are_shown (listing.moment + 1) others are)
+
+  -- a stream that goes on shows what comes next, listing by listing
+  pub shows_next : (listings : List Listing) → Shows net (going_on listings) schedule → AreNext net schedule 0 listings
+  shows_next listings shows = shown_are_next 0 listings (record {
+    rises = shows.rises;
+    each = λ listing among. omega arith;
+    once = shows.once;
+    comes = λ listing point among named. shows.listed point listing.moment (record { listing = listing; among = among; at = refl; named = named });
+    complete = λ point contingent at_least last among by_then. shows.complete point contingent (inr (last, among, by_then));
+  })
+
+  pub next_shows : (listings : List Listing) → AreNext net schedule 0 listings → Shows net (going_on listings) schedule
+  next_shows listings are =
+      let shows = next_are_shown 0 listings are in
+      record {
+        rises = shows.rises;
+        once = shows.once;
+        listed = λ point moment is. subst (λ m. IsContingent net point × (moment_in schedule point ≡ m)) is.at (shows.comes is.listing point is.among is.named);
+        complete = λ point contingent gone. elim gone [
+          | inl done ↦ absurd (false≢true done)
+          | inr (last, among, by_then) ↦ shows.complete point contingent (omega arith) last among by_then
+        ];
+      }
+
+  -- what comes before the end is listed
+  pub listed_before_end : (from : ℕ) (listings : List Listing) → AreNext net schedule from listings → (point : PointId) → IsContingent net point → from ≤ moment_in schedule point
+      → moment_in schedule point < end_of from listings → IsListed (going_on listings) point (moment_in schedule point)
+  listed_before_end from [] are point contingent at_least before = absurd (omega (arith, at_least, before))
+  listed_before_end from (listing ∷ others) (is, are) point contingent at_least before =
+      elim (cases_lt listing.moment (moment_in schedule point)) [
+        | inl after ↦ listed_later listing others point (moment_in schedule point) (listed_before_end (listing.moment + 1) others are point contingent (omega (arith, after)) before)
+        | inr by_first ↦
+            (let named = is.listed point contingent at_least by_first in
+            record { listing = listing; among = Contains-head listing others; at = sym (is.comes point named).1; named = named })
+      ]
+
+  pub end_above : (from : ℕ) (listings : List Listing) → AreNext net schedule from listings → (listing : Listing) → Contains listings listing → (from ≤ end_of from listings) × (listing.moment < end_of from listings)
+  end_above from listings are listing among = (rising from listings are, above from listings are among)
+    where
+      rising : (a : ℕ) (ls : List Listing) → AreNext net schedule a ls → a ≤ end_of a ls
+      rising a [] are = omega arith
+      rising a (l ∷ ls) (is, are) = let rest = rising (l.moment + 1) ls are in let later = is.later in omega (arith, rest, later)
+
+      above : (a : ℕ) (ls : List Listing) → AreNext net schedule a ls → Contains ls listing → listing.moment < end_of a ls
+      above a [] are among = absurd (Contains-none listing among)
+      above a (l ∷ ls) (is, are) among =
+          elim (Contains-cases l ls listing among) [
+            | inl same ↦ (let rest = rising (l.moment + 1) ls are in let moment = ap (λ (x : Listing). x.moment) same in omega (arith, rest, moment))
+            | inr later ↦ above (l.moment + 1) ls are later
+          ]
+
+-- ---- what a stream fixes
+cut_here : (last : Option ℕ) (m : ℕ) → m < option_map_or (λ l. l + 1) last 0 → option_map_or (nat_le m) last false ≡ true
+cut_here None m below = absurd (omega (arith, below))
+cut_here (Some l) m below = le-leb m l (omega (arith, below))
+
+cut_later : (last : Option ℕ) (m : ℕ) → option_map_or (λ l. l + 1) last 0 ≤ m → option_map_or (nat_le m) last false ≡ false
+cut_later None m above = refl
+cut_later (Some l) m above = lt-leb m l (omega (arith, above))
+
+pub cut_is : (net : Plan) (schedule : List ℕ) (moments : Moments) (last : Option ℕ) → length schedule ≡ length net.points → IsCut net schedule moments (option_map_or (λ l. l + 1) last 0) → moments ≡ cut_at last schedule
+cut_is net schedule moments last complete cut =
+    same_lists moments (cut_at last schedule) (cut.long ∙ sym complete ∙ sym (length-map schedule shown)) each
+  where
+    shown : ℕ → Option ℕ
+    shown m = if option_map_or (nat_le m) last false then Some m else None
+
+    each : (k : ℕ) (d : Option ℕ) → k < length moments → get_or moments k d ≡ get_or (cut_at last schedule) k d
+    each k d inside =
+        let long = cut.long in
+        let within : k < length net.points = omega (arith, inside, long) in
+        let stands : k < length schedule = omega (arith, within, complete) in
+        let m : ℕ = get_or schedule k 0 in
+        let point : PointId = record { 0 = k } in
+        get_or_default moments k d None inside
+        ∙ (elim (cases_lt m (option_map_or (λ l. l + 1) last 0)) [
+          | inl less ↦ cut.known point within less ∙ sym (ap (λ (b : Bool). if b then Some m else None) (cut_here last m less))
+          | inr above ↦ cut.unknown point within above ∙ sym (ap (λ (b : Bool). if b then Some m else None) (cut_later last m above))
+        ])
+        ∙ sym (get_or-map shown schedule k 0 d stands)
+
+pub last_after : (execution : Execution) (listings : List Listing) → (after_all execution listings).last ≡ fold (λ before (listing : Listing). Some listing.moment) execution.last listings
+last_after execution [] = refl
+last_after execution (listing ∷ others) = last_after (after_feed execution listing.moment (with_completed execution listing.moment listing.points)) others
+
+-- ---- the start
+none_of_map : {X : Type 0} (xs : List X) (k : ℕ) → get_or (map (λ (x : X). let o : Option ℕ = None in o) xs) k None ≡ None
+none_of_map [] k = refl
+none_of_map (x ∷ xs) zero = refl
+none_of_map (x ∷ xs) (suc k) = none_of_map xs k
+
+pub start_keeps : (net : Plan) (table : Graph) (schedule : List ℕ) → IsFor net table → KeepsTo net table schedule (started (setting_of net table))
+start_keeps net table schedule for =
+    let numbered : ℕ → PointId = λ k. record { 0 = k } in
+    let setting = setting_of net table in
+    record {
+      setting = refl;
+      cut = record {
+        long = length-map (points_of setting) (λ (p : PointId). let o : Option ℕ = None in o) ∙ length-map-range_with_len numbered 0 (length setting.dispatch) ∙ dispatchable_length net table for;
+        known = λ point within below. absurd (omega (arith, below));
+        unknown = λ point within above. none_of_map (points_of setting) point.0;
+      };
+    }
+
+-- ---- feeds that are taken
+not_refused : (execution : Execution) (moment : ℕ) → refusal_of_moment execution moment ≡ None → moment ≤ most_moment
+not_refused execution moment none = by (nat_lt moment (next_moment execution)) refl none
+  where
+    no_last : (last : Option ℕ) → nat_lt moment (option_map_or (λ l. l + 1) last 0) ≡ true → option_map why.NotLater last ≡ None → moment ≤ most_moment
+    no_last None less is = absurd (let below = ltb-true moment 0 less in omega (arith, below))
+    no_last (Some l) less is = absurd (none-some (why.NotLater l) (sym is))
+
+    by_limit : (b : Bool) → nat_lt most_moment moment ≡ b → (if b then Some why.MomentLimit else None) ≡ None → moment ≤ most_moment
+    by_limit true less is = absurd (none-some why.MomentLimit (sym is))
+    by_limit false not_less is = ltb-false most_moment moment not_less
+
+    by : (b : Bool) → nat_lt moment (next_moment execution) ≡ b → (if b then option_map why.NotLater execution.last else if nat_lt most_moment moment then Some why.MomentLimit else None) ≡ None → moment ≤ most_moment
+    by true less is = no_last execution.last less is
+    by false not_less is = by_limit (nat_lt most_moment moment) refl is
+
+err_ok : {A B : Type 0} (a : A) (b : B) → Err b ≡ Ok a → ⊥
+err_ok a b is = absurd (cc)
+
+same_ok : {A B : Type 0} (a b : A) → ◌≡◌ {A = Result A B} (Ok a) (Ok b) → a ≡ b
+same_ok a b is = cc
+
+taken_within : (execution : Execution) (moment : ℕ) (listed : List PointId) (moments : Moments) → taken execution moment listed ≡ Ok moments → moment ≤ most_moment
+taken_within execution moment listed moments is = by (refusal_of_moment execution moment) refl is
+  where
+    by : (o : Option Why) → refusal_of_moment execution moment ≡ o → option_map_or Err o (completed_in execution moment listed) ≡ Ok moments → moment ≤ most_moment
+    by None none is = not_refused execution moment none
+    by (Some cause) refused is = absurd (err_ok moments cause is)
+
+module _ (in_time_taken : FeedsAreTakenInTime) where
+  -- feeds that are all taken are in time, and lead to one execution
+  pub fed_in_time : (listings : List Listing) (execution after : Execution) → fed_all execution listings ≡ Ok after → AreInTime execution listings × (after_all execution listings ≡ after)
+  fed_in_time [] execution after fed = (tt, same_ok execution after fed)
+  fed_in_time (listing ∷ others) execution after fed = by (λ next went. fed_in_time others next after went) (taken execution listing.moment listing.points) refl fed
+    where
+      by : ((next : Execution) → fed_all next others ≡ Ok after → AreInTime next others × (after_all next others ≡ after))
+          → (r : Result Moments Why) → taken execution listing.moment listing.points ≡ r → elim r as (λ x. Result Execution Why) [ Ok moments ↦ fed_all (after_feed execution listing.moment moments) others | Err why ↦ Err why ] ≡ Ok after
+          → AreInTime execution (listing ∷ others) × (after_all execution (listing ∷ others) ≡ after)
+      by rest (Err cause) is went = absurd (err_ok after cause went)
+      by rest (Ok moments) is went =
+          let within = taken_within execution listing.moment listing.points moments is in
+          let law = in_time_taken execution listing.moment listing.points within in
+          let same : moments ≡ with_completed execution listing.moment listing.points = law.1 moments is in
+          let as_completed : taken execution listing.moment listing.points ≡ Ok (with_completed execution listing.moment listing.points) =
+          is ∙ ap (λ (m : Moments). let r : Result Moments Why = Ok m in r) same in
+          let fed_on : fed_all (after_feed execution listing.moment (with_completed execution listing.moment listing.points)) others ≡ Ok after =
+          ap (λ (m : Moments). fed_all (after_feed execution listing.moment m) others) (sym same) ∙ went in
+          let (are, leads) = rest (after_feed execution listing.moment (with_completed execution listing.moment listing.points)) fed_on in
+          ((law.0.1 as_completed, are), leads)
+
+  -- and feeds that are in time are taken
+  pub in_time_fed : (listings : List Listing) (execution : Execution) → AreWithinLimit listings → AreInTime execution listings → fed_all execution listings ≡ Ok (after_all execution listings)
+  in_time_fed [] execution within are = refl
+  in_time_fed (listing ∷ others) execution within (is, are) =
+      let law = in_time_taken execution listing.moment listing.points (All-head (λ (l : Listing). l.moment ≤ most_moment) listing others within) in
+      ap (λ (r : Result Moments Why). elim r as (λ x. Result Execution Why) [ Ok moments ↦ fed_all (after_feed execution listing.moment moments) others | Err why ↦ Err why ]) (law.0.0 is)
+      ∙ in_time_fed others (after_feed execution listing.moment (with_completed execution listing.moment listing.points)) (All-tail (λ (l : Listing). l.moment ≤ most_moment) listing others within) are
