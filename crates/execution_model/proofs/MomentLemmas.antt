@@ -1,8 +1,10 @@
 -- The moments so far: how many there are, and what a point's moment is after acts, after time has run, and after completions.
 use Rattle.std.proofs.Common.{◌≡◌, ◌≢◌, ◌⊎◌, ℕ, zero, suc, ◌+◌, ◌<◌, ◌≤◌, Bool, true, false, List, [], ◌∷◌, map, filter, length, get_or, Option, Some, None, is_none, refl, ap, sym, subst, ◌∙◌, inl, inr, arith}
-use Rattle.std.specs.Prelude.{◌&&◌, IsSome, if◌then◌else◌}
+use Rattle.std.specs.Prelude.{◌&&◌, ◌||◌, ◌==◌, fold, IsSome, if◌then◌else◌}
 use Rattle.std.specs.List.{All, Contains, range_with_len}
-use Rattle.std.proofs.lemmas.Bool.{cases_lt, true≢false}
+use Rattle.std.proofs.lemmas.Bool.{cases_lt, eqb-true, true≢false}
+use Rattle.std.proofs.lemmas.Bool.Decides.{nat_tests}
+use Rattle.closure_model.specs.Orders.{is_among}
 use Rattle.std.proofs.lemmas.List.{get_or-map, length-map, get_or_past, get_or-set_same, get_or-set_other, length-set, same_lists, get_or_default}
 use Rattle.std.proofs.lemmas.List.FromFn.{get_or-map-range_with_len, length-map-range_with_len}
 use Rattle.std.proofs.lemmas.Option.{none-some, same_Some}
@@ -205,3 +207,44 @@ module _ (moments : Moments) (moment : ℕ) (point : PointId) where
     where
       apart : other.0 ≢ point.0
       apart same = let here : moment_of moments other ≡ None = ap (λ (k : ℕ). moment_of moments (record { 0 = k })) same ∙ new in absurd (none-some m (sym here ∙ come))
+
+-- ---- after several completions
+abbrev pub completed_all : Moments → (moment : ℕ) → List PointId → Moments
+completed_all moments moment listed = fold (λ moments point. completed_at moments moment point) moments listed
+
+module _ (moment : ℕ) where
+  pub length-completed_all : (moments : Moments) (listed : List PointId) → length (completed_all moments moment listed) ≡ length moments
+  length-completed_all moments [] = refl
+  length-completed_all moments (point ∷ others) = length-completed_all (completed_at moments moment point) others ∙ length-completed_at moments moment point
+
+  -- a point that is not listed keeps its moment
+  pub moment_not_listed : (moments : Moments) (listed : List PointId) (point : PointId) → is_among listed point ≡ false → moment_of (completed_all moments moment listed) point ≡ moment_of moments point
+  moment_not_listed moments [] point not_listed = refl
+  moment_not_listed moments (first ∷ others) point not_listed = by (first.0 == point.0) refl (is_among others point) refl not_listed (moment_not_listed (completed_at moments moment first) others point)
+    where
+      by : (a : Bool) → first.0 == point.0 ≡ a → (b : Bool) → is_among others point ≡ b → (a || b) ≡ false
+          → (is_among others point ≡ false → moment_of (completed_all (completed_at moments moment first) moment others) point ≡ moment_of (completed_at moments moment first) point)
+          → moment_of (completed_all (completed_at moments moment first) moment others) point ≡ moment_of moments point
+      by true same b is holds rest = absurd (true≢false holds)
+      by false apart true is holds rest = absurd (true≢false holds)
+      by false apart false is holds rest = let other : point.0 ≢ first.0 = grind (arith, nat_tests) in rest is ∙ moment_of_other moments moment first point other
+
+  -- a listed point has the moment
+  pub moment_listed : (moments : Moments) (listed : List PointId) (point : PointId) → point.0 < length moments → is_among listed point ≡ true → moment_of (completed_all moments moment listed) point ≡ Some moment
+  moment_listed moments [] point inside among = absurd (true≢false (sym among))
+  moment_listed moments (first ∷ others) point inside among =
+      let long = length-completed_at moments moment first in
+      by (is_among others point) refl (moment_listed (completed_at moments moment first) others point (omega arith))
+    where
+      same_number : (a : Bool) → (a || false) ≡ true → a ≡ true
+      same_number true holds = refl
+      same_number false holds = absurd (true≢false (sym holds))
+
+      by : (b : Bool) → is_among others point ≡ b → (is_among others point ≡ true → moment_of (completed_all (completed_at moments moment first) moment others) point ≡ Some moment)
+          → moment_of (completed_all (completed_at moments moment first) moment others) point ≡ Some moment
+      by true later rest = rest later
+      by false only rest =
+          let test : first.0 == point.0 ≡ true = same_number (first.0 == point.0) (ap (λ (b : Bool). first.0 == point.0 || b) (sym only) ∙ among) in
+          let same : first.0 ≡ point.0 = eqb-true first.0 point.0 test in
+          moment_not_listed (completed_at moments moment first) others point only
+          ∙ (ap (λ (k : ℕ). moment_of (completed_at moments moment first) (record { 0 = k })) (sym same) ∙ moment_completed moments moment first (omega arith))
