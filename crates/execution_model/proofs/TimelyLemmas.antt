@@ -4,10 +4,11 @@ use Rattle.std.specs.Prelude.{◌==◌, ◌≤ℤ◌, nat_lt, nat_le, unsigned_a
 use Rattle.std.specs.List.{All, AllByRecursion, Contains, IsDistinct}
 use Rattle.std.specs.Option.{option_map, option_map_or, option_and_then}
 use Rattle.std.proofs.lemmas.Int.{ints}
-use Rattle.std.proofs.lemmas.Bool.{cases_lt, le-ltb, lt-ltb, le-leb, eqb-true, eq-eqb, true≢false}
+use Rattle.std.proofs.lemmas.Bool.{cases_lt, le-ltb, lt-ltb, le-leb, ne_eqb, eqb-true, eq-eqb, true≢false}
+use Rattle.std.proofs.lemmas.Map.Keys.{IsDistinct-cons, IsDistinct-head, IsDistinct-tail}
 use Rattle.std.proofs.lemmas.Bool.Decides.{nat_tests}
 use Rattle.std.proofs.lemmas.Option.{none-some, same_Some}
-use Rattle.std.proofs.lemmas.List.Elements.{All-nil, All-cons, All-head, All-tail, All-contains}
+use Rattle.std.proofs.lemmas.List.Elements.{All-nil, All-cons, All-head, All-tail, All-contains, All-from_recursion, recursion_from_All}
 use Rattle.net_model.specs.Network.{Plan, IsPlan, IsLink, IsPoint}
 use Rattle.net_model.specs.declared.ids.PointId.{PointId}
 use Rattle.net_model.specs.declared.part.Link.{Link}
@@ -93,3 +94,158 @@ module _ (setting : Setting) (moments : Moments) (moment : ℕ) (point : PointId
       ∙ ap (refusal_at moments moment point link) timely.is_open
       ∙ ap (λ (o : Option ℕ). option_map_or (refusal_of_duration moment point link) o not_active) active
       ∙ duration_free (timely.activated + unsigned_abs link.low) (timely.activated + unsigned_abs link.high) moment (why.TooSoon point (timely.activated + unsigned_abs link.low)) (why.Overdue point (timely.activated + unsigned_abs link.high)) timely.not_too_soon timely.not_too_late
+
+-- ---- a point that should have completed
+record IsLate (setting : Setting) (moments : Moments) (moment : ℕ) (point : PointId) : Type 0 where
+  link : Link
+  ends : link_to setting point ≡ Some link
+  is_open : moment_of moments point ≡ None
+  activated : ℕ
+  active : moment_of moments link.from ≡ Some activated
+  reached : activated + unsigned_abs link.high ≤ moment
+
+module _ (setting : Setting) (moments : Moments) (moment : ℕ) where
+  abbrev latest_over : Option Link → Option ℕ
+  latest_over o = option_and_then (λ (link : Link). option_map (λ activated. activated + unsigned_abs link.high) (moment_of moments link.from)) o
+
+  late_from : (point : PointId) → is_overdue setting moments moment point ≡ true → IsLate setting moments moment point
+  late_from point late = by (moment_of moments point) refl (link_to setting point) refl late
+    where
+      by_active : (link : Link) → link_to setting point ≡ Some link → moment_of moments point ≡ None → (a : Option ℕ) → moment_of moments link.from ≡ a
+          → option_map_or (λ latest. nat_le latest moment) (option_map (λ activated. activated + unsigned_abs link.high) a) false ≡ true → IsLate setting moments moment point
+      by_active link ends new None active reached = absurd (true≢false (sym reached))
+      by_active link ends new (Some activated) active reached = record { link = link; ends = ends; is_open = new; activated = activated; active = active; reached = grind (arith, nat_tests) }
+
+      by : (o : Option ℕ) → moment_of moments point ≡ o → (l : Option Link) → link_to setting point ≡ l → option_map_or (λ latest. nat_le latest moment) (if is_some o then None else latest_over l) false ≡ true → IsLate setting moments moment point
+      by (Some m) come l ends reached = absurd (true≢false (sym reached))
+      by None new None ends reached = absurd (true≢false (sym reached))
+      by None new (Some link) ends reached = by_active link ends new (moment_of moments link.from) refl reached
+
+  latest_is : (point : PointId) → (late : IsLate setting moments moment point) → latest_of setting moments point ≡ Some (late.activated + unsigned_abs late.link.high)
+  latest_is point late =
+      ap (λ (o : Option ℕ). if is_some o then None else latest_over (link_to setting point)) late.is_open
+      ∙ ap latest_over late.ends
+      ∙ ap (option_map (λ activated. activated + unsigned_abs late.link.high)) late.active
+
+  late_overdue : (point : PointId) → IsLate setting moments moment point → is_overdue setting moments moment point ≡ true
+  late_overdue point late = ap (λ (o : Option ℕ). option_map_or (λ latest. nat_le latest moment) o false) (latest_is point late) ∙ le-leb (late.activated + unsigned_abs late.link.high) moment late.reached
+
+  -- where none is late, none is overdue
+  none_late_free : ((point : PointId) → IsLate setting moments moment point → ⊥) → first_overdue setting moments moment ≡ None
+  none_late_free none = by (find (is_overdue setting moments moment) (points_of setting)) refl
+    where
+      by : (o : Option PointId) → find (is_overdue setting moments moment) (points_of setting) ≡ o → first_overdue setting moments moment ≡ None
+      by None found = ap (option_and_then (overdue_why setting moments)) found
+      by (Some point) found =
+          let passes : is_overdue setting moments moment point ≡ true = (find_some (is_overdue setting moments moment) (points_of setting) point found).passes in
+          absurd (none point (late_from point passes))
+
+  -- and where none is overdue, no point is late
+  free_none_late : first_overdue setting moments moment ≡ None → (point : PointId) → point.0 < length setting.dispatch → IsLate setting moments moment point → ⊥
+  free_none_late free point inside late = by (find (is_overdue setting moments moment) (points_of setting)) refl
+    where
+      by : (o : Option PointId) → find (is_overdue setting moments moment) (points_of setting) ≡ o → ⊥
+      by None found = true≢false (sym (late_overdue point late) ∙ find_none (is_overdue setting moments moment) (points_of setting) point found (Contains-point setting point inside))
+      by (Some first) found =
+          let passes : is_overdue setting moments moment first ≡ true = (find_some (is_overdue setting moments moment) (points_of setting) first found).passes in
+          let its = late_from first passes in
+          let latest : ℕ = its.activated + unsigned_abs its.link.high in
+          let cause : Why = why.Overdue first latest in
+          let is : first_overdue setting moments moment ≡ Some cause = ap (option_and_then (overdue_why setting moments)) found ∙ ap (option_map (why.Overdue first)) (latest_is first its) in
+          none-some cause (sym free ∙ is)
+
+-- ---- the completions of a feed
+-- the listed completions are taken: each in time and once, and then they are the moments that are new
+record AreTaken (setting : Setting) (moments : Moments) (moment : ℕ) (listed : List PointId) (after : Moments) : Type 0 where
+  once : IsDistinct same_point listed
+  completes : All (CompletesInTime setting moments moment) listed
+  are : after ≡ completed_all moments moment listed
+
+module _ (net : Plan) (setting : Setting) (links : setting.links ≡ net.links) (plan : IsPlan net) (moment : ℕ) where
+  least_of : (point : PointId) (link : Link) → link_to setting point ≡ Some link → 1 ≤ unsigned_abs link.low
+  least_of point link ends = let sound = link_to_is_sound net setting links plan point link ends in least_duration link.low sound.positive
+
+  greatest_of : (point : PointId) (link : Link) → link_to setting point ≡ Some link → 1 ≤ unsigned_abs link.high
+  greatest_of point link ends = let sound = link_to_is_sound net setting links plan point link ends in greatest_duration link.low link.high sound.positive sound.interval
+
+  point_of : (moments : Moments) → length moments ≡ length net.points → (point : PointId) (link : Link) → link_to setting point ≡ Some link → point.0 < length moments
+  point_of moments long point link ends = let within : point.0 < length net.points = link_to_is_point net setting links plan point link ends in omega arith
+
+  -- what is in time after another completion of the moment was so before it, and is of another point
+  apart_after : (moments : Moments) (first point : PointId) → first.0 < length moments → CompletesInTime setting (completed_at moments moment first) moment point → first.0 ≢ point.0
+  apart_after moments first point inside timely same =
+      let come : moment_of (completed_at moments moment first) point ≡ Some moment = ap (λ (k : ℕ). moment_of (completed_at moments moment first) (record { 0 = k })) (sym same) ∙ moment_completed moments moment first inside in
+      none-some moment (sym timely.is_open ∙ come)
+
+  in_time_before : (moments : Moments) (first point : PointId) → first.0 < length moments → CompletesInTime setting (completed_at moments moment first) moment point → CompletesInTime setting moments moment point
+  in_time_before moments first point inside timely =
+      record {
+        link = timely.link;
+        ends = timely.ends;
+        is_open = sym (moment_of_other moments moment first point (λ same. apart_after moments first point inside timely (sym same))) ∙ timely.is_open;
+        activated = timely.activated;
+        active = sym (moment_of_other moments moment first timely.link.from activation_apart) ∙ timely.active;
+        not_too_soon = timely.not_too_soon;
+        not_too_late = timely.not_too_late;
+      }
+    where
+      activation_apart : timely.link.from.0 ≢ first.0
+      activation_apart same =
+          let come : moment_of (completed_at moments moment first) timely.link.from ≡ Some moment = ap (λ (k : ℕ). moment_of (completed_at moments moment first) (record { 0 = k })) same ∙ moment_completed moments moment first inside in
+          let now : timely.activated ≡ moment = same_Some timely.activated moment (sym timely.active ∙ come) in
+          let least = least_of point timely.link timely.ends in
+          absurd (omega (arith, now, least, timely.not_too_soon))
+
+  -- what is in time is so after the completion of another point
+  in_time_after : (moments : Moments) (first point : PointId) → moment_of moments first ≡ None → first.0 ≢ point.0 → CompletesInTime setting moments moment point → CompletesInTime setting (completed_at moments moment first) moment point
+  in_time_after moments first point new apart timely =
+      record {
+        link = timely.link;
+        ends = timely.ends;
+        is_open = moment_of_other moments moment first point (λ same. apart (sym same)) ∙ timely.is_open;
+        activated = timely.activated;
+        active = moment_of_other moments moment first timely.link.from activation_apart ∙ timely.active;
+        not_too_soon = timely.not_too_soon;
+        not_too_late = timely.not_too_late;
+      }
+    where
+      activation_apart : timely.link.from.0 ≢ first.0
+      activation_apart same =
+          let none : moment_of moments timely.link.from ≡ None = ap (λ (k : ℕ). moment_of moments (record { 0 = k })) same ∙ new in
+          none-some timely.activated (sym none ∙ timely.active)
+
+  taken_means : (moments after : Moments) (listed : List PointId) → length moments ≡ length net.points → completions_taken setting moments moment listed ≡ Ok after → AreTaken setting moments moment listed after
+  unfolding IsDistinct
+  taken_means moments after [] long took = record { once = tt; completes = All-nil (CompletesInTime setting moments moment); are = sym (let same : moments ≡ after = cc in same) }
+  taken_means moments after (point ∷ others) long took =
+      by (refusal_of setting moments moment point) refl took (λ here. taken_means (completed_at moments moment point) after others (length-completed_at moments moment point ∙ long) here)
+    where
+      by : (o : Option Why) → refusal_of setting moments moment point ≡ o → option_map_or Err o (completions_taken setting (completed_at moments moment point) moment others) ≡ Ok after
+          → (completions_taken setting (completed_at moments moment point) moment others ≡ Ok after → AreTaken setting (completed_at moments moment point) moment others after)
+          → AreTaken setting moments moment (point ∷ others) after
+      by (Some cause) refused took rest = absurd (cc)
+      by None free took rest =
+          let first = in_time_from setting moments moment point free in
+          let inside : point.0 < length moments = point_of moments long point first.link first.ends in
+          let more = rest took in
+          let apart : All (λ q. same_point point q ≡ false) others = λ k d low. ne_eqb point.0 (get_or others k d).0 (apart_after moments point (get_or others k d) inside (more.completes k d low)) in
+          record {
+            once = IsDistinct-cons same_point point others (recursion_from_All (λ q. same_point point q ≡ false) others apart) more.once;
+            completes = All-cons (CompletesInTime setting moments moment) point others first (λ k d low. in_time_before moments point (get_or others k d) inside (more.completes k d low));
+            are = more.are;
+          }
+
+  taken_if : (moments : Moments) (listed : List PointId) → length moments ≡ length net.points → IsDistinct same_point listed → All (CompletesInTime setting moments moment) listed
+      → completions_taken setting moments moment listed ≡ Ok (completed_all moments moment listed)
+  taken_if moments [] long once completes = refl
+  taken_if moments (point ∷ others) long once completes =
+      let first : CompletesInTime setting moments moment point = All-head (CompletesInTime setting moments moment) point others completes in
+      let free : refusal_of setting moments moment point ≡ None = free_from setting moments moment point first (least_of point first.link first.ends) in
+      let apart : All (λ q. same_point point q ≡ false) others = All-from_recursion (λ q. same_point point q ≡ false) others (IsDistinct-head same_point point others once) in
+      let others_complete : All (CompletesInTime setting moments moment) others = All-tail (CompletesInTime setting moments moment) point others completes in
+      ap (λ (o : Option Why). option_map_or Err o (completions_taken setting (completed_at moments moment point) moment others)) free
+      ∙ taken_if (completed_at moments moment point) others (length-completed_at moments moment point ∙ long) (IsDistinct-tail same_point point others once)
+        (λ k d low. in_time_after moments point (get_or others k d) first.is_open (other_number point (get_or others k d) (apart k d low)) (others_complete k d low))
+    where
+      other_number : (p q : PointId) → same_point p q ≡ false → p.0 ≢ q.0
+      other_number p q apart = grind (arith, nat_tests)
