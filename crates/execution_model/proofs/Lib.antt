@@ -1,3 +1,6 @@
+pub mod LinkLemmas
+pub mod MomentLemmas
+pub mod TimelyLemmas
 pub mod PlaceLemmas
 pub mod CutLemmas
 pub mod TimeLemmas

@@ -26,6 +26,13 @@ pub record IsDispatchedByClosure (net : Plan) (table : Graph) (order : List Poin
   pub graph : IsGraph table
   pub ordered : IsOrder table order
 
+-- an execution of a network: by the links of the network, and with as many points
+pub record IsExecutionOf (net : Plan) (execution : Execution) : Type 0 where
+  pub sound : IsPlan net
+  pub links : execution.setting.links ≡ net.links
+  pub dispatch : length execution.setting.dispatch ≡ length net.points
+  pub moments : length execution.moments ≡ length net.points
+
 -- a stream that goes on
 abbrev pub going_on : List Listing → Stream
 going_on listings = record { listings = listings; done = false }
@@ -41,7 +48,7 @@ AreWithinLimit listings = All (λ (listing : Listing). listing.moment ≤ most_m
 -- a feed within the limit is taken exactly where its completions are in time, and then they are the moments that are new
 abbrev pub FeedsAreTakenInTime : Type 0
 FeedsAreTakenInTime =
-    (execution : Execution) (moment : ℕ) (listed : List PointId) → moment ≤ most_moment
+    (net : Plan) (execution : Execution) (moment : ℕ) (listed : List PointId) → IsExecutionOf net execution → moment ≤ most_moment
     → (IsInTime execution moment listed ↔ (taken execution moment listed ≡ Ok (with_completed execution moment listed)))
     × ((moments : Moments) → taken execution moment listed ≡ Ok moments → moments ≡ with_completed execution moment listed)
 

@@ -45,6 +45,6 @@ abbrev pub fed_all : Execution → List Listing → Result Execution Why
 fed_all execution [] = Ok execution
 fed_all execution (listing ∷ others) =
     elim (taken execution listing.moment listing.points) [
-      Ok moments ↦ fed_all (after_feed execution listing.moment moments) others
-    | Err why ↦ Err why
+      | Ok moments ↦ fed_all (after_feed execution listing.moment moments) others
+      | Err why ↦ Err why
     ]
