@@ -30,7 +30,9 @@ use Rattle.dispatch_net.proofs.ExactLemmas.{lists_are_exact}
 use Rattle.dispatch_net.proofs.ExecutionLemmas.{dispatchable_length, point_count}
 use Rattle.execution_model.specs.Execution.{Moments, Setting, moment_of, has_come, has_gone_by, meets_bound, meets_wait_for, meets_wait, meets, is_due, link_to, acted}
 use Rattle.execution_model.specs.Laws.{setting_of}
-use Rattle.execution_model.proofs.PlaceLemmas.{link_found, no_link_to, ending_point, contingent_ending, gone_by, from_gone_by, moment_acted, length_acted}
+use Rattle.execution_model.proofs.LinkLemmas.{executable_has_none}
+use Rattle.execution_model.proofs.MomentLemmas.{length-acted, moment_due, moment_not_due, due_from, contingent_not_due, acted_keeps}
+use Rattle.execution_model.proofs.PlaceLemmas.{link_found, ending_point, contingent_ending, gone_by, from_gone_by}
 
 -- the moments so far are those of the schedule before a moment
 pub record IsCut (net : Plan) (schedule : List ℕ) (moments : Moments) (t : ℕ) : Type 0 where
@@ -274,9 +276,7 @@ module _ (net : Plan) (table : Graph) (schedule : List ℕ) (run : IsRun net tab
       is_due_now : moment_in schedule point ≡ t → is_due (setting_of net table) moments t point ≡ true
       is_due_now now =
           let setting = setting_of net table in
-          and_from (is_none (link_to setting point) && is_none (moment_of moments point)) (meets setting moments t (conditions_at setting.dispatch point))
-          (and_from (is_none (link_to setting point)) (is_none (moment_of moments point)) (ap is_none (no_link_to net run.plan setting point refl executable)) (ap is_none (seen.unknown point executable (omega (arith, now)))))
-          (met_by_then (omega (arith, now)))
+          due_from setting moments t point (executable_has_none net setting refl point executable) (seen.unknown point executable (omega (arith, now))) (met_by_then (omega (arith, now)))
 
       not_due_before : t < moment_in schedule point → is_due (setting_of net table) moments t point ≡ false
       not_due_before before =
@@ -285,46 +285,31 @@ module _ (net : Plan) (table : Graph) (schedule : List ℕ) (run : IsRun net tab
           (false_from_ne_true (meets setting moments t (conditions_at setting.dispatch point)) (λ met. let come = come_where_met met in omega (arith, come, before)))
 
     -- after the acts of the moment the moments so far are those before the next one
-    due_known : (point : PointId) → IsPoint net point → (m : ℕ) → moment_of moments point ≡ Some m → moment_of (acted (setting_of net table) moments t) point ≡ Some m
-    due_known point within m found =
-        let setting = setting_of net table in
-        let inside : point.0 < length setting.dispatch = omega (arith, within, dispatchable_length net table run.for) in
-        let not_due : is_due setting moments t point ≡ false =
-        and_left (is_none (link_to setting point) && is_none (moment_of moments point)) (meets setting moments t (conditions_at setting.dispatch point))
-        (and_right (is_none (link_to setting point)) (is_none (moment_of moments point)) (ap is_none found)) in
-        moment_acted setting moments t point inside ∙ ap (λ (b : Bool). if b then Some t else moment_of moments point) not_due ∙ found
+    dispatch_length : length (setting_of net table).dispatch ≡ length net.points
+    dispatch_length = dispatchable_length net table run.for
 
-    by_test : (point : PointId) → IsPoint net point → (b : Bool) → is_due (setting_of net table) moments t point ≡ b → moment_of (acted (setting_of net table) moments t) point ≡ (if b then Some t else moment_of moments point)
-    by_test point within b is =
-        let setting = setting_of net table in
-        let inside : point.0 < length setting.dispatch = omega (arith, within, dispatchable_length net table run.for) in
-        moment_acted setting moments t point inside ∙ ap (λ (c : Bool). if c then Some t else moment_of moments point) is
-
-    contingent_not_due : (point : PointId) → Ending net point → is_due (setting_of net table) moments t point ≡ false
-    contingent_not_due point ending =
-        let setting = setting_of net table in
-        and_left (is_none (link_to setting point) && is_none (moment_of moments point)) (meets setting moments t (conditions_at setting.dispatch point))
-        (and_left (is_none (link_to setting point)) (is_none (moment_of moments point)) (ap is_none (link_found net run.plan setting point ending refl)))
+    kept : (point : PointId) (m : ℕ) → moment_of moments point ≡ Some m → moment_of (acted (setting_of net table) moments t) point ≡ Some m
+    kept = acted_keeps (setting_of net table) moments t (seen.long ∙ sym dispatch_length)
 
     pub acts_cut : IsCut net schedule (acted (setting_of net table) moments t) (suc t)
-    acts_cut = record { long = length_acted (setting_of net table) moments t ∙ dispatchable_length net table run.for; known = known; unknown = unknown }
+    acts_cut = record { long = length-acted (setting_of net table) moments t ∙ dispatch_length; known = known; unknown = unknown }
       where
         known : (point : PointId) → IsPoint net point → moment_in schedule point < suc t → moment_of (acted (setting_of net table) moments t) point ≡ Some (moment_in schedule point)
         known point within by_then =
             elim (cases_lt (moment_in schedule point) t) [
-              | inl less ↦ due_known point within (moment_in schedule point) (seen.known point within less)
+              | inl less ↦ kept point (moment_in schedule point) (seen.known point within less)
               | inr above ↦
                   (let now : moment_in schedule point ≡ t = omega (arith, above, by_then) in
                   let as_moment : Some t ≡ Some (moment_in schedule point) = ap (λ (m : ℕ). let o : Option ℕ = Some m in o) (sym now) in
                   elim (kind net point within) [
-                    | inl executable ↦ by_test point within true (is_due_now point executable now) ∙ as_moment
-                    | inr ending ↦ due_known point within t (seen.completed point ending now) ∙ as_moment
+                    | inl executable ↦ moment_due (setting_of net table) moments t point (omega (arith, within, dispatch_length)) (is_due_now point executable now) ∙ as_moment
+                    | inr ending ↦ kept point t (seen.completed point ending now) ∙ as_moment
                   ])
             ]
 
         unknown : (point : PointId) → IsPoint net point → suc t ≤ moment_in schedule point → moment_of (acted (setting_of net table) moments t) point ≡ None
         unknown point within after =
             elim (kind net point within) [
-              | inl executable ↦ by_test point within false (not_due_before point executable (omega (arith, after))) ∙ seen.unknown point executable (omega (arith, after))
-              | inr ending ↦ by_test point within false (contingent_not_due point ending) ∙ seen.not_yet point ending (omega (arith, after))
+              | inl executable ↦ moment_not_due (setting_of net table) moments t point (omega (arith, within, dispatch_length)) (not_due_before point executable (omega (arith, after))) ∙ seen.unknown point executable (omega (arith, after))
+              | inr ending ↦ moment_not_due (setting_of net table) moments t point (omega (arith, within, dispatch_length)) (contingent_not_due (setting_of net table) moments t point ending.link (link_found net run.plan (setting_of net table) refl point ending)) ∙ seen.not_yet point ending (omega (arith, after))
             ]

@@ -19,7 +19,8 @@ use Rattle.execution_model.specs.Feeding.{Execution, next_moment, moments_to, mo
 use Rattle.execution_model.specs.Streams.{Listing}
 use Rattle.execution_model.specs.Timely.{CompletesInTime, IsInTime, with_completed, AreInTime}
 use Rattle.execution_model.specs.Laws.{setting_of}
-use Rattle.execution_model.proofs.PlaceLemmas.{ending_of, link_found, ending_point, contingent_ending, ending_contingent, not_completed, has_completed, length_completed, is_listed}
+use Rattle.execution_model.proofs.MomentLemmas.{length-completed_all}
+use Rattle.execution_model.proofs.PlaceLemmas.{ending_of, link_found, ending_point, contingent_ending, ending_contingent, not_completed, has_completed}
 use Rattle.execution_model.proofs.CutLemmas.{IsCut, IsSeen, IsRun, Lasts, lasts, acts_cut, not_sooner, cut_value}
 use Rattle.execution_model.proofs.TimeLemmas.{NoneComes, cut_same, time_cut}
 
@@ -92,7 +93,7 @@ module _ (net : Plan) (table : Graph) (schedule : List ℕ) (run : IsRun net tab
         let one = its.positive in
         record {
           link = link;
-          ends = link_found net run.plan execution.setting point ending same_links;
+          ends = link_found net run.plan execution.setting same_links point ending;
           is_open = before.unknown point (ending_point net run.plan point ending) (omega (arith, now));
           activated = moment_in schedule link.from;
           active = before.known link.from (link_sound net run.plan ending.name.0 link ending.declared).from_point (omega (arith, now, at, lasting, low, one));
@@ -103,7 +104,7 @@ module _ (net : Plan) (table : Graph) (schedule : List ℕ) (run : IsRun net tab
     -- and nothing is left out
     none_left : (point : PointId) (link : Link) (activated : ℕ) → link_to execution.setting point ≡ Some link → moment_of (moments_before execution listing.moment) point ≡ None
         → moment_of (moments_before execution listing.moment) link.from ≡ Some activated → activated + unsigned_abs link.high ≤ listing.moment → Contains listing.points point
-    none_left point link activated found unknown active reached = by (ending_of net run.plan execution.setting point link same_links found)
+    none_left point link activated found unknown active reached = by (ending_of net run.plan execution.setting same_links point link found)
       where
         by : (ending : Ending net point) × (ending.link ≡ link) → Contains listing.points point
         by (ending, same) =
@@ -129,7 +130,7 @@ module _ (net : Plan) (table : Graph) (schedule : List ℕ) (run : IsRun net tab
 
     -- the completions are those of the schedule
     seen : IsSeen net schedule (with_completed execution listing.moment listing.points) listing.moment
-    seen = record { long = length_completed (moments_before execution listing.moment) listing.moment listing.points ∙ before.long; known = known; completed = completed; not_yet = not_yet; unknown = unknown }
+    seen = record { long = length-completed_all listing.moment (moments_before execution listing.moment) listing.points ∙ before.long; known = known; completed = completed; not_yet = not_yet; unknown = unknown }
       where
         kept : (point : PointId) → (Contains listing.points point → ⊥) → moment_of (with_completed execution listing.moment listing.points) point ≡ moment_of (moments_before execution listing.moment) point
         kept = not_completed (moments_before execution listing.moment) listing.moment listing.points

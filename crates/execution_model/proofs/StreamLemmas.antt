@@ -9,7 +9,7 @@ use Rattle.std.proofs.lemmas.List.Elements.{All-nil, All-cons, All-head, All-tai
 use Rattle.std.proofs.lemmas.List.FromFn.{length-map-range_with_len}
 use Rattle.std.proofs.lemmas.List.Kept.{AllPairs-cons}
 use Rattle.std.proofs.lemmas.Option.{none-some, same_Some}
-use Rattle.net_model.specs.Network.{Plan, IsPoint, IsContingent}
+use Rattle.net_model.specs.Network.{Plan, IsPlan, IsPoint, IsContingent}
 use Rattle.net_model.specs.declared.ids.PointId.{PointId}
 use Rattle.closure_model.specs.Tables.{Graph, IsFor}
 use Rattle.closure_model.proofs.Lists.{Contains-none, Contains-head, Contains-tail, Contains-cases}
@@ -20,9 +20,10 @@ use Rattle.execution_model.specs.Execution.{Moments, Setting, moment_of, points_
 use Rattle.execution_model.specs.Feeding.{Execution, started, next_moment, most_moment, refusal_of_moment, completed_in, taken, after_feed}
 use Rattle.execution_model.specs.Streams.{Listing, Stream, IsListed, HasGoneBy, Shows, last_moment, cut_at}
 use Rattle.execution_model.specs.Timely.{IsInTime, with_completed, AreInTime, fed_all}
-use Rattle.execution_model.specs.Laws.{setting_of, going_on, ended, AreWithinLimit, FeedsAreTakenInTime}
+use Rattle.execution_model.specs.Laws.{setting_of, going_on, ended, AreWithinLimit, IsExecutionOf, FeedsAreTakenInTime}
 use Rattle.execution_model.specs.declared.feeding.Why.{Why}
 use Rattle.execution_model.specs.declared.feeding.Why.TheVariants as why
+use Rattle.execution_model.proofs.MomentLemmas.{length-points, length-acted}
 use Rattle.execution_model.proofs.CutLemmas.{IsCut}
 use Rattle.execution_model.proofs.FittingLemmas.{IsNext, AreNext, end_of, after_all, KeepsTo}
 
@@ -217,12 +218,11 @@ none_of_map (x ∷ xs) (suc k) = none_of_map xs k
 
 pub start_keeps : (net : Plan) (table : Graph) (schedule : List ℕ) → IsFor net table → KeepsTo net table schedule (started (setting_of net table))
 start_keeps net table schedule for =
-    let numbered : ℕ → PointId = λ k. record { 0 = k } in
     let setting = setting_of net table in
     record {
       setting = refl;
       cut = record {
-        long = length-map (points_of setting) (λ (p : PointId). let o : Option ℕ = None in o) ∙ length-map-range_with_len numbered 0 (length setting.dispatch) ∙ dispatchable_length net table for;
+        long = length-map (points_of setting) (λ (p : PointId). let o : Option ℕ = None in o) ∙ length-points setting ∙ dispatchable_length net table for;
         known = λ point within below. absurd (omega (arith, below));
         unknown = λ point within above. none_of_map (points_of setting) point.0;
       };
@@ -257,31 +257,51 @@ taken_within execution moment listed moments is = by (refusal_of_moment executio
     by None none is = not_refused execution moment none
     by (Some cause) refused is = absurd (err_ok moments cause is)
 
-module _ (in_time_taken : FeedsAreTakenInTime) where
+-- after a feed an execution is still one of the network
+pub execution_after : (net : Plan) (execution : Execution) (listing : Listing) → IsExecutionOf net execution → IsExecutionOf net (after_feed execution listing.moment (with_completed execution listing.moment listing.points))
+execution_after net execution listing is = record {
+  sound = is.sound;
+  links = is.links;
+  dispatch = is.dispatch;
+  moments = length-acted execution.setting (with_completed execution listing.moment listing.points) listing.moment ∙ is.dispatch;
+}
+
+pub start_is_execution : (net : Plan) (table : Graph) → IsPlan net → IsFor net table → IsExecutionOf net (started (setting_of net table))
+start_is_execution net table plan for =
+    let setting = setting_of net table in
+    record {
+      sound = plan;
+      links = refl;
+      dispatch = dispatchable_length net table for;
+      moments = length-map (points_of setting) (λ (p : PointId). let o : Option ℕ = None in o) ∙ length-points setting ∙ dispatchable_length net table for;
+    }
+
+module _ (in_time_taken : FeedsAreTakenInTime) (net : Plan) where
   -- feeds that are all taken are in time, and lead to one execution
-  pub fed_in_time : (listings : List Listing) (execution after : Execution) → fed_all execution listings ≡ Ok after → AreInTime execution listings × (after_all execution listings ≡ after)
-  fed_in_time [] execution after fed = (tt, same_ok execution after fed)
-  fed_in_time (listing ∷ others) execution after fed = by (λ next went. fed_in_time others next after went) (taken execution listing.moment listing.points) refl fed
+  pub fed_in_time : (listings : List Listing) (execution after : Execution) → IsExecutionOf net execution → fed_all execution listings ≡ Ok after → AreInTime execution listings × (after_all execution listings ≡ after)
+  fed_in_time [] execution after of fed = (tt, same_ok execution after fed)
+  fed_in_time (listing ∷ others) execution after of fed = by (λ next next_of went. fed_in_time others next after next_of went) (taken execution listing.moment listing.points) refl fed
     where
-      by : ((next : Execution) → fed_all next others ≡ Ok after → AreInTime next others × (after_all next others ≡ after))
-          → (r : Result Moments Why) → taken execution listing.moment listing.points ≡ r → elim r as (λ x. Result Execution Why) [ Ok moments ↦ fed_all (after_feed execution listing.moment moments) others | Err why ↦ Err why ] ≡ Ok after
+      by : ((next : Execution) → IsExecutionOf net next → fed_all next others ≡ Ok after → AreInTime next others × (after_all next others ≡ after))
+          → (r : Result Moments Why) → taken execution listing.moment listing.points ≡ r
+          → elim r as (λ x. Result Execution Why) [ Ok moments ↦ fed_all (after_feed execution listing.moment moments) others | Err why ↦ Err why ] ≡ Ok after
           → AreInTime execution (listing ∷ others) × (after_all execution (listing ∷ others) ≡ after)
       by rest (Err cause) is went = absurd (err_ok after cause went)
       by rest (Ok moments) is went =
           let within = taken_within execution listing.moment listing.points moments is in
-          let law = in_time_taken execution listing.moment listing.points within in
+          let law = in_time_taken net execution listing.moment listing.points of within in
           let same : moments ≡ with_completed execution listing.moment listing.points = law.1 moments is in
           let as_completed : taken execution listing.moment listing.points ≡ Ok (with_completed execution listing.moment listing.points) =
           is ∙ ap (λ (m : Moments). let r : Result Moments Why = Ok m in r) same in
           let fed_on : fed_all (after_feed execution listing.moment (with_completed execution listing.moment listing.points)) others ≡ Ok after =
           ap (λ (m : Moments). fed_all (after_feed execution listing.moment m) others) (sym same) ∙ went in
-          let (are, leads) = rest (after_feed execution listing.moment (with_completed execution listing.moment listing.points)) fed_on in
+          let (are, leads) = rest (after_feed execution listing.moment (with_completed execution listing.moment listing.points)) (execution_after net execution listing of) fed_on in
           ((law.0.1 as_completed, are), leads)
 
   -- and feeds that are in time are taken
-  pub in_time_fed : (listings : List Listing) (execution : Execution) → AreWithinLimit listings → AreInTime execution listings → fed_all execution listings ≡ Ok (after_all execution listings)
-  in_time_fed [] execution within are = refl
-  in_time_fed (listing ∷ others) execution within (is, are) =
-      let law = in_time_taken execution listing.moment listing.points (All-head (λ (l : Listing). l.moment ≤ most_moment) listing others within) in
+  pub in_time_fed : (listings : List Listing) (execution : Execution) → IsExecutionOf net execution → AreWithinLimit listings → AreInTime execution listings → fed_all execution listings ≡ Ok (after_all execution listings)
+  in_time_fed [] execution of within are = refl
+  in_time_fed (listing ∷ others) execution of within (is, are) =
+      let law = in_time_taken net execution listing.moment listing.points of (All-head (λ (l : Listing). l.moment ≤ most_moment) listing others within) in
       ap (λ (r : Result Moments Why). elim r as (λ x. Result Execution Why) [ Ok moments ↦ fed_all (after_feed execution listing.moment moments) others | Err why ↦ Err why ]) (law.0.0 is)
-      ∙ in_time_fed others (after_feed execution listing.moment (with_completed execution listing.moment listing.points)) (All-tail (λ (l : Listing). l.moment ≤ most_moment) listing others within) are
+      ∙ in_time_fed others (after_feed execution listing.moment (with_completed execution listing.moment listing.points)) (execution_after net execution listing of) (All-tail (λ (l : Listing). l.moment ≤ most_moment) listing others within) are
