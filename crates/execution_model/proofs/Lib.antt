@@ -6,3 +6,5 @@ pub mod CutLemmas
 pub mod TimeLemmas
 pub mod FittingLemmas
 pub mod StreamLemmas
+pub mod LawLemmas
+pub mod SituationLemmas

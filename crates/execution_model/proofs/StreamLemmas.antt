@@ -1,5 +1,5 @@
 -- What a stream shows of a schedule, listing by listing; and what a list of feeds that are taken comes to.
-use Rattle.std.proofs.Common.{◌≡◌, ℕ, zero, suc, ◌+◌, ◌≤◌, ◌<◌, Bool, true, false, List, [], ◌∷◌, length, map, get_or, Option, Some, None, ◌⊎◌, inl, inr, refl, ap, sym, subst, ◌∙◌, arith}
+use Rattle.std.proofs.Common.{◌≡◌, ℕ, zero, suc, ◌+◌, ◌≤◌, ◌<◌, Bool, true, false, List, [], ◌∷◌, length, map, get_or, Option, Some, None, is_some, ◌⊎◌, inl, inr, refl, ap, sym, subst, ◌∙◌, arith}
 use Rattle.std.specs.Prelude.{Result, Ok, Err, IsSome, fold, nat_le, nat_lt, if◌then◌else◌}
 use Rattle.std.specs.List.{All, AllPairs, Contains, IsDistinct, range_with_len}
 use Rattle.std.specs.Option.{option_map, option_map_or}
@@ -176,6 +176,33 @@ module _ (net : Plan) (schedule : List ℕ) where
             | inr later ↦ above (l.moment + 1) ls are later
           ]
 
+  -- what a done stream shows, it shows where it goes on
+  pub done_shows : (listings : List Listing) → Shows net (ended listings) schedule → Shows net (going_on listings) schedule
+  done_shows listings shows = record {
+    rises = shows.rises;
+    once = shows.once;
+    listed = λ point moment is. shows.listed point moment (record { listing = is.listing; among = is.among; at = is.at; named = is.named });
+    complete = λ point contingent gone. let is = shows.complete point contingent (inl refl) in record { listing = is.listing; among = is.among; at = is.at; named = is.named };
+  }
+
+  -- and it may be said to be done where every contingent point is listed
+  pub shows_done : (listings : List Listing) → Shows net (going_on listings) schedule → ((point : PointId) → IsContingent net point → IsListed (going_on listings) point (moment_in schedule point))
+      → Shows net (ended listings) schedule
+  shows_done listings shows each = record {
+    rises = shows.rises;
+    once = shows.once;
+    listed = λ point moment is. shows.listed point moment (record { listing = is.listing; among = is.among; at = is.at; named = is.named });
+    complete = λ point contingent gone. let is = each point contingent in record { listing = is.listing; among = is.among; at = is.at; named = is.named };
+  }
+
+  -- then none comes from the end on
+  pub done_before_end : (listings : List Listing) → Shows net (ended listings) schedule → (point : PointId) → IsContingent net point → moment_in schedule point < end_of 0 listings
+  done_before_end listings shows point contingent =
+      let is = shows.complete point contingent (inl refl) in
+      let at = is.at in
+      let above = (end_above 0 listings (shows_next listings (done_shows listings shows)) is.listing is.among).1 in
+      omega (arith, at, above)
+
 -- ---- what a stream fixes
 cut_here : (last : Option ℕ) (m : ℕ) → m < option_map_or (λ l. l + 1) last 0 → option_map_or (nat_le m) last false ≡ true
 cut_here None m below = absurd (omega (arith, below))
@@ -205,6 +232,30 @@ cut_is net schedule moments last complete cut =
           | inr above ↦ cut.unknown point within above ∙ sym (ap (λ (b : Bool). if b then Some m else None) (cut_later last m above))
         ])
         ∙ sym (get_or-map shown schedule k 0 d stands)
+
+-- where every point has come, they are the whole of the schedule
+pub whole_is : (net : Plan) (schedule : List ℕ) (moments : Moments) (t : ℕ) → length schedule ≡ length net.points → IsCut net schedule moments t → All IsSome moments → moments ≡ map Some schedule
+whole_is net schedule moments t complete cut come =
+    same_lists moments (map Some schedule) (cut.long ∙ sym complete ∙ sym (length-map schedule Some)) each
+  where
+    by : (k : ℕ) → k < length net.points → get_or moments k None ≡ Some (get_or schedule k 0) ⊎ (get_or moments k None ≡ None)
+    by k within =
+        elim (cases_lt (get_or schedule k 0) t) [
+          | inl less ↦ inl (cut.known (record { 0 = k }) within less)
+          | inr above ↦ inr (cut.unknown (record { 0 = k }) within above)
+        ]
+
+    each : (k : ℕ) (d : Option ℕ) → k < length moments → get_or moments k d ≡ get_or (map Some schedule) k d
+    each k d inside =
+        let long = cut.long in
+        let within : k < length net.points = omega (arith, inside, long) in
+        let stands : k < length schedule = omega (arith, within, complete) in
+        get_or_default moments k d None inside
+        ∙ (elim (by k within) [
+          | inl known ↦ known
+          | inr unknown ↦ absurd (false≢true (sym (ap is_some unknown) ∙ come k None inside))
+        ])
+        ∙ sym (get_or-map Some schedule k 0 d stands)
 
 pub last_after : (execution : Execution) (listings : List Listing) → (after_all execution listings).last ≡ fold (λ before (listing : Listing). Some listing.moment) execution.last listings
 last_after execution [] = refl
