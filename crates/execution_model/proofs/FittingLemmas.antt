@@ -154,7 +154,7 @@ module _ (net : Plan) (table : Graph) (schedule : List ℕ) (run : IsRun net tab
             kept point (λ among. not_ending net point executable (contingent_ending net point (is.comes point among).0)) ∙ before.unknown point executable.0 above
 
     -- so after the feed the execution keeps to the schedule
-    after_keeps : KeepsTo net table schedule (after_feed execution listing.moment (with_completed execution listing.moment listing.points))
+    pub after_keeps : KeepsTo net table schedule (after_feed execution listing.moment (with_completed execution listing.moment listing.points))
     after_keeps = record {
       setting = keeps.setting;
       cut = cut_same net schedule (acted execution.setting (with_completed execution listing.moment listing.points) listing.moment) (suc listing.moment) (listing.moment + 1) (omega arith)

@@ -8,3 +8,4 @@ pub mod FittingLemmas
 pub mod StreamLemmas
 pub mod LawLemmas
 pub mod SituationLemmas
+pub mod SeenLemmas

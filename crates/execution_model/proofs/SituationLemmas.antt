@@ -89,23 +89,29 @@ all_keep net (listing ∷ others) execution of (is, are) point m found =
     all_keep net others (after_feed execution listing.moment (with_completed execution listing.moment listing.points)) (execution_after net execution listing of) are point m
     (feed_keeps net execution of listing is point m (before_keeps net execution of listing.moment point m found))
 
--- a contingent point that comes in feeds comes no sooner than they begin
+-- a contingent point that comes in feeds comes no sooner than the first
+pub comes_with_first : (net : Plan) (listing : Listing) (others : List Listing) (execution : Execution) → IsExecutionOf net execution → AreInTime execution (listing ∷ others) → (point : PointId) (m : ℕ)
+    → Ending net point → moment_of execution.moments point ≡ None → moment_of (after_all execution (listing ∷ others)).moments point ≡ Some m
+    → (moment_of (after_feed execution listing.moment (with_completed execution listing.moment listing.points)).moments point ≡ None → listing.moment + 1 ≤ m)
+    → (Contains listing.points point × (listing.moment ≡ m)) ⊎ (listing.moment + 1 ≤ m)
+comes_with_first net listing others execution of (is, are) point m ending unknown found rest =
+    elim (is_listed listing.points point) [
+      | inl among ↦
+          (let stays = all_keep net others (after_feed execution listing.moment (with_completed execution listing.moment listing.points)) (execution_after net execution listing of) are point listing.moment
+          (feed_listed net execution of listing is point ending among) in
+          inl (among, same_Some listing.moment m (sym stays ∙ found)))
+      | inr absent ↦ inr (rest (feed_not_listed net execution of listing is point ending absent ∙ before_contingent net execution of listing.moment point ending ∙ unknown))
+    ]
+
 pub comes_after : (net : Plan) (listings : List Listing) (execution : Execution) → IsExecutionOf net execution → AreInTime execution listings → (point : PointId) (m : ℕ) → Ending net point
     → moment_of execution.moments point ≡ None → moment_of (after_all execution listings).moments point ≡ Some m → next_moment execution ≤ m
 comes_after net [] execution of are point m ending unknown found = absurd (none-some m (sym unknown ∙ found))
 comes_after net (listing ∷ others) execution of (is, are) point m ending unknown found =
-    let next = after_feed execution listing.moment (with_completed execution listing.moment listing.points) in
-    let next_of = execution_after net execution listing of in
     let later = is.later in
-    elim (is_listed listing.points point) [
-      | inl among ↦
-          (let stays = all_keep net others next next_of are point listing.moment (feed_listed net execution of listing is point ending among) in
-          let same : listing.moment ≡ m = same_Some listing.moment m (sym stays ∙ found) in
-          omega (arith, same, later))
-      | inr absent ↦
-          (let still = feed_not_listed net execution of listing is point ending absent ∙ before_contingent net execution of listing.moment point ending ∙ unknown in
-          let after = comes_after net others next next_of are point m ending still found in
-          omega (arith, after, later))
+    let next = after_feed execution listing.moment (with_completed execution listing.moment listing.points) in
+    elim (comes_with_first net listing others execution of (is, are) point m ending unknown found (λ still. comes_after net others next (execution_after net execution listing of) are point m ending still found)) [
+      | inl (among, now) ↦ omega (arith, now, later)
+      | inr after ↦ omega (arith, after, later)
     ]
 
 -- ---- each link that was seen to end lasted as it may
