@@ -1,1 +1,9 @@
 //! Laws about executions, each the contract of a function without parameters.
+
+ghost use Rattle.execution_model.specs.Laws.{FeedsAreTakenInTime};
+
+/// A feed within the limit is taken exactly where its completions are in time: its moment is after the last one fed, each listed point
+/// completes neither too soon nor too late and stands once, and none is left out whose latest moment is reached.
+pub fn feeds_are_taken_in_time()
+    ensures { FeedsAreTakenInTime }
+{}
