@@ -1,3 +1,4 @@
 pub mod LinkLemmas
 pub mod MomentLemmas
 pub mod TimelyLemmas
+pub mod WholeLemmas
