@@ -1,10 +1,10 @@
 -- A feed is taken exactly where its completions are in time.
-use Rattle.std.proofs.Common.{◌≡◌, ◌≢◌, ◌⊎◌, ℕ, zero, suc, ◌+◌, ◌<◌, ◌≤◌, ℤ, pos, Bool, true, false, List, [], ◌∷◌, length, get_or, Option, Some, None, Result, Ok, Err, is_some, is_none, refl, ap, sym, subst, ◌∙◌, inl, inr, arith}
-use Rattle.std.specs.Prelude.{◌==◌, ◌≤ℤ◌, nat_lt, nat_le, unsigned_abs, find, if◌then◌else◌}
-use Rattle.std.specs.List.{All, AllByRecursion, Contains, IsDistinct}
+use Rattle.std.proofs.Common.{◌≡◌, ◌≢◌, ℕ, ◌+◌, ◌<◌, ◌≤◌, ℤ, pos, Bool, true, false, List, [], ◌∷◌, length, get_or, Option, Some, None, Result, Ok, Err, is_some, refl, ap, sym, subst, ◌∙◌, arith}
+use Rattle.std.specs.Prelude.{◌≤ℤ◌, nat_lt, nat_le, unsigned_abs, find, if◌then◌else◌}
+use Rattle.std.specs.List.{All, Contains, IsDistinct}
 use Rattle.std.specs.Option.{option_map, option_map_or, option_and_then}
 use Rattle.std.proofs.lemmas.Int.{ints}
-use Rattle.std.proofs.lemmas.Bool.{cases_lt, le-ltb, lt-ltb, le-leb, ne_eqb, eqb-true, eq-eqb, true≢false}
+use Rattle.std.proofs.lemmas.Bool.{le-ltb, lt-ltb, le-leb, ne_eqb, true≢false}
 use Rattle.std.proofs.lemmas.Map.Keys.{IsDistinct-cons, IsDistinct-head, IsDistinct-tail}
 use Rattle.std.proofs.lemmas.Bool.Decides.{nat_tests}
 use Rattle.std.proofs.lemmas.Option.{none-some, same_Some}
@@ -13,16 +13,16 @@ use Rattle.net_model.specs.Network.{Plan, IsPlan, IsLink, IsPoint}
 use Rattle.net_model.specs.declared.ids.PointId.{PointId}
 use Rattle.net_model.specs.declared.part.Link.{Link}
 use Rattle.closure_model.specs.Orders.{is_among}
-use Rattle.closure_model.proofs.OrderLemmas.{IsFound, find_some, find_none, among_from, from_among}
+use Rattle.closure_model.proofs.OrderLemmas.{find_some, find_none, among_from, from_among}
 use Rattle.strategy_model.specs.Plays.{same_point}
-use Rattle.execution_model.specs.Execution.{Moments, Setting, moment_of, has_come, points_of, link_to, time_runs}
+use Rattle.execution_model.specs.Execution.{Moments, Setting, moment_of, points_of, link_to}
 use Rattle.execution_model.specs.Feeding.{Execution, next_moment, moments_to, moments_before, most_moment, refusal_of_duration, activated_before, refusal_of_completion, refusal_of, completed_at, completions_taken, latest_of, is_overdue, overdue_why, first_overdue, none_overdue, completed_in, refusal_of_moment, taken}
 use Rattle.execution_model.specs.Timely.{CompletesInTime, IsInTime, with_completed}
 use Rattle.execution_model.specs.Laws.{IsExecutionOf, FeedsAreTakenInTime}
 use Rattle.execution_model.specs.declared.feeding.Why.{Why}
 use Rattle.execution_model.specs.declared.feeding.Why.TheVariants as why
 use Rattle.execution_model.proofs.LinkLemmas.{link_to_is_sound, link_to_is_point}
-use Rattle.execution_model.proofs.MomentLemmas.{length-time_runs, length-completed_at, moment_completed, moment_of_other, completed_all, length-completed_all, moment_not_listed, moment_listed, Contains-point}
+use Rattle.execution_model.proofs.MomentLemmas.{length-time_runs, length-completed_at, moment_completed, moment_of_other, completed_all, moment_not_listed, moment_listed, Contains-point}
 
 -- ---- durations
 -- a link's durations are at least one moment
@@ -89,7 +89,7 @@ module _ (setting : Setting) (moments : Moments) (moment : ℕ) (point : PointId
       let not_active : Option Why = Some (why.NotActive point) in
       let before : nat_lt timely.activated moment ≡ true = lt-ltb timely.activated moment (omega (arith, timely.not_too_soon)) in
       let active : activated_before moments moment link ≡ Some timely.activated =
-          ap (option_and_then (λ activated. if nat_lt activated moment then Some activated else None)) timely.active ∙ ap (λ (b : Bool). let none : Option ℕ = None in if b then Some timely.activated else none) before in
+      ap (option_and_then (λ activated. if nat_lt activated moment then Some activated else None)) timely.active ∙ ap (λ (b : Bool). let none : Option ℕ = None in if b then Some timely.activated else none) before in
       ap (λ (o : Option Link). option_map_or (refusal_of_completion moments moment point) o (Some (why.NotContingent point))) timely.ends
       ∙ ap (refusal_at moments moment point link) timely.is_open
       ∙ ap (λ (o : Option ℕ). option_map_or (refusal_of_duration moment point link) o not_active) active
@@ -245,7 +245,111 @@ module _ (net : Plan) (setting : Setting) (links : setting.links ≡ net.links) 
       let others_complete : All (CompletesInTime setting moments moment) others = All-tail (CompletesInTime setting moments moment) point others completes in
       ap (λ (o : Option Why). option_map_or Err o (completions_taken setting (completed_at moments moment point) moment others)) free
       ∙ taken_if (completed_at moments moment point) others (length-completed_at moments moment point ∙ long) (IsDistinct-tail same_point point others once)
-        (λ k d low. in_time_after moments point (get_or others k d) first.is_open (other_number point (get_or others k d) (apart k d low)) (others_complete k d low))
+      (λ k d low. in_time_after moments point (get_or others k d) first.is_open (other_number point (get_or others k d) (apart k d low)) (others_complete k d low))
     where
       other_number : (p q : PointId) → same_point p q ≡ false → p.0 ≢ q.0
       other_number p q apart = grind (arith, nat_tests)
+
+-- ---- a feed
+-- what comes of the moments after the completions of a moment, or of their refusal
+abbrev onward : Execution → (moment : ℕ) → Result Moments Why → Result Moments Why
+onward execution moment (Ok moments) = none_overdue execution.setting moment moments
+onward execution moment (Err cause) = Err cause
+
+module _ (net : Plan) (execution : Execution) (of : IsExecutionOf net execution) (moment : ℕ) (listed : List PointId) where
+  long_before : length (moments_before execution moment) ≡ length net.points
+  long_before = length-time_runs execution.setting execution.moments (next_moment execution) (moments_to execution moment) (of.moments ∙ sym of.dispatch) ∙ of.dispatch
+
+  link_sound : (point : PointId) (link : Link) → link_to execution.setting point ≡ Some link → IsLink net link
+  link_sound = link_to_is_sound net execution.setting of.links of.sound
+
+  link_point : (point : PointId) (link : Link) → link_to execution.setting point ≡ Some link → IsPoint net point
+  link_point = link_to_is_point net execution.setting of.links of.sound
+
+  now_listed : (point : PointId) → IsPoint net point → is_among listed point ≡ true → moment_of (with_completed execution moment listed) point ≡ Some moment
+  now_listed point within among = let long = long_before in moment_listed moment (moments_before execution moment) listed point (omega arith) among
+
+  as_before : (point : PointId) → is_among listed point ≡ false → moment_of (with_completed execution moment listed) point ≡ moment_of (moments_before execution moment) point
+  as_before point not_listed = moment_not_listed moment (moments_before execution moment) listed point not_listed
+
+  -- after completions in time no point is late
+  none_late : IsInTime execution moment listed → (point : PointId) → IsLate execution.setting (with_completed execution moment listed) moment point → ⊥
+  none_late timely point late = by (is_among listed point) refl (is_among listed late.link.from) refl
+    where
+      by : (a : Bool) → is_among listed point ≡ a → (b : Bool) → is_among listed late.link.from ≡ b → ⊥
+      by true among b is = none-some moment (sym late.is_open ∙ now_listed point (link_point point late.link late.ends) among)
+      by false not_listed true among =
+          let sound = link_sound point late.link late.ends in
+          let now : late.activated ≡ moment = same_Some late.activated moment (sym late.active ∙ now_listed late.link.from sound.from_point among) in
+          let greatest = greatest_duration late.link.low late.link.high sound.positive sound.interval in
+          absurd (omega (arith, now, greatest, late.reached))
+      by false not_listed false before =
+          let there : Contains listed point =
+          timely.none_left point late.link late.activated late.ends (sym (as_before point not_listed) ∙ late.is_open) (sym (as_before late.link.from before) ∙ late.active) late.reached in
+          true≢false (sym (among_from listed point there) ∙ not_listed)
+
+  in_time_taken : moment ≤ most_moment → IsInTime execution moment listed → taken execution moment listed ≡ Ok (with_completed execution moment listed)
+  in_time_taken within timely =
+      let after : Moments = with_completed execution moment listed in
+      let not_before : nat_lt moment (next_moment execution) ≡ false = le-ltb moment (next_moment execution) timely.later in
+      let not_beyond : nat_lt most_moment moment ≡ false = le-ltb most_moment moment within in
+      let none : Option Why = None in
+      let free : refusal_of_moment execution moment ≡ None =
+      ap (λ (b : Bool). if b then option_map why.NotLater execution.last else if nat_lt most_moment moment then Some why.MomentLimit else none) not_before
+      ∙ ap (λ (b : Bool). if b then Some why.MomentLimit else none) not_beyond in
+      ap (λ (o : Option Why). option_map_or Err o (completed_in execution moment listed)) free
+      ∙ ap (onward execution moment) (taken_if net execution.setting of.links of.sound moment (moments_before execution moment) listed long_before timely.once timely.completes)
+      ∙ ap (λ (o : Option Why). option_map_or Err o (Ok after)) (none_late_free execution.setting after moment (none_late timely))
+
+  later_from : refusal_of_moment execution moment ≡ None → next_moment execution ≤ moment
+  later_from free = by execution.last refl (nat_lt moment (next_moment execution)) refl free
+    where
+      by : (last : Option ℕ) → execution.last ≡ last → (b : Bool) → nat_lt moment (next_moment execution) ≡ b
+          → (if b then option_map why.NotLater last else if nat_lt most_moment moment then Some why.MomentLimit else None) ≡ None → next_moment execution ≤ moment
+      by (Some m) is true before free = absurd (cc)
+      by None is true before free =
+          let first : next_moment execution ≡ 0 = ap (λ (last : Option ℕ). option_map_or (λ m. m + 1) last 0) is in
+          omega (arith, first)
+      by last is false not_before free = grind (arith, nat_tests)
+
+  in_time_of : (after : Moments) → next_moment execution ≤ moment → AreTaken execution.setting (moments_before execution moment) moment listed after → first_overdue execution.setting after moment ≡ None → IsInTime execution moment listed
+  in_time_of after later took free = record { later = later; once = took.once; completes = took.completes; none_left = none_left }
+    where
+      none_left : (point : PointId) (link : Link) (activated : ℕ) → link_to execution.setting point ≡ Some link → moment_of (moments_before execution moment) point ≡ None
+          → moment_of (moments_before execution moment) link.from ≡ Some activated → activated + unsigned_abs link.high ≤ moment → Contains listed point
+      none_left point link activated ends new active reached = by (is_among listed point) refl (is_among listed link.from) refl
+        where
+          by : (a : Bool) → is_among listed point ≡ a → (b : Bool) → is_among listed link.from ≡ b → Contains listed point
+          by true among b is = from_among listed point among
+          by false not_listed true among =
+              let its = All-contains (CompletesInTime execution.setting (moments_before execution moment) moment) listed link.from took.completes (from_among listed link.from among) in
+              absurd (none-some activated (sym its.is_open ∙ active))
+          by false not_listed false before =
+              let inside : point.0 < length execution.setting.dispatch = let within = link_point point link ends in let long = of.dispatch in omega arith in
+              let late : IsLate execution.setting (with_completed execution moment listed) moment point =
+              record { link = link; ends = ends; is_open = as_before point not_listed ∙ new; activated = activated; active = as_before link.from before ∙ active; reached = reached } in
+              absurd (free_none_late execution.setting after moment free point inside (subst (λ moments. IsLate execution.setting moments moment point) (sym took.are) late))
+
+  in_time_where_taken : (after : Moments) → taken execution moment listed ≡ Ok after → IsInTime execution moment listed × (after ≡ with_completed execution moment listed)
+  in_time_where_taken after took = by (refusal_of_moment execution moment) refl took
+    where
+      by_overdue : (made : Moments) → next_moment execution ≤ moment → AreTaken execution.setting (moments_before execution moment) moment listed made → (o : Option Why) → first_overdue execution.setting made moment ≡ o
+          → option_map_or Err o (Ok made) ≡ Ok after → IsInTime execution moment listed × (after ≡ with_completed execution moment listed)
+      by_overdue made later are (Some cause) is took = absurd (cc)
+      by_overdue made later are None free took = let same : made ≡ after = cc in (in_time_of made later are free, sym same ∙ are.are)
+
+      by_taken : next_moment execution ≤ moment → (r : Result Moments Why) → completions_taken execution.setting (moments_before execution moment) moment listed ≡ r → onward execution moment r ≡ Ok after
+          → IsInTime execution moment listed × (after ≡ with_completed execution moment listed)
+      by_taken later (Err cause) is took = absurd (cc)
+      by_taken later (Ok made) is took =
+          by_overdue made later (taken_means net execution.setting of.links of.sound moment (moments_before execution moment) made listed long_before is) (first_overdue execution.setting made moment) refl took
+
+      by : (o : Option Why) → refusal_of_moment execution moment ≡ o → option_map_or Err o (completed_in execution moment listed) ≡ Ok after → IsInTime execution moment listed × (after ≡ with_completed execution moment listed)
+      by (Some cause) refused took = absurd (cc)
+      by None free took = by_taken (later_from free) (completions_taken execution.setting (moments_before execution moment) moment listed) refl took
+
+pub taken_in_time : FeedsAreTakenInTime
+taken_in_time net execution moment listed of within = (
+  (in_time_taken net execution of moment listed within, λ took. (in_time_where_taken net execution of moment listed (with_completed execution moment listed) took).0),
+  λ moments took. (in_time_where_taken net execution of moment listed moments took).1,
+)
