@@ -97,7 +97,7 @@ size_high high d below = grind (arith, ints)
 some_positive : (n : ℤ) → pos 0 <ℤ n → 1 ≤ unsigned_abs n
 some_positive n above = grind (arith, ints)
 
-came : (moments : Moments) (point : PointId) → has_come moments point ≡ true → (m : ℕ) × (moment_of moments point ≡ Some m)
+pub came : (moments : Moments) (point : PointId) → has_come moments point ≡ true → (m : ℕ) × (moment_of moments point ≡ Some m)
 came moments point come = by (moment_of moments point) refl come
   where
     by : (o : Option ℕ) → moment_of moments point ≡ o → is_some o ≡ true → (m : ℕ) × (moment_of moments point ≡ Some m)

@@ -20,10 +20,11 @@ use Rattle.execution_model.specs.Execution.{Moments, Setting, moment_of, points_
 use Rattle.execution_model.specs.Feeding.{Execution, started, next_moment, most_moment, refusal_of_moment, completed_in, taken, after_feed}
 use Rattle.execution_model.specs.Streams.{Listing, Stream, IsListed, HasGoneBy, Shows, last_moment, cut_at}
 use Rattle.execution_model.specs.Timely.{IsInTime, with_completed, AreInTime, fed_all}
-use Rattle.execution_model.specs.Laws.{setting_of, going_on, ended, AreWithinLimit, IsExecutionOf, FeedsAreTakenInTime}
+use Rattle.execution_model.specs.Laws.{setting_of, going_on, ended, AreWithinLimit, IsExecutionOf}
 use Rattle.execution_model.specs.declared.feeding.Why.{Why}
 use Rattle.execution_model.specs.declared.feeding.Why.TheVariants as why
 use Rattle.execution_model.proofs.MomentLemmas.{length-points, length-acted}
+use Rattle.execution_model.proofs.TimelyLemmas.{taken_in_time}
 use Rattle.execution_model.proofs.CutLemmas.{IsCut}
 use Rattle.execution_model.proofs.FittingLemmas.{IsNext, AreNext, end_of, after_all, KeepsTo}
 
@@ -262,7 +263,7 @@ last_after execution [] = refl
 last_after execution (listing ∷ others) = last_after (after_feed execution listing.moment (with_completed execution listing.moment listing.points)) others
 
 -- ---- the start
-none_of_map : {X : Type 0} (xs : List X) (k : ℕ) → get_or (map (λ (x : X). let o : Option ℕ = None in o) xs) k None ≡ None
+pub none_of_map : {X : Type 0} (xs : List X) (k : ℕ) → get_or (map (λ (x : X). let o : Option ℕ = None in o) xs) k None ≡ None
 none_of_map [] k = refl
 none_of_map (x ∷ xs) zero = refl
 none_of_map (x ∷ xs) (suc k) = none_of_map xs k
@@ -327,7 +328,7 @@ start_is_execution net table plan for =
       moments = length-map (points_of setting) (λ (p : PointId). let o : Option ℕ = None in o) ∙ length-points setting ∙ dispatchable_length net table for;
     }
 
-module _ (in_time_taken : FeedsAreTakenInTime) (net : Plan) where
+module _ (net : Plan) where
   -- feeds that are all taken are in time, and lead to one execution
   pub fed_in_time : (listings : List Listing) (execution after : Execution) → IsExecutionOf net execution → fed_all execution listings ≡ Ok after → AreInTime execution listings × (after_all execution listings ≡ after)
   fed_in_time [] execution after of fed = (tt, same_ok execution after fed)
@@ -340,7 +341,7 @@ module _ (in_time_taken : FeedsAreTakenInTime) (net : Plan) where
       by rest (Err cause) is went = absurd (err_ok after cause went)
       by rest (Ok moments) is went =
           let within = taken_within execution listing.moment listing.points moments is in
-          let law = in_time_taken net execution listing.moment listing.points of within in
+          let law = taken_in_time net execution listing.moment listing.points of within in
           let same : moments ≡ with_completed execution listing.moment listing.points = law.1 moments is in
           let as_completed : taken execution listing.moment listing.points ≡ Ok (with_completed execution listing.moment listing.points) =
           is ∙ ap (λ (m : Moments). let r : Result Moments Why = Ok m in r) same in
@@ -353,6 +354,6 @@ module _ (in_time_taken : FeedsAreTakenInTime) (net : Plan) where
   pub in_time_fed : (listings : List Listing) (execution : Execution) → IsExecutionOf net execution → AreWithinLimit listings → AreInTime execution listings → fed_all execution listings ≡ Ok (after_all execution listings)
   in_time_fed [] execution of within are = refl
   in_time_fed (listing ∷ others) execution of within (is, are) =
-      let law = in_time_taken net execution listing.moment listing.points of (All-head (λ (l : Listing). l.moment ≤ most_moment) listing others within) in
+      let law = taken_in_time net execution listing.moment listing.points of (All-head (λ (l : Listing). l.moment ≤ most_moment) listing others within) in
       ap (λ (r : Result Moments Why). elim r as (λ x. Result Execution Why) [ Ok moments ↦ fed_all (after_feed execution listing.moment moments) others | Err why ↦ Err why ]) (law.0.0 is)
       ∙ in_time_fed others (after_feed execution listing.moment (with_completed execution listing.moment listing.points)) (execution_after net execution listing of) (All-tail (λ (l : Listing). l.moment ≤ most_moment) listing others within) are
