@@ -1,22 +1,21 @@
 -- The moments so far that are those of a schedule before a moment, and that one moment's completions and acts make them those before the
 -- next one.
-use Rattle.std.proofs.Common.{◌≡◌, ℕ, suc, ◌+◌, ◌≤◌, ◌<◌, ℤ, pos, Bool, true, false, cond, List, [], ◌∷◌, ◌++◌, length, map, min, Option, Some, None, is_some, is_none, ◌⊎◌, inl, inr, refl, ap, sym, subst, ◌∙◌, arith}
-use Rattle.std.specs.Prelude.{slice_get, unsigned_abs, ◌<ℤ◌, ◌≤ℤ◌, ◌-ℤ◌, ◌&&◌, ◌||◌, if◌then◌else◌}
-use Rattle.std.specs.List.{All, Contains, list_all}
+use Rattle.std.proofs.Common.{◌≡◌, ℕ, suc, ◌+◌, ◌≤◌, ◌<◌, ℤ, pos, Bool, true, false, List, length, map, min, Option, Some, None, is_some, is_none, inl, inr, refl, ap, sym, subst, ◌∙◌, arith}
+use Rattle.std.specs.Prelude.{slice_get, unsigned_abs, ◌<ℤ◌, ◌≤ℤ◌, ◌-ℤ◌, ◌&&◌, ◌||◌}
+use Rattle.std.specs.List.{Contains, list_all}
 use Rattle.std.specs.Option.{option_map, option_map_or}
-use Rattle.std.proofs.lemmas.Bool.{cases_lt, cases_order, and_parts, and_from, and_left, and_right, or_cases, or_left, or_right, true≢false, cases_Bool, false_from_ne_true}
+use Rattle.std.proofs.lemmas.Bool.{cases_lt, cases_order, and_parts, and_from, and_right, or_cases, or_left, or_right, true≢false, false_from_ne_true}
 use Rattle.std.proofs.lemmas.Int.{ints}
 use Rattle.std.proofs.lemmas.List.Elements.{All-contains, All-weaker, All-contains_itself, Contains-append_left, Contains-append_right, Contains-append_cases}
 use Rattle.std.proofs.lemmas.List.Sums.{AllPass-from_list_all, list_all-from_AllPass}
 use Rattle.std.proofs.lemmas.Option.{none-some, same_Some, slice_get-map}
-use Rattle.net_model.specs.Network.{Plan, IsPlan, IsPoint, IsContingent, IsExecutable}
+use Rattle.net_model.specs.Network.{Plan, IsPlan, IsPoint, IsExecutable}
 use Rattle.net_model.specs.Edges.{IsLinkOf}
 use Rattle.net_model.specs.declared.ids.PointId.{PointId}
 use Rattle.net_model.specs.declared.ids.LinkId.{LinkId}
-use Rattle.net_model.specs.declared.part.Edge.{Edge}
 use Rattle.net_model.specs.declared.part.Link.{Link}
 use Rattle.closure_model.specs.Keys.{Shape}
-use Rattle.closure_model.specs.Tables.{Graph, HasEdge, IsFor, IsGraph}
+use Rattle.closure_model.specs.Tables.{Graph, IsFor, IsGraph}
 use Rattle.closure_model.proofs.Lists.{Contains-map, Contains-map_from}
 use Rattle.strategy_model.specs.Situations.{IsSituation, moment_in}
 use Rattle.strategy_model.proofs.PlayLemmas.{link_sound}
@@ -25,14 +24,13 @@ use Rattle.strategy_model.proofs.KindLemmas.{Ending, kind}
 use Rattle.dispatch_net.specs.Dispatchable.{dispatchable, conditions_at}
 use Rattle.dispatch_net.specs.Execution.{IsExecutedBy, IsFirst, bound_asks, wait_asks, asked_by}
 use Rattle.dispatch_net.specs.Laws.{AreExact}
-use Rattle.dispatch_net.specs.declared.dispatch.Conditions.{Conditions}
 use Rattle.dispatch_net.proofs.ExactLemmas.{lists_are_exact}
 use Rattle.dispatch_net.proofs.ExecutionLemmas.{dispatchable_length, point_count}
-use Rattle.execution_model.specs.Execution.{Moments, Setting, moment_of, has_come, has_gone_by, meets_bound, meets_wait_for, meets_wait, meets, is_due, link_to, acted}
+use Rattle.execution_model.specs.Execution.{Moments, moment_of, has_come, has_gone_by, meets_bound, meets_wait_for, meets_wait, meets, is_due, link_to, acted}
 use Rattle.execution_model.specs.Laws.{setting_of}
 use Rattle.execution_model.proofs.LinkLemmas.{executable_has_none}
 use Rattle.execution_model.proofs.MomentLemmas.{length-acted, moment_due, moment_not_due, due_from, contingent_not_due, acted_keeps}
-use Rattle.execution_model.proofs.PlaceLemmas.{link_found, ending_point, contingent_ending, gone_by, from_gone_by}
+use Rattle.execution_model.proofs.PlaceLemmas.{link_found, ending_point, gone_by, from_gone_by}
 
 -- the moments so far are those of the schedule before a moment
 pub record IsCut (net : Plan) (schedule : List ℕ) (moments : Moments) (t : ℕ) : Type 0 where

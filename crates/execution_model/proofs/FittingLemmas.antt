@@ -1,10 +1,8 @@
 -- Feeds that list what a schedule shows are in time, and keep the moments so far to the schedule.
-use Rattle.std.proofs.Common.{◌≡◌, ℕ, zero, suc, ◌+◌, ◌-◌, ◌≤◌, ◌<◌, List, [], ◌∷◌, length, Option, Some, None, ◌⊎◌, inl, inr, refl, ap, sym, subst, ◌∙◌, arith}
-use Rattle.std.specs.Prelude.{unsigned_abs, fold}
-use Rattle.std.specs.List.{All, Contains, IsDistinct}
-use Rattle.std.proofs.lemmas.Bool.{cases_lt, cases_order}
+use Rattle.std.proofs.Common.{◌≡◌, ℕ, suc, ◌+◌, ◌≤◌, ◌<◌, List, [], ◌∷◌, Some, None, refl, ap, sym, subst, ◌∙◌, arith}
+use Rattle.std.specs.Prelude.{unsigned_abs}
+use Rattle.std.specs.List.{Contains, IsDistinct}
 use Rattle.std.proofs.lemmas.List.Elements.{All-weaker, All-contains_itself}
-use Rattle.std.proofs.lemmas.Option.{none-some, same_Some}
 use Rattle.net_model.specs.Network.{Plan, IsPoint, IsContingent, IsExecutable}
 use Rattle.net_model.specs.Edges.{IsLinkOf}
 use Rattle.net_model.specs.declared.ids.PointId.{PointId}
@@ -14,14 +12,15 @@ use Rattle.strategy_model.specs.Situations.{moment_in}
 use Rattle.strategy_model.specs.Plays.{same_point}
 use Rattle.strategy_model.proofs.PlayLemmas.{link_sound}
 use Rattle.strategy_model.proofs.KindLemmas.{Ending, not_ending}
-use Rattle.execution_model.specs.Execution.{Moments, Setting, moment_of, link_to, acted, time_runs}
-use Rattle.execution_model.specs.Feeding.{Execution, next_moment, moments_to, moments_before, completed_at, after_feed}
+use Rattle.execution_model.specs.Execution.{Setting, moment_of, link_to, acted, time_runs}
+use Rattle.execution_model.specs.Feeding.{Execution, next_moment, moments_to, moments_before}
 use Rattle.execution_model.specs.Streams.{Listing}
 use Rattle.execution_model.specs.Timely.{CompletesInTime, IsInTime, with_completed, AreInTime}
 use Rattle.execution_model.specs.Laws.{setting_of}
 use Rattle.execution_model.proofs.MomentLemmas.{length-completed_all}
 use Rattle.execution_model.proofs.PlaceLemmas.{ending_of, link_found, ending_point, contingent_ending, ending_contingent, not_completed, has_completed}
-use Rattle.execution_model.proofs.CutLemmas.{IsCut, IsSeen, IsRun, Lasts, lasts, acts_cut, not_sooner, cut_value}
+use Rattle.execution_model.proofs.FedLemmas.{after_listing, after_all}
+use Rattle.execution_model.proofs.CutLemmas.{IsCut, IsSeen, IsRun, lasts, acts_cut, not_sooner, cut_value}
 use Rattle.execution_model.proofs.TimeLemmas.{NoneComes, cut_same, time_cut}
 
 -- a listing is what a schedule shows next, from a moment on: its points are the contingent points that come from there up to its moment,
@@ -42,14 +41,9 @@ abbrev pub end_of : ℕ → List Listing → ℕ
 end_of from [] = from
 end_of from (listing ∷ others) = end_of (listing.moment + 1) others
 
--- the execution after feeds that are in time
-abbrev pub after_all : Execution → List Listing → Execution
-after_all execution [] = execution
-after_all execution (listing ∷ others) = after_all (after_feed execution listing.moment (with_completed execution listing.moment listing.points)) others
-
 pub end_after : (execution : Execution) (listings : List Listing) → next_moment (after_all execution listings) ≡ end_of (next_moment execution) listings
 end_after execution [] = refl
-end_after execution (listing ∷ others) = end_after (after_feed execution listing.moment (with_completed execution listing.moment listing.points)) others
+end_after execution (listing ∷ others) = end_after (after_listing execution listing) others
 
 -- an execution that keeps to a schedule
 pub record KeepsTo (net : Plan) (table : Graph) (schedule : List ℕ) (execution : Execution) : Type 0 where
@@ -154,22 +148,22 @@ module _ (net : Plan) (table : Graph) (schedule : List ℕ) (run : IsRun net tab
             kept point (λ among. not_ending net point executable (contingent_ending net point (is.comes point among).0)) ∙ before.unknown point executable.0 above
 
     -- so after the feed the execution keeps to the schedule
-    pub after_keeps : KeepsTo net table schedule (after_feed execution listing.moment (with_completed execution listing.moment listing.points))
+    pub after_keeps : KeepsTo net table schedule (after_listing execution listing)
     after_keeps = record {
       setting = keeps.setting;
       cut = cut_same net schedule (acted execution.setting (with_completed execution listing.moment listing.points) listing.moment) (suc listing.moment) (listing.moment + 1) (omega arith)
-      (subst (λ (setting : Setting). IsCut net schedule (acted setting (with_completed execution listing.moment listing.points) listing.moment) (suc listing.moment)) (sym keeps.setting)
-      (acts_cut net table schedule run (with_completed execution listing.moment listing.points) listing.moment seen));
+          (subst (λ (setting : Setting). IsCut net schedule (acted setting (with_completed execution listing.moment listing.points) listing.moment) (suc listing.moment)) (sym keeps.setting)
+          (acts_cut net table schedule run (with_completed execution listing.moment listing.points) listing.moment seen));
     }
 
   -- and so it is with several feeds
   pub feeds_in_time : (listings : List Listing) (execution : Execution) → KeepsTo net table schedule execution → AreNext net schedule (next_moment execution) listings → AreInTime execution listings
   feeds_in_time [] execution keeps are = tt
   feeds_in_time (listing ∷ others) execution keeps (is, are) =
-      (in_time execution listing keeps is, feeds_in_time others (after_feed execution listing.moment (with_completed execution listing.moment listing.points)) (after_keeps execution listing keeps is) are)
+      (in_time execution listing keeps is, feeds_in_time others (after_listing execution listing) (after_keeps execution listing keeps is) are)
 
   pub feeds_keep : (listings : List Listing) (execution : Execution) → KeepsTo net table schedule execution → AreNext net schedule (next_moment execution) listings
       → KeepsTo net table schedule (after_all execution listings)
   feeds_keep [] execution keeps are = keeps
   feeds_keep (listing ∷ others) execution keeps (is, are) =
-      feeds_keep others (after_feed execution listing.moment (with_completed execution listing.moment listing.points)) (after_keeps execution listing keeps is) are
+      feeds_keep others (after_listing execution listing) (after_keeps execution listing keeps is) are

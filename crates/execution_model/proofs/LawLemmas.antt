@@ -1,7 +1,7 @@
 -- Executions of streams are the earliest schedules.
-use Rattle.std.proofs.Common.{◌≡◌, ℕ, ◌+◌, ◌≤◌, ◌<◌, Bool, true, false, cond, List, [], ◌∷◌, length, map, Option, Some, None, is_some, refl, ap, sym, subst, ◌∙◌, arith}
+use Rattle.std.proofs.Common.{◌≡◌, ℕ, ◌+◌, Bool, true, false, cond, List, [], ◌∷◌, length, Option, Some, None, is_some, refl, ap, sym, subst, ◌∙◌, arith}
 use Rattle.std.specs.Prelude.{Ok, find, if◌then◌else◌}
-use Rattle.std.specs.List.{All, Contains}
+use Rattle.std.specs.List.{Contains}
 use Rattle.std.specs.Option.{option_map_or}
 use Rattle.std.proofs.lemmas.Bool.{true≢false}
 use Rattle.std.proofs.lemmas.Option.{none-some}
@@ -18,16 +18,17 @@ use Rattle.strategy_model.proofs.KindLemmas.{Ending}
 use Rattle.dispatch_net.proofs.ExecutionLemmas.{dispatchable_length, executions_satisfy}
 use Rattle.dispatch_net.proofs.EarliestLemmas.{closures_execute_earliest}
 use Rattle.execution_model.specs.Execution.{Moments, Setting, has_come, points_of, link_to, time_runs}
-use Rattle.execution_model.specs.Feeding.{Execution, started, next_moment, is_open, first_open, IsWhole}
-use Rattle.execution_model.specs.Streams.{Listing, Stream, IsListed, Shows, Fits, IsFaithful, last_moment}
+use Rattle.execution_model.specs.Feeding.{Execution, started, next_moment, is_open, first_open}
+use Rattle.execution_model.specs.Streams.{Listing, IsListed, Shows, IsFaithful, last_moment}
 use Rattle.execution_model.specs.Timely.{AreInTime, fed_all}
 use Rattle.execution_model.specs.Laws.{setting_of, IsDispatchedByClosure, IsExecutionOf, going_on, ended, FaithfulStreamsAreTaken, FeedsExecuteEarliest, DoneWhereNoneIsOpen, EndsAreEarliest}
 use Rattle.execution_model.proofs.MomentLemmas.{Contains-point}
 use Rattle.execution_model.proofs.PlaceLemmas.{link_found, ending_of, ending_point, contingent_ending, ending_contingent}
 use Rattle.execution_model.proofs.CutLemmas.{IsCut, IsRun, came, cut_value}
 use Rattle.execution_model.proofs.TimeLemmas.{NoneComes, time_cut}
-use Rattle.execution_model.proofs.FittingLemmas.{after_all, end_of, end_after, KeepsTo, feeds_in_time, feeds_keep}
-use Rattle.execution_model.proofs.StreamLemmas.{shows_next, next_shows, done_shows, shows_done, done_before_end, listed_before_end, cut_is, whole_is, last_after, none_of_map, start_keeps, start_is_execution, fed_in_time, in_time_fed}
+use Rattle.execution_model.proofs.FittingLemmas.{end_of, end_after, KeepsTo, feeds_in_time, feeds_keep}
+use Rattle.execution_model.proofs.StreamLemmas.{shows_next, next_shows, done_shows, shows_done, done_before_end, listed_before_end, cut_is, whole_is, last_after, none_of_map, start_keeps}
+use Rattle.execution_model.proofs.FedLemmas.{after_all, started_of, fed_in_time, in_time_fed}
 use Rattle.execution_model.proofs.SituationLemmas.{EachLasted, all_lasted, duration_seen, situation_seen, seen_is_situation, seen_duration}
 use Rattle.execution_model.proofs.SeenLemmas.{IsShownBy, in_time_next}
 
@@ -52,7 +53,7 @@ module _ (net : Plan) (table : Graph) (order : List PointId) (by : IsDispatchedB
   module _ (listings : List Listing) (execution : Execution) (fed : fed_all (started (setting_of net table)) listings ≡ Ok execution) (schedule : List ℕ)
       (run : IsRun net table schedule) (shows : Shows net (going_on listings) schedule) where
     leads : after_all (started (setting_of net table)) listings ≡ execution
-    leads = (fed_in_time net listings (started (setting_of net table)) execution (start_is_execution net table by.sound by.closure.for_network) fed).1
+    leads = (fed_in_time net listings (started (setting_of net table)) execution (started_of net table by.sound by.closure.for_network) fed).1
 
     pub fed_keeps : KeepsTo net table schedule execution
     fed_keeps =
@@ -93,7 +94,7 @@ module _ (net : Plan) (table : Graph) (order : List PointId) (by : IsDispatchedB
     final = (after_all (started (setting_of net table)) listings).moments
 
     of_start : IsExecutionOf net (started (setting_of net table))
-    of_start = start_is_execution net table by.sound by.closure.for_network
+    of_start = started_of net table by.sound by.closure.for_network
 
     each_lasted : EachLasted net final
     each_lasted =
@@ -114,12 +115,14 @@ module _ (net : Plan) (table : Graph) (order : List PointId) (by : IsDispatchedB
           each = each_lasted;
           timed = λ name link declared. executed.contingent name link (duration_seen final link) declared (seen_duration net by.sound final each_lasted name link declared);
         } in
-        let next = in_time_next net table schedule final shown listings (started (setting_of net table)) of_start (start_keeps net table schedule by.closure.for_network) are refl in
-        (situation, record {
-          schedule = schedule;
-          earliest = (closures_execute_earliest net table order situation schedule by.sound by.closure by.graph by.ordered is_situation).1 executed;
-          shows = next_shows net schedule listings next;
-        })
+        let next = in_time_next net table schedule final shown listings (started (setting_of net table)) of_start (start_keeps net table schedule by.closure.for_network) are refl in (
+          situation,
+          record {
+            schedule = schedule;
+            earliest = (closures_execute_earliest net table order situation schedule by.sound by.closure by.graph by.ordered is_situation).1 executed;
+            shows = next_shows net schedule listings next;
+          },
+        )
 
   -- and a faithful stream is in time
   pub faithful_in_time : IsFaithful net (going_on listings) → AreInTime (started (setting_of net table)) listings
@@ -129,14 +132,17 @@ module _ (net : Plan) (table : Graph) (order : List PointId) (by : IsDispatchedB
 
   fed_faithful : (execution : Execution) → fed_all (started (setting_of net table)) listings ≡ Ok execution → IsFaithful net (going_on listings)
   fed_faithful execution fed =
-      in_time_fits (fed_in_time net listings (started (setting_of net table)) execution (start_is_execution net table by.sound by.closure.for_network) fed).0
+      in_time_fits (fed_in_time net listings (started (setting_of net table)) execution (started_of net table by.sound by.closure.for_network) fed).0
 
 pub faithful_streams_are_taken : FaithfulStreamsAreTaken
 faithful_streams_are_taken net table order listings by within = (
-  (λ faithful. (
-    after_all (started (setting_of net table)) listings,
-    in_time_fed net listings (started (setting_of net table)) (start_is_execution net table by.sound by.closure.for_network) within (faithful_in_time net table order by listings faithful)),
-  λ taken. fed_faithful net table order by listings taken.0 taken.1),
+  (
+    λ faithful. (
+      after_all (started (setting_of net table)) listings,
+      in_time_fed net listings (started (setting_of net table)) (started_of net table by.sound by.closure.for_network) within (faithful_in_time net table order by listings faithful),
+    ),
+    λ taken. fed_faithful net table order by listings taken.0 taken.1,
+  ),
   (faithful_in_time net table order by listings, in_time_fits net table order by listings),
 )
 
@@ -225,4 +231,4 @@ module _ (net : Plan) (table : Graph) (order : List PointId) (by : IsDispatchedB
                   listed_before_end net fits.schedule 0 listings (shows_next net fits.schedule listings fits.shows) point contingent (omega arith) (omega (arith, same, before, end))
 
 pub done_where_none_is_open : DoneWhereNoneIsOpen
-done_where_none_is_open net table order listings execution by within fed = (done_none_open net table order by listings execution fed, none_open_done net table order by listings execution fed)
+done_where_none_is_open net table order listings execution by fed = (done_none_open net table order by listings execution fed, none_open_done net table order by listings execution fed)

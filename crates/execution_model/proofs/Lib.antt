@@ -2,6 +2,7 @@ pub mod LinkLemmas
 pub mod MomentLemmas
 pub mod TimelyLemmas
 pub mod WholeLemmas
+pub mod FedLemmas
 pub mod PlaceLemmas
 pub mod CutLemmas
 pub mod TimeLemmas

@@ -1,11 +1,11 @@
 -- Feeds that are in time list what the schedule of the situation that they show does.
-use Rattle.std.proofs.Common.{◌≡◌, ℕ, zero, suc, ◌+◌, ◌-◌, ◌≤◌, ◌<◌, List, [], ◌∷◌, Option, Some, None, ◌⊎◌, inl, inr, refl, ap, sym, subst, ◌∙◌, arith}
+use Rattle.std.proofs.Common.{◌≡◌, ℕ, zero, suc, ◌+◌, ◌-◌, ◌≤◌, List, [], ◌∷◌, Option, Some, None, inl, inr, refl, ap, sym, subst, ◌∙◌, arith}
 use Rattle.std.specs.Prelude.{unsigned_abs}
-use Rattle.std.specs.List.{All, Contains}
+use Rattle.std.specs.List.{Contains}
 use Rattle.std.proofs.lemmas.Bool.{cases_lt}
 use Rattle.std.proofs.lemmas.List.Elements.{All-contains}
 use Rattle.std.proofs.lemmas.Option.{none-some, same_Some}
-use Rattle.net_model.specs.Network.{Plan, IsPoint, IsContingent}
+use Rattle.net_model.specs.Network.{Plan, IsContingent}
 use Rattle.net_model.specs.Edges.{IsLinkOf}
 use Rattle.net_model.specs.declared.ids.PointId.{PointId}
 use Rattle.net_model.specs.declared.ids.LinkId.{LinkId}
@@ -14,18 +14,18 @@ use Rattle.closure_model.specs.Tables.{Graph}
 use Rattle.strategy_model.specs.Situations.{moment_in}
 use Rattle.strategy_model.proofs.PlayLemmas.{link_sound}
 use Rattle.strategy_model.proofs.KindLemmas.{Ending}
-use Rattle.execution_model.specs.Execution.{Moments, Setting, moment_of, link_to, time_runs}
-use Rattle.execution_model.specs.Feeding.{Execution, next_moment, moments_to, moments_before, after_feed}
+use Rattle.execution_model.specs.Execution.{Moments, Setting, moment_of, time_runs}
+use Rattle.execution_model.specs.Feeding.{Execution, next_moment, moments_to, moments_before}
 use Rattle.execution_model.specs.Streams.{Listing}
-use Rattle.execution_model.specs.Timely.{CompletesInTime, IsInTime, with_completed, AreInTime}
-use Rattle.execution_model.specs.Laws.{setting_of, IsExecutionOf}
+use Rattle.execution_model.specs.Timely.{CompletesInTime, IsInTime, AreInTime}
+use Rattle.execution_model.specs.Laws.{IsExecutionOf}
 use Rattle.execution_model.proofs.MomentLemmas.{length-time_runs, time_runs_keeps, time_runs_on}
-use Rattle.execution_model.proofs.PlaceLemmas.{link_found, ending_of, ending_point, contingent_ending, ending_contingent, is_listed}
-use Rattle.execution_model.proofs.CutLemmas.{IsCut, IsRun, Lasts, lasts, cut_value}
+use Rattle.execution_model.proofs.PlaceLemmas.{link_found, ending_of, ending_point, contingent_ending, ending_contingent}
+use Rattle.execution_model.proofs.CutLemmas.{IsCut, IsRun, lasts, cut_value}
 use Rattle.execution_model.proofs.TimeLemmas.{NoneComes, time_cut}
-use Rattle.execution_model.proofs.FittingLemmas.{IsNext, AreNext, after_all, KeepsTo, cut_before, after_keeps}
-use Rattle.execution_model.proofs.StreamLemmas.{execution_after}
-use Rattle.execution_model.proofs.SituationLemmas.{before_keeps, before_contingent, feed_keeps, feed_listed, feed_not_listed, all_keep, comes_with_first, comes_after, Lasted, EachLasted, duration_seen, seen_lasts, not_seen_lasts}
+use Rattle.execution_model.proofs.FittingLemmas.{IsNext, AreNext, KeepsTo, cut_before, after_keeps}
+use Rattle.execution_model.proofs.FedLemmas.{after_listing, after_all, listed_of}
+use Rattle.execution_model.proofs.SituationLemmas.{before_contingent, feed_keeps, feed_listed, all_keep, comes_with_first, comes_after, EachLasted, duration_seen, seen_lasts, not_seen_lasts}
 
 -- the schedule that is executed in the situation that the moments at the end show
 pub record IsShownBy (net : Plan) (table : Graph) (schedule : List ℕ) (final : Moments) : Type 0 where
@@ -48,17 +48,17 @@ module _ (net : Plan) (table : Graph) (schedule : List ℕ) (final : Moments) (s
   open_end name link declared open_still = shown.timed name link declared ∙ ap (λ d. moment_in schedule link.from + d) (not_seen_lasts net shown.run.plan final shown.each link open_still)
 
   module _ (execution : Execution) (of : IsExecutionOf net execution) (keeps : KeepsTo net table schedule execution) (listing : Listing) (others : List Listing) (in_time : IsInTime execution listing.moment listing.points)
-      (are : AreInTime (after_feed execution listing.moment (with_completed execution listing.moment listing.points)) others) (is_final : (after_all execution (listing ∷ others)).moments ≡ final) where
+      (are : AreInTime (after_listing execution listing) others) (is_final : (after_all execution (listing ∷ others)).moments ≡ final) where
     -- what has come before the listing is among the moments at the end
     finally : (point : PointId) (m : ℕ) → moment_of (moments_before execution listing.moment) point ≡ Some m → moment_of final point ≡ Some m
     finally point m found =
         ap (λ (ms : Moments). moment_of ms point) (sym is_final)
-        ∙ all_keep net others (after_feed execution listing.moment (with_completed execution listing.moment listing.points)) (execution_after net execution listing of) are point m (feed_keeps net execution of listing in_time point m found)
+        ∙ all_keep net others (after_listing execution listing) (listed_of net execution listing of) are point m (feed_keeps net execution of listing in_time point m found)
 
     listed_finally : (point : PointId) → Ending net point → Contains listing.points point → moment_of final point ≡ Some listing.moment
     listed_finally point ending among =
         ap (λ (ms : Moments). moment_of ms point) (sym is_final)
-        ∙ all_keep net others (after_feed execution listing.moment (with_completed execution listing.moment listing.points)) (execution_after net execution listing of) are point listing.moment
+        ∙ all_keep net others (after_listing execution listing) (listed_of net execution listing of) are point listing.moment
         (feed_listed net execution of listing in_time point ending among)
 
     -- a contingent point that comes by the listing is listed, and comes at it
@@ -79,9 +79,9 @@ module _ (net : Plan) (table : Graph) (schedule : List ℕ) (final : Moments) (s
             absurd (none-some listing.moment (sym none ∙ listed_finally link.to ending among))
         by (Some c) found =
             let ends = seen_end name link c (moment_in schedule link.from) declared found (finally link.from (moment_in schedule link.from) active) refl in
-            let next = after_feed execution listing.moment (with_completed execution listing.moment listing.points) in
+            let next = after_listing execution listing in
             let there : moment_of (after_all execution (listing ∷ others)).moments link.to ≡ Some c = ap (λ (ms : Moments). moment_of ms link.to) is_final ∙ found in
-            elim (comes_with_first net listing others execution of (in_time, are) link.to c ending unknown there (λ still. comes_after net others next (execution_after net execution listing of) are link.to c ending still there)) [
+            elim (comes_with_first net listing others execution of (in_time, are) link.to c ending unknown there (λ still. comes_after net others next (listed_of net execution listing of) are link.to c ending still there)) [
               | inl (among, now) ↦ (among, ends ∙ sym now)
               | inr after ↦ absurd (omega (arith, after, ends, by_then))
             ]
@@ -162,6 +162,8 @@ module _ (net : Plan) (table : Graph) (schedule : List ℕ) (final : Moments) (s
       → (after_all execution listings).moments ≡ final → AreNext net schedule (next_moment execution) listings
   in_time_next [] execution of keeps are is_final = tt
   in_time_next (listing ∷ others) execution of keeps (is, are) is_final =
-      let next_is = is_next execution of keeps listing others is are is_final in
-      (next_is, in_time_next others (after_feed execution listing.moment (with_completed execution listing.moment listing.points)) (execution_after net execution listing of)
-      (after_keeps net table schedule shown.run execution listing keeps next_is) are is_final)
+      let next_is = is_next execution of keeps listing others is are is_final in (
+        next_is,
+        in_time_next others (after_listing execution listing) (listed_of net execution listing of)
+            (after_keeps net table schedule shown.run execution listing keeps next_is) are is_final,
+      )

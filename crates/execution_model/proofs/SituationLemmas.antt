@@ -1,31 +1,28 @@
 -- Feeds that are in time fit a situation: each link lasts as long as was seen, and its longest where its contingent point has not come.
-use Rattle.std.proofs.Common.{◌≡◌, ℕ, zero, suc, pos, ◌+◌, ◌-◌, ◌≤◌, ◌<◌, ℤ, List, [], ◌∷◌, length, map, Option, Some, None, ◌⊎◌, inl, inr, refl, ap, sym, subst, ◌∙◌, arith}
+use Rattle.std.proofs.Common.{◌≡◌, ℕ, suc, pos, ◌+◌, ◌-◌, ◌≤◌, ℤ, List, [], ◌∷◌, length, map, Option, Some, None, ◌⊎◌, inl, inr, refl, ap, sym, subst, ◌∙◌, arith}
 use Rattle.std.specs.Prelude.{unsigned_abs, slice_get, ◌≤ℤ◌}
-use Rattle.std.specs.List.{All, AllZip, Contains}
+use Rattle.std.specs.List.{AllZip, Contains}
 use Rattle.std.specs.Option.{option_map}
-use Rattle.std.proofs.lemmas.Bool.{cases_lt, cases_order}
 use Rattle.std.proofs.lemmas.Int.{ints}
 use Rattle.std.proofs.lemmas.List.Elements.{All-contains}
-use Rattle.std.proofs.lemmas.Option.{none-some, same_Some, slice_get-map, slice_get_read}
-use Rattle.net_model.specs.Network.{Plan, IsPlan, IsLink, IsPoint, IsContingent}
+use Rattle.std.proofs.lemmas.Option.{none-some, same_Some, slice_get-map}
+use Rattle.net_model.specs.Network.{Plan, IsPlan, IsLink}
 use Rattle.net_model.specs.Edges.{IsLinkOf}
 use Rattle.net_model.specs.declared.ids.PointId.{PointId}
 use Rattle.net_model.specs.declared.ids.LinkId.{LinkId}
 use Rattle.net_model.specs.declared.part.Link.{Link}
-use Rattle.closure_model.specs.Tables.{Graph, IsFor}
-use Rattle.strategy_model.specs.Situations.{IsSituation, IsDuration, moment_in}
+use Rattle.strategy_model.specs.Situations.{IsSituation, IsDuration}
 use Rattle.strategy_model.proofs.PlayLemmas.{link_sound}
 use Rattle.strategy_model.proofs.KindLemmas.{Ending}
-use Rattle.execution_model.specs.Execution.{Moments, Setting, moment_of, link_to, acted, time_runs}
-use Rattle.execution_model.specs.Feeding.{Execution, next_moment, moments_to, moments_before, after_feed}
+use Rattle.execution_model.specs.Execution.{Moments, moment_of}
+use Rattle.execution_model.specs.Feeding.{Execution, next_moment, moments_to, moments_before}
 use Rattle.execution_model.specs.Streams.{Listing}
 use Rattle.execution_model.specs.Timely.{CompletesInTime, IsInTime, with_completed, AreInTime}
-use Rattle.execution_model.specs.Laws.{setting_of, IsExecutionOf}
+use Rattle.execution_model.specs.Laws.{IsExecutionOf}
 use Rattle.execution_model.proofs.LinkLemmas.{link_of_is_link_to}
-use Rattle.execution_model.proofs.MomentLemmas.{length-completed_all, within_from_some, acted_keeps, acted_contingent, length-time_runs, time_runs_keeps, time_runs_contingent}
-use Rattle.execution_model.proofs.PlaceLemmas.{link_found, ending_point, contingent_ending, ending_contingent, not_completed, has_completed, is_listed}
-use Rattle.execution_model.proofs.FittingLemmas.{after_all}
-use Rattle.execution_model.proofs.StreamLemmas.{execution_after}
+use Rattle.execution_model.proofs.MomentLemmas.{length-completed_all, acted_keeps, acted_contingent, length-time_runs, time_runs_keeps, time_runs_contingent}
+use Rattle.execution_model.proofs.PlaceLemmas.{link_found, ending_point, not_completed, has_completed, is_listed}
+use Rattle.execution_model.proofs.FedLemmas.{after_listing, after_all, listed_of}
 
 -- ---- what stays
 module _ (net : Plan) (execution : Execution) (of : IsExecutionOf net execution) where
@@ -58,18 +55,18 @@ module _ (net : Plan) (execution : Execution) (of : IsExecutionOf net execution)
 
     -- what has come by then stays
     pub feed_keeps : (point : PointId) (m : ℕ) → moment_of (moments_before execution listing.moment) point ≡ Some m
-        → moment_of (after_feed execution listing.moment (with_completed execution listing.moment listing.points)).moments point ≡ Some m
+        → moment_of (after_listing execution listing).moments point ≡ Some m
     feed_keeps point m found =
         acted_keeps execution.setting (with_completed execution listing.moment listing.points) listing.moment length_completed point m (completed_keeps point m found)
 
     after_contingent : (point : PointId) → Ending net point
-        → moment_of (after_feed execution listing.moment (with_completed execution listing.moment listing.points)).moments point ≡ moment_of (with_completed execution listing.moment listing.points) point
+        → moment_of (after_listing execution listing).moments point ≡ moment_of (with_completed execution listing.moment listing.points) point
     after_contingent point ending =
         acted_contingent execution.setting (with_completed execution listing.moment listing.points) listing.moment length_completed point ending.link (link_found net of.sound execution.setting of.links point ending)
 
     -- a contingent point has come after a feed where it is listed or had come before
     pub feed_listed : (point : PointId) → Ending net point → Contains listing.points point
-        → moment_of (after_feed execution listing.moment (with_completed execution listing.moment listing.points)).moments point ≡ Some listing.moment
+        → moment_of (after_listing execution listing).moments point ≡ Some listing.moment
     feed_listed point ending among =
         let within = ending_point net of.sound point ending in
         let size = length_before listing.moment in
@@ -78,7 +75,7 @@ module _ (net : Plan) (execution : Execution) (of : IsExecutionOf net execution)
         ∙ has_completed (moments_before execution listing.moment) listing.moment listing.points point (omega (arith, within, size, points)) among
 
     pub feed_not_listed : (point : PointId) → Ending net point → (Contains listing.points point → ⊥)
-        → moment_of (after_feed execution listing.moment (with_completed execution listing.moment listing.points)).moments point ≡ moment_of (moments_before execution listing.moment) point
+        → moment_of (after_listing execution listing).moments point ≡ moment_of (moments_before execution listing.moment) point
     feed_not_listed point ending absent =
         after_contingent point ending ∙ not_completed (moments_before execution listing.moment) listing.moment listing.points point absent
 
@@ -86,18 +83,18 @@ pub all_keep : (net : Plan) (listings : List Listing) (execution : Execution) �
     → moment_of (after_all execution listings).moments point ≡ Some m
 all_keep net [] execution of are point m found = found
 all_keep net (listing ∷ others) execution of (is, are) point m found =
-    all_keep net others (after_feed execution listing.moment (with_completed execution listing.moment listing.points)) (execution_after net execution listing of) are point m
+    all_keep net others (after_listing execution listing) (listed_of net execution listing of) are point m
     (feed_keeps net execution of listing is point m (before_keeps net execution of listing.moment point m found))
 
 -- a contingent point that comes in feeds comes no sooner than the first
 pub comes_with_first : (net : Plan) (listing : Listing) (others : List Listing) (execution : Execution) → IsExecutionOf net execution → AreInTime execution (listing ∷ others) → (point : PointId) (m : ℕ)
     → Ending net point → moment_of execution.moments point ≡ None → moment_of (after_all execution (listing ∷ others)).moments point ≡ Some m
-    → (moment_of (after_feed execution listing.moment (with_completed execution listing.moment listing.points)).moments point ≡ None → listing.moment + 1 ≤ m)
+    → (moment_of (after_listing execution listing).moments point ≡ None → listing.moment + 1 ≤ m)
     → (Contains listing.points point × (listing.moment ≡ m)) ⊎ (listing.moment + 1 ≤ m)
 comes_with_first net listing others execution of (is, are) point m ending unknown found rest =
     elim (is_listed listing.points point) [
       | inl among ↦
-          (let stays = all_keep net others (after_feed execution listing.moment (with_completed execution listing.moment listing.points)) (execution_after net execution listing of) are point listing.moment
+          (let stays = all_keep net others (after_listing execution listing) (listed_of net execution listing of) are point listing.moment
           (feed_listed net execution of listing is point ending among) in
           inl (among, same_Some listing.moment m (sym stays ∙ found)))
       | inr absent ↦ inr (rest (feed_not_listed net execution of listing is point ending absent ∙ before_contingent net execution of listing.moment point ending ∙ unknown))
@@ -108,8 +105,8 @@ pub comes_after : (net : Plan) (listings : List Listing) (execution : Execution)
 comes_after net [] execution of are point m ending unknown found = absurd (none-some m (sym unknown ∙ found))
 comes_after net (listing ∷ others) execution of (is, are) point m ending unknown found =
     let later = is.later in
-    let next = after_feed execution listing.moment (with_completed execution listing.moment listing.points) in
-    elim (comes_with_first net listing others execution of (is, are) point m ending unknown found (λ still. comes_after net others next (execution_after net execution listing of) are point m ending still found)) [
+    let next = after_listing execution listing in
+    elim (comes_with_first net listing others execution of (is, are) point m ending unknown found (λ still. comes_after net others next (listed_of net execution listing of) are point m ending still found)) [
       | inl (among, now) ↦ omega (arith, now, later)
       | inr after ↦ omega (arith, after, later)
     ]
@@ -125,13 +122,13 @@ abbrev pub EachLasted : Plan → Moments → Type 0
 EachLasted net moments = (name : LinkId) (link : Link) (completed : ℕ) → IsLinkOf net name link → moment_of moments link.to ≡ Some completed → Lasted moments link completed
 
 module _ (net : Plan) (execution : Execution) (of : IsExecutionOf net execution) (listing : Listing) (in_time : IsInTime execution listing.moment listing.points) where
-  feed_lasted : EachLasted net execution.moments → EachLasted net (after_feed execution listing.moment (with_completed execution listing.moment listing.points)).moments
+  feed_lasted : EachLasted net execution.moments → EachLasted net (after_listing execution listing).moments
   feed_lasted each name link completed declared found = by (is_listed listing.points link.to)
     where
       ending : Ending net link.to
       ending = record { name = name; link = link; declared = declared; ends = refl }
 
-      by : Contains listing.points link.to ⊎ (Contains listing.points link.to → ⊥) → Lasted (after_feed execution listing.moment (with_completed execution listing.moment listing.points)).moments link completed
+      by : Contains listing.points link.to ⊎ (Contains listing.points link.to → ⊥) → Lasted (after_listing execution listing).moments link completed
       by (inl among) =
           let timely = All-contains (CompletesInTime execution.setting (moments_before execution listing.moment) listing.moment) listing.points link.to in_time.completes among in
           let now : listing.moment ≡ completed = same_Some listing.moment completed (sym (feed_listed net execution of listing in_time link.to ending among) ∙ found) in
@@ -161,7 +158,7 @@ module _ (net : Plan) (execution : Execution) (of : IsExecutionOf net execution)
 pub all_lasted : (net : Plan) (listings : List Listing) (execution : Execution) → IsExecutionOf net execution → AreInTime execution listings → EachLasted net execution.moments → EachLasted net (after_all execution listings).moments
 all_lasted net [] execution of are each = each
 all_lasted net (listing ∷ others) execution of (is, are) each =
-    all_lasted net others (after_feed execution listing.moment (with_completed execution listing.moment listing.points)) (execution_after net execution listing of) are (feed_lasted net execution of listing is each)
+    all_lasted net others (after_listing execution listing) (listed_of net execution listing of) are (feed_lasted net execution of listing is each)
 
 -- ---- the situation that was seen
 abbrev pub duration_between : (longest : ℕ) → (completed activated : Option ℕ) → ℕ

@@ -1,32 +1,27 @@
 -- What a stream shows of a schedule, listing by listing; and what a list of feeds that are taken comes to.
 use Rattle.std.proofs.Common.{◌≡◌, ℕ, zero, suc, ◌+◌, ◌≤◌, ◌<◌, Bool, true, false, List, [], ◌∷◌, length, map, get_or, Option, Some, None, is_some, ◌⊎◌, inl, inr, refl, ap, sym, subst, ◌∙◌, arith}
-use Rattle.std.specs.Prelude.{Result, Ok, Err, IsSome, fold, nat_le, nat_lt, if◌then◌else◌}
-use Rattle.std.specs.List.{All, AllPairs, Contains, IsDistinct, range_with_len}
-use Rattle.std.specs.Option.{option_map, option_map_or}
-use Rattle.std.proofs.lemmas.Bool.{cases_lt, le-leb, lt-leb, ltb-true, ltb-false, false≢true}
+use Rattle.std.specs.Prelude.{IsSome, fold, nat_le, if◌then◌else◌}
+use Rattle.std.specs.List.{All, AllPairs, Contains, IsDistinct}
+use Rattle.std.specs.Option.{option_map_or}
+use Rattle.std.proofs.lemmas.Bool.{cases_lt, le-leb, lt-leb, false≢true}
 use Rattle.std.proofs.lemmas.List.{same_lists, get_or-map, get_or_default, length-map}
-use Rattle.std.proofs.lemmas.List.Elements.{All-nil, All-cons, All-head, All-tail, All-contains, All-weaker, All-contains_itself}
-use Rattle.std.proofs.lemmas.List.FromFn.{length-map-range_with_len}
+use Rattle.std.proofs.lemmas.List.Elements.{All-nil, All-cons, All-head, All-tail, All-weaker, All-contains_itself}
 use Rattle.std.proofs.lemmas.List.Kept.{AllPairs-cons}
-use Rattle.std.proofs.lemmas.Option.{none-some, same_Some}
-use Rattle.net_model.specs.Network.{Plan, IsPlan, IsPoint, IsContingent}
+use Rattle.net_model.specs.Network.{Plan, IsContingent}
 use Rattle.net_model.specs.declared.ids.PointId.{PointId}
 use Rattle.closure_model.specs.Tables.{Graph, IsFor}
 use Rattle.closure_model.proofs.Lists.{Contains-none, Contains-head, Contains-tail, Contains-cases}
 use Rattle.strategy_model.specs.Situations.{moment_in}
 use Rattle.strategy_model.specs.Plays.{same_point}
 use Rattle.dispatch_net.proofs.ExecutionLemmas.{dispatchable_length}
-use Rattle.execution_model.specs.Execution.{Moments, Setting, moment_of, points_of}
-use Rattle.execution_model.specs.Feeding.{Execution, started, next_moment, most_moment, refusal_of_moment, completed_in, taken, after_feed}
-use Rattle.execution_model.specs.Streams.{Listing, Stream, IsListed, HasGoneBy, Shows, last_moment, cut_at}
-use Rattle.execution_model.specs.Timely.{IsInTime, with_completed, AreInTime, fed_all}
-use Rattle.execution_model.specs.Laws.{setting_of, going_on, ended, AreWithinLimit, IsExecutionOf}
-use Rattle.execution_model.specs.declared.feeding.Why.{Why}
-use Rattle.execution_model.specs.declared.feeding.Why.TheVariants as why
-use Rattle.execution_model.proofs.MomentLemmas.{length-points, length-acted}
-use Rattle.execution_model.proofs.TimelyLemmas.{taken_in_time}
+use Rattle.execution_model.specs.Execution.{Moments, points_of}
+use Rattle.execution_model.specs.Feeding.{Execution, started}
+use Rattle.execution_model.specs.Streams.{Listing, IsListed, Shows, cut_at}
+use Rattle.execution_model.specs.Laws.{setting_of, going_on, ended}
+use Rattle.execution_model.proofs.MomentLemmas.{length-points}
+use Rattle.execution_model.proofs.FedLemmas.{after_listing, after_all}
 use Rattle.execution_model.proofs.CutLemmas.{IsCut}
-use Rattle.execution_model.proofs.FittingLemmas.{IsNext, AreNext, end_of, after_all, KeepsTo}
+use Rattle.execution_model.proofs.FittingLemmas.{IsNext, AreNext, end_of, KeepsTo}
 
 -- what listings show of a schedule from a moment on
 record ShowsFrom (net : Plan) (schedule : List ℕ) (from : ℕ) (listings : List Listing) : Type 0 where
@@ -88,7 +83,7 @@ module _ (net : Plan) (schedule : List ℕ) where
   next_shown : (from : ℕ) (listing : Listing) (others : List Listing) → IsNext net schedule from listing → ShowsFrom net schedule (listing.moment + 1) others → ShowsFrom net schedule from (listing ∷ others)
   next_shown from listing others is shows = record {
     rises = AllPairs-cons (λ (earlier later : Listing). earlier.moment < later.moment) listing others
-    (All-weaker (Contains others) (λ (later : Listing). listing.moment < later.moment) (λ later among. let above = shows.each later among in omega (arith, above)) others (All-contains_itself others)) shows.rises;
+        (All-weaker (Contains others) (λ (later : Listing). listing.moment < later.moment) (λ later among. let above = shows.each later among in omega (arith, above)) others (All-contains_itself others)) shows.rises;
     each = λ one among. elim (Contains-cases listing others one among) [
       | inl same ↦ subst (λ (l : Listing). from ≤ l.moment) same is.later
       | inr later ↦ (let above = shows.each one later in let first = is.later in omega (arith, above, first))
@@ -260,7 +255,7 @@ whole_is net schedule moments t complete cut come =
 
 pub last_after : (execution : Execution) (listings : List Listing) → (after_all execution listings).last ≡ fold (λ before (listing : Listing). Some listing.moment) execution.last listings
 last_after execution [] = refl
-last_after execution (listing ∷ others) = last_after (after_feed execution listing.moment (with_completed execution listing.moment listing.points)) others
+last_after execution (listing ∷ others) = last_after (after_listing execution listing) others
 
 -- ---- the start
 pub none_of_map : {X : Type 0} (xs : List X) (k : ℕ) → get_or (map (λ (x : X). let o : Option ℕ = None in o) xs) k None ≡ None
@@ -279,81 +274,3 @@ start_keeps net table schedule for =
         unknown = λ point within above. none_of_map (points_of setting) point.0;
       };
     }
-
--- ---- feeds that are taken
-not_refused : (execution : Execution) (moment : ℕ) → refusal_of_moment execution moment ≡ None → moment ≤ most_moment
-not_refused execution moment none = by (nat_lt moment (next_moment execution)) refl none
-  where
-    no_last : (last : Option ℕ) → nat_lt moment (option_map_or (λ l. l + 1) last 0) ≡ true → option_map why.NotLater last ≡ None → moment ≤ most_moment
-    no_last None less is = absurd (let below = ltb-true moment 0 less in omega (arith, below))
-    no_last (Some l) less is = absurd (none-some (why.NotLater l) (sym is))
-
-    by_limit : (b : Bool) → nat_lt most_moment moment ≡ b → (if b then Some why.MomentLimit else None) ≡ None → moment ≤ most_moment
-    by_limit true less is = absurd (none-some why.MomentLimit (sym is))
-    by_limit false not_less is = ltb-false most_moment moment not_less
-
-    by : (b : Bool) → nat_lt moment (next_moment execution) ≡ b → (if b then option_map why.NotLater execution.last else if nat_lt most_moment moment then Some why.MomentLimit else None) ≡ None → moment ≤ most_moment
-    by true less is = no_last execution.last less is
-    by false not_less is = by_limit (nat_lt most_moment moment) refl is
-
-err_ok : {A B : Type 0} (a : A) (b : B) → Err b ≡ Ok a → ⊥
-err_ok a b is = absurd (cc)
-
-same_ok : {A B : Type 0} (a b : A) → ◌≡◌ {A = Result A B} (Ok a) (Ok b) → a ≡ b
-same_ok a b is = cc
-
-taken_within : (execution : Execution) (moment : ℕ) (listed : List PointId) (moments : Moments) → taken execution moment listed ≡ Ok moments → moment ≤ most_moment
-taken_within execution moment listed moments is = by (refusal_of_moment execution moment) refl is
-  where
-    by : (o : Option Why) → refusal_of_moment execution moment ≡ o → option_map_or Err o (completed_in execution moment listed) ≡ Ok moments → moment ≤ most_moment
-    by None none is = not_refused execution moment none
-    by (Some cause) refused is = absurd (err_ok moments cause is)
-
--- after a feed an execution is still one of the network
-pub execution_after : (net : Plan) (execution : Execution) (listing : Listing) → IsExecutionOf net execution → IsExecutionOf net (after_feed execution listing.moment (with_completed execution listing.moment listing.points))
-execution_after net execution listing is = record {
-  sound = is.sound;
-  links = is.links;
-  dispatch = is.dispatch;
-  moments = length-acted execution.setting (with_completed execution listing.moment listing.points) listing.moment ∙ is.dispatch;
-}
-
-pub start_is_execution : (net : Plan) (table : Graph) → IsPlan net → IsFor net table → IsExecutionOf net (started (setting_of net table))
-start_is_execution net table plan for =
-    let setting = setting_of net table in
-    record {
-      sound = plan;
-      links = refl;
-      dispatch = dispatchable_length net table for;
-      moments = length-map (points_of setting) (λ (p : PointId). let o : Option ℕ = None in o) ∙ length-points setting ∙ dispatchable_length net table for;
-    }
-
-module _ (net : Plan) where
-  -- feeds that are all taken are in time, and lead to one execution
-  pub fed_in_time : (listings : List Listing) (execution after : Execution) → IsExecutionOf net execution → fed_all execution listings ≡ Ok after → AreInTime execution listings × (after_all execution listings ≡ after)
-  fed_in_time [] execution after of fed = (tt, same_ok execution after fed)
-  fed_in_time (listing ∷ others) execution after of fed = by (λ next next_of went. fed_in_time others next after next_of went) (taken execution listing.moment listing.points) refl fed
-    where
-      by : ((next : Execution) → IsExecutionOf net next → fed_all next others ≡ Ok after → AreInTime next others × (after_all next others ≡ after))
-          → (r : Result Moments Why) → taken execution listing.moment listing.points ≡ r
-          → elim r as (λ x. Result Execution Why) [ Ok moments ↦ fed_all (after_feed execution listing.moment moments) others | Err why ↦ Err why ] ≡ Ok after
-          → AreInTime execution (listing ∷ others) × (after_all execution (listing ∷ others) ≡ after)
-      by rest (Err cause) is went = absurd (err_ok after cause went)
-      by rest (Ok moments) is went =
-          let within = taken_within execution listing.moment listing.points moments is in
-          let law = taken_in_time net execution listing.moment listing.points of within in
-          let same : moments ≡ with_completed execution listing.moment listing.points = law.1 moments is in
-          let as_completed : taken execution listing.moment listing.points ≡ Ok (with_completed execution listing.moment listing.points) =
-          is ∙ ap (λ (m : Moments). let r : Result Moments Why = Ok m in r) same in
-          let fed_on : fed_all (after_feed execution listing.moment (with_completed execution listing.moment listing.points)) others ≡ Ok after =
-          ap (λ (m : Moments). fed_all (after_feed execution listing.moment m) others) (sym same) ∙ went in
-          let (are, leads) = rest (after_feed execution listing.moment (with_completed execution listing.moment listing.points)) (execution_after net execution listing of) fed_on in
-          ((law.0.1 as_completed, are), leads)
-
-  -- and feeds that are in time are taken
-  pub in_time_fed : (listings : List Listing) (execution : Execution) → IsExecutionOf net execution → AreWithinLimit listings → AreInTime execution listings → fed_all execution listings ≡ Ok (after_all execution listings)
-  in_time_fed [] execution of within are = refl
-  in_time_fed (listing ∷ others) execution of within (is, are) =
-      let law = taken_in_time net execution listing.moment listing.points of (All-head (λ (l : Listing). l.moment ≤ most_moment) listing others within) in
-      ap (λ (r : Result Moments Why). elim r as (λ x. Result Execution Why) [ Ok moments ↦ fed_all (after_feed execution listing.moment moments) others | Err why ↦ Err why ]) (law.0.0 is)
-      ∙ in_time_fed others (after_feed execution listing.moment (with_completed execution listing.moment listing.points)) (execution_after net execution listing of) (All-tail (λ (l : Listing). l.moment ≤ most_moment) listing others within) are

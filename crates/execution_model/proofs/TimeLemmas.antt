@@ -1,12 +1,11 @@
 -- Time that runs while no contingent point comes makes the moments so far those of the schedule before a later moment.
-use Rattle.std.proofs.Common.{◌≡◌, ℕ, zero, suc, ◌+◌, ◌≤◌, ◌<◌, List, length, Option, Some, None, refl, ap, sym, subst, ◌∙◌, inl, inr, arith}
-use Rattle.std.proofs.lemmas.Bool.{cases_lt}
-use Rattle.net_model.specs.Network.{Plan, IsPoint, IsExecutable}
+use Rattle.std.proofs.Common.{◌≡◌, ℕ, zero, suc, ◌+◌, ◌≤◌, ◌<◌, List, subst, arith}
+use Rattle.net_model.specs.Network.{Plan}
 use Rattle.net_model.specs.declared.ids.PointId.{PointId}
 use Rattle.closure_model.specs.Tables.{Graph}
 use Rattle.strategy_model.specs.Situations.{moment_in}
 use Rattle.strategy_model.proofs.KindLemmas.{Ending}
-use Rattle.execution_model.specs.Execution.{Moments, moment_of, acted, time_runs}
+use Rattle.execution_model.specs.Execution.{Moments, acted, time_runs}
 use Rattle.execution_model.specs.Laws.{setting_of}
 use Rattle.execution_model.proofs.PlaceLemmas.{ending_point}
 use Rattle.execution_model.proofs.CutLemmas.{IsCut, IsSeen, IsRun, acts_cut}

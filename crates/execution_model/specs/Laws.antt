@@ -4,14 +4,13 @@ use Rattle.std.specs.Prelude.{◌≡◌, ◌↔◌, ℕ, ◌≤◌, true, false,
 use Rattle.std.specs.List.{All}
 use Rattle.net_model.specs.Network.{Plan, IsPlan, IsContingent}
 use Rattle.net_model.specs.declared.ids.PointId.{PointId}
-use Rattle.net_model.specs.declared.part.Link.{Link}
 use Rattle.closure_model.specs.Tables.{Graph, IsGraph}
 use Rattle.closure_model.specs.Closure.{IsClosure}
 use Rattle.closure_model.specs.Orders.{IsOrder}
 use Rattle.strategy_model.specs.Control.{IsEarliest}
 use Rattle.dispatch_net.specs.Dispatchable.{MayDispatch, dispatchable}
-use Rattle.execution_model.specs.Execution.{Moments, Setting, moment_of, link_to, acts_at, acts_while, time_runs}
-use Rattle.execution_model.specs.Feeding.{Execution, started, next_moment, most_moment, taken, first_open, IsWhole}
+use Rattle.execution_model.specs.Execution.{Moments, Setting, moment_of, acts_at}
+use Rattle.execution_model.specs.Feeding.{Execution, started, most_moment, taken, first_open, IsWhole}
 use Rattle.execution_model.specs.Streams.{Listing, Stream, Shows, IsFaithful, fixed_by}
 use Rattle.execution_model.specs.Timely.{IsInTime, with_completed, AreInTime, fed_all}
 
@@ -72,8 +71,7 @@ FeedsExecuteEarliest =
 abbrev pub DoneWhereNoneIsOpen : Type 0
 DoneWhereNoneIsOpen =
     (net : Plan) (table : Graph) (order : List PointId) (listings : List Listing) (execution : Execution) → IsDispatchedByClosure net table order
-    → AreWithinLimit listings → fed_all (started (setting_of net table)) listings ≡ Ok execution
-    → (IsFaithful net (ended listings) ↔ (first_open execution ≡ None))
+    → fed_all (started (setting_of net table)) listings ≡ Ok execution → (IsFaithful net (ended listings) ↔ (first_open execution ≡ None))
 
 -- and the end makes the whole of the earliest schedule of every situation that it fits
 abbrev pub EndsAreEarliest : Type 0
