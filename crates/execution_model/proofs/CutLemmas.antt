@@ -22,11 +22,12 @@ use Rattle.strategy_model.proofs.PlayLemmas.{link_sound}
 use Rattle.strategy_model.proofs.CompareLemmas.{duration_of}
 use Rattle.strategy_model.proofs.KindLemmas.{Ending, kind}
 use Rattle.dispatch_net.specs.Dispatchable.{dispatchable, conditions_at}
+use Rattle.dispatch_net.specs.declared.dispatch.Conditions.{Conditions}
 use Rattle.dispatch_net.specs.Execution.{IsExecutedBy, IsFirst, bound_asks, wait_asks, asked_by}
 use Rattle.dispatch_net.specs.Laws.{AreExact}
 use Rattle.dispatch_net.proofs.ExactLemmas.{lists_are_exact}
 use Rattle.dispatch_net.proofs.ExecutionLemmas.{dispatchable_length, point_count}
-use Rattle.execution_model.specs.Execution.{Moments, moment_of, has_come, has_gone_by, meets_bound, meets_wait_for, meets_wait, meets, is_due, link_to, acted}
+use Rattle.execution_model.specs.Execution.{Moments, Setting, moment_of, has_come, has_gone_by, meets_bound, meets_wait_for, meets_wait, meets, is_due, link_to, acted}
 use Rattle.execution_model.specs.Laws.{setting_of}
 use Rattle.execution_model.proofs.LinkLemmas.{executable_has_none}
 use Rattle.execution_model.proofs.MomentLemmas.{length-acted, moment_due, moment_not_due, due_from, contingent_not_due, acted_keeps}
@@ -120,6 +121,9 @@ module _ (net : Plan) (table : Graph) (schedule : List ℕ) (run : IsRun net tab
       by None none = absurd (none-some to (sym (read ∙ ap (option_map (λ (link : Link). link.from)) none) ∙ labelled))
       by (Some link) declared = (link, declared)
 
+  abbrev setting : Setting
+  setting = setting_of net table
+
   module _ (moments : Moments) (t : ℕ) (seen : IsSeen net schedule moments t) where
     -- a moment so far is that of the schedule
     seen_value : (point : PointId) (m : ℕ) → IsPoint net point → moment_of moments point ≡ Some m → (m ≡ moment_in schedule point) × (m ≤ t)
@@ -144,20 +148,32 @@ module _ (net : Plan) (table : Graph) (schedule : List ℕ) (run : IsRun net tab
         ]
 
     module _ (point : PointId) (executable : IsExecutable net point) where
-      exact : AreExact table point (conditions_at (dispatchable net table) point)
+      abbrev conditions : Conditions
+      conditions = conditions_at (dispatchable net table) point
+
+      abbrev asked : List ℕ
+      asked = asked_by net schedule conditions
+
+      abbrev asked_bounds : List ℕ
+      asked_bounds = map (bound_asks schedule) conditions.lower_bounds
+
+      abbrev asked_waits : List ℕ
+      asked_waits = map (wait_asks net schedule) conditions.waits
+
+      exact : AreExact table point conditions
       exact = (lists_are_exact net table point run.for run.sound executable.0).0 executable
 
-      is_first : IsFirst (asked_by net schedule (conditions_at (dispatchable net table) point)) (moment_in schedule point)
+      is_first : IsFirst asked (moment_in schedule point)
       is_first = run.executed.executable point executable
 
       -- a lower bound asks for a moment after its point
-      bound_sound : (bound : PointId × ℤ) → Contains (conditions_at (dispatchable net table) point).lower_bounds bound → IsPoint net bound.0 × (1 ≤ unsigned_abs bound.1)
+      bound_sound : (bound : PointId × ℤ) → Contains conditions.lower_bounds bound → IsPoint net bound.0 × (1 ≤ unsigned_abs bound.1)
       bound_sound bound among =
           let (above, has) = (exact.bounds bound.0 bound.1).0 among in
           let inside : bound.0.0 < table.shape.points = (run.sound.keys (record { from = point; to = bound.0; label = None; weight = pos 0 -ℤ bound.1 }) has).to_point in
           (omega (arith, inside, point_count net table run.for), some_positive bound.1 above)
 
-      wait_sound : (wait : LinkId × ℤ) → Contains (conditions_at (dispatchable net table) point).waits wait → (link : Link) × IsLinkOf net wait.0 link × (1 ≤ unsigned_abs wait.1)
+      wait_sound : (wait : LinkId × ℤ) → Contains conditions.waits wait → (link : Link) × IsLinkOf net wait.0 link × (1 ≤ unsigned_abs wait.1)
       wait_sound wait among =
           let (above, found) = (exact.waits wait.0 wait.1).0 among in
           let (activation, has) = found in
@@ -166,73 +182,70 @@ module _ (net : Plan) (table : Graph) (schedule : List ℕ) (run : IsRun net tab
           (link, declared, some_positive wait.1 above)
 
       -- what a wait asks for
-      wait_is : (wait : LinkId × ℤ) (link : Link) → IsLinkOf net wait.0 link → wait_asks net schedule wait ≡ min (moment_in schedule link.to) (moment_in schedule link.from + unsigned_abs wait.1)
+      wait_is : (wait : LinkId × ℤ) (link : Link) → IsLinkOf net wait.0 link
+          → wait_asks net schedule wait ≡ min (moment_in schedule link.to) (moment_in schedule link.from + unsigned_abs wait.1)
       wait_is wait link declared =
           ap (λ (o : Option Link). option_map_or (λ (l : Link). min (moment_in schedule l.to) (moment_in schedule l.from + unsigned_abs wait.1)) o 0) declared
 
-      wait_met_is : (wait : LinkId × ℤ) (link : Link) → IsLinkOf net wait.0 link → meets_wait (setting_of net table) moments t wait ≡ meets_wait_for moments t wait.1 link
+      wait_met_is : (wait : LinkId × ℤ) (link : Link) → IsLinkOf net wait.0 link → meets_wait setting moments t wait ≡ meets_wait_for moments t wait.1 link
       wait_met_is wait link declared = ap (λ (o : Option Link). option_map_or (meets_wait_for moments t wait.1) o false) declared
 
-      asked_by_then : moment_in schedule point ≤ t → (m : ℕ) → Contains (asked_by net schedule (conditions_at (dispatchable net table) point)) m → m ≤ t
+      asked_by_then : moment_in schedule point ≤ t → (m : ℕ) → Contains asked m → m ≤ t
       asked_by_then by_then m among =
-          let met : m ≤ moment_in schedule point = All-contains (λ n. n ≤ moment_in schedule point) (asked_by net schedule (conditions_at (dispatchable net table) point)) m is_first.meets among in
+          let met : m ≤ moment_in schedule point = All-contains (λ n. n ≤ moment_in schedule point) asked m is_first.meets among in
           omega (arith, met, by_then)
 
       -- from its moment on, what is asked is met
-      bound_met : moment_in schedule point ≤ t → (bound : PointId × ℤ) → Contains (conditions_at (dispatchable net table) point).lower_bounds bound → meets_bound moments t bound ≡ true
+      bound_met : moment_in schedule point ≤ t → (bound : PointId × ℤ) → Contains conditions.lower_bounds bound → meets_bound moments t bound ≡ true
       bound_met by_then bound among =
-          let conditions = conditions_at (dispatchable net table) point in
           let (within, positive) = bound_sound bound among in
-          let asked : moment_in schedule bound.0 + unsigned_abs bound.1 ≤ t = asked_by_then by_then (bound_asks schedule bound)
-          (Contains-append_left (map (bound_asks schedule) conditions.lower_bounds) (map (wait_asks net schedule) conditions.waits) (bound_asks schedule bound) (Contains-map (bound_asks schedule) conditions.lower_bounds bound among)) in
-          gone_by moments t bound.0 bound.1 (moment_in schedule bound.0) (seen.known bound.0 within (omega (arith, asked, positive))) asked
+          let asks : moment_in schedule bound.0 + unsigned_abs bound.1 ≤ t = asked_by_then by_then (bound_asks schedule bound)
+          (Contains-append_left asked_bounds asked_waits (bound_asks schedule bound) (Contains-map (bound_asks schedule) conditions.lower_bounds bound among)) in
+          gone_by moments t bound.0 bound.1 (moment_in schedule bound.0) (seen.known bound.0 within (omega (arith, asks, positive))) asks
 
-      wait_met : moment_in schedule point ≤ t → (wait : LinkId × ℤ) → Contains (conditions_at (dispatchable net table) point).waits wait → meets_wait (setting_of net table) moments t wait ≡ true
+      wait_met : moment_in schedule point ≤ t → (wait : LinkId × ℤ) → Contains conditions.waits wait → meets_wait setting moments t wait ≡ true
       wait_met by_then wait among = by (wait_sound wait among)
         where
-          asked : wait_asks net schedule wait ≤ t
-          asked =
-              let conditions = conditions_at (dispatchable net table) point in
+          asks : wait_asks net schedule wait ≤ t
+          asks =
               asked_by_then by_then (wait_asks net schedule wait)
-              (Contains-append_right (map (bound_asks schedule) conditions.lower_bounds) (map (wait_asks net schedule) conditions.waits) (wait_asks net schedule wait) (Contains-map (wait_asks net schedule) conditions.waits wait among))
+              (Contains-append_right asked_bounds asked_waits (wait_asks net schedule wait) (Contains-map (wait_asks net schedule) conditions.waits wait among))
 
-          by : (link : Link) × IsLinkOf net wait.0 link × (1 ≤ unsigned_abs wait.1) → meets_wait (setting_of net table) moments t wait ≡ true
+          by : (link : Link) × IsLinkOf net wait.0 link × (1 ≤ unsigned_abs wait.1) → meets_wait setting moments t wait ≡ true
           by (link, declared, positive) =
               let is = wait_is wait link declared in
               let its = lasts wait.0 link declared in
               let lasting = its.is in
               let low = its.low in
               let one = its.positive in
-              let sooner : moment_in schedule link.from < t = omega (arith, is, asked, lasting, low, one, positive) in
+              let sooner : moment_in schedule link.from < t = omega (arith, is, asks, lasting, low, one, positive) in
               let begun = seen.known link.from (link_sound net run.plan wait.0.0 link declared).from_point sooner in
               let ending : Ending net link.to = record { name = wait.0; link = link; declared = declared; ends = refl } in
               wait_met_is wait link declared
               ∙ and_from (has_come moments link.from) (has_come moments link.to || has_gone_by moments t link.from wait.1) (ap is_some begun)
               (elim (cases_lt t (moment_in schedule link.to)) [
-                | inl later ↦ or_right (has_come moments link.to) (has_gone_by moments t link.from wait.1) (gone_by moments t link.from wait.1 (moment_in schedule link.from) begun (omega (arith, is, asked, later)))
+                | inl later ↦ or_right (has_come moments link.to) (has_gone_by moments t link.from wait.1) (gone_by moments t link.from wait.1 (moment_in schedule link.from) begun (omega (arith, is, asks, later)))
                 | inr by_now ↦ or_left (has_come moments link.to) (has_gone_by moments t link.from wait.1) (ap is_some (seen_completed link.to ending by_now))
               ])
 
-      met_by_then : moment_in schedule point ≤ t → meets (setting_of net table) moments t (conditions_at (dispatchable net table) point) ≡ true
+      met_by_then : moment_in schedule point ≤ t → meets setting moments t conditions ≡ true
       met_by_then by_then =
-          let conditions = conditions_at (dispatchable net table) point in
-          and_from (list_all (meets_bound moments t) conditions.lower_bounds) (list_all (meets_wait (setting_of net table) moments t) conditions.waits)
+          and_from (list_all (meets_bound moments t) conditions.lower_bounds) (list_all (meets_wait setting moments t) conditions.waits)
           (list_passes (meets_bound moments t) conditions.lower_bounds (bound_met by_then))
-          (list_passes (meets_wait (setting_of net table) moments t) conditions.waits (wait_met by_then))
+          (list_passes (meets_wait setting moments t) conditions.waits (wait_met by_then))
 
       -- and where it is met, the moment has come
-      asked_met : meets (setting_of net table) moments t (conditions_at (dispatchable net table) point) ≡ true → (m : ℕ) → Contains (asked_by net schedule (conditions_at (dispatchable net table) point)) m → m ≤ t
+      asked_met : meets setting moments t conditions ≡ true → (m : ℕ) → Contains asked m → m ≤ t
       asked_met met m among =
-          let conditions = conditions_at (dispatchable net table) point in
-          let (bounds_met, waits_met) = and_parts (list_all (meets_bound moments t) conditions.lower_bounds) (list_all (meets_wait (setting_of net table) moments t) conditions.waits) met in
-          elim (Contains-append_cases (map (bound_asks schedule) conditions.lower_bounds) (map (wait_asks net schedule) conditions.waits) m among) [
+          let (bounds_met, waits_met) = and_parts (list_all (meets_bound moments t) conditions.lower_bounds) (list_all (meets_wait setting moments t) conditions.waits) met in
+          elim (Contains-append_cases asked_bounds asked_waits m among) [
             | inl one ↦ by_bound bounds_met one
             | inr two ↦ by_wait waits_met two
           ]
         where
-          by_bound : list_all (meets_bound moments t) (conditions_at (dispatchable net table) point).lower_bounds ≡ true → Contains (map (bound_asks schedule) (conditions_at (dispatchable net table) point).lower_bounds) m → m ≤ t
+          by_bound : list_all (meets_bound moments t) conditions.lower_bounds ≡ true → Contains asked_bounds m → m ≤ t
           by_bound bounds_met one =
-              let bounds = (conditions_at (dispatchable net table) point).lower_bounds in
+              let bounds = conditions.lower_bounds in
               let (bound, listed, is) = Contains-map_from (bound_asks schedule) bounds m one in
               let (k, found, within) = from_gone_by moments t bound.0 bound.1 (passes_each (meets_bound moments t) bounds bound bounds_met listed) in
               let same = (seen_value bound.0 k (bound_sound bound listed).0 found).0 in
@@ -256,58 +269,66 @@ module _ (net : Plan) (table : Graph) (schedule : List ℕ) (run : IsRun net tab
                     omega (arith, is, same, within))
               ]
 
-          by_wait : list_all (meets_wait (setting_of net table) moments t) (conditions_at (dispatchable net table) point).waits ≡ true → Contains (map (wait_asks net schedule) (conditions_at (dispatchable net table) point).waits) m → m ≤ t
+          by_wait : list_all (meets_wait setting moments t) conditions.waits ≡ true → Contains asked_waits m → m ≤ t
           by_wait waits_met two =
-              let waits = (conditions_at (dispatchable net table) point).waits in
+              let waits = conditions.waits in
               let (wait, listed, is) = Contains-map_from (wait_asks net schedule) waits m two in
               let (link, declared, positive) = wait_sound wait listed in
-              let holds : meets_wait_for moments t wait.1 link ≡ true = sym (wait_met_is wait link declared) ∙ passes_each (meets_wait (setting_of net table) moments t) waits wait waits_met listed in
+              let holds : meets_wait_for moments t wait.1 link ≡ true = sym (wait_met_is wait link declared) ∙ passes_each (meets_wait setting moments t) waits wait waits_met listed in
               let asks = by_link wait link declared holds in
               subst (λ n. n ≤ t) is asks
 
-      come_where_met : meets (setting_of net table) moments t (conditions_at (dispatchable net table) point) ≡ true → moment_in schedule point ≤ t
+      come_where_met : meets setting moments t conditions ≡ true → moment_in schedule point ≤ t
       come_where_met met =
-          let asked = asked_by net schedule (conditions_at (dispatchable net table) point) in
           is_first.first t (All-weaker (Contains asked) (λ m. m ≤ t) (asked_met met) asked (All-contains_itself asked))
 
       -- so the point is due exactly at its moment
-      is_due_now : moment_in schedule point ≡ t → is_due (setting_of net table) moments t point ≡ true
+      is_due_now : moment_in schedule point ≡ t → is_due setting moments t point ≡ true
       is_due_now now =
-          let setting = setting_of net table in
           due_from setting moments t point (executable_has_none net setting refl point executable) (seen.unknown point executable (omega (arith, now))) (met_by_then (omega (arith, now)))
 
-      not_due_before : t < moment_in schedule point → is_due (setting_of net table) moments t point ≡ false
+      not_due_before : t < moment_in schedule point → is_due setting moments t point ≡ false
       not_due_before before =
-          let setting = setting_of net table in
-          and_right (is_none (link_to setting point) && is_none (moment_of moments point)) (meets setting moments t (conditions_at setting.dispatch point))
-          (false_from_ne_true (meets setting moments t (conditions_at setting.dispatch point)) (λ met. let come = come_where_met met in omega (arith, come, before)))
+          and_right (is_none (link_to setting point) && is_none (moment_of moments point)) (meets setting moments t conditions)
+          (false_from_ne_true (meets setting moments t conditions) (λ met. let come = come_where_met met in omega (arith, come, before)))
 
     -- after the acts of the moment the moments so far are those before the next one
-    dispatch_length : length (setting_of net table).dispatch ≡ length net.points
+    dispatch_length : length setting.dispatch ≡ length net.points
     dispatch_length = dispatchable_length net table run.for
 
-    kept : (point : PointId) (m : ℕ) → moment_of moments point ≡ Some m → moment_of (acted (setting_of net table) moments t) point ≡ Some m
-    kept = acted_keeps (setting_of net table) moments t (seen.long ∙ sym dispatch_length)
+    kept : (point : PointId) (m : ℕ) → moment_of moments point ≡ Some m → moment_of (acted setting moments t) point ≡ Some m
+    kept = acted_keeps setting moments t (seen.long ∙ sym dispatch_length)
 
-    pub acts_cut : IsCut net schedule (acted (setting_of net table) moments t) (suc t)
-    acts_cut = record { long = length-acted (setting_of net table) moments t ∙ dispatch_length; known = known; unknown = unknown }
+    comes_now : (point : PointId) → IsExecutable net point → moment_in schedule point ≡ t → moment_of (acted setting moments t) point ≡ Some t
+    comes_now point executable now =
+        let within = executable.0 in
+        moment_due setting moments t point (omega (arith, within, dispatch_length)) (is_due_now point executable now)
+
+    stays : (point : PointId) → IsPoint net point → is_due setting moments t point ≡ false → moment_of (acted setting moments t) point ≡ moment_of moments point
+    stays point within not_due = moment_not_due setting moments t point (omega (arith, within, dispatch_length)) not_due
+
+    never_due : (point : PointId) → Ending net point → is_due setting moments t point ≡ false
+    never_due point ending = contingent_not_due setting moments t point ending.link (link_found net run.plan setting refl point ending)
+
+    pub acts_cut : IsCut net schedule (acted setting moments t) (suc t)
+    acts_cut = record { long = length-acted setting moments t ∙ dispatch_length; known = known; unknown = unknown }
       where
-        known : (point : PointId) → IsPoint net point → moment_in schedule point < suc t → moment_of (acted (setting_of net table) moments t) point ≡ Some (moment_in schedule point)
+        at_once : (point : PointId) → IsPoint net point → moment_in schedule point ≡ t → moment_of (acted setting moments t) point ≡ Some t
+        at_once point within now =
+            elim (kind net point within) [ inl executable ↦ comes_now point executable now | inr ending ↦ kept point t (seen.completed point ending now) ]
+
+        known : (point : PointId) → IsPoint net point → moment_in schedule point < suc t → moment_of (acted setting moments t) point ≡ Some (moment_in schedule point)
         known point within by_then =
             elim (cases_lt (moment_in schedule point) t) [
               | inl less ↦ kept point (moment_in schedule point) (seen.known point within less)
               | inr above ↦
                   (let now : moment_in schedule point ≡ t = omega (arith, above, by_then) in
-                  let as_moment : Some t ≡ Some (moment_in schedule point) = ap (λ (m : ℕ). let o : Option ℕ = Some m in o) (sym now) in
-                  elim (kind net point within) [
-                    | inl executable ↦ moment_due (setting_of net table) moments t point (omega (arith, within, dispatch_length)) (is_due_now point executable now) ∙ as_moment
-                    | inr ending ↦ kept point t (seen.completed point ending now) ∙ as_moment
-                  ])
+                  at_once point within now ∙ ap (λ (m : ℕ). let o : Option ℕ = Some m in o) (sym now))
             ]
 
-        unknown : (point : PointId) → IsPoint net point → suc t ≤ moment_in schedule point → moment_of (acted (setting_of net table) moments t) point ≡ None
+        unknown : (point : PointId) → IsPoint net point → suc t ≤ moment_in schedule point → moment_of (acted setting moments t) point ≡ None
         unknown point within after =
             elim (kind net point within) [
-              | inl executable ↦ moment_not_due (setting_of net table) moments t point (omega (arith, within, dispatch_length)) (not_due_before point executable (omega (arith, after))) ∙ seen.unknown point executable (omega (arith, after))
-              | inr ending ↦ moment_not_due (setting_of net table) moments t point (omega (arith, within, dispatch_length)) (contingent_not_due (setting_of net table) moments t point ending.link (link_found net run.plan (setting_of net table) refl point ending)) ∙ seen.not_yet point ending (omega (arith, after))
+              | inl executable ↦ stays point within (not_due_before point executable (omega (arith, after))) ∙ seen.unknown point executable (omega (arith, after))
+              | inr ending ↦ stays point within (never_due point ending) ∙ seen.not_yet point ending (omega (arith, after))
             ]

@@ -65,7 +65,8 @@ not_refused execution moment none = by (nat_lt moment (next_moment execution)) r
     by_limit true less is = absurd (none-some why.MomentLimit (sym is))
     by_limit false not_less is = ltb-false most_moment moment not_less
 
-    by : (b : Bool) → nat_lt moment (next_moment execution) ≡ b → (if b then option_map why.NotLater execution.last else if nat_lt most_moment moment then Some why.MomentLimit else None) ≡ None → moment ≤ most_moment
+    by : (b : Bool) → nat_lt moment (next_moment execution) ≡ b
+        → (if b then option_map why.NotLater execution.last else if nat_lt most_moment moment then Some why.MomentLimit else None) ≡ None → moment ≤ most_moment
     by true less is = no_last execution.last less is
     by false not_less is = by_limit (nat_lt most_moment moment) refl is
 
@@ -84,7 +85,8 @@ taken_within execution moment listed moments is = by (refusal_of_moment executio
 
 module _ (net : Plan) where
   -- feeds that are all taken are in time, and lead to one execution
-  pub fed_in_time : (listings : List Listing) (execution after : Execution) → IsExecutionOf net execution → fed_all execution listings ≡ Ok after → AreInTime execution listings × (after_all execution listings ≡ after)
+  pub fed_in_time : (listings : List Listing) (execution after : Execution) → IsExecutionOf net execution → fed_all execution listings ≡ Ok after
+      → AreInTime execution listings × (after_all execution listings ≡ after)
   fed_in_time [] execution after of fed = (tt, same_ok execution after fed)
   fed_in_time (listing ∷ others) execution after of fed = by (λ next next_of went. fed_in_time others next after next_of went) (taken execution listing.moment listing.points) refl fed
     where
@@ -105,7 +107,8 @@ module _ (net : Plan) where
           ((law.0.1 as_completed, are), leads)
 
   -- and feeds that are in time are taken
-  pub in_time_fed : (listings : List Listing) (execution : Execution) → IsExecutionOf net execution → AreWithinLimit listings → AreInTime execution listings → fed_all execution listings ≡ Ok (after_all execution listings)
+  pub in_time_fed : (listings : List Listing) (execution : Execution) → IsExecutionOf net execution → AreWithinLimit listings → AreInTime execution listings
+      → fed_all execution listings ≡ Ok (after_all execution listings)
   in_time_fed [] execution of within are = refl
   in_time_fed (listing ∷ others) execution of within (is, are) =
       let law = taken_in_time net execution listing.moment listing.points of (All-head (λ (l : Listing). l.moment ≤ most_moment) listing others within) in

@@ -57,7 +57,9 @@ module _ (net : Plan) (table : Graph) (schedule : List ℕ) (run : IsRun net tab
   cut_before execution moment keeps later none =
       let there : next_moment execution + moments_to execution moment ≡ moment = omega (arith, later) in
       cut_same net schedule (moments_before execution moment) (next_moment execution + moments_to execution moment) moment there
-      (subst (λ (setting : Setting). IsCut net schedule (time_runs setting execution.moments (next_moment execution) (moments_to execution moment)) (next_moment execution + moments_to execution moment)) (sym keeps.setting)
+      (subst
+      (λ (setting : Setting). IsCut net schedule (time_runs setting execution.moments (next_moment execution) (moments_to execution moment)) (next_moment execution + moments_to execution moment))
+      (sym keeps.setting)
       (time_cut net table schedule run (moments_to execution moment) execution.moments (next_moment execution) keeps.cut (λ point ending at_least below. none point ending at_least (omega (arith, below, there)))))
 
   pub none_before : (from : ℕ) (listing : Listing) → IsNext net schedule from listing → NoneComes net schedule from listing.moment
@@ -126,14 +128,17 @@ module _ (net : Plan) (table : Graph) (schedule : List ℕ) (run : IsRun net tab
     seen : IsSeen net schedule (with_completed execution listing.moment listing.points) listing.moment
     seen = record { long = length-completed_all listing.moment (moments_before execution listing.moment) listing.points ∙ before.long; known = known; completed = completed; not_yet = not_yet; unknown = unknown }
       where
-        kept : (point : PointId) → (Contains listing.points point → ⊥) → moment_of (with_completed execution listing.moment listing.points) point ≡ moment_of (moments_before execution listing.moment) point
+        kept : (point : PointId) → (Contains listing.points point → ⊥)
+            → moment_of (with_completed execution listing.moment listing.points) point ≡ moment_of (moments_before execution listing.moment) point
         kept = not_completed (moments_before execution listing.moment) listing.moment listing.points
 
-        known : (point : PointId) → IsPoint net point → moment_in schedule point < listing.moment → moment_of (with_completed execution listing.moment listing.points) point ≡ Some (moment_in schedule point)
+        known : (point : PointId) → IsPoint net point → moment_in schedule point < listing.moment
+            → moment_of (with_completed execution listing.moment listing.points) point ≡ Some (moment_in schedule point)
         known point within less =
             kept point (λ among. let now = (is.comes point among).1 in omega (arith, now, less)) ∙ before.known point within less
 
-        completed : (point : PointId) → Ending net point → moment_in schedule point ≡ listing.moment → moment_of (with_completed execution listing.moment listing.points) point ≡ Some listing.moment
+        completed : (point : PointId) → Ending net point → moment_in schedule point ≡ listing.moment
+            → moment_of (with_completed execution listing.moment listing.points) point ≡ Some listing.moment
         completed point ending now =
             let within = ending_point net run.plan point ending in
             has_completed (moments_before execution listing.moment) listing.moment listing.points point (let long = before.long in omega (arith, within, long))
@@ -143,7 +148,8 @@ module _ (net : Plan) (table : Graph) (schedule : List ℕ) (run : IsRun net tab
         not_yet point ending above =
             kept point (λ among. let now = (is.comes point among).1 in omega (arith, now, above)) ∙ before.unknown point (ending_point net run.plan point ending) (omega (arith, above))
 
-        unknown : (point : PointId) → IsExecutable net point → listing.moment ≤ moment_in schedule point → moment_of (with_completed execution listing.moment listing.points) point ≡ None
+        unknown : (point : PointId) → IsExecutable net point → listing.moment ≤ moment_in schedule point
+            → moment_of (with_completed execution listing.moment listing.points) point ≡ None
         unknown point executable above =
             kept point (λ among. not_ending net point executable (contingent_ending net point (is.comes point among).0)) ∙ before.unknown point executable.0 above
 
@@ -157,7 +163,8 @@ module _ (net : Plan) (table : Graph) (schedule : List ℕ) (run : IsRun net tab
     }
 
   -- and so it is with several feeds
-  pub feeds_in_time : (listings : List Listing) (execution : Execution) → KeepsTo net table schedule execution → AreNext net schedule (next_moment execution) listings → AreInTime execution listings
+  pub feeds_in_time : (listings : List Listing) (execution : Execution) → KeepsTo net table schedule execution → AreNext net schedule (next_moment execution) listings
+      → AreInTime execution listings
   feeds_in_time [] execution keeps are = tt
   feeds_in_time (listing ∷ others) execution keeps (is, are) =
       (in_time execution listing keeps is, feeds_in_time others (after_listing execution listing) (after_keeps execution listing keeps is) are)

@@ -57,7 +57,8 @@ module _ (net : Plan) (table : Graph) (order : List PointId) (by : IsDispatchedB
 
     pub fed_keeps : KeepsTo net table schedule execution
     fed_keeps =
-        subst (KeepsTo net table schedule) leads (feeds_keep net table schedule run listings (started (setting_of net table)) (start_keeps net table schedule by.closure.for_network) (shows_next net schedule listings shows))
+        let start = start_keeps net table schedule by.closure.for_network in
+        subst (KeepsTo net table schedule) leads (feeds_keep net table schedule run listings (started (setting_of net table)) start (shows_next net schedule listings shows))
 
     pub fed_last : execution.last ≡ last_moment (going_on listings)
     fed_last = ap (λ (e : Execution). e.last) (sym leads) ∙ last_after (started (setting_of net table)) listings
@@ -149,7 +150,8 @@ faithful_streams_are_taken net table order listings by within = (
 -- ---- done streams
 module _ (net : Plan) (table : Graph) (order : List PointId) (by : IsDispatchedByClosure net table order) (listings : List Listing) (execution : Execution)
     (fed : fed_all (started (setting_of net table)) listings ≡ Ok execution) where
-  open_test : (moments : Moments) (setting : Setting) (point : PointId) (come linked : Bool) → has_come moments point ≡ come → is_some (link_to setting point) ≡ linked → is_open setting moments point ≡ (if come then false else linked)
+  open_test : (moments : Moments) (setting : Setting) (point : PointId) (come linked : Bool) → has_come moments point ≡ come → is_some (link_to setting point) ≡ linked
+      → is_open setting moments point ≡ (if come then false else linked)
   open_test moments setting point come linked is_come is_linked = (λ i. if is_come i then false else is_linked i)
 
   done_none_open : IsFaithful net (ended listings) → first_open execution ≡ None

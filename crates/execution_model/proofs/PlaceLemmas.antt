@@ -42,21 +42,25 @@ pub gone_by : (moments : Moments) (t : ℕ) (point : PointId) (n : ℤ) (m : ℕ
 gone_by moments t point n m known within =
     ap (λ (o : Option ℕ). option_map_or (λ moment. nat_le (moment + unsigned_abs n) t) o false) known ∙ le-leb (m + unsigned_abs n) t within
 
-pub from_gone_by : (moments : Moments) (t : ℕ) (point : PointId) (n : ℤ) → has_gone_by moments t point n ≡ true → (m : ℕ) × (moment_of moments point ≡ Some m) × (m + unsigned_abs n ≤ t)
+pub from_gone_by : (moments : Moments) (t : ℕ) (point : PointId) (n : ℤ) → has_gone_by moments t point n ≡ true
+    → (m : ℕ) × (moment_of moments point ≡ Some m) × (m + unsigned_abs n ≤ t)
 from_gone_by moments t point n holds = by (moment_of moments point) refl holds
   where
-    by : (o : Option ℕ) → moment_of moments point ≡ o → option_map_or (λ moment. nat_le (moment + unsigned_abs n) t) o false ≡ true → (m : ℕ) × (moment_of moments point ≡ Some m) × (m + unsigned_abs n ≤ t)
+    by : (o : Option ℕ) → moment_of moments point ≡ o → option_map_or (λ moment. nat_le (moment + unsigned_abs n) t) o false ≡ true
+        → (m : ℕ) × (moment_of moments point ≡ Some m) × (m + unsigned_abs n ≤ t)
     by None none holds = absurd (true≢false (sym holds))
     by (Some m) known holds = (m, known, leb-true (m + unsigned_abs n) t holds)
 
 -- ---- listed points
 -- a point that isn't listed keeps its moment
-pub not_completed : (moments : Moments) (t : ℕ) (listed : List PointId) (point : PointId) → (Contains listed point → ⊥) → moment_of (completed_all moments t listed) point ≡ moment_of moments point
+pub not_completed : (moments : Moments) (t : ℕ) (listed : List PointId) (point : PointId) → (Contains listed point → ⊥)
+    → moment_of (completed_all moments t listed) point ≡ moment_of moments point
 not_completed moments t listed point absent =
     moment_not_listed t moments listed point (false_from_ne_true (is_among listed point) (λ among. absent (from_among listed point among)))
 
 -- a listed one has this moment
-pub has_completed : (moments : Moments) (t : ℕ) (listed : List PointId) (point : PointId) → point.0 < length moments → Contains listed point → moment_of (completed_all moments t listed) point ≡ Some t
+pub has_completed : (moments : Moments) (t : ℕ) (listed : List PointId) (point : PointId) → point.0 < length moments → Contains listed point
+    → moment_of (completed_all moments t listed) point ≡ Some t
 has_completed moments t listed point inside among = moment_listed t moments listed point inside (among_from listed point among)
 
 -- whether a point is listed

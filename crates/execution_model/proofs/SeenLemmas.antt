@@ -35,7 +35,8 @@ pub record IsShownBy (net : Plan) (table : Graph) (schedule : List ℕ) (final :
 
 module _ (net : Plan) (table : Graph) (schedule : List ℕ) (final : Moments) (shown : IsShownBy net table schedule final) where
   -- a link whose completion was seen ends then
-  seen_end : (name : LinkId) (link : Link) (c a : ℕ) → IsLinkOf net name link → moment_of final link.to ≡ Some c → moment_of final link.from ≡ Some a → moment_in schedule link.from ≡ a → moment_in schedule link.to ≡ c
+  seen_end : (name : LinkId) (link : Link) (c a : ℕ) → IsLinkOf net name link → moment_of final link.to ≡ Some c → moment_of final link.from ≡ Some a
+      → moment_in schedule link.from ≡ a → moment_in schedule link.to ≡ c
   seen_end name link c a declared completed active begun =
       let its = shown.each name link c declared completed in
       let same : its.activated ≡ a = same_Some its.activated a (sym its.active ∙ active) in
@@ -47,8 +48,8 @@ module _ (net : Plan) (table : Graph) (schedule : List ℕ) (final : Moments) (s
   open_end : (name : LinkId) (link : Link) → IsLinkOf net name link → moment_of final link.to ≡ None → moment_in schedule link.to ≡ moment_in schedule link.from + unsigned_abs link.high
   open_end name link declared open_still = shown.timed name link declared ∙ ap (λ d. moment_in schedule link.from + d) (not_seen_lasts net shown.run.plan final shown.each link open_still)
 
-  module _ (execution : Execution) (of : IsExecutionOf net execution) (keeps : KeepsTo net table schedule execution) (listing : Listing) (others : List Listing) (in_time : IsInTime execution listing.moment listing.points)
-      (are : AreInTime (after_listing execution listing) others) (is_final : (after_all execution (listing ∷ others)).moments ≡ final) where
+  module _ (execution : Execution) (of : IsExecutionOf net execution) (keeps : KeepsTo net table schedule execution) (listing : Listing) (others : List Listing)
+      (in_time : IsInTime execution listing.moment listing.points) (are : AreInTime (after_listing execution listing) others) (is_final : (after_all execution (listing ∷ others)).moments ≡ final) where
     -- what has come before the listing is among the moments at the end
     finally : (point : PointId) (m : ℕ) → moment_of (moments_before execution listing.moment) point ≡ Some m → moment_of final point ≡ Some m
     finally point m found =
@@ -75,19 +76,24 @@ module _ (net : Plan) (table : Graph) (schedule : List ℕ) (final : Moments) (s
         by : (o : Option ℕ) → moment_of final link.to ≡ o → Contains listing.points link.to × (moment_in schedule link.to ≡ listing.moment)
         by None none =
             let ends = open_end name link declared none in
-            let among = in_time.none_left link.to link (moment_in schedule link.from) (link_found net shown.run.plan execution.setting of.links link.to ending) (before_contingent net execution of listing.moment link.to ending ∙ unknown) active (omega (arith, ends, by_then)) in
+            let found = link_found net shown.run.plan execution.setting of.links link.to ending in
+            let open_still = before_contingent net execution of listing.moment link.to ending ∙ unknown in
+            let among = in_time.none_left link.to link (moment_in schedule link.from) found open_still active (omega (arith, ends, by_then)) in
             absurd (none-some listing.moment (sym none ∙ listed_finally link.to ending among))
         by (Some c) found =
             let ends = seen_end name link c (moment_in schedule link.from) declared found (finally link.from (moment_in schedule link.from) active) refl in
             let next = after_listing execution listing in
             let there : moment_of (after_all execution (listing ∷ others)).moments link.to ≡ Some c = ap (λ (ms : Moments). moment_of ms link.to) is_final ∙ found in
-            elim (comes_with_first net listing others execution of (in_time, are) link.to c ending unknown there (λ still. comes_after net others next (listed_of net execution listing of) are link.to c ending still there)) [
+            let rest = λ (open_still : moment_of next.moments link.to ≡ None). comes_after net others next (listed_of net execution listing of) are link.to c ending open_still there in
+            elim (comes_with_first net listing others execution of (in_time, are) link.to c ending unknown there rest) [
               | inl (among, now) ↦ (among, ends ∙ sym now)
               | inr after ↦ absurd (omega (arith, after, ends, by_then))
             ]
 
     -- no contingent point comes while time runs to it
-    still : (k : ℕ) (point : PointId) (m : ℕ) → k ≤ moments_to execution listing.moment → moment_of (time_runs execution.setting execution.moments (next_moment execution) k) point ≡ Some m → moment_of (moments_before execution listing.moment) point ≡ Some m
+    still : (k : ℕ) (point : PointId) (m : ℕ) → k ≤ moments_to execution listing.moment
+        → moment_of (time_runs execution.setting execution.moments (next_moment execution) k) point ≡ Some m
+        → moment_of (moments_before execution listing.moment) point ≡ Some m
     still k point m within found =
         let long = of.moments ∙ sym of.dispatch in
         let rest = moments_to execution listing.moment - k in

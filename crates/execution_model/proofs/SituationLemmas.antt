@@ -49,7 +49,8 @@ module _ (net : Plan) (execution : Execution) (of : IsExecutionOf net execution)
     length_completed : length (with_completed execution listing.moment listing.points) ≡ length execution.setting.dispatch
     length_completed = length-completed_all listing.moment (moments_before execution listing.moment) listing.points ∙ length_before listing.moment
 
-    pub completed_keeps : (point : PointId) (m : ℕ) → moment_of (moments_before execution listing.moment) point ≡ Some m → moment_of (with_completed execution listing.moment listing.points) point ≡ Some m
+    pub completed_keeps : (point : PointId) (m : ℕ) → moment_of (moments_before execution listing.moment) point ≡ Some m
+        → moment_of (with_completed execution listing.moment listing.points) point ≡ Some m
     completed_keeps point m found =
         not_completed (moments_before execution listing.moment) listing.moment listing.points point (λ among. none-some m (sym (listed_open point among) ∙ found)) ∙ found
 
@@ -79,7 +80,8 @@ module _ (net : Plan) (execution : Execution) (of : IsExecutionOf net execution)
     feed_not_listed point ending absent =
         after_contingent point ending ∙ not_completed (moments_before execution listing.moment) listing.moment listing.points point absent
 
-pub all_keep : (net : Plan) (listings : List Listing) (execution : Execution) → IsExecutionOf net execution → AreInTime execution listings → (point : PointId) (m : ℕ) → moment_of execution.moments point ≡ Some m
+pub all_keep : (net : Plan) (listings : List Listing) (execution : Execution) → IsExecutionOf net execution → AreInTime execution listings → (point : PointId) (m : ℕ)
+    → moment_of execution.moments point ≡ Some m
     → moment_of (after_all execution listings).moments point ≡ Some m
 all_keep net [] execution of are point m found = found
 all_keep net (listing ∷ others) execution of (is, are) point m found =
@@ -87,7 +89,8 @@ all_keep net (listing ∷ others) execution of (is, are) point m found =
     (feed_keeps net execution of listing is point m (before_keeps net execution of listing.moment point m found))
 
 -- a contingent point that comes in feeds comes no sooner than the first
-pub comes_with_first : (net : Plan) (listing : Listing) (others : List Listing) (execution : Execution) → IsExecutionOf net execution → AreInTime execution (listing ∷ others) → (point : PointId) (m : ℕ)
+pub comes_with_first : (net : Plan) (listing : Listing) (others : List Listing) (execution : Execution) → IsExecutionOf net execution → AreInTime execution (listing ∷ others)
+    → (point : PointId) (m : ℕ)
     → Ending net point → moment_of execution.moments point ≡ None → moment_of (after_all execution (listing ∷ others)).moments point ≡ Some m
     → (moment_of (after_listing execution listing).moments point ≡ None → listing.moment + 1 ≤ m)
     → (Contains listing.points point × (listing.moment ≡ m)) ⊎ (listing.moment + 1 ≤ m)
@@ -100,7 +103,8 @@ comes_with_first net listing others execution of (is, are) point m ending unknow
       | inr absent ↦ inr (rest (feed_not_listed net execution of listing is point ending absent ∙ before_contingent net execution of listing.moment point ending ∙ unknown))
     ]
 
-pub comes_after : (net : Plan) (listings : List Listing) (execution : Execution) → IsExecutionOf net execution → AreInTime execution listings → (point : PointId) (m : ℕ) → Ending net point
+pub comes_after : (net : Plan) (listings : List Listing) (execution : Execution) → IsExecutionOf net execution → AreInTime execution listings → (point : PointId) (m : ℕ)
+    → Ending net point
     → moment_of execution.moments point ≡ None → moment_of (after_all execution listings).moments point ≡ Some m → next_moment execution ≤ m
 comes_after net [] execution of are point m ending unknown found = absurd (none-some m (sym unknown ∙ found))
 comes_after net (listing ∷ others) execution of (is, are) point m ending unknown found =
@@ -155,7 +159,8 @@ module _ (net : Plan) (execution : Execution) (of : IsExecutionOf net execution)
             high = its.high;
           }
 
-pub all_lasted : (net : Plan) (listings : List Listing) (execution : Execution) → IsExecutionOf net execution → AreInTime execution listings → EachLasted net execution.moments → EachLasted net (after_all execution listings).moments
+pub all_lasted : (net : Plan) (listings : List Listing) (execution : Execution) → IsExecutionOf net execution → AreInTime execution listings → EachLasted net execution.moments
+    → EachLasted net (after_all execution listings).moments
 all_lasted net [] execution of are each = each
 all_lasted net (listing ∷ others) execution of (is, are) each =
     all_lasted net others (after_listing execution listing) (listed_of net execution listing of) are (feed_lasted net execution of listing is each)
@@ -173,14 +178,16 @@ duration_seen moments link = duration_between (unsigned_abs link.high) (moment_o
 abbrev pub situation_seen : Plan → Moments → List ℕ
 situation_seen net moments = map (duration_seen moments) net.links
 
-durations_fit : (test : Link → ℕ) (links : List Link) → ((k : ℕ) (link : Link) → slice_get links k ≡ Some link → IsDuration link (test link)) → AllZip IsDuration links (map test links)
+durations_fit : (test : Link → ℕ) (links : List Link) → ((k : ℕ) (link : Link) → slice_get links k ≡ Some link → IsDuration link (test link))
+    → AllZip IsDuration links (map test links)
 durations_fit test [] each = tt
 durations_fit test (link ∷ links) each = (each 0 link refl, durations_fit test links (λ k l there. each (suc k) l there))
 
 longest_fits : (low high : ℤ) → pos 1 ≤ℤ low → low ≤ℤ high → (low ≤ℤ pos (unsigned_abs high)) × (pos (unsigned_abs high) ≤ℤ high)
 longest_fits low high positive interval = (grind (arith, ints), grind (arith, ints))
 
-seen_fits : (low high : ℤ) (c a : ℕ) → pos 1 ≤ℤ low → low ≤ℤ high → a + unsigned_abs low ≤ c → c ≤ a + unsigned_abs high → (low ≤ℤ pos (c - a)) × (pos (c - a) ≤ℤ high)
+seen_fits : (low high : ℤ) (c a : ℕ) → pos 1 ≤ℤ low → low ≤ℤ high → a + unsigned_abs low ≤ c → c ≤ a + unsigned_abs high
+    → (low ≤ℤ pos (c - a)) × (pos (c - a) ≤ℤ high)
 seen_fits low high c a positive interval low_is high_is = (grind (arith, ints), grind (arith, ints))
 
 module _ (net : Plan) (plan : IsPlan net) (moments : Moments) (each : EachLasted net moments) where

@@ -33,7 +33,8 @@ record ShowsFrom (net : Plan) (schedule : List ℕ) (from : ℕ) (listings : Lis
       → IsListed (going_on listings) point (moment_in schedule point)
 
 -- the first of rising listings comes before the others
-first_rises : (listing : Listing) (others : List Listing) → AllPairs (λ (earlier later : Listing). earlier.moment < later.moment) (listing ∷ others) → (later : Listing) → Contains others later → listing.moment < later.moment
+first_rises : (listing : Listing) (others : List Listing) → AllPairs (λ (earlier later : Listing). earlier.moment < later.moment) (listing ∷ others) → (later : Listing)
+    → Contains others later → listing.moment < later.moment
 first_rises listing others rises later (k, inside, at) =
     let less : listing.moment < (get_or others k later).moment = rises 0 (suc k) later (omega arith) (omega (arith, inside)) in
     subst (λ (l : Listing). listing.moment < l.moment) at less
@@ -64,10 +65,12 @@ module _ (net : Plan) (schedule : List ℕ) where
     once = All-tail (λ (l : Listing). IsDistinct same_point l.points) listing others shows.once;
     comes = λ later point among. shows.comes later point (Contains-tail listing others later among);
     complete = λ point contingent at_least last among by_then.
-        after point at_least (shows.complete point contingent (let first = shows.each listing (Contains-head listing others) in omega (arith, at_least, first)) last (Contains-tail listing others last among) by_then);
+        let first = shows.each listing (Contains-head listing others) in
+        after point at_least (shows.complete point contingent (omega (arith, at_least, first)) last (Contains-tail listing others last among) by_then);
   }
     where
-      after : (point : PointId) → listing.moment + 1 ≤ moment_in schedule point → IsListed (going_on (listing ∷ others)) point (moment_in schedule point) → IsListed (going_on others) point (moment_in schedule point)
+      after : (point : PointId) → listing.moment + 1 ≤ moment_in schedule point → IsListed (going_on (listing ∷ others)) point (moment_in schedule point)
+          → IsListed (going_on others) point (moment_in schedule point)
       after point at_least is =
           elim (Contains-cases listing others is.listing is.among) [
             | inl same ↦ (let at = is.at in let moment = ap (λ (l : Listing). l.moment) same in absurd (omega (arith, at, moment, at_least)))
@@ -80,10 +83,12 @@ module _ (net : Plan) (schedule : List ℕ) where
       (shows_first from listing others shows, shown_are_next (listing.moment + 1) others (shows_others from listing others shows))
 
   -- and back
-  next_shown : (from : ℕ) (listing : Listing) (others : List Listing) → IsNext net schedule from listing → ShowsFrom net schedule (listing.moment + 1) others → ShowsFrom net schedule from (listing ∷ others)
+  next_shown : (from : ℕ) (listing : Listing) (others : List Listing) → IsNext net schedule from listing → ShowsFrom net schedule (listing.moment + 1) others
+      → ShowsFrom net schedule from (listing ∷ others)
   next_shown from listing others is shows = record {
     rises = AllPairs-cons (λ (earlier later : Listing). earlier.moment < later.moment) listing others
-        (All-weaker (Contains others) (λ (later : Listing). listing.moment < later.moment) (λ later among. let above = shows.each later among in omega (arith, above)) others (All-contains_itself others)) shows.rises;
+        (All-weaker (Contains others) (λ (later : Listing). listing.moment < later.moment) (λ later among. let above = shows.each later among in omega (arith, above)) others
+        (All-contains_itself others)) shows.rises;
     each = λ one among. elim (Contains-cases listing others one among) [
       | inl same ↦ subst (λ (l : Listing). from ≤ l.moment) same is.later
       | inr later ↦ (let above = shows.each one later in let first = is.later in omega (arith, above, first))
@@ -100,7 +105,8 @@ module _ (net : Plan) (schedule : List ℕ) where
             | inr later ↦ shows.comes one point later named
           ]
 
-      complete : (point : PointId) → IsContingent net point → from ≤ moment_in schedule point → (last : Listing) → Contains (listing ∷ others) last → moment_in schedule point ≤ last.moment → IsListed (going_on (listing ∷ others)) point (moment_in schedule point)
+      complete : (point : PointId) → IsContingent net point → from ≤ moment_in schedule point → (last : Listing) → Contains (listing ∷ others) last
+          → moment_in schedule point ≤ last.moment → IsListed (going_on (listing ∷ others)) point (moment_in schedule point)
       complete point contingent at_least last among by_then =
           elim (cases_lt listing.moment (moment_in schedule point)) [
             | inl after ↦ (elim (Contains-cases listing others last among) [
@@ -157,7 +163,8 @@ module _ (net : Plan) (schedule : List ℕ) where
             record { listing = listing; among = Contains-head listing others; at = sym (is.comes point named).1; named = named })
       ]
 
-  pub end_above : (from : ℕ) (listings : List Listing) → AreNext net schedule from listings → (listing : Listing) → Contains listings listing → (from ≤ end_of from listings) × (listing.moment < end_of from listings)
+  pub end_above : (from : ℕ) (listings : List Listing) → AreNext net schedule from listings → (listing : Listing) → Contains listings listing
+      → (from ≤ end_of from listings) × (listing.moment < end_of from listings)
   end_above from listings are listing among = (rising from listings are, above from listings are among)
     where
       rising : (a : ℕ) (ls : List Listing) → AreNext net schedule a ls → a ≤ end_of a ls
@@ -182,7 +189,8 @@ module _ (net : Plan) (schedule : List ℕ) where
   }
 
   -- and it may be said to be done where every contingent point is listed
-  pub shows_done : (listings : List Listing) → Shows net (going_on listings) schedule → ((point : PointId) → IsContingent net point → IsListed (going_on listings) point (moment_in schedule point))
+  pub shows_done : (listings : List Listing) → Shows net (going_on listings) schedule
+      → ((point : PointId) → IsContingent net point → IsListed (going_on listings) point (moment_in schedule point))
       → Shows net (ended listings) schedule
   shows_done listings shows each = record {
     rises = shows.rises;
@@ -208,7 +216,8 @@ cut_later : (last : Option ℕ) (m : ℕ) → option_map_or (λ l. l + 1) last 0
 cut_later None m above = refl
 cut_later (Some l) m above = lt-leb m l (omega (arith, above))
 
-pub cut_is : (net : Plan) (schedule : List ℕ) (moments : Moments) (last : Option ℕ) → length schedule ≡ length net.points → IsCut net schedule moments (option_map_or (λ l. l + 1) last 0) → moments ≡ cut_at last schedule
+pub cut_is : (net : Plan) (schedule : List ℕ) (moments : Moments) (last : Option ℕ) → length schedule ≡ length net.points
+    → IsCut net schedule moments (option_map_or (λ l. l + 1) last 0) → moments ≡ cut_at last schedule
 cut_is net schedule moments last complete cut =
     same_lists moments (cut_at last schedule) (cut.long ∙ sym complete ∙ sym (length-map schedule shown)) each
   where
@@ -230,7 +239,8 @@ cut_is net schedule moments last complete cut =
         ∙ sym (get_or-map shown schedule k 0 d stands)
 
 -- where every point has come, they are the whole of the schedule
-pub whole_is : (net : Plan) (schedule : List ℕ) (moments : Moments) (t : ℕ) → length schedule ≡ length net.points → IsCut net schedule moments t → All IsSome moments → moments ≡ map Some schedule
+pub whole_is : (net : Plan) (schedule : List ℕ) (moments : Moments) (t : ℕ) → length schedule ≡ length net.points → IsCut net schedule moments t → All IsSome moments
+    → moments ≡ map Some schedule
 whole_is net schedule moments t complete cut come =
     same_lists moments (map Some schedule) (cut.long ∙ sym complete ∙ sym (length-map schedule Some)) each
   where

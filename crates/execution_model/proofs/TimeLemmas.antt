@@ -31,7 +31,8 @@ module _ (net : Plan) (table : Graph) (schedule : List ℕ) (run : IsRun net tab
   pub moment_runs : (moments : Moments) (t : ℕ) → IsCut net schedule moments t → NoneComes net schedule t (suc t) → IsCut net schedule (acted (setting_of net table) moments t) (suc t)
   moment_runs moments t cut none = acts_cut net table schedule run moments t (none_seen moments t cut none)
 
-  pub time_cut : (count : ℕ) (moments : Moments) (t : ℕ) → IsCut net schedule moments t → NoneComes net schedule t (t + count) → IsCut net schedule (time_runs (setting_of net table) moments t count) (t + count)
+  pub time_cut : (count : ℕ) (moments : Moments) (t : ℕ) → IsCut net schedule moments t → NoneComes net schedule t (t + count)
+      → IsCut net schedule (time_runs (setting_of net table) moments t count) (t + count)
   time_cut zero moments t cut none = cut_same net schedule moments t (t + 0) (omega arith) cut
   time_cut (suc count) moments t cut none =
       let next = moment_runs moments t cut (λ point ending at_least below. none point ending at_least (omega (arith, below))) in
