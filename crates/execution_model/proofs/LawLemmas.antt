@@ -21,7 +21,7 @@ use Rattle.execution_model.specs.Execution.{Moments, Setting, has_come, points_o
 use Rattle.execution_model.specs.Feeding.{Execution, started, next_moment, is_open, first_open}
 use Rattle.execution_model.specs.Streams.{Listing, IsListed, Shows, IsFaithful, last_moment}
 use Rattle.execution_model.specs.Timely.{AreInTime, fed_all}
-use Rattle.execution_model.specs.Laws.{setting_of, IsDispatchedByClosure, IsExecutionOf, going_on, ended, FaithfulStreamsAreTaken, FeedsExecuteEarliest, DoneWhereNoneIsOpen, EndsAreEarliest}
+use Rattle.execution_model.specs.Laws.{setting_of, IsDispatchedByClosure, IsExecutionOf, going_on, ended, FaithfulStreamsAreTaken, FeedsExecuteEarliest, DoneWhereNoneIsOpen, EndsAreEarliest, StreamsAreExecuted}
 use Rattle.execution_model.proofs.MomentLemmas.{Contains-point}
 use Rattle.execution_model.proofs.PlaceLemmas.{link_found, ending_of, ending_point, contingent_ending, ending_contingent}
 use Rattle.execution_model.proofs.CutLemmas.{IsCut, IsRun, came, cut_value}
@@ -234,3 +234,12 @@ module _ (net : Plan) (table : Graph) (order : List PointId) (by : IsDispatchedB
 
 pub done_where_none_is_open : DoneWhereNoneIsOpen
 done_where_none_is_open net table order listings execution by fed = (done_none_open net table order by listings execution fed, none_open_done net table order by listings execution fed)
+
+pub streams_are_executed : StreamsAreExecuted
+streams_are_executed net table order listings execution by fed = (
+  (let (situation, fits) = fed_faithful net table order by listings execution fed in
+      record { situation = situation; fits = fits; fixed = feeds_execute_earliest net table order listings execution situation fits.schedule by fed fits.earliest fits.shows }),
+  λ none after whole.
+      let (situation, fits) = none_open_done net table order by listings execution fed none in
+      record { situation = situation; fits = fits; fixed = ends_are_earliest net table order listings execution after situation fits.schedule by fed whole fits.earliest fits.shows },
+)

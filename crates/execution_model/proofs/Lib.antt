@@ -11,3 +11,4 @@ pub mod StreamLemmas
 pub mod SituationLemmas
 pub mod SeenLemmas
 pub mod LawLemmas
+pub mod ExecutionLemmas

@@ -212,7 +212,7 @@ cut_here : (last : Option ℕ) (m : ℕ) → m < option_map_or (λ l. l + 1) las
 cut_here None m below = absurd (omega (arith, below))
 cut_here (Some l) m below = le-leb m l (omega (arith, below))
 
-cut_later : (last : Option ℕ) (m : ℕ) → option_map_or (λ l. l + 1) last 0 ≤ m → option_map_or (nat_le m) last false ≡ false
+pub cut_later : (last : Option ℕ) (m : ℕ) → option_map_or (λ l. l + 1) last 0 ≤ m → option_map_or (nat_le m) last false ≡ false
 cut_later None m above = refl
 cut_later (Some l) m above = lt-leb m l (omega (arith, above))
 

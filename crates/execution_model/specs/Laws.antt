@@ -11,7 +11,7 @@ use Rattle.strategy_model.specs.Control.{IsEarliest}
 use Rattle.dispatch_net.specs.Dispatchable.{MayDispatch, dispatchable}
 use Rattle.execution_model.specs.Execution.{Moments, Setting, moment_of, acts_at}
 use Rattle.execution_model.specs.Feeding.{Execution, started, most_moment, taken, first_open, IsWhole}
-use Rattle.execution_model.specs.Streams.{Listing, Stream, Shows, IsFaithful, fixed_by}
+use Rattle.execution_model.specs.Streams.{Listing, Stream, Shows, IsFaithful, fixed_by, IsExecution}
 use Rattle.execution_model.specs.Timely.{IsInTime, with_completed, AreInTime, fed_all}
 
 -- the setting of a network that is dispatched by a table
@@ -80,6 +80,18 @@ EndsAreEarliest =
     → IsDispatchedByClosure net table order → fed_all (started (setting_of net table)) listings ≡ Ok execution
     → IsWhole execution after → IsEarliest net situation schedule → Shows net (ended listings) schedule
     → after.moments ≡ map Some schedule
+
+-- a stream has at most one execution
+abbrev pub ExecutionsAreOne : Type 0
+ExecutionsAreOne =
+    (net : Plan) (stream : Stream) (first second : Moments) → IsPlan net → IsExecution net stream first → IsExecution net stream second → first ≡ second
+
+-- and feeds that are all taken make it, up to the last moment, and whole at the end where no contingent point is open
+abbrev pub StreamsAreExecuted : Type 0
+StreamsAreExecuted =
+    (net : Plan) (table : Graph) (order : List PointId) (listings : List Listing) (execution : Execution) → IsDispatchedByClosure net table order
+    → fed_all (started (setting_of net table)) listings ≡ Ok execution → IsExecution net (going_on listings) execution.moments
+    × (first_open execution ≡ None → (after : Execution) → IsWhole execution after → IsExecution net (ended listings) after.moments)
 
 -- where a network is dispatched by a table in an order, every contingent point has completed and no moment brings an act, every point
 -- has come

@@ -1,6 +1,6 @@
 //! Laws about executions, each the contract of a function without parameters.
 
-ghost use Rattle.execution_model.specs.Laws.{FeedsAreTakenInTime, FaithfulStreamsAreTaken, FeedsExecuteEarliest, DoneWhereNoneIsOpen, EndsAreEarliest, NoActsLeftIsWhole};
+ghost use Rattle.execution_model.specs.Laws.{FeedsAreTakenInTime, FaithfulStreamsAreTaken, FeedsExecuteEarliest, DoneWhereNoneIsOpen, EndsAreEarliest, ExecutionsAreOne, StreamsAreExecuted, NoActsLeftIsWhole};
 
 /// A feed within the limit is taken exactly where its completions are in time: its moment is after the last one fed, each listed point
 /// completes neither too soon nor too late and stands once, and none is left out whose latest moment is reached. Then the moments are
@@ -35,4 +35,15 @@ pub fn done_where_none_is_open()
 /// The end makes the whole of the earliest schedule of every situation that the done stream fits.
 pub fn ends_are_earliest()
     ensures { EndsAreEarliest }
+{}
+
+/// A stream has at most one execution: that of every situation that it fits is the same, as far as the stream fixes it.
+pub fn executions_are_one()
+    ensures { ExecutionsAreOne }
+{}
+
+/// Feeds that were all taken make the execution of their stream: up to its last moment, and whole at the end where no contingent point is
+/// open.
+pub fn streams_are_executed()
+    ensures { StreamsAreExecuted }
 {}
