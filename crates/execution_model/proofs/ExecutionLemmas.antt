@@ -29,6 +29,14 @@ last_stands (first ∷ others) before l is =
       | inr here ↦ inl (first, Contains-head first others, same_Some first.moment l here)
     ]
 
+-- a moment that is no later than a last one
+abbrev shown_up_to : Option ℕ → ℕ → Option ℕ
+shown_up_to last m = if option_map_or (nat_le m) last false then Some m else None
+
+-- what a stream that is done or goes on fixes
+abbrev fixed_where : (done : Bool) → Option ℕ → List ℕ → List (Option ℕ)
+fixed_where done last schedule = if done then map Some schedule else cut_at last schedule
+
 module _ (net : Plan) (plan : IsPlan net) (stream : Stream) (one other : List ℕ) (first : Fits net stream one) (second : Fits net stream other) where
   -- while all that comes is listed, the completions are the same
   same_completions : (t : ℕ) → ((m : ℕ) → m ≤ t → HasGoneBy stream m) → SameCompletions net t first.schedule second.schedule
@@ -74,7 +82,7 @@ module _ (net : Plan) (plan : IsPlan net) (stream : Stream) (one other : List �
       same_lists (cut_at last first.schedule) (cut_at last second.schedule) (length-map first.schedule shown ∙ same_length ∙ sym (length-map second.schedule shown)) each
     where
       shown : ℕ → Option ℕ
-      shown m = if option_map_or (nat_le m) last false then Some m else None
+      shown m = shown_up_to last m
 
       past : (l m : ℕ) → last ≡ Some l → l < m → shown m ≡ None
       past l m some after = ap (λ (b : Bool). if b then Some m else None) (cut_later last m (subst (λ (o : Option ℕ). option_map_or (λ x. x + 1) o 0 ≤ m) (sym some) (omega (arith, after))))
@@ -87,8 +95,8 @@ module _ (net : Plan) (plan : IsPlan net) (stream : Stream) (one other : List �
           ]
 
       at_last : (o : Option ℕ) → last ≡ o → (k : ℕ) → k < length first.schedule → shown (get_or first.schedule k 0) ≡ shown (get_or second.schedule k 0)
-      at_last None none k inside = ap (λ (o : Option ℕ). if option_map_or (nat_le (get_or first.schedule k 0)) o false then Some (get_or first.schedule k 0) else None) none
-          ∙ sym (ap (λ (o : Option ℕ). if option_map_or (nat_le (get_or second.schedule k 0)) o false then Some (get_or second.schedule k 0) else None) none)
+      at_last None none k inside =
+          ap (λ (o : Option ℕ). shown_up_to o (get_or first.schedule k 0)) none ∙ sym (ap (λ (o : Option ℕ). shown_up_to o (get_or second.schedule k 0)) none)
       at_last (Some l) some k inside =
           let size = long in
           let agrees = agree l (gone l some) (record { 0 = k }) (omega (arith, inside, size)) in
@@ -109,12 +117,13 @@ module _ (net : Plan) (plan : IsPlan net) (stream : Stream) (one other : List �
   pub same_fixed : fixed_by stream first.schedule ≡ fixed_by stream second.schedule
   same_fixed = by stream.done refl
     where
-      by : (b : Bool) → stream.done ≡ b → (if stream.done then map Some first.schedule else cut_at (last_moment stream) first.schedule) ≡ (if stream.done then map Some second.schedule else cut_at (last_moment stream) second.schedule)
-      by true done = ap (λ (s : List ℕ). if stream.done then map Some s else cut_at (last_moment stream) s) (same_where_done done)
+      last : Option ℕ
+      last = last_moment stream
+
+      by : (b : Bool) → stream.done ≡ b → fixed_where stream.done last first.schedule ≡ fixed_where stream.done last second.schedule
+      by true done = ap (fixed_where stream.done last) (same_where_done done)
       by false goes_on =
-          ap (λ (b : Bool). if b then map Some first.schedule else cut_at (last_moment stream) first.schedule) goes_on
-          ∙ same_up_to (last_moment stream) refl
-          ∙ sym (ap (λ (b : Bool). if b then map Some second.schedule else cut_at (last_moment stream) second.schedule) goes_on)
+          ap (λ (b : Bool). fixed_where b last first.schedule) goes_on ∙ same_up_to last refl ∙ sym (ap (λ (b : Bool). fixed_where b last second.schedule) goes_on)
 
 pub executions_are_one : ExecutionsAreOne
 executions_are_one net stream one other plan first second =
