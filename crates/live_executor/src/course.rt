@@ -61,7 +61,7 @@ impl Course {
     }
 
     /// Finds from when on each point is due with the moments so far.
-    fn find_due(&mut self, dispatched: &Dispatched)
+    pub(crate) fn find_due(&mut self, dispatched: &Dispatched)
         requires count { length self.old.moments.items ≡ length dispatched.now.dispatch }
         requires early { AreBefore end_of_time self.old.moments.items }
         ensures course { IsCourseOf dispatched.now self.new.moments.items self.new.due.items }

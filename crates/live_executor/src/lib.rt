@@ -4,6 +4,7 @@
 mod course;
 mod dispatched;
 mod executor;
+mod feed;
 mod met;
 mod taking;
 

@@ -73,7 +73,7 @@ impl Course {
     }
 
     /// Completes the listed points, or gives the first refusal.
-    fn complete(
+    pub(crate) fn complete(
         &mut self,
         dispatched: &Dispatched,
         moment: u64,
@@ -113,7 +113,7 @@ impl Course {
     }
 
     /// The lowest point that should have completed by a moment, if there is one, as a refusal.
-    fn first_overdue(&self, dispatched: &Dispatched, moment: u64) -> Option<Why>
+    pub(crate) fn first_overdue(&self, dispatched: &Dispatched, moment: u64) -> Option<Why>
         requires count { length self.now.moments.items ≡ length dispatched.now.dispatch }
         requires early { AreBefore end_of_time self.now.moments.items }
         ensures { result ≡ first_overdue dispatched.now self.now.moments.items moment }
