@@ -1,6 +1,7 @@
 -- The moments so far as they are kept, and how they change. This project's own choice.
 use Rattle.std.specs.Prelude.{◌≡◌, ℕ, ◌<◌, ◌≤◌, Bool, true, List, length, map, filter, Option, Some, None, is_none, if◌then◌else◌}
 use Rattle.std.specs.List.{range_with_len, count_by}
+use Rattle.net_model.specs.Limits.{most_points}
 use Rattle.net_model.specs.declared.ids.PointId.{PointId}
 use Rattle.execution_model.specs.Execution.{Moments, Setting, moment_of}
 use Rattle.execution_model.specs.declared.feeding.Act.{Act}
@@ -38,3 +39,4 @@ pub record IsCourseOf (setting : Setting) (moments : Moments) (due : List (Optio
   pub count : length moments ≡ length setting.dispatch
   pub early : AreBefore end_of_time moments
   pub known : AreDue setting moments due
+  pub few : length setting.dispatch ≤ most_points

@@ -1,7 +1,8 @@
 //! A network as it is dispatched.
 
-ghost use Rattle.std.specs.Prelude.{◌≡◌, ◌<◌, ◌==◌, find, length, IfOk, IfSome};
+ghost use Rattle.std.specs.Prelude.{◌≡◌, ◌<◌, ◌≤◌, ◌==◌, find, length, IfOk, IfSome};
 ghost use Rattle.std.specs.List.{slice_index_or};
+ghost use Rattle.net_model.specs.Limits.{most_points};
 ghost use Rattle.net_model.specs.declared.part.Link.{Link};
 ghost use Rattle.execution_model.specs.Execution.{is_due, link_to};
 ghost use Rattle.live_executor.specs.Due.{PassesFrom};
@@ -56,7 +57,8 @@ impl Dispatched {
 
     /// How many points there are.
     pub(crate) fn points(&self) -> u32
-        ensures { result ≡ length self.now.dispatch }
+        ensures count { result ≡ length self.now.dispatch }
+        ensures few { result ≤ most_points }
     {
         self.ends.len() as u32
     }

@@ -4,16 +4,18 @@ ghost use Rattle.std.specs.Prelude.{◌≡◌, ◌+◌, ◌<◌, Ok, Err, Some, 
 ghost use Rattle.std.specs.List.{All};
 ghost use Rattle.std.specs.Option.{option_map_or};
 ghost use Rattle.execution_model.specs.Execution.{moment_of};
-ghost use Rattle.execution_model.specs.Feeding.{started, next_moment, IsFed, IsFinished, IsDueAnswer};
+ghost use Rattle.execution_model.specs.Feeding.{started, next_moment, IsFed, IsFinished, IsDueAnswer, refusal_of_moment};
+ghost use Rattle.live_executor.specs.Kept.{IsTaken};
 ghost use Rattle.live_executor.specs.Sound.{IsDispatchOf};
 
 use crate::course::Course;
 use crate::dispatched::Dispatched;
 use dispatch_net::Dispatch;
-use execution_model::{Act, Why};
+use execution_model::{Act, Fed, MOST_MOMENT, Why};
 use net_model::{Network, PointId};
 use std::alloc::{AllocError, Global};
 use std::marker::Model;
+use std::mem;
 
 /// An execution of a dispatchable network, fed with completions moment by moment. Contracts see it as an execution: by what the
 /// network is executed, the moments so far, the last moment fed, the last acts, and why a feed was refused.
@@ -90,6 +92,60 @@ impl Executor {
             Some(_) => None,
             None => self.course.next_due(self.next_moment()),
         }
+    }
+
+    /// Feeds a moment, in whole moments from 0, with the points that complete at it. Time runs to the moment before, then the completions
+    /// are taken, then the acts of the moment are made. `Refused` comes, with the first cause, for `NotLater`, then `MomentLimit`, then for
+    /// each listed point in order `NotContingent`, `Twice`, `NotActive`, `TooSoon` or `Overdue`, then `Overdue` for the lowest point that
+    /// should have completed; no act is made then, and each later call answers `Ended` with that cause.
+    pub fn feed(&mut self, moment: u64, completions: &[PointId]) -> Fed
+        requires { All (λ point. point.0 < length self.old.setting.dispatch) completions.now }
+        ensures { IsFed self.old moment completions.now result self.new }
+    {
+        if let Some(why) = self.refused {
+            return Fed::Ended(why);
+        }
+        match self.take(moment, completions) {
+            Ok(()) => Fed::Acts,
+            Err(why) => Fed::Refused(why),
+        }
+    }
+
+    /// Takes a feed, or keeps why it is refused.
+    fn take(&mut self, moment: u64, completions: &[PointId]) -> Result<(), Why>
+        requires { All (λ point. point.0 < length self.old.setting.dispatch) completions.now }
+        ensures { IsTaken self.old moment completions.now result self.new }
+    {
+        if let Some(why) = self.refusal_of_moment(moment) {
+            self.refused = Some(why);
+            return Err(why);
+        }
+        let from = self.next_moment();
+        self.trial.follow(&self.course);
+        let tried = self.trial.try_feed(&self.dispatched, from, moment, completions);
+        match tried {
+            Ok(()) => {
+                mem::swap(&mut self.course, &mut self.trial);
+                self.last = Some(moment);
+            }
+            Err(why) => self.refused = Some(why),
+        }
+        tried
+    }
+
+    /// Why a moment can't be fed, whatever completes.
+    fn refusal_of_moment(&self, moment: u64) -> Option<Why>
+        ensures { result ≡ refusal_of_moment self.now moment }
+    {
+        if let Some(last) = self.last {
+            if moment <= last {
+                return Some(Why::NotLater(last));
+            }
+        }
+        if MOST_MOMENT < moment {
+            return Some(Why::MomentLimit);
+        }
+        None
     }
 
     /// The first moment that has not gone by.
