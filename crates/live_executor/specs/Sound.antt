@@ -1,5 +1,5 @@
 -- By what a network is executed, as an executor keeps it.
-use Rattle.std.specs.Prelude.{◌≡◌, ◌==◌, ℕ, ℤ, ◌<◌, ◌≤◌, List, length, find, unsigned_abs, Option, None}
+use Rattle.std.specs.Prelude.{◌≡◌, ◌==◌, ℕ, ℤ, ◌<◌, ◌≤◌, List, length, find, unsigned_abs, Option, None, IsSome, is_some, true, []}
 use Rattle.std.specs.List.{All, slice_index_or}
 use Rattle.net_model.specs.Network.{Plan, IsPlan}
 use Rattle.closure_model.specs.Tables.{Graph, IsGraph}
@@ -9,7 +9,7 @@ use Rattle.net_model.specs.declared.ids.PointId.{PointId}
 use Rattle.net_model.specs.declared.ids.LinkId.{LinkId}
 use Rattle.net_model.specs.declared.part.Link.{Link}
 use Rattle.dispatch_net.specs.declared.dispatch.Conditions.{Conditions}
-use Rattle.execution_model.specs.Execution.{Setting}
+use Rattle.execution_model.specs.Execution.{Moments, Setting, moment_of, link_to, acts_at}
 
 -- a lower bound is after one of so many points, by a number that a network may have
 pub record IsLowerBound (points : ℕ) (bound : PointId × ℤ) : Type 0 where
@@ -56,3 +56,10 @@ pub record IsKept (setting : Setting) (ends : List (Option Link)) : Type 0 where
   pub dispatched : IsDispatchOf net setting.dispatch
   pub sound : IsSound setting
   pub ends_are : AreEnds setting.links (length setting.dispatch) ends
+
+-- where each contingent point has come, and no moment brings an act, every point has come
+abbrev pub ComesToItsEnd : Setting → Type 0
+ComesToItsEnd setting =
+    (moments : Moments) → length moments ≡ length setting.dispatch
+    → ((point : PointId) → point.0 < length setting.dispatch → is_some (link_to setting point) ≡ true → is_some (moment_of moments point) ≡ true)
+    → ((t : ℕ) → acts_at setting moments t ≡ []) → All IsSome moments

@@ -1,9 +1,11 @@
 //! How far an execution has come.
 
-ghost use Rattle.std.specs.Prelude.{◌≡◌, ◌+◌, ◌-◌, ◌||◌, ◌<◌, ◌≤◌, ◌++◌, ◌∷◌, [], ℕ, None, Some, length, slice_set, replicate, true, if◌then◌else◌, IfOk};
-ghost use Rattle.std.specs.List.{list_any};
+ghost use Rattle.std.specs.Prelude.{◌≡◌, ◌+◌, ◌-◌, ◌*◌, ◌||◌, ◌<◌, ◌≤◌, ◌++◌, ◌∷◌, [], ℕ, None, Some, length, slice_set, replicate, true, if◌then◌else◌, find, IsSome, IfOk};
+ghost use Rattle.net_model.specs.Limits.{most_size};
+ghost use Rattle.std.specs.List.{All, list_any};
 ghost use Rattle.std.specs.Vec.{vec_capacity};
-ghost use Rattle.execution_model.specs.Execution.{moment_of, acts_at, acted, time_runs, acts_while};
+ghost use Rattle.execution_model.specs.Execution.{moment_of, points_of, acts_at, acted, time_runs, acts_while};
+ghost use Rattle.execution_model.specs.Feeding.{is_open, last_of};
 ghost use Rattle.live_executor.specs.Course.{left_of, is_due_in, IsCourseOf};
 ghost use Rattle.live_executor.specs.Due.{AreDue, PassesFrom, IsFirstFrom, IsFirstBefore, has_begun};
 ghost use Rattle.live_executor.specs.Limits.{AreBefore, end_of_time};
@@ -12,6 +14,10 @@ use crate::dispatched::Dispatched;
 use execution_model::Act;
 use net_model::PointId;
 use std::alloc::{AllocError, Global};
+
+/// A moment that no execution reaches: above the greatest that may be fed, with room for the greatest number of a network for each
+/// point.
+const END_OF_TIME: u64 = 10_000_000_000_000;
 
 /// The moments so far, from when on each point is due with them, and the acts that were made. There is room for an act of each
 /// point.
@@ -165,6 +171,35 @@ impl Course {
             self.act(dispatched, moment);
             next = moment + 1;
         }
+    }
+
+    /// Makes all acts that are left, where no contingent point is open.
+    pub(crate) fn run_out(&mut self, dispatched: &Dispatched, from: u64)
+        requires course { IsCourseOf dispatched.now self.old.moments.items self.old.due.items }
+        requires early { AreBefore from self.old.moments.items }
+        requires time_left { from + most_size * left_of self.old.moments.items ≤ end_of_time }
+        requires closed { find (is_open dispatched.now self.old.moments.items) (points_of dispatched.now) ≡ None }
+        ensures moments { self.new.moments.items ≡ time_runs dispatched.now self.old.moments.items from (end_of_time - from) }
+        ensures acts { self.new.acts.items ≡ acts_while dispatched.now self.old.moments.items from (end_of_time - from) }
+        ensures course { IsCourseOf dispatched.now self.new.moments.items self.new.due.items }
+        ensures come { All IsSome self.new.moments.items }
+    {
+        // The proof reads here that whatever is executed comes to its end.
+        let _ = dispatched.points();
+        dispatched.comes_to_its_end();
+        self.acts.clear();
+        self.run(dispatched, from, END_OF_TIME);
+    }
+
+    /// The moment of the last act, or another where there is none.
+    pub(crate) fn last_act(&self, last: Option<u64>) -> Option<u64>
+        ensures { result ≡ last_of last self.now.acts.items }
+    {
+        let mut latest = last;
+        for act in &self.acts {
+            latest = Some(act.moment);
+        }
+        latest
     }
 }
 

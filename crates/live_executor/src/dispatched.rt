@@ -1,16 +1,16 @@
 //! A network as it is dispatched.
 
-ghost use Rattle.std.specs.Prelude.{◌≡◌, ◌<◌, ◌≤◌, ◌==◌, find, length, IfOk, IfSome};
+ghost use Rattle.std.specs.Prelude.{◌≡◌, ◌<◌, ◌==◌, find, length, IfOk, IfSome};
 ghost use Rattle.std.specs.List.{slice_index_or};
-ghost use Rattle.net_model.specs.Limits.{most_points};
 ghost use Rattle.net_model.specs.declared.part.Link.{Link};
 ghost use Rattle.execution_model.specs.Execution.{is_due, link_to};
 ghost use Rattle.live_executor.specs.Due.{PassesFrom};
 ghost use Rattle.live_executor.specs.Limits.{AreBefore, end_of_time};
-ghost use Rattle.live_executor.specs.Sound.{IsDispatchOf, IsLinkOf, AreEnds};
+ghost use Rattle.live_executor.specs.Sound.{IsDispatchOf, IsLinkOf, IsSound, ComesToItsEnd, AreEnds};
 
 use crate::met::{bounds_met, waits_met};
 use dispatch_net::Dispatch;
+use execution_model::laws::no_acts_left_is_whole;
 use net_model::{Link, Network, PointId};
 use std::alloc::{AllocError, Global};
 use std::marker::Model;
@@ -58,9 +58,18 @@ impl Dispatched {
     /// How many points there are.
     pub(crate) fn points(&self) -> u32
         ensures count { result ≡ length self.now.dispatch }
-        ensures few { result ≤ most_points }
+        ensures sound { IsSound self.now }
     {
         self.ends.len() as u32
+    }
+
+    /// Where each contingent point has come, and no moment brings an act, every point has come.
+    pub(crate) fn comes_to_its_end(&self)
+        ensures { ComesToItsEnd self.now }
+    {
+        // The proof reads here of which network this is.
+        let _ = &self.dispatch;
+        no_acts_left_is_whole();
     }
 
     /// The link that ends in a point.

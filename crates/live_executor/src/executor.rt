@@ -4,14 +4,14 @@ ghost use Rattle.std.specs.Prelude.{◌≡◌, ◌+◌, ◌<◌, Ok, Err, Some, 
 ghost use Rattle.std.specs.List.{All};
 ghost use Rattle.std.specs.Option.{option_map_or};
 ghost use Rattle.execution_model.specs.Execution.{moment_of};
-ghost use Rattle.execution_model.specs.Feeding.{started, next_moment, IsFed, IsFinished, IsDueAnswer, refusal_of_moment};
+ghost use Rattle.execution_model.specs.Feeding.{started, next_moment, IsFed, IsFinished, IsDueAnswer, refusal_of_moment, first_open, IsWhole};
 ghost use Rattle.live_executor.specs.Kept.{IsTaken};
 ghost use Rattle.live_executor.specs.Sound.{IsDispatchOf};
 
 use crate::course::Course;
 use crate::dispatched::Dispatched;
 use dispatch_net::Dispatch;
-use execution_model::{Act, Fed, MOST_MOMENT, Why};
+use execution_model::{Act, Fed, Finished, MOST_MOMENT, Why};
 use net_model::{Network, PointId};
 use std::alloc::{AllocError, Global};
 use std::marker::Model;
@@ -109,6 +109,31 @@ impl Executor {
             Ok(()) => Fed::Acts,
             Err(why) => Fed::Refused(why),
         }
+    }
+
+    /// Ends the execution, where each contingent point has completed: makes all acts that are left. Else it answers `Unfinished` with the
+    /// lowest contingent point that has not, and nothing changes; after a refusal it answers `Ended` with its cause.
+    pub fn finish(&mut self) -> Finished
+        ensures { IsFinished self.old result self.new }
+    {
+        if let Some(why) = self.refused {
+            return Finished::Ended(why);
+        }
+        if let Some(point) = self.course.first_open(&self.dispatched) {
+            return Finished::Unfinished(point);
+        }
+        self.run_out();
+        Finished::Complete
+    }
+
+    /// Makes all acts that are left, where no contingent point is open.
+    fn run_out(&mut self)
+        requires { first_open self.old ≡ None }
+        ensures { IsWhole self.old self.new }
+    {
+        let from = self.next_moment();
+        self.course.run_out(&self.dispatched, from);
+        self.last = self.course.last_act(self.last);
     }
 
     /// Takes a feed, or keeps why it is refused.
