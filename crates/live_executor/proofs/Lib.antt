@@ -5,3 +5,4 @@ pub mod TimeLemmas
 pub mod MomentLemmas
 pub mod TakingLemmas
 pub mod ExecutorLemmas
+pub mod EndLemmas
