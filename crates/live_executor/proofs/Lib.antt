@@ -6,3 +6,5 @@ pub mod MomentLemmas
 pub mod TakingLemmas
 pub mod ExecutorLemmas
 pub mod EndLemmas
+pub mod SettleLemmas
+pub mod LastLemmas
