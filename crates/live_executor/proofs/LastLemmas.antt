@@ -77,12 +77,12 @@ module _ (setting : Setting) where
           })
 
 -- what an executor keeps at the end
-pub kept_at_end : (setting : Setting) (old : Moments) (last : Option ℕ) (now trial : Moments) (due : List (Option ℕ)) (acts : List Act) → length old ≡ length setting.dispatch
-    → AreBefore (moment_after last) old → moment_after last ≤ end_of_time → now ≡ time_runs setting old (moment_after last) (end_of_time - moment_after last)
-    → acts ≡ acts_while setting old (moment_after last) (end_of_time - moment_after last) → IsCourseOf setting now due → length trial ≡ length now → All IsSome now
+pub kept_at_end : (setting : Setting) (old : Moments) (last : Option ℕ) (from : ℕ) (now trial : Moments) (due : List (Option ℕ)) (acts : List Act) → length old ≡ length setting.dispatch
+    → AreBefore (moment_after last) old → from ≡ moment_after last → from ≤ end_of_time → now ≡ time_runs setting old from (end_of_time - from)
+    → acts ≡ acts_while setting old from (end_of_time - from) → IsCourseOf setting now due → length trial ≡ length now → All IsSome now
     → IsKeptExecution setting now due trial (last_of last acts)
-kept_at_end setting old last now trial due acts whole before soon is acts_are course room come =
-    let end = ends_at setting last old (moment_after last) (end_of_time - moment_after last) whole (omega arith) before in
+kept_at_end setting old last from now trial due acts whole before first soon is acts_are course room come =
+    let end = ends_at setting last old from (end_of_time - from) whole (omega (arith, first)) before in
     record {
       course = course;
       room = room;
