@@ -1,29 +1,25 @@
 -- An execution without open points comes to its end, before the end of time.
-use Rattle.std.proofs.Common.{◌≡◌, ◌≢◌, ℕ, zero, suc, ◌+◌, ◌-◌, ◌*◌, ◌<◌, ◌≤◌, Bool, true, false, cond, ◌⊎◌, inl, inr, List, [], ◌∷◌, ◌++◌, length, get_or, Option, Some, None, refl, ap, sym, subst, ◌∙◌, arith, ℤ, max}
-use Rattle.std.specs.Prelude.{is_some, is_none, IsSome, IfSome, find, slice_get, unsigned_abs, ◌&&◌, ◌||◌}
-use Rattle.std.specs.List.{All, list_all, count_by}
+use Rattle.std.proofs.Common.{◌≡◌, ℕ, ◌+◌, ◌<◌, ◌≤◌, Bool, true, false, cond, List, [], ◌∷◌, length, Option, Some, None, refl, ap, subst, ◌∙◌, arith, ℤ}
+use Rattle.std.specs.Prelude.{is_some, IfSome, find, slice_get, unsigned_abs, ◌&&◌, ◌||◌}
+use Rattle.std.specs.List.{All, list_all}
 use Rattle.std.specs.Option.{option_map_or}
-use Rattle.std.proofs.lemmas.Bool.{cases_lt}
 use Rattle.std.proofs.lemmas.List.Elements.{All-head, All-tail}
 use Rattle.net_model.specs.Limits.{most_size}
 use Rattle.net_model.specs.declared.ids.PointId.{PointId}
-use Rattle.net_model.specs.declared.ids.LinkId.{LinkId}
 use Rattle.net_model.specs.declared.part.Link.{Link}
 use Rattle.closure_model.proofs.OrderLemmas.{find_none}
 use Rattle.dispatch_net.specs.Dispatchable.{conditions_at, no_conditions}
 use Rattle.dispatch_net.specs.declared.dispatch.Conditions.{Conditions}
 use Rattle.dispatch_net.proofs.ExecutionLemmas.{dispatchable_length}
-use Rattle.execution_model.specs.Execution.{Moments, Setting, moment_of, has_come, link_to, is_due, meets, meets_bound, meets_wait, meets_wait_for, has_gone_by, points_of, acts_at, acted, time_runs}
+use Rattle.execution_model.specs.Execution.{Moments, Setting, moment_of, has_come, link_to, is_due, meets_bound, meets_wait, meets_wait_for, has_gone_by, points_of, acts_at, time_runs}
 use Rattle.execution_model.specs.Feeding.{is_open}
 use Rattle.execution_model.specs.Laws.{NoActsLeftIsWhole, setting_of}
 use Rattle.execution_model.proofs.LinkLemmas.{contingent_has_link, link_to_is_point}
 use Rattle.execution_model.proofs.PlaceLemmas.{gone_by, from_gone_by}
-use Rattle.execution_model.proofs.MomentLemmas.{Contains-point, moment_acted, due_parts, due_from, no_acts_none_due, none_due_no_acts, no_acts_same, length-acted, length-time_runs, time_runs_contingent, time_runs_on}
-use Rattle.live_executor.specs.Course.{left_of}
+use Rattle.execution_model.proofs.MomentLemmas.{Contains-point, due_parts, due_from, time_runs_contingent}
 use Rattle.live_executor.specs.Limits.{AreBefore}
 use Rattle.live_executor.specs.Sound.{IsLowerBound, IsWait, IsSound, IsKept, ComesToItsEnd}
-use Rattle.live_executor.proofs.MomentLemmas.{moment_before, time_before}
-use Rattle.live_executor.proofs.TimeLemmas.{IsIdle, still}
+use Rattle.live_executor.proofs.MomentLemmas.{moment_before}
 
 -- ---- of which network it is
 pub comes_to_its_end : NoActsLeftIsWhole → (setting : Setting) (ends : List (Option Link)) → IsKept setting ends → ComesToItsEnd setting
@@ -31,14 +27,14 @@ comes_to_its_end law setting ends kept moments whole contingent idle =
     let of = kept.dispatched in
     let count : length setting.dispatch ≡ length kept.net.points = ap length of.made ∙ dispatchable_length kept.net of.table of.may.for_network in
     let same : setting ≡ setting_of kept.net of.table =
-        ap (λ (links : List Link). let s : Setting = record { links = links; dispatch = setting.dispatch } in s) kept.links
-        ∙ ap (λ (dispatch : List Conditions). let s : Setting = record { links = kept.net.links; dispatch = dispatch } in s) of.made in
+    ap (λ (links : List Link). let s : Setting = record { links = links; dispatch = setting.dispatch } in s) kept.links
+    ∙ ap (λ (dispatch : List Conditions). let s : Setting = record { links = kept.net.links; dispatch = dispatch } in s) of.made in
     law kept.net of.table of.order moments 0 kept.is_net of.graph of.may (whole ∙ count)
-        (λ point is.
-          let (link, found) = contingent_has_link kept.net setting kept.links kept.is_net point is in
-          let inside = link_to_is_point kept.net setting kept.links kept.is_net point link found in
-          contingent point (omega (arith, count, inside)) (ap is_some found))
-        (λ t from. subst (λ (s : Setting). acts_at s moments t ≡ []) same (idle t))
+    (λ point is.
+    let (link, found) = contingent_has_link kept.net setting kept.links kept.is_net point is in
+    let inside = link_to_is_point kept.net setting kept.links kept.is_net point link found in
+    contingent point (omega (arith, count, inside)) (ap is_some found))
+    (λ t from. subst (λ (s : Setting). acts_at s moments t ≡ []) same (idle t))
 
 -- ---- closed points
 shut : (come link : Bool) → cond come false link ≡ false → link ≡ true → come ≡ true
@@ -95,10 +91,10 @@ module _ (setting : Setting) (sound : IsSound setting) (moments : Moments) (from
       let (no_link, no_moment, met) = due_parts setting moments t point is in
       let conditions = conditions_at setting.dispatch point in
       due_from setting moments u point no_link no_moment
-          (parts (list_all (meets_bound moments t) conditions.lower_bounds) (list_all (meets_wait setting moments t) conditions.waits)
-            (list_all (meets_bound moments u) conditions.lower_bounds) (list_all (meets_wait setting moments u) conditions.waits)
-            (all_later (IsLowerBound (length setting.dispatch)) (meets_bound moments t) (meets_bound moments u) (λ b low. gone_later b.0 b.1 low.small) conditions.lower_bounds
-              (sound.bounds point.0 no_conditions inside))
-            (all_later (IsWait (length setting.links)) (meets_wait setting moments t) (meets_wait setting moments u) (λ w low. wait_later w.1 (slice_get setting.links w.0.0) low.small) conditions.waits
-              (sound.waits point.0 no_conditions inside))
-            met)
+      (parts (list_all (meets_bound moments t) conditions.lower_bounds) (list_all (meets_wait setting moments t) conditions.waits)
+      (list_all (meets_bound moments u) conditions.lower_bounds) (list_all (meets_wait setting moments u) conditions.waits)
+      (all_later (IsLowerBound (length setting.dispatch)) (meets_bound moments t) (meets_bound moments u) (λ b low. gone_later b.0 b.1 low.small) conditions.lower_bounds
+      (sound.bounds point.0 no_conditions inside))
+      (all_later (IsWait (length setting.links)) (meets_wait setting moments t) (meets_wait setting moments u) (λ w low. wait_later w.1 (slice_get setting.links w.0.0) low.small) conditions.waits
+      (sound.waits point.0 no_conditions inside))
+      met)

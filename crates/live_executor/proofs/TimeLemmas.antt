@@ -1,5 +1,5 @@
 -- Time by leaps is time by steps: where no point is due nothing changes.
-use Rattle.std.proofs.Common.{◌≡◌, ℕ, zero, suc, ◌+◌, ◌-◌, ◌<◌, ◌≤◌, Bool, true, false, cond, List, [], ◌∷◌, ◌++◌, length, map, get_or, Option, Some, None, refl, ap, sym, subst, ◌∙◌, arith, append_assoc, append-nil, add-one}
+use Rattle.std.proofs.Common.{◌≡◌, ℕ, zero, suc, ◌+◌, ◌-◌, ◌<◌, ◌≤◌, Bool, false, cond, List, [], ◌∷◌, ◌++◌, length, map, Option, Some, None, refl, ap, sym, subst, ◌∙◌, arith, append_assoc, append-nil, add-one}
 use Rattle.std.specs.Prelude.{filter}
 use Rattle.std.specs.List.{range_with_len}
 use Rattle.std.proofs.lemmas.List.FromFn.{filter_of_map_range_with_len_more, fill_by_all, length-map-range_with_len}
@@ -20,8 +20,8 @@ none_numbered p (suc n) none =
     let number : ℕ → PointId = λ k. record { 0 = k } in
     let front = none_numbered p n (λ point below. none point (omega arith)) in
     subst (λ m. filter p (first_points m) ≡ []) (add-one n)
-        (filter_of_map_range_with_len_more p number 0 n n (omega arith) ∙ ap (λ points. points ++ cond (p (number n)) (number n ∷ []) []) front
-        ∙ ap (λ b. cond b (number n ∷ []) []) (none (number n) (omega arith)))
+    (filter_of_map_range_with_len_more p number 0 n n (omega arith) ∙ ap (λ points. points ++ cond (p (number n)) (number n ∷ []) []) front
+    ∙ ap (λ b. cond b (number n ∷ []) []) (none (number n) (omega arith)))
 
 plus_zero : (t : ℕ) → t ≡ t + 0
 plus_zero t = omega arith
@@ -52,7 +52,7 @@ module _ (setting : Setting) where
       let after : PointId → Option ℕ = λ point. cond (is_due setting moments t point) (Some t) (moment_of moments point) in
       let number : ℕ → PointId = λ k. record { 0 = k } in
       sym (fill_by_all (λ k. after (number k)) moments (length setting.dispatch) None whole (λ k below.
-          ap (λ b. cond b (Some t) (moment_of moments (number k))) (sym (idle (number k) below)))
+      ap (λ b. cond b (Some t) (moment_of moments (number k))) (sym (idle (number k) below)))
       ∙ sym (map-map after number (range_with_len 0 (length setting.dispatch))))
 
   -- time in which no point is due
@@ -110,9 +110,10 @@ module _ (setting : Setting) where
         let a = next - from in
         let b = moment - next in
         let start : from + (next - from) ≡ next = omega arith in
-        let total : moment - from ≡ (next - from) + (moment - next) = omega arith in
-        (sym (ap (time_runs setting first from) total ∙ runs_on first from a moments next start are b ∙ rest.same),
-         sym (ap (acts_while setting first from) total ∙ acts_on first from a moments next start are b ∙ ap (λ acts. acts_while setting first from a ++ acts) rest.no_acts ∙ append-nil (acts_while setting first from a)))
+        let total : moment - from ≡ (next - from) + (moment - next) = omega arith in (
+          sym (ap (time_runs setting first from) total ∙ runs_on first from a moments next start are b ∙ rest.same),
+          sym (ap (acts_while setting first from) total ∙ acts_on first from a moments next start are b ∙ ap (λ acts. acts_while setting first from a ++ acts) rest.no_acts ∙ append-nil (acts_while setting first from a)),
+        )
 
     -- and then the acts of the next moment are made
     pub leaps : (acted setting moments moment ≡ time_runs setting first from (moment + 1 - from))
@@ -121,7 +122,8 @@ module _ (setting : Setting) where
         let a = moment - from in
         let start : from + (moment - from) ≡ moment = omega arith in
         let total : moment + 1 - from ≡ (moment - from) + 1 = omega arith in
-        let before = rests in
-        (sym (ap (time_runs setting first from) total ∙ runs_on first from a moments moment start before.0 1),
-         sym (ap (acts_while setting first from) total ∙ acts_on first from a moments moment start before.0 1 ∙ ap (λ acts. acts ++ (acts_at setting moments moment ++ [])) (sym before.1)
-         ∙ ap (λ acts. acts_while setting first from (next - from) ++ acts) (append-nil (acts_at setting moments moment))))
+        let before = rests in (
+          sym (ap (time_runs setting first from) total ∙ runs_on first from a moments moment start before.0 1),
+          sym (ap (acts_while setting first from) total ∙ acts_on first from a moments moment start before.0 1 ∙ ap (λ acts. acts ++ (acts_at setting moments moment ++ [])) (sym before.1)
+              ∙ ap (λ acts. acts_while setting first from (next - from) ++ acts) (append-nil (acts_at setting moments moment))),
+        )
