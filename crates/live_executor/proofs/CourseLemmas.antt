@@ -90,7 +90,9 @@ same_numbered p q (suc n) same =
     let here : p (number n) ≡ q (number n) = same (number n) (omega arith) in
     let first = filter_of_map_range_with_len_more p number 0 n n (omega arith) in
     let second = filter_of_map_range_with_len_more q number 0 n n (omega arith) in
-    subst (λ m. filter p (first_points m) ≡ filter q (first_points m)) (add-one n) (first ∙ ap (λ points. points ++ cond (p (number n)) (number n ∷ []) []) front ∙ ap (λ b. filter q (first_points n) ++ cond b (number n ∷ []) []) here ∙ sym second)
+    subst (λ m. filter p (first_points m) ≡ filter q (first_points m)) (add-one n)
+    (first ∙ ap (λ points. points ++ cond (p (number n)) (number n ∷ []) []) front
+    ∙ ap (λ b. filter q (first_points n) ++ cond b (number n ∷ []) []) here ∙ sym second)
 
 -- what is due by the list is due by the definition
 pub acts_are : (setting : Setting) (moments : Moments) (due : List (Option ℕ)) (t : ℕ) → AreDue setting moments due → acts_among due t (length setting.dispatch) ≡ acts_at setting moments t

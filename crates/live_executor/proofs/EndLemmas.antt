@@ -54,15 +54,15 @@ closed_have_come setting moments from count whole none point inside contingent =
     ∙ shut (has_come moments point) (is_some (link_to setting point)) (find_none (is_open setting moments) (points_of setting) point none (Contains-point setting point inside)) contingent
 
 -- ---- what is due comes in time
+both : (a b c d : Bool) → (a ≡ true → c ≡ true) → (b ≡ true → d ≡ true) → (a && b) ≡ true → (c && d) ≡ true
+both true true c d first second is = rw (first refl, second refl) refl
+both true false c d first second is = cc
+both false b c d first second is = cc
+
 all_later : {X : Type 0} (P : X → Type 0) (p q : X → Bool) → ((x : X) → P x → p x ≡ true → q x ≡ true) → (xs : List X) → All P xs → list_all p xs ≡ true → list_all q xs ≡ true
 all_later P p q step [] all passes = refl
 all_later P p q step (x ∷ xs) all passes =
     both (p x) (list_all p xs) (q x) (list_all q xs) (step x (All-head P x xs all)) (all_later P p q step xs (All-tail P x xs all)) passes
-  where
-    both : (a b c d : Bool) → (a ≡ true → c ≡ true) → (b ≡ true → d ≡ true) → (a && b) ≡ true → (c && d) ≡ true
-    both true true c d first second is = rw (first refl, second refl) refl
-    both true false c d first second is = cc
-    both false b c d first second is = cc
 
 module _ (setting : Setting) (sound : IsSound setting) (moments : Moments) (from t u : ℕ) (before : AreBefore from moments) (later : from + most_size ≤ u + 1) where
   gone_later : (point : PointId) (n : ℤ) → unsigned_abs n ≤ most_size → has_gone_by moments t point n ≡ true → has_gone_by moments u point n ≡ true
@@ -81,17 +81,12 @@ module _ (setting : Setting) (sound : IsSound setting) (moments : Moments) (from
   wait_later n (Some link) small is =
       waits (has_come moments link.from) (has_come moments link.to) (has_gone_by moments t link.from n) (has_gone_by moments u link.from n) (gone_later link.from n small) is
 
-  parts : (a b c d : Bool) → (a ≡ true → c ≡ true) → (b ≡ true → d ≡ true) → (a && b) ≡ true → (c && d) ≡ true
-  parts true true c d first second is = rw (first refl, second refl) refl
-  parts true false c d first second is = cc
-  parts false b c d first second is = cc
-
   pub due_later : (point : PointId) → point.0 < length setting.dispatch → is_due setting moments t point ≡ true → is_due setting moments u point ≡ true
   due_later point inside is =
       let (no_link, no_moment, met) = due_parts setting moments t point is in
       let conditions = conditions_at setting.dispatch point in
       due_from setting moments u point no_link no_moment
-      (parts (list_all (meets_bound moments t) conditions.lower_bounds) (list_all (meets_wait setting moments t) conditions.waits)
+      (both (list_all (meets_bound moments t) conditions.lower_bounds) (list_all (meets_wait setting moments t) conditions.waits)
       (list_all (meets_bound moments u) conditions.lower_bounds) (list_all (meets_wait setting moments u) conditions.waits)
       (all_later (IsLowerBound (length setting.dispatch)) (meets_bound moments t) (meets_bound moments u) (λ b low. gone_later b.0 b.1 low.small) conditions.lower_bounds
       (sound.bounds point.0 no_conditions inside))

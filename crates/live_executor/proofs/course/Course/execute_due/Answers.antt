@@ -34,5 +34,6 @@ returns c =
     record {
       moments = acted_are setting old.moments.items c.loop-point.self.moments.items old.due.items c.args.t c.requires.count c.requires.known
           (rw (← whole) i.moments);
-      acts = i.acts ∙ ap (λ n. old.acts.items ++ acts_among old.due.items c.args.t n) reached ∙ ap (λ (acts : List Act). old.acts.items ++ acts) (acts_are setting old.moments.items old.due.items c.args.t c.requires.known);
+      acts = i.acts ∙ ap (λ n. old.acts.items ++ acts_among old.due.items c.args.t n) reached
+          ∙ ap (λ (acts : List Act). old.acts.items ++ acts) (acts_are setting old.moments.items old.due.items c.args.t c.requires.known);
     }
