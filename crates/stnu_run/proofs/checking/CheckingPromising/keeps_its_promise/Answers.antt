@@ -1,5 +1,5 @@
 use Rattle.stnu_run.proofs.CheckLemmas.{check_keeps}
-use Rattle.stnu_run.proofs.laws.check_keeps_its_promise.Goals as goal
+use Rattle.stnu_run.proofs.checking.CheckingPromising.keeps_its_promise.Goals as goal
 
 pub returns : goal.returns
 returns c = check_keeps (record {
