@@ -50,8 +50,8 @@ pub goes_on : (net : Plan) (left all : List (List ℕ)) (points : List PointId) 
 goes_on net left all points word others point at split here = record {
   named = others_named net word others point (points_of net others) here refl (rw split at at.named);
   whole = λ more later.
-    let all_are : points_of net all ≡ Ok (points ++ point ∷ more) = at.whole (point ∷ more) (rw split (one_more net word others point more here later)) in
-    all_are ∙ ap (λ (ps : List PointId). Ok ps) (sym (append_assoc points (point ∷ []) more));
+      let all_are : points_of net all ≡ Ok (points ++ point ∷ more) = at.whole (point ∷ more) (rw split (one_more net word others point more here later)) in
+      all_are ∙ ap (λ (ps : List PointId). Ok ps) (sym (append_assoc points (point ∷ []) more));
 }
 
 pub at_end : (net : Plan) (left all : List (List ℕ)) (points : List PointId) → GoesOn net left all points → left ≡ [] → points_of net all ≡ Ok points

@@ -78,9 +78,9 @@ pub one_reading : (net : Plan) (line : List (List ℕ)) → OneReading net line
 one_reading net line = record {
   either = either_by net line (event_line net line) refl;
   one_telling = λ told other is also.
-    let both : Ok told ≡ Ok other = sym (told_read net told line is) ∙ told_read net other line also in cc;
+      let both : Ok told ≡ Ok other = sym (told_read net told line is) ∙ told_read net other line also in cc;
   one_fault = λ kind other is also.
-    let both : Err kind ≡ Err other = sym (fault_read net line kind is) ∙ fault_read net line other also in cc;
+      let both : Err kind ≡ Err other = sym (fault_read net line kind is) ∙ fault_read net line other also in cc;
   not_both = λ told kind is also.
-    let wrong : Ok told ≡ Err kind = sym (told_read net told line is) ∙ fault_read net line kind also in cc;
+      let wrong : Ok told ≡ Err kind = sym (told_read net told line is) ∙ fault_read net line kind also in cc;
 }

@@ -1,5 +1,5 @@
 /// What a line of events tells.
-#[derive(Clone, Copy, Debug, PartialEq, Eq)]
+#[derive(Clone, Copy, Debug)]
 pub enum Event {
     /// A line without words, or whose first word begins with `#`.
     Blank,

@@ -1,6 +1,6 @@
 //! The lines of events, one at a time.
 
-ghost use Rattle.std.specs.Prelude.{◌≡◌, ◌≤◌, List, [], length, IfOk, IfErr, IsOk};
+ghost use Rattle.std.specs.Prelude.{◌≡◌, ◌≤◌, List, [], length, IfOk, IfErr, OnErr, IsOk};
 ghost use Rattle.texts.specs.Words.{words};
 ghost use Rattle.net_model.specs.Network.{Plan};
 ghost use Rattle.event_stream.specs.Limits.{most_line, most_completions};
@@ -65,6 +65,7 @@ impl EventReader {
         ensures grammar { IfOk result (λ event. IsLine net.now (said event self.new) line.now) }
         ensures every { (told : EventLine) → IsLine net.now told line.now → (result ≡ Ok (event_of told)) × (self.new ≡ kept told self.old) }
         ensures fault { IfErr result (IsFaultOf net.now line.now) }
+        ensures refused { OnErr result (self.new ≡ self.old) }
         ensures points { IfOk result (λ event. HasPoints net.now event self.new) }
     {
         self.read_words(line, net)
