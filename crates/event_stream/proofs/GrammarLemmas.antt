@@ -1,20 +1,19 @@
 -- What is read of a line is what its words tell, and the fault that is told is its first.
-use Rattle.std.proofs.Common.{◌≡◌, ◌≢◌, ◌⊎◌, ℕ, ◌<◌, ◌≤◌, ◌^◌, ◌||◌, Bool, true, false, cond, List, [], ◌∷◌, Option, None, Some, Result, Ok, Err, refl, sym, ap, ◌∙◌, subst, arith, inl, inr, IsTrue, codes, nat_lt}
+use Rattle.std.proofs.Common.{◌≡◌, ℕ, ◌≤◌, Bool, true, false, cond, List, [], ◌∷◌, Option, None, Some, Result, Ok, Err, refl, sym, ap, ◌∙◌, subst, arith, inl, inr, IsTrue, codes, nat_lt}
 use Rattle.std.specs.Str.{bytes_eq}
 use Rattle.std.specs.Fmt.{decimal}
 use Rattle.std.proofs.lemmas.Bool.{ltb-true, ltb-false}
 use Rattle.texts.specs.Words.{is_remark, are_passed_over}
 use Rattle.net_model.specs.Names.{is_name}
 use Rattle.net_model.specs.Numbers.{is_zero, is_positive, value_of, limited, name_of, natural_of}
-use Rattle.net_model.specs.Reading.{◌>>=◌}
 use Rattle.net_model.specs.Network.{Plan, point_named}
 use Rattle.net_model.specs.declared.ids.PointId.{PointId}
 use Rattle.net_model.specs.declared.format.FormatKind.{FormatKind}
-use Rattle.net_model.specs.declared.format.FormatKind.TheVariants.{UnknownWord, WordCount, BadName, BadNumber, NumberLimit, UnknownName}
+use Rattle.net_model.specs.declared.format.FormatKind.TheVariants.{UnknownWord, WordCount, BadNumber, NumberLimit, UnknownName}
 use Rattle.net_model.proofs.ReadingLemmas.{choice, bind_ok, bind_err, name_ok, name_err, name_read, word_is}
 use Rattle.net_model.proofs.SpellingLemmas.{natural_spelled, spelled_natural}
 use Rattle.event_stream.specs.Limits.{most_moment}
-use Rattle.event_stream.specs.EventText.{EventLine, blank, completed, done, NamesPoint, NamePoints, IsAt, AreWordsOf, spells_moment, FitsMoment, MisfitsMoment, MisfitsPoint, FirstMisfits, IsFaultAfterAt, IsFaultOfWords, unknown_word, after_at, after_done}
+use Rattle.event_stream.specs.EventText.{EventLine, blank, completed, done, NamesPoint, NamePoints, AreWordsOf, spells_moment, FitsMoment, MisfitsMoment, MisfitsPoint, FirstMisfits, IsFaultAfterAt, BeginsOtherwise, IsFaultOfWords, unknown_word, after_at, after_done}
 use Rattle.event_stream.specs.EventLines.{known, point_of, points_of, at_line, done_line, line_of, event_line}
 
 -- a point that is known, or not
@@ -171,7 +170,7 @@ done_err net [] kind read = absurd (cc)
 done_err net (next ∷ others) kind read = after_done next others refl (cc)
 
 -- a line by its first word
-not_begun : (first spelling : List ℕ) (others : List (List ℕ)) → bytes_eq first spelling ≡ false → bytes_eq spelling spelling ≡ true → (rest : List (List ℕ)) → first ∷ others ≢ spelling ∷ rest
+not_begun : (first spelling : List ℕ) (others : List (List ℕ)) → bytes_eq first spelling ≡ false → bytes_eq spelling spelling ≡ true → BeginsOtherwise spelling (first ∷ others)
 not_begun first spelling others differs itself rest same =
     let first_is : first ≡ spelling = cc in
     let wrong : false ≡ true = sym differs ∙ (ap (λ (w : List ℕ). bytes_eq w spelling) first_is ∙ itself) in cc
@@ -236,15 +235,19 @@ told_read net (completed moment points) words is = ap (event_line net) is.spelle
 told_read net done words is = ap (event_line net) is ∙ done_read net
 
 -- a line is refused for its first fault
-other_word : (net : Plan) (at end : Bool) (first : List ℕ) (others : List (List ℕ)) → ((rest : List (List ℕ)) → first ∷ others ≢ codes "at" ∷ rest) → ((rest : List (List ℕ)) → first ∷ others ≢ codes "done" ∷ rest) → bytes_eq first (codes "at") ≡ at → bytes_eq first (codes "done") ≡ end → line_of net first others ≡ Err UnknownWord
-other_word net true end first others no_at no_done is_at is_done = absurd (no_at others (ap (λ (w : List ℕ). w ∷ others) (word_is first (codes "at") is_at)))
-other_word net false true first others no_at no_done is_at is_done = absurd (no_done others (ap (λ (w : List ℕ). w ∷ others) (word_is first (codes "done") is_done)))
-other_word net false false first others no_at no_done is_at is_done = rw (is_at, is_done) refl
+module _ (net : Plan) (first : List ℕ) (others : List (List ℕ)) (no_at : BeginsOtherwise (codes "at") (first ∷ others)) (no_done : BeginsOtherwise (codes "done") (first ∷ others)) where
+  other_by : (at end : Bool) → bytes_eq first (codes "at") ≡ at → bytes_eq first (codes "done") ≡ end → line_of net first others ≡ Err UnknownWord
+  other_by true end is_at is_done = absurd (no_at others (ap (λ (w : List ℕ). w ∷ others) (word_is first (codes "at") is_at)))
+  other_by false true is_at is_done = absurd (no_done others (ap (λ (w : List ℕ). w ∷ others) (word_is first (codes "done") is_done)))
+  other_by false false is_at is_done = rw (is_at, is_done) refl
 
-unknown_read : (net : Plan) (words : List (List ℕ)) → are_passed_over words ≡ false → ((rest : List (List ℕ)) → words ≢ codes "at" ∷ rest) → ((rest : List (List ℕ)) → words ≢ codes "done" ∷ rest) → event_line net words ≡ Err UnknownWord
+  other_word : line_of net first others ≡ Err UnknownWord
+  other_word = other_by (bytes_eq first (codes "at")) (bytes_eq first (codes "done")) refl refl
+
+unknown_read : (net : Plan) (words : List (List ℕ)) → are_passed_over words ≡ false → BeginsOtherwise (codes "at") words → BeginsOtherwise (codes "done") words → event_line net words ≡ Err UnknownWord
 unfolding event_line
 unknown_read net [] filled no_at no_done = absurd (cc)
-unknown_read net (first ∷ others) filled no_at no_done = rw (filled, other_word net (bytes_eq first (codes "at")) (bytes_eq first (codes "done")) first others no_at no_done refl refl) refl
+unknown_read net (first ∷ others) filled no_at no_done = rw (filled, other_word net first others no_at no_done) refl
 
 at_read : (net : Plan) (others : List (List ℕ)) (kind : FormatKind) → at_line net others ≡ Err kind → event_line net (codes "at" ∷ others) ≡ Err kind
 unfolding event_line

@@ -1,5 +1,5 @@
 -- What the answer to a line says of it, and that a line has one reading.
-use Rattle.std.proofs.Common.{◌≡◌, ◌⊎◌, ℕ, ◌<◌, List, [], ◌∷◌, length, Option, None, Some, Result, Ok, Err, refl, sym, ap, ◌∙◌, subst, inl, inr, position}
+use Rattle.std.proofs.Common.{◌≡◌, ◌⊎◌, ℕ, ◌<◌, List, [], ◌∷◌, length, Option, None, Some, Result, Ok, Err, refl, sym, ◌∙◌, subst, inl, inr, position}
 use Rattle.std.specs.List.{All}
 use Rattle.std.specs.Option.{option_map}
 use Rattle.std.specs.Str.{bytes_eq}
@@ -7,7 +7,7 @@ use Rattle.std.specs.Result.{IfOk, IfErr}
 use Rattle.std.proofs.lemmas.List.Elements.{All-cons, All-nil}
 use Rattle.std.proofs.lemmas.List.Quantifiers.{position-Some}
 use Rattle.texts.specs.Words.{words}
-use Rattle.net_model.specs.Network.{Plan, IsPoint, point_named}
+use Rattle.net_model.specs.Network.{Plan, IsPoint}
 use Rattle.net_model.specs.declared.ids.PointId.{PointId}
 use Rattle.net_model.specs.declared.format.FormatKind.{FormatKind}
 use Rattle.event_stream.specs.EventText.{EventLine, blank, completed, done, NamePoints, AreWordsOf, IsLine, IsFaultOf, IsFaultOfWords, event_of, said, kept, HasPoints}
@@ -17,9 +17,9 @@ use Rattle.event_stream.specs.declared.event.Event.{Event}
 use Rattle.event_stream.proofs.GrammarLemmas.{event_ok, event_err, told_read, fault_read}
 
 -- the point of a name is one of the network
-point_of_place : (found : Option ℕ) (names : List (List ℕ)) (name : List ℕ) (point : PointId) → position (bytes_eq name) names ≡ found → option_map (λ k. record { 0 = k }) found ≡ Some point → point.0 < length names
-point_of_place None names name point is found = absurd (cc)
-point_of_place (Some k) names name point is found =
+point_of_place : (names : List (List ℕ)) (name : List ℕ) (point : PointId) (place : Option ℕ) → position (bytes_eq name) names ≡ place → option_map (λ k. record { 0 = k }) place ≡ Some point → point.0 < length names
+point_of_place names name point None is found = absurd (cc)
+point_of_place names name point (Some k) is found =
     let same : record { 0 = k } ≡ point = cc in
     let inside : k < length names = (position-Some (bytes_eq name) names k [] is).0 in
     subst (λ (p : PointId). p.0 < length names) same inside
@@ -29,7 +29,7 @@ named_points net [] [] is = All-nil (IsPoint net)
 named_points net [] (p ∷ ps) is = absurd is
 named_points net (word ∷ words) [] is = absurd is
 named_points net (word ∷ words) (p ∷ ps) is =
-    All-cons (IsPoint net) p ps (point_of_place (position (bytes_eq word) net.points) net.points word p refl is.0.1) (named_points net words ps is.1)
+    All-cons (IsPoint net) p ps (point_of_place net.points word p (position (bytes_eq word) net.points) refl is.0.1) (named_points net words ps is.1)
 
 -- what a line told is in the grammar, by its event and what is kept after it
 told_so : (net : Plan) (told : EventLine) (before : List PointId) (line : List (List ℕ)) → AreWordsOf net told line → AreWordsOf net (said (event_of told) (kept told before)) line
@@ -42,32 +42,36 @@ told_points net blank before line is = tt
 told_points net (completed moment points) before line is = named_points net is.names points is.named
 told_points net done before line is = tt
 
-grammar_by : (net : Plan) (line : List ℕ) (read : Result EventLine FormatKind) (before : List PointId) (answer : Result Event FormatKind) (after : List PointId) → event_line net (words line) ≡ read → Answers read before answer after → IfOk answer (λ event. IsLine net (said event after) line)
-grammar_by net line (Ok told) before answer after is answers =
-    rw (answers.0, answers.1) (told_so net told before (words line) (event_ok net (words line) told is))
-grammar_by net line (Err kind) before answer after is answers = rw answers.0 tt
+-- a line, the answer to it, and the completions that were kept before it and are kept after it
+module _ (net : Plan) (line : List ℕ) (before : List PointId) (answer : Result Event FormatKind) (after : List PointId) where
+  -- what the answer says where this is read of the line
+  abbrev IsToldBy : Result EventLine FormatKind → Type 0
+  IsToldBy read = (event_line net (words line) ≡ read) × Answers read before answer after
 
-pub grammar : (net : Plan) (line : List ℕ) (before : List PointId) (answer : Result Event FormatKind) (after : List PointId) → Answers (event_line net (words line)) before answer after → IfOk answer (λ event. IsLine net (said event after) line)
-grammar net line before answer after answers = grammar_by net line (event_line net (words line)) before answer after refl answers
+  grammar_by : (read : Result EventLine FormatKind) → IsToldBy read → IfOk answer (λ event. IsLine net (said event after) line)
+  grammar_by (Ok told) by = rw (by.1.0, by.1.1) (told_so net told before (words line) (event_ok net (words line) told by.0))
+  grammar_by (Err kind) by = rw by.1.0 tt
 
-points_by : (net : Plan) (line : List ℕ) (read : Result EventLine FormatKind) (before : List PointId) (answer : Result Event FormatKind) (after : List PointId) → event_line net (words line) ≡ read → Answers read before answer after → IfOk answer (λ event. HasPoints net event after)
-points_by net line (Ok told) before answer after is answers =
-    rw (answers.0, answers.1) (told_points net told before (words line) (event_ok net (words line) told is))
-points_by net line (Err kind) before answer after is answers = rw answers.0 tt
+  points_by : (read : Result EventLine FormatKind) → IsToldBy read → IfOk answer (λ event. HasPoints net event after)
+  points_by (Ok told) by = rw (by.1.0, by.1.1) (told_points net told before (words line) (event_ok net (words line) told by.0))
+  points_by (Err kind) by = rw by.1.0 tt
 
-pub points : (net : Plan) (line : List ℕ) (before : List PointId) (answer : Result Event FormatKind) (after : List PointId) → Answers (event_line net (words line)) before answer after → IfOk answer (λ event. HasPoints net event after)
-points net line before answer after answers = points_by net line (event_line net (words line)) before answer after refl answers
+  fault_by : (read : Result EventLine FormatKind) → IsToldBy read → IfErr answer (IsFaultOf net line)
+  fault_by (Ok told) by = rw by.1.0 tt
+  fault_by (Err kind) by = rw by.1.0 (event_err net (words line) kind by.0)
 
-fault_by : (net : Plan) (line : List ℕ) (read : Result EventLine FormatKind) (before : List PointId) (answer : Result Event FormatKind) (after : List PointId) → event_line net (words line) ≡ read → Answers read before answer after → IfErr answer (IsFaultOf net line)
-fault_by net line (Ok told) before answer after is answers = rw answers.0 tt
-fault_by net line (Err kind) before answer after is answers = rw answers.0 (event_err net (words line) kind is)
+  module _ (answers : Answers (event_line net (words line)) before answer after) where
+    pub grammar : IfOk answer (λ event. IsLine net (said event after) line)
+    grammar = grammar_by (event_line net (words line)) (refl, answers)
 
-pub fault : (net : Plan) (line : List ℕ) (before : List PointId) (answer : Result Event FormatKind) (after : List PointId) → Answers (event_line net (words line)) before answer after → IfErr answer (IsFaultOf net line)
-fault net line before answer after answers = fault_by net line (event_line net (words line)) before answer after refl answers
+    pub points : IfOk answer (λ event. HasPoints net event after)
+    points = points_by (event_line net (words line)) (refl, answers)
 
-pub every : (net : Plan) (line : List ℕ) (before : List PointId) (answer : Result Event FormatKind) (after : List PointId) → Answers (event_line net (words line)) before answer after → (told : EventLine) → IsLine net told line → (answer ≡ Ok (event_of told)) × (after ≡ kept told before)
-every net line before answer after answers told is =
-    subst (λ (read : Result EventLine FormatKind). Answers read before answer after) (told_read net told (words line) is) answers
+    pub fault : IfErr answer (IsFaultOf net line)
+    fault = fault_by (event_line net (words line)) (refl, answers)
+
+    pub every : (told : EventLine) → IsLine net told line → (answer ≡ Ok (event_of told)) × (after ≡ kept told before)
+    every told is = subst (λ (read : Result EventLine FormatKind). Answers read before answer after) (told_read net told (words line) is) answers
 
 -- a line has one reading
 either_by : (net : Plan) (line : List (List ℕ)) (read : Result EventLine FormatKind) → event_line net line ≡ read → ((told : EventLine) × AreWordsOf net told line) ⊎ ((kind : FormatKind) × IsFaultOfWords net line kind)

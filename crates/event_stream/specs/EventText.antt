@@ -78,10 +78,14 @@ abbrev pub IsFaultAfterAt : Plan → List (List ℕ) → FormatKind → Type 0
 IsFaultAfterAt net [] kind = kind ≡ WordCount
 IsFaultAfterAt net (moment ∷ names) kind = MisfitsMoment moment kind ⊎ (FitsMoment moment × FirstMisfits net names kind)
 
+-- the first word of a line, if there is one, is another
+abbrev pub BeginsOtherwise : List ℕ → List (List ℕ) → Type 0
+BeginsOtherwise word line = (others : List (List ℕ)) → line ≢ word ∷ others
+
 -- The first fault of the words of a line: they are not passed over and begin with neither of the two words; or they begin with
 -- `at` and what follows has a fault; or there is more than `done`.
 pub data IsFaultOfWords (net : Plan) (words : List (List ℕ)) (kind : FormatKind) : Type 0 where
-  unknown_word : are_passed_over words ≡ false → ((others : List (List ℕ)) → words ≢ codes "at" ∷ others) → ((others : List (List ℕ)) → words ≢ codes "done" ∷ others) → kind ≡ UnknownWord → IsFaultOfWords net words kind
+  unknown_word : are_passed_over words ≡ false → BeginsOtherwise (codes "at") words → BeginsOtherwise (codes "done") words → kind ≡ UnknownWord → IsFaultOfWords net words kind
   after_at : (others : List (List ℕ)) → words ≡ codes "at" ∷ others → IsFaultAfterAt net others kind → IsFaultOfWords net words kind
   after_done : (next : List ℕ) (others : List (List ℕ)) → words ≡ codes "done" ∷ next ∷ others → kind ≡ WordCount → IsFaultOfWords net words kind
 
