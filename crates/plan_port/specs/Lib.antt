@@ -6,3 +6,4 @@ pub mod Reader
 pub mod Held
 pub mod Reading
 pub mod Memory
+pub mod Steady

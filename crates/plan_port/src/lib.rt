@@ -6,6 +6,7 @@ mod lines;
 mod memory;
 mod ports;
 mod standard;
+mod steady;
 mod window;
 mod writing;
 
@@ -14,4 +15,5 @@ pub use lines::{Line, LineReader};
 pub use memory::MemoryPort;
 pub use ports::{Port, Sent, Took};
 pub use standard::StdPort;
+pub use steady::SteadyPort;
 pub use writing::{Written, write_all};

@@ -10,9 +10,9 @@ use std::marker::Model;
 // Where the bytes of a take stand in the input, and how many bytes were put before it.
 #[derive(Clone, Copy, Debug)]
 pub(crate) struct TakenPiece {
-    start: usize,
-    end: usize,
-    put_before: usize,
+    pub(crate) start: usize,
+    pub(crate) end: usize,
+    pub(crate) put_before: usize,
 }
 
 // How many pieces had been taken, and how many bytes put.
