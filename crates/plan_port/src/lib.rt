@@ -5,6 +5,7 @@ mod limits;
 mod lines;
 mod memory;
 mod ports;
+mod source;
 mod standard;
 mod steady;
 mod window;

@@ -3,8 +3,8 @@ ghost use Rattle.std.specs.Prelude.{◌≡◌, ◌<◌, ◌≤◌, ◌↔◌, Is
 ghost use Rattle.plan_port.specs.Talk.{TakesOnce, PutsOnce};
 ghost use Rattle.plan_port.specs.Steady.{Steady, seen_of, unused, after_piece, after_kept, after_lost, TakesMost, PutsWhole};
 
-use crate::memory::TakenPiece;
 use crate::ports::{Port, Sent, Took};
+use crate::source::Source;
 use std::alloc::{AllocError, Global};
 use std::marker::Model;
 
@@ -15,16 +15,14 @@ use std::marker::Model;
 /// room for it; else it is lost, and from then on the port tells no talk. It tells what is left all the same.
 #[derive(Drop)]
 pub struct SteadyPort {
-    input: Vec<u8>,
-    position: usize,
-    taken: Vec<TakenPiece>,
+    source: Source,
     output: Vec<u8>,
     room: u32,
     whole: bool,
 }
 
 impl Model for SteadyPort {
-    ghost use Rattle.std.specs.Prelude.{◌+◌, ◌-◌, ◌≤◌, map, drop, slice_range, length, None, vec_len};
+    ghost use Rattle.std.specs.Prelude.{◌+◌, ◌≤◌, length, None, vec_len};
     ghost use Rattle.std.specs.Vec.{vec_capacity};
     ghost use Rattle.plan_port.specs.Steady.{Steady};
 
@@ -32,18 +30,17 @@ impl Model for SteadyPort {
 
     ghost view = { λ p. record {
       kept = record {
-        taken = map (λ t. record { bytes = slice_range p.input.items t.start t.end; put_before = t.put_before }) p.taken.items;
+        taken = p.source.taken;
         put = p.output.items;
         failed_take = None;
         failed_put = None;
       };
-      left = drop p.position p.input.items;
+      left = p.source.left;
       room = p.room;
       whole = p.whole;
     } };
 
-    ghost invariant = { λ p. (p.position ≤ vec_len p.input)
-        × (vec_len p.taken + (vec_len p.input - p.position) ≤ vec_capacity p.taken)
+    ghost invariant = { λ p. (length p.source.left ≤ p.source.room)
         × (vec_len p.output + p.room ≤ vec_capacity p.output) };
 }
 
@@ -53,12 +50,10 @@ impl SteadyPort {
     pub fn new(alloc: Global, input: Vec<u8>, room: u32) -> Result<SteadyPort, AllocError>
         ensures { IfOk result (λ port. port ≡ unused input.items room) }
     {
-        let taken = Vec::with_capacity(alloc, input.len())?;
+        let source = Source::with_room(alloc, input)?;
         let output = Vec::with_capacity(alloc, room as usize)?;
         Ok(SteadyPort {
-            input,
-            position: 0,
-            taken,
+            source,
             output,
             room,
             whole: true,
@@ -91,7 +86,7 @@ impl SteadyPort {
     fn size_of_take(&self, place: usize) -> usize
         ensures { result ≡ min place (length self.now.left) }
     {
-        place.min(self.input.len() - self.position)
+        place.min(self.source.size_left())
     }
 
     /// Gives bytes from the front of what is left.
@@ -102,15 +97,7 @@ impl SteadyPort {
         ensures after { self.new ≡ after_piece self.old size }
         ensures bytes { take size into.new ≡ take size self.old.left }
     {
-        let (start, end) = (self.position, self.position + size);
-        let put_before = self.output.len();
-        self.taken.push_reserved(TakenPiece {
-            start,
-            end,
-            put_before,
-        });
-        into[..size].copy_from_slice(&self.input[start..end]);
-        self.position = end;
+        self.source.give(into, size, self.output.len());
     }
 
     fn has_room_for(&self, piece: &[u8]) -> bool
