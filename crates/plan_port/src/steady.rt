@@ -12,7 +12,8 @@ use std::marker::Model;
 /// made, so no later call takes memory, and none fails: both its counts are always 0.
 ///
 /// A take gives the most that the place and what is left allow. A put is accepted whole. Its piece is kept where there is
-/// room for it; else it is lost, and from then on the port tells no talk. It tells what is left all the same.
+/// room for it, and lowers the room by its length. Else it is lost and the room stays, and from then on the port tells no
+/// talk; it goes on telling what is left. What fits later is kept all the same.
 #[derive(Drop)]
 pub struct SteadyPort {
     source: Source,
@@ -60,7 +61,7 @@ impl SteadyPort {
         })
     }
 
-    /// How many more bytes there is room to keep.
+    /// How many more bytes there is room to keep: at first the room given.
     pub fn room(&self) -> u32
         ensures { result ≡ self.now.room }
     {
@@ -75,7 +76,7 @@ impl SteadyPort {
         self.whole
     }
 
-    /// The bytes that were put and are kept.
+    /// The bytes that are kept of those that were put: all of them where `whole` is true.
     pub fn written(&self) -> &[u8]
         ensures { result.now ≡ self.now.kept.put }
     {
