@@ -1,4 +1,4 @@
-//! The reference rows, orders and rounds as plain slow programs on lists, each of which gives what its definition says,
+//! The reference rows, orders, rounds and refutations as plain slow programs on lists, each of which gives what its definition says,
 //! tried on small networks as tests. Nothing here stands on the engine.
 #![tactic(auto)]
 
@@ -13,6 +13,8 @@ mod ordering;
 mod plans;
 #[cfg(test)]
 mod reducing;
+#[cfg(test)]
+mod refuting;
 #[cfg(test)]
 mod rounds;
 #[cfg(test)]

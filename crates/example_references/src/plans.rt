@@ -171,3 +171,24 @@ pub(crate) fn are_nodes(net: &Network, nodes: &[Node], text: &str) -> bool {
     }
     lines.next().is_none()
 }
+
+/// Whether nodes have the numbers of a text, counted from 1.
+pub(crate) fn are_lines(ids: &[NodeId], text: &str) -> bool {
+    let mut words = text.split_whitespace();
+    for id in ids {
+        if premise(words.next()) != Some(*id) {
+            return false;
+        }
+    }
+    words.next().is_none()
+}
+
+pub(crate) fn are_numbers(numbers: &[u64], text: &str) -> bool {
+    let mut words = text.split_whitespace();
+    for number in numbers {
+        if words.next().and_then(|word| word.parse().ok()) != Some(*number) {
+            return false;
+        }
+    }
+    words.next().is_none()
+}

@@ -1,10 +1,11 @@
 //! The slow programs on small networks.
 
 use crate::ending::Ending;
-use crate::plans::{are_nodes, are_points, network};
+use crate::plans::{are_lines, are_nodes, are_numbers, are_points, network};
+use crate::refuting::refute;
 use crate::rounds::{base_nodes, round, rounds};
 use closure_model::Node;
-use net_model::Network;
+use net_model::{Network, PointId};
 use std::alloc::Global;
 use std::process::Abort;
 use std::test::Fail;
@@ -49,32 +50,83 @@ fn check_round(
     Ok(())
 }
 
-/// A network, how many rounds are made, whether they close, and the points of the order or of the cycle.
-struct Case {
-    parts: &'static str,
-    rounds: u64,
-    closes: bool,
-    points: &'static str,
+/// How the rounds of a network end: with the order of its points, or with a cycle and the refutation by it, whose lines are told by
+/// the numbers of their nodes, from 1.
+enum End {
+    Order(&'static str),
+    Cycle {
+        points: &'static str,
+        lines: &'static str,
+        walk: &'static str,
+    },
 }
 
-const CASES: [Case; 3] = [
+/// A network, all nodes of its rounds in order of making, how many rounds are made, and how they end.
+struct Case {
+    parts: &'static str,
+    nodes: &'static str,
+    rounds: u64,
+    end: End,
+}
+
+const CASES: [Case; 7] = [
     Case {
         parts: ONE_LINK,
+        nodes: AFTER_TWO,
         rounds: 2,
-        closes: false,
-        points: "A",
+        end: End::Cycle {
+            points: "A",
+            lines: "1 2 3 4 9 10 11",
+            walk: "7",
+        },
     },
     Case {
         parts: "point A|point B|link A 1 2 B|link B 1 2 A",
+        nodes: "link B B A -2|link A A B -2|drop 1 B A -1|low B 3 A A 0|drop 2 A B -1|low A 5 B B 0",
         rounds: 1,
-        closes: false,
-        points: "A B",
+        end: End::Cycle {
+            points: "A B",
+            lines: "1 2 3 5",
+            walk: "4 3",
+        },
+    },
+    Case {
+        parts: "point A1|point C1|point A2|point C2|bound p A1 C2 2|bound q A2 C1 2|link A1 1 10 C1|link A2 1 10 C2",
+        nodes: "bound p A1 C2 2|bound q A2 C1 2|link C1 C1 A1 -10|link C2 C2 A2 -10|up 2 3 A2 A1 C1 -8|drop 3 C1 A1 -1|drop 5 A2 A1 -1|low C1 6 A1 A1 0|up 1 4 A1 A2 C2 -8|drop 9 A1 A2 -1|drop 4 C2 A2 -1|low C2 11 A2 A2 0",
+        rounds: 1,
+        end: End::Cycle {
+            points: "A1 A2",
+            lines: "1 2 3 4 5 7 9 10",
+            walk: "8 6",
+        },
+    },
+    Case {
+        parts: "point X|point Y|point Z|bound a X Y 0|bound b Y X 0|bound g X Z -5|bound c Z X 3",
+        nodes: "bound a X Y 0|bound b Y X 0|bound g X Z -5|bound c Z X 3|no 2 3 Y Z -5|no 4 3 Z Z -2",
+        rounds: 1,
+        end: End::Cycle {
+            points: "Z",
+            lines: "3 4 6",
+            walk: "3",
+        },
     },
     Case {
         parts: "point A|point B|bound b1 A B 5|bound b2 B A -2",
+        nodes: "bound b1 A B 5|bound b2 B A -2|no 1 2 A A 3",
         rounds: 2,
-        closes: true,
-        points: "A B",
+        end: End::Order("A B"),
+    },
+    Case {
+        parts: "point A|point C|point D|bound b1 D C 4|link A 3 8 C",
+        nodes: "bound b1 D C 4|link C C A -8|up 1 2 D A C -4|drop 2 C A -3|drop 3 D A -3|low C 4 A A 0",
+        rounds: 2,
+        end: End::Order("A C D"),
+    },
+    Case {
+        parts: "point A1|point C1|point A2|point C2|bound b1 C1 C2 2|link A1 1 3 C1|link A2 2 6 C2",
+        nodes: "bound b1 C1 C2 2|link C1 C1 A1 -3|link C2 C2 A2 -6|drop 2 C1 A1 -1|low C1 4 A1 A1 0|up 1 3 C1 A2 C2 -4|cross C1 6 A1 A2 C2 -3|drop 7 A1 A2 -2|drop 6 C1 A2 -2|drop 3 C2 A2 -2|low C2 10 A2 A2 0",
+        rounds: 2,
+        end: End::Order("A2 A1 C1 C2"),
     },
 ];
 
@@ -82,22 +134,63 @@ const CASES: [Case; 3] = [
 fn ends_of_rounds(rt: HostRuntime) -> Result<(), Fail> {
     for case in &CASES {
         let net = network(rt.alloc(), case.parts)?;
-        check_end(&rt, rt.alloc(), &net, case)?;
+        check_case(&rt, rt.alloc(), &net, case)?;
     }
     Ok(())
 }
 
-fn check_end(rt: &impl Abort, alloc: Global, net: &Network, case: &Case) -> Result<(), Fail> {
+fn check_case(rt: &impl Abort, alloc: Global, net: &Network, case: &Case) -> Result<(), Fail> {
     let mut nodes = base_nodes(alloc, net)?;
     let (count, end) = rounds(alloc, net, &mut nodes)?;
     assert_eq!(rt; count, case.rounds, "{}", case.parts);
-    assert!(rt; is_end(net, &end, case), "{}", case.parts);
+    assert!(rt;
+        are_nodes(net, nodes.as_slice(), case.nodes),
+        "{}",
+        case.parts
+    );
+    let is_end = is_end(alloc, net, nodes.as_slice(), &end, &case.end)?;
+    assert!(rt; is_end, "{}", case.parts);
     Ok(())
 }
 
-fn is_end(net: &Network, end: &Ending, case: &Case) -> bool {
+fn is_end(
+    alloc: Global,
+    net: &Network,
+    nodes: &[Node],
+    end: &Ending,
+    expected: &End,
+) -> Result<bool, Fail> {
     match end {
-        Ending::Closed(order) => case.closes && are_points(net, order.as_slice(), case.points),
-        Ending::Looped(cycle) => !case.closes && are_points(net, cycle.as_slice(), case.points),
+        Ending::Closed(order) => Ok(is_order(net, order.as_slice(), expected)),
+        Ending::Looped(cycle) => is_cycle(alloc, net, nodes, cycle.as_slice(), expected),
     }
+}
+
+fn is_order(net: &Network, order: &[PointId], expected: &End) -> bool {
+    match expected {
+        End::Order(points) => are_points(net, order, points),
+        End::Cycle { .. } => false,
+    }
+}
+
+/// Whether a cycle and the refutation by it are the expected ones.
+fn is_cycle(
+    alloc: Global,
+    net: &Network,
+    nodes: &[Node],
+    cycle: &[PointId],
+    expected: &End,
+) -> Result<bool, Fail> {
+    let End::Cycle {
+        points,
+        lines,
+        walk,
+    } = expected
+    else {
+        return Ok(false);
+    };
+    let made = refute(alloc, nodes, cycle)?;
+    let lines = are_lines(made.lines.as_slice(), lines);
+    let walk = are_numbers(made.walk.as_slice(), walk);
+    Ok(are_points(net, cycle, points) && lines && walk)
 }
