@@ -4,7 +4,7 @@ use Rattle.std.specs.Option.{option_map, option_and_then}
 use Rattle.std.specs.Prelude.{slice_get}
 use Rattle.std.proofs.lemmas.List.{take_more, take_all, length-take-le}
 use Rattle.std.proofs.lemmas.Option.{slice_get_within}
-use Rattle.closure_model.specs.Least.{lesser, first_least, weight_at}
+use Rattle.closure_model.specs.Least.{lesser, first_least}
 use Rattle.closure_model.proofs.FirstLeast.{FirstIs, first_push, first_least_of, first_least-is}
 
 module _ {A : Type 0} (weight : A → Option ℤ) where

@@ -1,7 +1,7 @@
 -- How the lines of a refutation are found, from the last node to the first.
 use Rattle.std.proofs.lemmas.List.{take_more, map_push}
 use Rattle.std.proofs.Common.{◌≡◌, ◌==◌, ◌||◌, ◌++◌, map, take, ℕ, ◌+◌, ◌<◌, ◌≤◌, Bool, true, false, List, [], ◌∷◌, length, get_or, Option, Some, None, ◌⊎◌, inl, inr, refl, ap, sym, subst, ◌∙◌, arith}
-use Rattle.std.specs.List.{All, AllByRecursion, AllPairs, AllZip, Contains, list_any}
+use Rattle.std.specs.List.{All, AllByRecursion, AllZip, Contains, list_any}
 use Rattle.std.specs.Option.{option_map_or}
 use Rattle.std.proofs.lemmas.Bool.Decides.{nat_tests}
 use Rattle.std.proofs.lemmas.List.Elements.{All-cons, All-contains}

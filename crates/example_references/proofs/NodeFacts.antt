@@ -1,14 +1,12 @@
 -- What the table of a list of nodes has.
-use Rattle.std.proofs.Common.{◌≡◌, ℕ, ℤ, List, ◌∷◌, ◌++◌, [], length, Option, Some, None, refl, ap, sym, subst, ◌∙◌}
-use Rattle.std.proofs.Math.ListN.{length-map}
+use Rattle.std.proofs.Common.{◌≡◌, List, ◌∷◌, ◌++◌, [], length, refl, ap, sym, ◌∙◌}
 use Rattle.net_model.specs.Network.{Plan}
 use Rattle.net_model.specs.declared.part.Edge.{Edge}
-use Rattle.closure_model.specs.Derivations.{Support, weight_at, with_node, base_nodes, base_support, edges_of_nodes}
+use Rattle.closure_model.specs.Derivations.{weight_at, with_node, base_nodes, base_support, edges_of_nodes}
 use Rattle.closure_model.specs.Keys.{Shape, key_of, shape_of}
 use Rattle.closure_model.specs.ReferenceRound.{node_for}
 use Rattle.closure_model.specs.Tables.{weight_of, no_edges}
 use Rattle.closure_model.specs.declared.derivation.Node.{Node}
-use Rattle.closure_model.specs.declared.derivation.NodeId.{NodeId}
 use Rattle.closure_model.proofs.Newest.{newest_exists, newest_weight}
 use Rattle.closure_model.proofs.RoundLaw.{node_for_is}
 use Rattle.closure_model.proofs.Standing.{base_stands, table_pushed}

@@ -1,6 +1,6 @@
 -- The steps of the loops of a row.
 use Rattle.std.proofs.Common.{◌≡◌, ℕ, zero, suc, ◌+◌, ◌<◌, ◌≤◌, ◌==◌, ℤ, Bool, true, false, cond, List, [], ◌∷◌, ◌++◌, length, map, filter, fold, take, drop, get_or, Option, Some, None, refl, ap, sym, subst, ◌∙◌, arith, append-nil}
-use Rattle.std.specs.Prelude.{slice_get, slice_set}
+use Rattle.std.specs.Prelude.{slice_set}
 use Rattle.std.specs.List.{flat_map, filter_map, cons_option, range_with_len, enumerate_from, position, position_or_len}
 use Rattle.std.specs.Option.{option_to_list}
 use Rattle.std.proofs.lemmas.Grind.{common_steps}
@@ -16,8 +16,8 @@ use Rattle.net_model.specs.declared.ids.PointId.{PointId}
 use Rattle.net_model.specs.declared.part.Edge.{Edge}
 use Rattle.net_model.specs.declared.part.Link.{Link}
 use Rattle.net_model.proofs.Positions.{None_from_fails}
-use Rattle.closure_model.specs.Keys.{Key, Shape, shape_of, labels_at, keys_between}
-use Rattle.closure_model.specs.ReferenceRow.{Making, next_slot, first_slot, settled_at, consequences, offered, edge_in, fell}
+use Rattle.closure_model.specs.Keys.{Shape, labels_at, keys_between}
+use Rattle.closure_model.specs.ReferenceRow.{Making, next_slot, first_slot, consequences, offered, edge_in, fell}
 use Rattle.closure_model.specs.Tables.{Graph}
 use Rattle.closure_model.specs.declared.derivation.Node.{Node}
 use Rattle.closure_model.specs.declared.rows.Made.{Made}

@@ -1,5 +1,5 @@
 -- How the rounds end, and what is sought before each.
-use Rattle.std.specs.Prelude.{ℕ, Option, Some, None}
+use Rattle.std.specs.Prelude.{Option, Some, None}
 use Rattle.net_model.specs.declared.ids.PointId.{PointId}
 use Rattle.closure_model.specs.Orders.{first_left, placed_points, cycle_from}
 use Rattle.closure_model.specs.ReferenceRounds as rounds

@@ -1,7 +1,7 @@
-use Rattle.std.proofs.Common.{◌≡◌, Option, List, not, find, ap, sym, ◌∙◌, arith}
+use Rattle.std.proofs.Common.{List, not, find, ap, sym, ◌∙◌, arith}
 use Rattle.net_model.specs.declared.ids.PointId.{PointId}
 use Rattle.closure_model.specs.Keys.{all_points}
-use Rattle.closure_model.specs.Orders.{is_among, first_left}
+use Rattle.closure_model.specs.Orders.{is_among}
 use Rattle.closure_model.proofs.OrderLemmas.{found_at, found_nowhere}
 use Rattle.example_references.specs.Listed.{table_in}
 use Rattle.example_references.proofs.ordering.first_left.Goals as goal

@@ -1,5 +1,5 @@
 -- A node that is wanted becomes a line, another is passed.
-use Rattle.std.proofs.Common.{◌≡◌, List, refl, sym, ap, subst, ◌∙◌}
+use Rattle.std.proofs.Common.{List, refl, sym, ap, subst, ◌∙◌}
 use Rattle.closure_model.specs.declared.derivation.NodeId.{NodeId}
 use Rattle.example_references.specs.LinesFrom.{is_wanted, AreLinesFrom}
 use Rattle.example_references.proofs.LineFacts.{line_taken, line_passed}

@@ -1,5 +1,5 @@
 -- The steps stand in the list.
-use Rattle.std.proofs.Common.{List, sym, subst}
+use Rattle.std.proofs.Common.{List, subst}
 use Rattle.std.specs.List.{Contains}
 use Rattle.closure_model.specs.ReferenceRounds.{cycle_keys}
 use Rattle.closure_model.specs.declared.derivation.NodeId.{NodeId}

@@ -1,5 +1,5 @@
 -- Each turn makes one round, and they end as what was sought or what fell says.
-use Rattle.std.proofs.Common.{◌≡◌, List, sym, ap, ◌∙◌}
+use Rattle.std.proofs.Common.{List, sym, ap, ◌∙◌}
 use Rattle.closure_model.specs.declared.derivation.Node.{Node}
 use Rattle.example_references.specs.Ends.{sought_in}
 use Rattle.example_references.specs.Listed.{support_in, table_in}

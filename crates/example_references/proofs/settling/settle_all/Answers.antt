@@ -4,7 +4,7 @@ use Rattle.std.specs.Prelude.{slice_set}
 use Rattle.closure_model.specs.ReferenceRow.{Making, first_slots, offered}
 use Rattle.closure_model.specs.declared.rows.Made.{Made}
 use Rattle.closure_model.specs.declared.rows.Slot.{Slot}
-use Rattle.closure_model.proofs.RowRun.{IsUnderWay, under_way_first, under_way_done}
+use Rattle.closure_model.proofs.RowRun.{IsUnderWay, under_way_first}
 use Rattle.example_references.specs.Listed.{table_in}
 use Rattle.example_references.proofs.RowFacts.{way_on, way_fewer}
 use Rattle.example_references.proofs.settling.settle_all.Goals as goal
