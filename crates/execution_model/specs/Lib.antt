@@ -1,0 +1,5 @@
+pub mod Execution
+pub mod Feeding
+pub mod Streams
+pub mod Timely
+pub mod Laws
