@@ -3,3 +3,4 @@ pub mod Feeding
 pub mod Streams
 pub mod Timely
 pub mod Laws
+pub mod Acts

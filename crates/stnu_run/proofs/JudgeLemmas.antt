@@ -26,6 +26,7 @@ use Rattle.stnu_run.specs.JudgePromise.{JudgePromise, PutsJudgement}
 use Rattle.stnu_run.specs.ToJudge.{DeclareBoth, IsUnderway, judge_grammar}
 use Rattle.stnu_run.specs.ToRead.{AnswersOrRefuses}
 use Rattle.stnu_run.specs.declared.faults.Fault.{Fault}
+use Rattle.stnu_run.specs.declared.judging.Judge.{Judge}
 use Rattle.stnu_run.proofs.NetworkLemmas.{declared_sound}
 use Rattle.stnu_run.proofs.StandingLemmas.{Both, both_reader, Stands, stands_step, missing_of, ended_fault, refused_fault, gives_both}
 use Rattle.stnu_run.proofs.ReachingLemmas.{at_plan, reach}
@@ -122,6 +123,9 @@ both_by = record {
   fault_later = format_later;
   part_later = part_later;
 }
+
+pub judge_answers_once : (question : Judge) (value : Plan × Certificate) (a b : List ℕ) (x y : End) → judge_answers question value a x → judge_answers question value b y → (a ≡ b) × (x ≡ y)
+judge_answers_once question value a b x y one other = (one.0 ∙ sym other.0, one.1 ∙ sym other.1)
 
 -- the byte at a place
 abbrev byte_at : ℕ → List ℕ → ℕ

@@ -5,12 +5,12 @@ use Rattle.plan_port.specs.Talk.{Seen, Talk, WhereTold}
 use Rattle.commands.specs.Endings.{status_number}
 use Rattle.commands.specs.Machine.{Machine}
 use Rattle.commands.specs.Runs.{Runs}
-use Rattle.commands.specs.Serves.{Puts, PutsFor}
+use Rattle.commands.specs.Serves.{Puts, PutsFor, Serves}
 use Rattle.commands.specs.declared.endings.End.{End}
 use Rattle.commands.specs.declared.endings.End.TheVariants.{Done, Refused, Fault, Limit, EventRefused}
 use Rattle.commands.specs.declared.endings.Status.{Status as Ending}
 use Rattle.commands.specs.declared.endings.Status.TheVariants.{Ended, ReadFault, WriteFault, NoMemory}
-use Rattle.stnu_run.specs.Programs.{Program, serves, says, ServesProgram, PromiseHolds, KeepsPromise}
+use Rattle.stnu_run.specs.Programs.{Program, Promise, serves, says, ServesProgram, PromiseHolds, KeepsPromise}
 use Rattle.stnu_run.specs.declared.status.Status.{Status}
 
 -- what follows on what is told is told
@@ -52,6 +52,11 @@ puts_run machine start end ending was is input untaken put same puts all =
     let one : puts.put ≡ put = append_cancel_left was.put puts.put put (sym puts.all ∙ all) in
     let runs : PutsFor machine start (Ended end) input untaken puts.put puts.pieces = subst (λ (e : Ending). PutsFor machine start e input untaken puts.put puts.pieces) same puts.puts in
     subst (λ (p : List ℕ). Runs machine start input p end) one runs
+
+-- a command that was served from its start was served as its program
+pub served_from : {C : Type 0} (machine : Machine C) (start at : C) (promise : Promise) (ending : Ending) (status : Status) (before after : Seen) → status ≡ record { 0 = status_number ending } → at ≡ start → Serves machine at ending before after → ServesProgram (serves machine start promise) status before after
+served_from {C} machine start at promise ending status before after number same ran =
+    (ending, number, subst (λ (s : C). Serves machine s ending before after) same ran)
 
 pub kept : (program : Program) (status : Status) (before after : Seen) → PromiseHolds program → ServesProgram program status before after → KeepsPromise program status before after
 kept (serves {C} machine start promise) status before after holds (ending, number, ran) = λ end is.

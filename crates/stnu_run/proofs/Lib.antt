@@ -12,6 +12,6 @@ pub mod OrderedLemmas
 pub mod VerdictLemmas
 pub mod CheckLemmas
 pub mod AnswerLemmas
+pub mod ProgramLemmas
 pub mod KeptLemmas
 pub mod RefutationLemmas
-pub mod SingleLemmas

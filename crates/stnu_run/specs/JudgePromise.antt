@@ -8,7 +8,8 @@ use Rattle.plan_format.specs.PlanNetwork.{DeclaresNetwork}
 use Rattle.cert_format.specs.declared.certificate.Certificate.{Certificate}
 use Rattle.cert_checker.specs.Judgement.{judgement_of}
 use Rattle.commands.specs.declared.endings.End.{End}
-use Rattle.stnu_run.specs.Judging.{judgement_line, judgement_end}
+use Rattle.stnu_run.specs.Judging.{judgement_line, judgement_end, judge_machine, judge_start}
+use Rattle.stnu_run.specs.Programs.{Program, serves}
 use Rattle.stnu_run.specs.ToJudge.{judge_grammar}
 use Rattle.stnu_run.specs.ToRead.{AnswersText}
 
@@ -22,3 +23,7 @@ PutsJudgement value put end = (put ≡ judgement_line (judgement_of value.0 valu
 pub record JudgePromise (input put : List ℕ) (end : End) : Type 0 where
   pub judges : AnswersText judge_grammar PutsJudgement input put end
   pub excludes : put ≡ printed_line (codes "accepted not controllable" ∷ []) → (net : Plan) (rest : List (List ℕ)) → DeclaresNetwork (lines input) net rest → ¬ IsControllable net
+
+-- the program of `judge`
+abbrev pub judge_program : Program
+judge_program = serves judge_machine judge_start JudgePromise

@@ -1,12 +1,12 @@
 pub mod Faults
+pub mod Programs
 pub mod PlanText
 pub mod CertificateTexts
 pub mod Judging
-pub mod Promises
 pub mod ToRead
 pub mod ToJudge
 pub mod ToCheck
 pub mod JudgePromise
 pub mod Checking
 pub mod CheckPromise
-pub mod Programs
+pub mod DefinedRuns

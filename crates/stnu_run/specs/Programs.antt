@@ -1,8 +1,6 @@
--- What the program does for a task, as data: a command that it serves, with what the command promises, or a line that it says
--- without an input. This project's own choice.
-use Rattle.std.specs.Prelude.{◌≡◌, ℕ, List, [], ◌∷◌, ◌++◌, codes, Option, Some, None, if◌then◌else◌}
-use Rattle.std.specs.Str.{bytes_eq}
-use Rattle.texts.specs.Printing.{printed_line}
+-- What the program does, as data: a command that it serves, with what the command promises, or a line that it says without an
+-- input. This project's own choice.
+use Rattle.std.specs.Prelude.{◌≡◌, ℕ, List, ◌++◌}
 use Rattle.plan_port.specs.Talk.{Seen, raised}
 use Rattle.plan_port.specs.Writing.{Writes}
 use Rattle.plan_port.specs.declared.writing.Written.{Written}
@@ -13,14 +11,11 @@ use Rattle.commands.specs.Runs.{Runs}
 use Rattle.commands.specs.Serves.{Serves, WhereBothTold}
 use Rattle.commands.specs.declared.endings.End.{End}
 use Rattle.commands.specs.declared.endings.Status.{Status as Ending}
-use Rattle.stnu_run.specs.Checking.{check_machine, check_start}
-use Rattle.stnu_run.specs.CheckPromise.{CheckPromise}
-use Rattle.stnu_run.specs.Judging.{judge_machine, judge_start}
-use Rattle.stnu_run.specs.Promises.{Promise}
-use Rattle.stnu_run.specs.JudgePromise.{JudgePromise}
 use Rattle.stnu_run.specs.declared.status.Status.{Status}
-use Rattle.stnu_run.specs.declared.words.Task.{Task}
-use Rattle.stnu_run.specs.declared.words.Task.TheVariants.{Judge, Check}
+
+-- what a command promises, in the subject's words: of an input, the bytes put for it, and how the run ended
+abbrev pub Promise : Type 1
+Promise = (input put : List ℕ) → End → Type 0
 
 -- a command that is served from a state, and what it promises of what it puts for an input; or a line that is said, with its
 -- exit status
@@ -28,36 +23,14 @@ pub data Program : Type 1 where
   serves : {C : Type 0} → Machine C → C → Promise → Program
   says : List ℕ → ℕ → Program
 
--- the line that refuses the words
-abbrev pub words_line : List ℕ
-words_line = printed_line (codes "error" ∷ codes "words" ∷ [])
-
--- the task of the word of a command
-abbrev pub command_named : List ℕ → Option Task
-command_named command =
-    if bytes_eq command (codes "judge") then Some Judge
-    else (if bytes_eq command (codes "check") then Some Check
-    else None)
-
--- the task of the words, of which the first is the program's name
-abbrev pub task_named : List (List ℕ) → Option Task
-task_named (program ∷ command ∷ []) = command_named command
-task_named others = None
-
--- the program of a task, or of words that are those of none
-abbrev pub program_of : Option Task → Program
-program_of (Some Judge) = serves judge_machine judge_start JudgePromise
-program_of (Some Check) = serves check_machine check_start CheckPromise
-program_of None = says words_line 2
-
 -- the bytes and the exit status that a program defines for an input: those of a run of its command, or its line and status
 abbrev pub Defines : Program → (input put : List ℕ) → Status → Type 0
 Defines (serves machine start promise) input put status = (end : End) × (status ≡ record { 0 = end_number end }) × Runs machine start input put end
 Defines (says line number) input put status = (put ≡ line) × (status ≡ record { 0 = number })
 
--- the defined run: the bytes and the exit status for the words of a command, of which the first is the program's name, and an input
-abbrev pub DefinedRun : (words : List (List ℕ)) (input put : List ℕ) → Status → Type 0
-DefinedRun words input put status = Defines (program_of (task_named words)) input put status
+-- for an input a program defines at most one pair of bytes and exit status
+pub record DefinesOne (program : Program) : Type 0 where
+  pub one : (input a b : List ℕ) (x y : Status) → Defines program input a x → Defines program input b y → (a ≡ b) × (x ≡ y)
 
 -- the exit status after a line was said, or a part of it
 abbrev pub said_number : ℕ → Written → ℕ

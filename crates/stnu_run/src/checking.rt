@@ -5,18 +5,26 @@ ghost use Rattle.closure_model.specs.Derivations.{StandsOn};
 ghost use Rattle.closure_model.specs.Orders.{IsCycle};
 ghost use Rattle.cert_format.specs.declared.certificate.Certificate.{Certificate};
 ghost use Rattle.refutations.specs.Certifying.{IsCertificateBy};
+ghost use Rattle.stnu_run.specs.CheckPromise.{CheckPromise};
 ghost use Rattle.stnu_run.specs.Checking.{check_answers, check_start, PutsControllable, PutsRefuted};
 
 use crate::plan_text::PlanText;
+use crate::promising::Promising;
+use cert_checker::laws::accepted_excludes;
 use cert_format::print_certificate;
+use closure_model::laws::base_stands;
+use closure_model::{order_laws, round_laws};
 use commands::{Answer, Asked, End, Question, Word};
+use controllability::laws::closures_decide;
 use derivation_dag::Plain;
 use net_model::{Network, PointId};
 use parallel_rounds::{NoGate, Outcome, propagate};
+use refutations::laws::refutations_are_accepted;
 use refutations::refutation;
 use std::alloc::{AllocError, Global};
 
-/// Whether a network is controllable.
+/// Whether a network is controllable: the command `check` reads a plan, and puts `controllable` where a strategy controls its network,
+/// else `not controllable` and a certificate which `judge` accepts. It ends with 0 in the first case, and with 1 in the second.
 #[derive(Clone, Copy)]
 pub struct Check;
 
@@ -28,14 +36,33 @@ impl Question<Network> for Check {
     }
 }
 
-/// The command before the first line.
-pub fn checking(alloc: Global) -> Asked<Check, PlanText>
-    ensures { result ≡ check_start }
-{
-    Asked {
-        question: Check,
-        text: PlanText::new(alloc),
+/// The command: how far its input was read.
+pub type Checking = Asked<Check, PlanText>;
+
+impl Promising for Checking {
+    ghost start = { check_start };
+
+    ghost promise = { CheckPromise };
+
+    fn begun(alloc: Global) -> Checking {
+        Asked {
+            question: Check,
+            text: PlanText::new(alloc),
+        }
     }
+
+    fn keeps_its_promise() {
+        accepted_excludes();
+        refutations_are_accepted();
+        closures_decide();
+        base_stands();
+        round_laws::rounds_that_close();
+        round_laws::rounds_stand();
+        order_laws::placed_points_are_an_order();
+        order_laws::cycles_are_met();
+    }
+
+    fn defines_one() {}
 }
 
 /// Puts whether a network is controllable into the buffer, which is empty.

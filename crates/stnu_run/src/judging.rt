@@ -2,17 +2,21 @@
 
 ghost use Rattle.std.specs.Prelude.{◌≡◌, OnOk, ◌++◌};
 ghost use Rattle.cert_checker.specs.Judgement.{judgement_of};
+ghost use Rattle.stnu_run.specs.JudgePromise.{JudgePromise};
 ghost use Rattle.stnu_run.specs.Judging.{judge_answers, judgement_line, judgement_end, judge_start};
 
 use crate::certificate_text::CertificateText;
 use crate::plan_text::PlanText;
+use crate::promising::Promising;
+use cert_checker::laws::accepted_excludes;
 use cert_checker::{Judgement, judge};
 use cert_format::Certificate;
 use commands::{Answer, Asked, End, Question, Then, Word};
 use net_model::Network;
 use std::alloc::{AllocError, Global};
 
-/// What the judgement of a certificate of a network is.
+/// What the judgement of a certificate of a network is: the command `judge` reads a plan and a certificate, and puts the judgement of
+/// the certificate. It ends with 0 where that is accepted, and with 1 where it is refused.
 #[derive(Clone, Copy)]
 pub struct Judge;
 
@@ -31,14 +35,26 @@ impl Question<(Network, Certificate)> for Judge {
     }
 }
 
-/// The command before the first line.
-pub fn judging(alloc: Global) -> Asked<Judge, Then<PlanText, Network, CertificateText>>
-    ensures { result ≡ judge_start }
-{
-    Asked {
-        question: Judge,
-        text: Then::First(PlanText::new(alloc), CertificateText::new(alloc)),
+/// The command: how far its input was read.
+pub type Judging = Asked<Judge, Then<PlanText, Network, CertificateText>>;
+
+impl Promising for Judging {
+    ghost start = { judge_start };
+
+    ghost promise = { JudgePromise };
+
+    fn begun(alloc: Global) -> Judging {
+        Asked {
+            question: Judge,
+            text: Then::First(PlanText::new(alloc), CertificateText::new(alloc)),
+        }
     }
+
+    fn keeps_its_promise() {
+        accepted_excludes();
+    }
+
+    fn defines_one() {}
 }
 
 /// Puts the line of a judgement into the buffer.

@@ -8,11 +8,9 @@ mod faults;
 mod judging;
 mod laws;
 mod plan_text;
+mod promising;
 mod status;
-mod words;
 
 pub use dispatch::run;
-pub use laws::{
-    check_keeps_its_promise, defined_run_is_one, judge_keeps_its_promise, promises_hold,
-};
+pub use laws::defined_run_is_one;
 pub use status::Status;

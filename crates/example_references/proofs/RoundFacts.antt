@@ -1,0 +1,111 @@
+-- The steps of the loops of rounds.
+use Rattle.std.proofs.Common.{◌≡◌, ◌≢◌, ℕ, suc, ◌+◌, ◌<◌, ◌==◌, true, false, not, List, [], ◌∷◌, ◌++◌, length, map, fold, take, get_or, Option, Some, None, refl, ap, sym, subst, ◌∙◌, zero-add, append_assoc, arith}
+use Rattle.std.specs.List.{enumerate_from}
+use Rattle.std.specs.Option.{option_map_or}
+use Rattle.std.proofs.Math.Seq.{take-length}
+use Rattle.std.proofs.lemmas.Bool.Decides.{nat_tests}
+use Rattle.std.proofs.lemmas.List.{take_more, map-append}
+use Rattle.std.proofs.lemmas.List.FromFn.{length-enumerate_from, get_or-enumerate_from}
+use Rattle.net_model.specs.Network.{Plan}
+use Rattle.net_model.specs.declared.ids.PointId.{PointId}
+use Rattle.closure_model.specs.Derivations.{Support, with_node}
+use Rattle.closure_model.specs.Orders.{first_left, placed_points, cycle_from}
+use Rattle.closure_model.specs.ReferenceRound.{rule_for, with_one, round_made, after_round}
+use Rattle.closure_model.specs.ReferenceRounds.{Ending, closed, looped, RoundsEnd, in_cycle, in_order, after_one}
+use Rattle.closure_model.specs.Tables.{Graph}
+use Rattle.closure_model.specs.declared.derivation.Node.{Node}
+use Rattle.closure_model.specs.declared.derivation.Rule.{Rule}
+use Rattle.closure_model.specs.declared.rows.Made.{Made}
+use Rattle.example_references.specs.Ends.{sought_in, sought_from}
+use Rattle.example_references.specs.Listed.{support_in}
+use Rattle.example_references.proofs.NodeFacts.{support_pushed}
+use Rattle.example_references.specs.declared.ending.Ending.TheVariants.{Closed, Looped}
+
+-- ---- the first of a list by their numbers
+module _ {X Y : Type 0} (f : ℕ × X → Y) where
+  numbered_more : (xs : List X) (place : ℕ) (d : X) → place < length xs → map f (take (place + 1) (enumerate_from 0 xs)) ≡ map f (take place (enumerate_from 0 xs)) ++ f (place, get_or xs place d) ∷ []
+  numbered_more xs place d within =
+      let inside : place < length (enumerate_from 0 xs) = simp length-enumerate_from within in
+      let item : get_or (enumerate_from 0 xs) place (place, d) ≡ (place, get_or xs place d) = get_or-enumerate_from 0 xs place (place, d) within ∙ ap (λ k. (k, get_or xs place d)) (zero-add place) in
+      ap (map f) (take_more (enumerate_from 0 xs) place (place, d) inside)
+      ∙ (map-append f (take place (enumerate_from 0 xs)) (get_or (enumerate_from 0 xs) place (place, d) ∷ []) ∙ ap (λ e. map f (take place (enumerate_from 0 xs)) ++ f e ∷ []) item)
+
+  pub pushed_more : (start before after : List Y) (items xs : List X) (place : ℕ) (d : X) (y : Y) → items ≡ xs → place < length xs → before ≡ start ++ map f (take place (enumerate_from 0 xs))
+      → y ≡ f (place, get_or items place d) → after ≡ before ++ y ∷ [] → after ≡ start ++ map f (take (place + 1) (enumerate_from 0 xs))
+  pushed_more start before after items xs place d y same within so_far is pushed =
+      let item : y ≡ f (place, get_or xs place d) = is ∙ ap (λ (zs : List X). f (place, get_or zs place d)) same in
+      pushed ∙ (ap (λ (ys : List Y). ys ++ y ∷ []) so_far ∙ (append_assoc start (map f (take place (enumerate_from 0 xs))) (y ∷ [])
+      ∙ ap (λ (ys : List Y). start ++ ys) (ap (λ (z : Y). map f (take place (enumerate_from 0 xs)) ++ z ∷ []) item ∙ sym (numbered_more xs place d within))))
+
+  pub pushed_all : (start whole : List Y) (xs : List X) (place : ℕ) → place ≡ length xs → whole ≡ start ++ map f (take place (enumerate_from 0 xs)) → whole ≡ start ++ map f (enumerate_from 0 xs)
+  pushed_all start whole xs place all so_far =
+      let size : place ≡ length (enumerate_from 0 xs) = all ∙ sym (length-enumerate_from 0 xs) in
+      let every : take place (enumerate_from 0 xs) ≡ enumerate_from 0 xs = ap (λ n. take n (enumerate_from 0 xs)) size ∙ take-length (enumerate_from 0 xs) in
+      so_far ∙ ap (λ es. start ++ map f es) every
+
+-- ---- one node more
+pub one_pushed : (net : Plan) (before nodes after : List Node) (made : Made) (rule : Rule) → Some rule ≡ rule_for before nodes made.why → after ≡ nodes ++ record { rule = rule; edge = made.edge } ∷ []
+    → support_in net after ≡ with_one before (support_in net nodes) made
+one_pushed net before nodes after made rule some is =
+    ap (support_in net) is ∙ (support_pushed net nodes (record { rule = rule; edge = made.edge })
+    ∙ ap (λ (o : Option Rule). option_map_or (λ r. with_node (support_in net nodes) (record { rule = r; edge = made.edge })) o (support_in net nodes)) some)
+
+pub none_pushed : (net : Plan) (before nodes : List Node) (made : Made) → None ≡ rule_for before nodes made.why → support_in net nodes ≡ with_one before (support_in net nodes) made
+none_pushed net before nodes made none = ap (λ (o : Option Rule). option_map_or (λ r. with_node (support_in net nodes) (record { rule = r; edge = made.edge })) o (support_in net nodes)) none
+
+-- ---- what was sought
+sought_cycle : (table : Graph) (cycle : List PointId) → Looped cycle ≡ sought_in table → (first : PointId) × (first_left table ≡ Some first) × (cycle ≡ cycle_from table first)
+sought_cycle table cycle is = by (first_left table) refl is
+  where
+    by : (o : Option PointId) → first_left table ≡ o → Looped cycle ≡ sought_from table o → (first : PointId) × (first_left table ≡ Some first) × (cycle ≡ cycle_from table first)
+    by None none is = absurd cc
+    by (Some first) some is = (first, some, cc)
+
+sought_order : (table : Graph) (order : List PointId) → Closed order ≡ sought_in table → (first_left table ≡ None) × (order ≡ placed_points table)
+sought_order table order is = by (first_left table) refl is
+  where
+    by : (o : Option PointId) → first_left table ≡ o → Closed order ≡ sought_from table o → (first_left table ≡ None) × (order ≡ placed_points table)
+    by None none is = (none, cc)
+    by (Some first) some is = absurd cc
+
+-- ---- whether anything fell
+nothing_fell : (made : List Made) → length made ≡ 0 → made ≡ []
+nothing_fell [] none = refl
+nothing_fell (one ∷ made) none = absurd (omega arith)
+
+fell_is : (made : List Made) → true ≡ not (length made == 0) → made ≢ []
+fell_is made fell none = let zero_long : length made ≡ 0 = ap length none in grind (arith, nat_tests)
+
+none_is : (made : List Made) → false ≡ not (length made == 0) → made ≡ []
+none_is made fell = nothing_fell made (grind (arith, nat_tests))
+
+-- ---- the rounds so far
+abbrev pub GoesOn : Plan → Support → Support → ℕ → Type 0
+GoesOn net start now count = (more : ℕ) (after : Support) (ending : Ending) → RoundsEnd net now more after ending → RoundsEnd net start (count + more) after ending
+
+pub goes_first : (net : Plan) (start : Support) → GoesOn net start start 0
+goes_first net start more after ending ends = let same : more ≡ 0 + more = omega arith in subst (λ (n : ℕ). RoundsEnd net start n after ending) same ends
+
+pub goes_more : (net : Plan) (start now next : Support) (count : ℕ) (order : List PointId) → GoesOn net start now count → Closed order ≡ sought_in now.table → next ≡ after_round net now → true ≡ not (length (round_made net now.table) == 0)
+    → GoesOn net start next (count + 1)
+goes_more net start now next count order way sought is fell more after ending ends =
+    let (left, placed) = sought_order now.table order sought in
+    let same : count + suc more ≡ count + 1 + more = omega arith in
+    subst (λ (n : ℕ). RoundsEnd net start n after ending) same
+    (way (suc more) after ending (after_one now after more ending left (fell_is (round_made net now.table) fell) (subst (λ (s : Support). RoundsEnd net s more after ending) is ends)))
+
+pub goes_closed : (net : Plan) (start now next : Support) (count : ℕ) (order : List PointId) → GoesOn net start now count → Closed order ≡ sought_in now.table → next ≡ after_round net now → false ≡ not (length (round_made net now.table) == 0)
+    → RoundsEnd net start (count + 1) next (closed order)
+goes_closed net start now next count order way sought is fell =
+    let (left, placed) = sought_order now.table order sought in
+    let none = none_is (round_made net now.table) fell in
+    let same : after_round net now ≡ now = ap (fold (with_one now.nodes) now) none in
+    subst (λ (s : Support). RoundsEnd net start (count + 1) s (closed order)) (sym (is ∙ same))
+    (way 1 now (closed order) (subst (λ (points : List PointId). RoundsEnd net now 1 now (closed points)) (sym placed) (in_order now left none)))
+
+pub goes_looped : (net : Plan) (start now : Support) (count : ℕ) (cycle : List PointId) → GoesOn net start now count → Looped cycle ≡ sought_in now.table → RoundsEnd net start count now (looped cycle)
+goes_looped net start now count cycle way sought =
+    let (first, left, met) = sought_cycle now.table cycle sought in
+    let same : count + 0 ≡ count = omega arith in
+    subst (λ (n : ℕ). RoundsEnd net start n now (looped cycle)) same
+    (way 0 now (looped cycle) (subst (λ (points : List PointId). RoundsEnd net now 0 now (looped points)) (sym met) (in_cycle now first left)))

@@ -1,0 +1,4 @@
+pub mod Ends
+pub mod LinesFrom
+pub mod Listed
+pub mod RowParts

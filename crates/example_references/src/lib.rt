@@ -1,0 +1,25 @@
+//! The reference rows, orders, rounds and refutations as plain slow programs on lists, each of which gives what its definition says,
+//! tried on small networks as tests. Nothing here stands on the engine.
+#![tactic(auto)]
+
+#[cfg(test)]
+mod deducing;
+mod ending;
+#[cfg(test)]
+mod nodes;
+#[cfg(test)]
+mod ordering;
+#[cfg(test)]
+mod plans;
+#[cfg(test)]
+mod reducing;
+#[cfg(test)]
+mod refuting;
+#[cfg(test)]
+mod rounds;
+#[cfg(test)]
+mod settling;
+#[cfg(test)]
+mod tried;
+
+pub use ending::Ending;

@@ -1,0 +1,43 @@
+-- A program defines at most one pair of bytes and exit status for an input, where its command has at most one reply.
+use Rattle.std.proofs.Common.{ℕ, List, [], ◌∷◌, Bool, true, false, sym, ap, ◌∙◌}
+use Rattle.commands.specs.Asked.{asked_machine}
+use Rattle.commands.specs.Endings.{end_number}
+use Rattle.commands.specs.Machine.{Machine}
+use Rattle.commands.specs.Reading.{Reader, Refusing}
+use Rattle.commands.specs.Single.{IsSingle, IsSingleAnswer}
+use Rattle.commands.specs.declared.asking.Asked.{Asked}
+use Rattle.commands.specs.declared.endings.End.{End}
+use Rattle.commands.proofs.AskedLemmas.{asked_single}
+use Rattle.commands.proofs.SingleLemmas.{runs_same}
+use Rattle.stnu_run.specs.DefinedRuns.{program_named, program_of, when◌run◌else◌}
+use Rattle.stnu_run.specs.Programs.{Program, Promise, serves, says, DefinesOne}
+use Rattle.stnu_run.specs.declared.status.Status.{Status}
+
+pub single_defines_one : {C : Type 0} (machine : Machine C) (start : C) (promise : Promise) → IsSingle machine → DefinesOne (serves machine start promise)
+single_defines_one machine start promise single = record {
+  one = λ input a b x y one other.
+      let same = runs_same machine single start input a b one.0 other.0 one.2 other.2 in
+      let number : End → Status = λ end. record { 0 = end_number end } in
+      (same.0, one.1 ∙ (ap number same.1 ∙ sym other.1));
+}
+
+-- a command that asks defines one where its question has at most one answer
+pub asked_defines_one : {Q S V F : Type 0} (answers : Q → V → List ℕ → End → Type 0) (reader : Reader S V F) (refusing : Refusing F) (start : Asked Q S) (promise : Promise) → IsSingleAnswer answers → DefinesOne (serves (asked_machine answers reader refusing) start promise)
+asked_defines_one answers reader refusing start promise single =
+    single_defines_one (asked_machine answers reader refusing) start promise (asked_single answers reader refusing single)
+
+pub said_defines_one : (line : List ℕ) (number : ℕ) → DefinesOne (says line number)
+said_defines_one line number = record {
+  one = λ input a b x y one other. (one.0 ∙ sym other.0, one.1 ∙ sym other.1);
+}
+
+pub chosen_defines_one : (so : Bool) (one other : Program) → DefinesOne one → DefinesOne other → DefinesOne (when so run one else other)
+chosen_defines_one true one other first second = first
+chosen_defines_one false one other first second = second
+
+-- whatever the words are
+pub words_define_one : ((command : List ℕ) → DefinesOne (program_named command)) → (words : List (List ℕ)) → DefinesOne (program_of words)
+words_define_one each (program ∷ command ∷ []) = each command
+words_define_one each [] = said_defines_one _ _
+words_define_one each (program ∷ []) = said_defines_one _ _
+words_define_one each (program ∷ command ∷ other ∷ others) = said_defines_one _ _

@@ -1,0 +1,42 @@
+//! A command of the program: where it begins, what it promises, and how it is served.
+
+ghost use Rattle.std.specs.Prelude.{◌≡◌, ◌≤◌};
+ghost use Rattle.commands.specs.Limits.{least_room};
+ghost use Rattle.stnu_run.specs.Programs.{Promise, PromiseHolds, DefinesOne, ServesProgram, KeepsPromise, HasCauses, serves};
+
+use crate::status::Status;
+use commands::{Command, serve};
+use plan_port::Port;
+use std::alloc::Global;
+
+/// A command of the program, with what it promises of what it puts for an input.
+pub trait Promising: Command {
+    /// Before the first line.
+    ghost start: { Self };
+
+    /// What is promised of an input, the bytes put for it, and how the run ends.
+    ghost promise: { Promise };
+
+    /// The command before the first line.
+    fn begun(alloc: Global) -> Self
+        ensures start { result ≡ start }
+        ensures room { Self.machine.room result ≤ least_room };
+
+    /// The law that each run keeps the promise.
+    fn keeps_its_promise()
+        ensures { PromiseHolds (serves Self.machine start promise) };
+
+    /// The law that an input has at most one run: one pair of bytes and exit status.
+    fn defines_one()
+        ensures { DefinesOne (serves Self.machine start promise) };
+}
+
+/// Serves a command over a port, from its first line on.
+pub fn serve_command<C: Promising, P: Port>(alloc: Global, port: &mut P) -> Status
+    ensures served { ServesProgram (serves C.machine C.start C.promise) result (P.seen port.old) (P.seen port.new) }
+    ensures kept { KeepsPromise (serves C.machine C.start C.promise) result (P.seen port.old) (P.seen port.new) }
+    ensures causes { HasCauses (serves C.machine C.start C.promise) result (P.seen port.old) (P.seen port.new) }
+{
+    C::keeps_its_promise();
+    Status(serve(alloc, C::begun(alloc), port).number())
+}
