@@ -19,7 +19,7 @@ use Rattle.execution_model.specs.Streams.{Listing, Stream, Shows, IsFaithful, la
 use Rattle.execution_model.specs.Timely.{fed_all}
 use Rattle.execution_model.specs.Laws.{setting_of, IsDispatchedByClosure, IsExecutionOf, AreWithinLimit, going_on, ended}
 use Rattle.execution_model.specs.Acts.{scheduled, ActsAreEarliest, LastActsAreEarliest}
-use Rattle.execution_model.specs.Earliest.{NoneSooner, IsFedEarliest, IsEndedEarliest, FeedsAreEarliest, EndsAreEarliestToo}
+use Rattle.execution_model.specs.Earliest.{NoneSooner, IsFedEarliest, IsEndedEarliest, FeedsAreEarliest, FinishesAreEarliest}
 use Rattle.execution_model.specs.declared.feeding.Why.{Why}
 use Rattle.execution_model.specs.declared.feeding.Fed.{Fed}
 use Rattle.execution_model.specs.declared.feeding.Fed.TheVariants as fed
@@ -294,5 +294,5 @@ module _ (old : Execution) (answer : Finished) (after : Execution) where
     ended_is_earliest : IsEndedEarliest net (ended listings) old answer after
     ended_is_earliest = by_open (first_open old) refl (subst EndedWhere (none_refused net table order listings old by went) is)
 
-pub ends_are_earliest_too : EndsAreEarliestToo
-ends_are_earliest_too old answer after is net table order listings by went = ended_is_earliest old answer after is net table order listings by went
+pub finishes_are_earliest : FinishesAreEarliest
+finishes_are_earliest old answer after is net table order listings by went = ended_is_earliest old answer after is net table order listings by went

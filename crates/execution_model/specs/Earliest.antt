@@ -65,5 +65,5 @@ FeedsAreEarliest =
     (old : Execution) (moment : ℕ) (listed : List PointId) (answer : Fed) (after : Execution) → IsFed old moment listed answer after
     → FeedsEarliest old moment listed answer after
 
-abbrev pub EndsAreEarliestToo : Type 0
-EndsAreEarliestToo = (old : Execution) (answer : Finished) (after : Execution) → IsFinished old answer after → EndsEarliest old answer after
+abbrev pub FinishesAreEarliest : Type 0
+FinishesAreEarliest = (old : Execution) (answer : Finished) (after : Execution) → IsFinished old answer after → EndsEarliest old answer after

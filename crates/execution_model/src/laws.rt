@@ -1,7 +1,7 @@
 //! Laws about executions, each the contract of a function without parameters.
 
 ghost use Rattle.execution_model.specs.Acts.{ActsAreEarliest, LastActsAreEarliest};
-ghost use Rattle.execution_model.specs.Earliest.{EndsAreEarliestToo, FeedsAreEarliest};
+ghost use Rattle.execution_model.specs.Earliest.{FinishesAreEarliest, FeedsAreEarliest};
 ghost use Rattle.execution_model.specs.Laws.{ClosuresAreGraphs, DoneWhereNoneIsOpen, EndsAreEarliest, ExecutionsAreOne, FaithfulStreamsAreTaken};
 ghost use Rattle.execution_model.specs.Laws.{FeedsAreTakenInTime, FeedsExecuteEarliest, NoActsLeftIsWhole, StreamsAreExecuted};
 
@@ -77,6 +77,6 @@ pub fn feeds_are_earliest()
 /// The end is complete exactly where the stream, said to be done, is faithful. Then the moments are the whole earliest schedule of every
 /// situation that the stream fits, the acts are all that remained of it, and no strategy that controls the network plays any point sooner
 /// there.
-pub fn ends_are_earliest_too()
-    ensures { EndsAreEarliestToo }
+pub fn finishes_are_earliest()
+    ensures { FinishesAreEarliest }
 {}

@@ -1,8 +1,9 @@
 //! The executor.
 
-ghost use Rattle.std.specs.Prelude.{◌≡◌, ◌+◌, ◌<◌, Ok, Err, Some, None, length, IfOk, OnOk, OnErr};
+ghost use Rattle.std.specs.Prelude.{◌≡◌, ◌+◌, ◌<◌, ◌≤◌, Ok, Err, Some, None, length, IfOk, OnOk, OnErr};
 ghost use Rattle.std.specs.List.{All};
 ghost use Rattle.std.specs.Option.{option_map_or};
+ghost use Rattle.execution_model.specs.Earliest.{FeedsEarliest, EndsEarliest};
 ghost use Rattle.execution_model.specs.Execution.{moment_of};
 ghost use Rattle.execution_model.specs.Feeding.{started, next_moment, IsFed, IsFinished, IsDueAnswer, refusal_of_moment, first_open, IsWhole};
 ghost use Rattle.live_executor.specs.Kept.{IsTaken};
@@ -11,6 +12,7 @@ ghost use Rattle.live_executor.specs.Sound.{IsDispatchOf};
 use crate::course::Course;
 use crate::dispatched::Dispatched;
 use dispatch_net::Dispatch;
+use execution_model::laws::{feeds_are_earliest, finishes_are_earliest};
 use execution_model::{Act, Fed, Finished, MOST_MOMENT, Why};
 use net_model::{Network, PointId};
 use std::alloc::{AllocError, Global};
@@ -64,9 +66,12 @@ impl Executor {
         })
     }
 
-    /// The acts of the last feed that was answered `Acts`, or of the end, by moment and then by number of the point.
+    /// The acts of the last feed that was answered `Acts`, or of the end, by moment and then by number of the point: no more than there are
+    /// points.
     pub fn acts(&self) -> &[Act]
-        ensures { result.now ≡ self.now.acts }
+        ensures value { result.now ≡ self.now.acts }
+        ensures few { length self.now.acts ≤ length self.now.moments }
+        ensures count { length self.now.moments ≡ length self.now.setting.dispatch }
     {
         self.course.acts.as_slice()
     }
@@ -96,6 +101,28 @@ impl Executor {
     /// should have completed; no act is made then, and each later call answers `Ended` with that cause.
     pub fn feed(&mut self, moment: u64, completions: &[PointId]) -> Fed
         requires { All (λ point. point.0 < length self.old.setting.dispatch) completions.now }
+        ensures fed { IsFed self.old moment completions.now result self.new }
+        // It is taken exactly where the stream stays faithful, and then no strategy that controls the network is ahead.
+        ensures earliest { FeedsEarliest self.old moment completions.now result self.new }
+    {
+        feeds_are_earliest();
+        self.feed_or_refuse(moment, completions)
+    }
+
+    /// Ends the execution, where each contingent point has completed: makes all acts that are left. Else it answers `Unfinished` with the
+    /// lowest contingent point that has not, and nothing changes; after a refusal it answers `Ended` with its cause.
+    pub fn finish(&mut self) -> Finished
+        ensures finished { IsFinished self.old result self.new }
+        // It is complete exactly where the stream may be done, and then no strategy that controls the network is ahead.
+        ensures earliest { EndsEarliest self.old result self.new }
+    {
+        finishes_are_earliest();
+        self.finish_or_refuse()
+    }
+
+    /// A feed.
+    fn feed_or_refuse(&mut self, moment: u64, completions: &[PointId]) -> Fed
+        requires { All (λ point. point.0 < length self.old.setting.dispatch) completions.now }
         ensures { IsFed self.old moment completions.now result self.new }
     {
         if let Some(why) = self.refused {
@@ -107,9 +134,8 @@ impl Executor {
         }
     }
 
-    /// Ends the execution, where each contingent point has completed: makes all acts that are left. Else it answers `Unfinished` with the
-    /// lowest contingent point that has not, and nothing changes; after a refusal it answers `Ended` with its cause.
-    pub fn finish(&mut self) -> Finished
+    /// The end.
+    fn finish_or_refuse(&mut self) -> Finished
         ensures { IsFinished self.old result self.new }
     {
         if let Some(why) = self.refused {
