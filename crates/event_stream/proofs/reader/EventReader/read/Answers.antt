@@ -1,0 +1,14 @@
+use Rattle.event_stream.proofs.ReadingLemmas.{grammar, every, fault, points}
+use Rattle.event_stream.proofs.reader.EventReader.read.Goals as goal
+
+pub returns-clause-grammar : goal.returns-clause-grammar
+returns-clause-grammar c = grammar c.args.net.now c.args.line.now c.args.self.now c.read_words.result c.read_words.new.self c.read_words.ensures
+
+pub returns-clause-every : goal.returns-clause-every
+returns-clause-every c = every c.args.net.now c.args.line.now c.args.self.now c.read_words.result c.read_words.new.self c.read_words.ensures
+
+pub returns-clause-fault : goal.returns-clause-fault
+returns-clause-fault c = fault c.args.net.now c.args.line.now c.args.self.now c.read_words.result c.read_words.new.self c.read_words.ensures
+
+pub returns-clause-points : goal.returns-clause-points
+returns-clause-points c = points c.args.net.now c.args.line.now c.args.self.now c.read_words.result c.read_words.new.self c.read_words.ensures

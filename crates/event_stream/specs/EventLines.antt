@@ -1,0 +1,62 @@
+-- What is read of a line of events, by its words. This project's own choice.
+use Rattle.std.specs.Prelude.{◌≡◌, ℕ, List, [], ◌∷◌, Option, None, Some, Result, Ok, Err, codes, if◌then◌else◌}
+use Rattle.std.specs.Str.{bytes_eq}
+use Rattle.texts.specs.Words.{is_remark}
+use Rattle.net_model.specs.Numbers.{name_of, natural_of}
+use Rattle.net_model.specs.Reading.{◌>>=◌}
+use Rattle.net_model.specs.Network.{Plan, point_named}
+use Rattle.net_model.specs.declared.ids.PointId.{PointId}
+use Rattle.net_model.specs.declared.format.FormatKind.{FormatKind}
+use Rattle.net_model.specs.declared.format.FormatKind.TheVariants.{UnknownWord, WordCount, UnknownName}
+use Rattle.event_stream.specs.Limits.{most_moment}
+use Rattle.event_stream.specs.EventText.{EventLine, blank, completed, done, event_of, kept}
+use Rattle.event_stream.specs.declared.event.Event.{Event}
+
+-- a point that must be one of the network
+abbrev pub known : Option PointId → Result PointId FormatKind
+known None = Err UnknownName
+known (Some point) = Ok point
+
+-- a word in the place of a point
+abbrev pub point_of : Plan → List ℕ → Result PointId FormatKind
+point_of net word = do
+  name ← name_of word
+  known (point_named net name)
+
+-- words in the places of points
+abbrev pub points_of : Plan → List (List ℕ) → Result (List PointId) FormatKind
+points_of net [] = Ok []
+points_of net (word ∷ others) = do
+  point ← point_of net word
+  points ← points_of net others
+  Ok (point ∷ points)
+
+-- MOMENT NAME NAME .., after `at`
+abbrev pub at_line : Plan → List (List ℕ) → Result EventLine FormatKind
+at_line net [] = Err WordCount
+at_line net (word ∷ names) = do
+  moment ← natural_of most_moment word
+  points ← points_of net names
+  Ok (completed moment points)
+
+-- nothing, after `done`
+abbrev pub done_line : List (List ℕ) → Result EventLine FormatKind
+done_line [] = Ok done
+done_line (next ∷ others) = Err WordCount
+
+-- a line by its first word
+abbrev pub line_of : Plan → List ℕ → List (List ℕ) → Result EventLine FormatKind
+line_of net first others =
+    if bytes_eq first (codes "at") then at_line net others
+    else (if bytes_eq first (codes "done") then done_line others
+    else Err UnknownWord)
+
+-- a line of events
+unfoldable pub event_line : Plan → List (List ℕ) → Result EventLine FormatKind
+event_line net [] = Ok blank
+event_line net (first ∷ others) = if is_remark first then Ok blank else line_of net first others
+
+-- the answer to a line, and the completions that are kept after it
+abbrev pub Answers : Result EventLine FormatKind → List PointId → Result Event FormatKind → List PointId → Type 0
+Answers (Ok told) before answer after = (answer ≡ Ok (event_of told)) × (after ≡ kept told before)
+Answers (Err kind) before answer after = (answer ≡ Err kind) × (after ≡ before)

@@ -1,0 +1,4 @@
+pub mod Limits
+pub mod EventText
+pub mod EventLines
+pub mod Laws

@@ -1,0 +1,12 @@
+//! The lines of events by which an execution is told what was completed: one line is read at a time, without memory.
+#![tactic(auto)]
+
+mod event;
+pub mod laws;
+mod limits;
+mod names;
+mod reader;
+
+pub use event::Event;
+pub use limits::{MOST_COMPLETIONS, MOST_LINE, MOST_MOMENT, limits_are_defined};
+pub use reader::EventReader;
