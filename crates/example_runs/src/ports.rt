@@ -1,7 +1,7 @@
 //! Runs of ports, and of the reader and the writer over them.
 use plan_port::{
-    Line, LineReader, MOST_LINE, MOST_READ, MemoryPort, Port, Sent, StdPort, Took, Written,
-    write_all,
+    Line, LineReader, MOST_LINE, MOST_READ, MemoryPort, Port, Sent, StdPort, SteadyPort, Took,
+    Written, write_all,
 };
 use std::alloc::{AllocError, Allocator, Global};
 use std::cell::Cell;
@@ -170,6 +170,48 @@ fn a_failed_put_leaves_a_part(rt: HostRuntime) -> Result<(), Fail> {
     assert_eq!(rt; write_all(&mut port, b"second\n"), Written::Part(0));
     assert_eq!(rt; port.put(b"third\n"), Sent::Wrote(6));
     assert_eq!(rt; port.written(), b"first\nthird\n".as_slice());
+    Ok(())
+}
+
+/// A plan of which every single situation has a schedule, though none can be found without foresight.
+const PLAN: &[u8] = b"stnu 1
+point A
+point C
+point D
+bound b1 D C 1
+bound b2 C D -1
+link A 3 8 C
+end
+";
+
+/// A port of room for seven bytes that has given nothing yet, and to which nothing was put.
+fn expect_pieces(rt: &impl Abort, port: &mut SteadyPort) {
+    let mut place = [0; 8];
+    assert_eq!(rt; (port.room(), port.whole()), (7, true));
+    assert_eq!(rt; port.take(&mut place), Took::Bytes(8));
+    assert_eq!(rt; &place, b"stnu 1\np");
+    assert_eq!(rt; port.put(b"first\n"), Sent::Wrote(6));
+    assert_eq!(rt; (port.room(), port.whole()), (1, true));
+    assert_eq!(rt; port.put(b"second\n"), Sent::Wrote(7));
+    assert_eq!(rt; (port.room(), port.whole()), (1, false));
+    assert_eq!(rt; port.put(b"\n"), Sent::Wrote(1));
+    assert_eq!(rt; (port.room(), port.whole()), (0, false));
+    assert_eq!(rt; port.written(), b"first\n\n".as_slice());
+}
+
+/// What is left of a plan after the first eight bytes.
+fn expect_rest(rt: &impl Abort, port: &mut SteadyPort) {
+    let mut place = [0; 80];
+    assert_eq!(rt; port.take(&mut place), Took::Bytes(PLAN.len() - 8));
+    assert_eq!(rt; port.take(&mut place), Took::End);
+}
+
+#[test]
+fn a_piece_that_does_not_fit_is_accepted_and_not_kept(rt: HostRuntime) -> Result<(), Fail> {
+    let input = PLAN.to_vec(rt.alloc())?;
+    let mut port = SteadyPort::new(rt.alloc(), input, 7)?;
+    expect_pieces(&rt, &mut port);
+    expect_rest(&rt, &mut port);
     Ok(())
 }
 

@@ -1,6 +1,6 @@
 //! Runs of the program over ports in memory.
 
-use plan_port::MemoryPort;
+use plan_port::{MemoryPort, Port, SteadyPort};
 use std::alloc::{AllocError, Global};
 use std::process::Abort;
 use std::test::Fail;
@@ -40,12 +40,29 @@ const FAILING_CALLS: &str = "0 2 0 => stnu judge => stnu 1|point A| => error rea
 1 4 1 => stnu judge => stnu 1|end| =>  => 6
 0 1 1 => stnu chek => stnu 1|end| =>  => 6";
 
+/// Rows: the room of a port of fixed room, how much of it is left after the run, whether all bytes put are kept; and then as above.
+/// The room is ample, just enough, or too little: the status is the same.
+const ROOMS: &str =
+    "1000 974 true => stnu judge => stnu 1|point A|point B|bound b1 A B 3|bound b2 B A -5|end|certificate 1|refutation|bound b1 A B 3|bound b2 B A -5|no 1 2 A A -2|walk 3|end| => accepted not controllable| => 0
+26 0 true => stnu judge => stnu 1|point A|point B|bound b1 A B 3|bound b2 B A -5|end|certificate 1|refutation|bound b1 A B 3|bound b2 B A -5|no 1 2 A A -2|walk 3|end| => accepted not controllable| => 0
+25 25 false => stnu judge => stnu 1|point A|point B|bound b1 A B 3|bound b2 B A -5|end|certificate 1|refutation|bound b1 A B 3|bound b2 B A -5|no 1 2 A A -2|walk 3|end| =>  => 0
+0 0 false => stnu judge => stnu 1|end|certificate 1|refutation|end| =>  => 1
+1000 842 true => stnu check => stnu 1|point A|point C|point D|bound b1 D C 1|bound b2 C D -1|link A 3 8 C|end| => not controllable|certificate 1|refutation|bound b1 D C 1|bound b2 C D -1|link C C A -8|up 1 3 D A C -7|low C 2 A D 2|up 5 4 A A C -5|drop 6 A A -3|walk 7|end| => 1";
+
 /// How a port gives its bytes: so many of a take at most, where that is above 0, and which take and which put fails.
 #[derive(Clone, Copy)]
 struct Calls {
     cut: u32,
     failing_take: u32,
     failing_put: u32,
+}
+
+/// The room of a port when it is made and after the run, and whether it keeps all bytes put.
+#[derive(Clone, Copy)]
+struct Room {
+    given: u32,
+    left: u32,
+    whole: bool,
 }
 
 /// A row: the words, the input, what is put, and the exit status.
@@ -79,6 +96,16 @@ fn calls_of(text: &str) -> Option<Calls> {
     })
 }
 
+fn room_of(text: &str) -> Option<Room> {
+    let (given, others) = text.split_once(' ')?;
+    let (left, whole) = others.split_once(' ')?;
+    Some(Room {
+        given: given.parse().ok()?,
+        left: left.parse().ok()?,
+        whole: whole == "true",
+    })
+}
+
 /// The bytes of a text, with line ends.
 fn with_line_ends(alloc: Global, text: &str) -> Result<Vec<u8>, AllocError> {
     text.bytes()
@@ -102,18 +129,53 @@ fn port_over(alloc: Global, input: &str, calls: Calls) -> Result<MemoryPort, All
     Ok(MemoryPort::new(alloc, input, cuts, failing_takes, failing_puts))
 }
 
+/// A run over the port ends with the status of the row.
+fn expect_status<R: Abort, P: Port>(
+    rt: &R,
+    alloc: Global,
+    row: Row<'_>,
+    port: &mut P,
+) -> Result<(), AllocError> {
+    let words = words_of(alloc, row.words)?;
+    let status = run(alloc, &words, port);
+    assert_eq!(rt; status.0, row.status);
+    Ok(())
+}
+
+/// These bytes are what the row says is put.
+fn expect_put<R: Abort>(
+    rt: &R,
+    alloc: Global,
+    row: Row<'_>,
+    written: &[u8],
+) -> Result<(), AllocError> {
+    let put = with_line_ends(alloc, row.put)?;
+    assert_eq!(rt; written, put.as_slice());
+    Ok(())
+}
+
 fn expect_run<R: Abort>(
     rt: &R,
     alloc: Global,
     row: Row<'_>,
     port: &mut MemoryPort,
 ) -> Result<(), AllocError> {
-    let words = words_of(alloc, row.words)?;
-    let put = with_line_ends(alloc, row.put)?;
-    let status = run(alloc, &words, port);
-    assert_eq!(rt; status.0, row.status);
-    assert_eq!(rt; port.written(), put.as_slice());
-    Ok(())
+    expect_status(rt, alloc, row, port)?;
+    expect_put(rt, alloc, row, port.written())
+}
+
+/// The same over a port of fixed room, of which this much is then left.
+fn expect_steady_run<R: Abort>(
+    rt: &R,
+    alloc: Global,
+    row: Row<'_>,
+    room: Room,
+    port: &mut SteadyPort,
+) -> Result<(), AllocError> {
+    assert_eq!(rt; port.room(), room.given);
+    expect_status(rt, alloc, row, port)?;
+    assert_eq!(rt; (port.room(), port.whole()), (room.left, room.whole));
+    expect_put(rt, alloc, row, port.written())
 }
 
 fn try_row<R: Abort>(
@@ -125,6 +187,22 @@ fn try_row<R: Abort>(
     if let (Some(row), Some(calls)) = (row_of(text), calls) {
         let mut port = port_over(alloc, row.input, calls)?;
         expect_run(rt, alloc, row, &mut port)
+    } else {
+        assert!(rt; false, "{text}");
+        Ok(())
+    }
+}
+
+fn try_room<R: Abort>(
+    rt: &R,
+    alloc: Global,
+    text: &str,
+    room: Option<Room>,
+) -> Result<(), AllocError> {
+    if let (Some(row), Some(room)) = (row_of(text), room) {
+        let input = with_line_ends(alloc, row.input)?;
+        let mut port = SteadyPort::new(alloc, input, room.given)?;
+        expect_steady_run(rt, alloc, row, room, &mut port)
     } else {
         assert!(rt; false, "{text}");
         Ok(())
@@ -151,6 +229,15 @@ fn failed_calls_are_told(rt: HostRuntime) -> Result<(), Fail> {
     for text in FAILING_CALLS.split('\n') {
         let (calls, row) = text.split_once(" => ").unwrap_or(("", ""));
         try_row(&rt, rt.alloc(), row, calls_of(calls))?;
+    }
+    Ok(())
+}
+
+#[test]
+fn runs_are_the_same_over_a_fixed_room(rt: HostRuntime) -> Result<(), Fail> {
+    for text in ROOMS.split('\n') {
+        let (room, row) = text.split_once(" => ").unwrap_or(("", ""));
+        try_room(&rt, rt.alloc(), row, room_of(room))?;
     }
     Ok(())
 }

@@ -5,4 +5,6 @@ pub mod Lines
 pub mod Reader
 pub mod Held
 pub mod Reading
+pub mod Supply
 pub mod Memory
+pub mod Steady

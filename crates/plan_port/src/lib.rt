@@ -5,7 +5,9 @@ mod limits;
 mod lines;
 mod memory;
 mod ports;
+mod source;
 mod standard;
+mod steady;
 mod window;
 mod writing;
 
@@ -14,4 +16,5 @@ pub use lines::{Line, LineReader};
 pub use memory::MemoryPort;
 pub use ports::{Port, Sent, Took};
 pub use standard::StdPort;
+pub use steady::SteadyPort;
 pub use writing::{Written, write_all};

@@ -4,16 +4,9 @@ ghost use Rattle.plan_port.specs.Talk.{TakesOnce, PutsOnce, raised, with_put};
 ghost use Rattle.plan_port.specs.Memory.{Memory, seen_of, unused, is_listed, limit, after_piece, after_failed_take, after_failed_put, TakesNext, PutsNext};
 
 use crate::ports::{Port, Sent, Took};
+use crate::source::Source;
 use std::alloc::{AllocError, Global};
 use std::marker::Model;
-
-// Where the bytes of a take stand in the input, and how many bytes were put before it.
-#[derive(Clone, Copy, Debug)]
-pub(crate) struct TakenPiece {
-    start: usize,
-    end: usize,
-    put_before: usize,
-}
 
 // How many pieces had been taken, and how many bytes put.
 #[derive(Clone, Copy, Debug)]
@@ -29,14 +22,12 @@ pub(crate) struct Reached {
 /// each other put takes its whole piece. A take or a put that finds no memory to keep what the talk needs fails too.
 #[derive(Drop)]
 pub struct MemoryPort {
-    input: Vec<u8>,
-    position: usize,
+    source: Source,
     cuts: Vec<u32>,
     failing_takes: Vec<u32>,
     failing_puts: Vec<u32>,
     takes: u64,
     puts: u64,
-    taken: Vec<TakenPiece>,
     output: Vec<u8>,
     failed_take: Option<Reached>,
     failed_put: Option<Reached>,
@@ -45,7 +36,6 @@ pub struct MemoryPort {
 }
 
 impl Model for MemoryPort {
-    ghost use Rattle.std.specs.Prelude.{◌≤◌, map, drop, slice_range, length};
     ghost use Rattle.std.specs.Option.{option_map};
     ghost use Rattle.plan_port.specs.Memory.{Memory};
 
@@ -53,12 +43,12 @@ impl Model for MemoryPort {
 
     ghost view = { λ p. record {
       talk = record {
-        taken = map (λ t. record { bytes = slice_range p.input.items t.start t.end; put_before = t.put_before }) p.taken.items;
+        taken = p.source.taken;
         put = p.output.items;
         failed_take = option_map (λ at. record { taken = at.taken; put = at.put }) p.failed_take;
         failed_put = option_map (λ at. record { taken = at.taken; put = at.put }) p.failed_put;
       };
-      left = drop p.position p.input.items;
+      left = p.source.left;
       cuts = p.cuts.items;
       failing_takes = p.failing_takes.items;
       failing_puts = p.failing_puts.items;
@@ -67,8 +57,6 @@ impl Model for MemoryPort {
       read_faults = p.read_faults;
       write_faults = p.write_faults;
     } };
-
-    ghost invariant = { λ p. p.position ≤ length p.input.items };
 }
 
 impl MemoryPort {
@@ -83,14 +71,12 @@ impl MemoryPort {
         ensures { result ≡ unused input.items cuts.items failing_takes.items failing_puts.items }
     {
         MemoryPort {
-            input,
-            position: 0,
+            source: Source::new(alloc, input),
             cuts,
             failing_takes,
             failing_puts,
             takes: 0,
             puts: 0,
-            taken: Vec::new(alloc),
             output: Vec::new(alloc),
             failed_take: None,
             failed_put: None,
@@ -112,7 +98,7 @@ impl MemoryPort {
         ensures put { result.put ≡ length self.now.talk.put }
     {
         Reached {
-            taken: self.taken.len(),
+            taken: self.source.count(),
             put: self.output.len(),
         }
     }
@@ -141,7 +127,7 @@ impl MemoryPort {
         ensures { result ≡ min (limit self.now.cuts self.now.takes place) (length self.now.left) }
     {
         let most = limit(&self.cuts, self.takes, place);
-        most.min(self.input.len() - self.position)
+        most.min(self.source.size_left())
     }
 
     /// Gives bytes from the front of what is left.
@@ -152,15 +138,8 @@ impl MemoryPort {
         ensures bytes { OnOk result (take size into.new ≡ take size self.old.left) }
         ensures err { OnErr result (self.new ≡ self.old) }
     {
-        let (start, end) = (self.position, self.position + size);
-        let put_before = self.output.len();
-        self.taken.push(TakenPiece {
-            start,
-            end,
-            put_before,
-        })?;
-        into[..size].copy_from_slice(&self.input[start..end]);
-        self.position = end;
+        self.source.reserve()?;
+        self.source.give(into, size, self.output.len());
         Ok(())
     }
 
