@@ -1,0 +1,85 @@
+-- What feeds come to: the first refusal comes exactly where a stream stops being faithful, and the moments are those of the earliest
+-- schedule.
+use Rattle.std.specs.Prelude.{◌≡◌, ◌↔◌, ℕ, ◌≤◌, true, false, IsSome, List, [], map, Some, None, Ok, length}
+use Rattle.std.specs.List.{All}
+use Rattle.net_model.specs.Network.{Plan, IsPlan, IsContingent}
+use Rattle.net_model.specs.declared.ids.PointId.{PointId}
+use Rattle.net_model.specs.declared.part.Link.{Link}
+use Rattle.closure_model.specs.Tables.{Graph, IsGraph}
+use Rattle.closure_model.specs.Closure.{IsClosure}
+use Rattle.closure_model.specs.Orders.{IsOrder}
+use Rattle.strategy_model.specs.Control.{IsEarliest}
+use Rattle.dispatch_net.specs.Dispatchable.{MayDispatch, dispatchable}
+use Rattle.execution_model.specs.Execution.{Moments, Setting, moment_of, link_to, acts_at, acts_while, time_runs}
+use Rattle.execution_model.specs.Feeding.{Execution, started, next_moment, most_moment, taken, first_open, IsWhole}
+use Rattle.execution_model.specs.Streams.{Listing, Stream, Shows, IsFaithful, fixed_by}
+use Rattle.execution_model.specs.Timely.{IsInTime, with_completed, AreInTime, fed_all}
+
+-- the setting of a network that is dispatched by a table
+abbrev pub setting_of : Plan → Graph → Setting
+setting_of net table = record { links = net.links; dispatch = dispatchable net table }
+
+-- a network, its closure and an order of it
+pub record IsDispatchedByClosure (net : Plan) (table : Graph) (order : List PointId) : Type 0 where
+  pub sound : IsPlan net
+  pub closure : IsClosure net table
+  pub graph : IsGraph table
+  pub ordered : IsOrder table order
+
+-- a stream that goes on
+abbrev pub going_on : List Listing → Stream
+going_on listings = record { listings = listings; done = false }
+
+-- the same stream, said to be done
+abbrev pub ended : List Listing → Stream
+ended listings = record { listings = listings; done = true }
+
+-- no moment of a list of feeds is beyond the limit
+abbrev pub AreWithinLimit : List Listing → Type 0
+AreWithinLimit listings = All (λ (listing : Listing). listing.moment ≤ most_moment) listings
+
+-- a feed within the limit is taken exactly where its completions are in time, and then they are the moments that are new
+abbrev pub FeedsAreTakenInTime : Type 0
+FeedsAreTakenInTime =
+    (execution : Execution) (moment : ℕ) (listed : List PointId) → moment ≤ most_moment
+    → (IsInTime execution moment listed ↔ (taken execution moment listed ≡ Ok (with_completed execution moment listed)))
+    × ((moments : Moments) → taken execution moment listed ≡ Ok moments → moments ≡ with_completed execution moment listed)
+
+-- from the start of a network that is dispatched by its closure, the feeds of a list are all taken exactly where the list is a faithful
+-- stream that goes on, and exactly where each is in time
+abbrev pub FaithfulStreamsAreTaken : Type 0
+FaithfulStreamsAreTaken =
+    (net : Plan) (table : Graph) (order : List PointId) (listings : List Listing) → IsDispatchedByClosure net table order → AreWithinLimit listings
+    → (IsFaithful net (going_on listings) ↔ ((execution : Execution) × fed_all (started (setting_of net table)) listings ≡ Ok execution))
+    × (IsFaithful net (going_on listings) ↔ AreInTime (started (setting_of net table)) listings)
+
+-- then the moments so far are those of the earliest schedule of every situation that the stream fits, up to its last moment
+abbrev pub FeedsExecuteEarliest : Type 0
+FeedsExecuteEarliest =
+    (net : Plan) (table : Graph) (order : List PointId) (listings : List Listing) (execution : Execution) (situation schedule : List ℕ)
+    → IsDispatchedByClosure net table order → fed_all (started (setting_of net table)) listings ≡ Ok execution
+    → IsEarliest net situation schedule → Shows net (going_on listings) schedule
+    → execution.moments ≡ fixed_by (going_on listings) schedule
+
+-- the stream may be said to be done exactly where no contingent point is open
+abbrev pub DoneWhereNoneIsOpen : Type 0
+DoneWhereNoneIsOpen =
+    (net : Plan) (table : Graph) (order : List PointId) (listings : List Listing) (execution : Execution) → IsDispatchedByClosure net table order
+    → AreWithinLimit listings → fed_all (started (setting_of net table)) listings ≡ Ok execution
+    → (IsFaithful net (ended listings) ↔ (first_open execution ≡ None))
+
+-- and the end makes the whole of the earliest schedule of every situation that it fits
+abbrev pub EndsAreEarliest : Type 0
+EndsAreEarliest =
+    (net : Plan) (table : Graph) (order : List PointId) (listings : List Listing) (execution after : Execution) (situation schedule : List ℕ)
+    → IsDispatchedByClosure net table order → fed_all (started (setting_of net table)) listings ≡ Ok execution
+    → IsWhole execution after → IsEarliest net situation schedule → Shows net (ended listings) schedule
+    → after.moments ≡ map Some schedule
+
+-- where a network is dispatched by a table in an order, every contingent point has completed and no moment brings an act, every point
+-- has come
+abbrev pub NoActsLeftIsWhole : Type 0
+NoActsLeftIsWhole =
+    (net : Plan) (table : Graph) (order : List PointId) (moments : Moments) (from : ℕ) → IsPlan net → IsGraph table → MayDispatch net table order
+    → length moments ≡ length net.points → ((point : PointId) → IsContingent net point → IsSome (moment_of moments point))
+    → ((t : ℕ) → from ≤ t → acts_at (setting_of net table) moments t ≡ []) → All IsSome moments

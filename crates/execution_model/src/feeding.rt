@@ -1,0 +1,54 @@
+use net_model::PointId;
+
+/// The greatest moment that may be fed.
+pub const MOST_MOMENT: u64 = 4_000_000_000_000;
+
+/// A point that is executed at a moment.
+#[derive(Clone, Copy, Debug, PartialEq, Eq)]
+pub struct Act {
+    /// When, in whole moments from 0.
+    pub moment: u64,
+    /// An executable point.
+    pub point: PointId,
+}
+
+/// Why a feed is refused.
+#[derive(Clone, Copy, Debug, PartialEq, Eq)]
+pub enum Why {
+    /// The moment isn't after the last one fed, which this is.
+    NotLater(u64),
+    /// A listed point is not contingent.
+    NotContingent(PointId),
+    /// A listed point has completed before, or stands earlier in the list: at this moment.
+    Twice(PointId, u64),
+    /// The link that ends in a listed point is not active: its activation point has no moment before the one fed.
+    NotActive(PointId),
+    /// A listed point completes before its link's shortest duration has gone by, which is at this moment.
+    TooSoon(PointId, u64),
+    /// A point has not completed when its link's longest duration had gone by, which was at this moment.
+    Overdue(PointId, u64),
+    /// The moment is above the greatest that may be fed.
+    MomentLimit,
+}
+
+/// What a feed is answered.
+#[derive(Clone, Copy, Debug, PartialEq, Eq)]
+pub enum Fed {
+    /// The completions were taken, and the acts made.
+    Acts,
+    /// This feed is refused: no act is made, and the execution is over.
+    Refused(Why),
+    /// An earlier feed was refused, for this cause.
+    Ended(Why),
+}
+
+/// What the end of an execution is answered.
+#[derive(Clone, Copy, Debug, PartialEq, Eq)]
+pub enum Finished {
+    /// All remaining acts are made.
+    Complete,
+    /// A contingent point hasn't completed: the lowest one.
+    Unfinished(PointId),
+    /// An earlier feed was refused, for this cause.
+    Ended(Why),
+}

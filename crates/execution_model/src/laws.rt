@@ -1,0 +1,1 @@
+//! Laws about executions, each the contract of a function without parameters.
