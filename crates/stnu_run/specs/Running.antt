@@ -1,0 +1,53 @@
+-- The command `run`: a plan, and after it lines of events, over which its network is executed. This project's own choice.
+use Rattle.std.specs.Prelude.{◌≡◌, ◌⊎◌, ℕ, List, [], ◌++◌, Option}
+use Rattle.net_model.specs.Network.{Plan}
+use Rattle.cert_format.specs.CertificateWords.{printed_certificate}
+use Rattle.cert_format.specs.declared.certificate.Certificate.{Certificate}
+use Rattle.execution_model.specs.Feeding.{started, IsDueAnswer}
+use Rattle.execution_model.specs.Laws.{setting_of}
+use Rattle.commands.specs.Machine.{Machine}
+use Rattle.commands.specs.Phases.{planned_machine}
+use Rattle.commands.specs.declared.endings.End.TheVariants.{Refused}
+use Rattle.commands.specs.declared.machines.Onward.{Onward}
+use Rattle.commands.specs.declared.machines.Onward.TheVariants.{Goes, Ends}
+use Rattle.commands.specs.declared.phases.Planned.{Planned}
+use Rattle.commands.specs.declared.phases.Planned.TheVariants.{Reading}
+use Rattle.stnu_run.specs.Checking.{controllable_line, refuted_line, RoundsClose, IsCertificateOf}
+use Rattle.stnu_run.specs.Course.{Course}
+use Rattle.stnu_run.specs.EventAnswers.{due_line}
+use Rattle.stnu_run.specs.Executing.{executing_machine}
+use Rattle.stnu_run.specs.Faults.{refusing}
+use Rattle.stnu_run.specs.PlanText.{plan_begun, plan_reader}
+use Rattle.stnu_run.specs.declared.running.Run.{Run}
+use Rattle.stnu_run.specs.declared.plan_text.PlanText.{PlanText}
+
+-- the beginning of an execution: it is put that the network is controllable, and the first due moment, where the reference rounds close;
+-- and it is executed by the lower bounds and waits of the closed table
+pub record BeginsExecution (net : Plan) (answer : List ℕ) (onward : Onward Course) : Type 0 where
+  pub closing : RoundsClose net
+  pub due : Option ℕ
+  pub first : IsDueAnswer (started (setting_of net closing.after.table)) due
+  pub put : answer ≡ controllable_line ++ due_line due
+  pub goes : onward ≡ Goes (record { net = net; execution = started (setting_of net closing.after.table); listed = [] })
+
+-- or it is put that the network is not controllable, and its refutation, and the run ends
+pub record BeginsRefuted (net : Plan) (answer : List ℕ) (onward : Onward Course) : Type 0 where
+  pub certificate : Certificate
+  pub refutation : IsCertificateOf net certificate
+  pub put : answer ≡ refuted_line ++ printed_certificate certificate
+  pub ends : onward ≡ Ends Refused
+
+abbrev pub run_begins : Run → Plan → List ℕ → Onward Course → Type 0
+run_begins start net answer onward = BeginsExecution net answer onward ⊎ BeginsRefuted net answer onward
+
+-- how far the input of `run` was read
+abbrev pub Running : Type 0
+Running = Planned Run PlanText Course
+
+-- before the first line
+abbrev pub run_start : Running
+run_start = Reading (record {}) plan_begun
+
+-- what `run` means
+abbrev pub run_machine : Machine Running
+run_machine = planned_machine run_begins plan_reader refusing executing_machine
