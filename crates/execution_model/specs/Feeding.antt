@@ -57,8 +57,8 @@ activated_before moments moment link = option_and_then (λ activated. if nat_lt 
 abbrev pub refusal_of_completion : Moments → (moment : ℕ) → PointId → Link → Option Why
 refusal_of_completion moments moment point link =
     elim (moment_of moments point) [
-      Some completed ↦ Some (why.Twice point completed)
-    | None ↦ option_map_or (refusal_of_duration moment point link) (activated_before moments moment link) (Some (why.NotActive point))
+      | Some completed ↦ Some (why.Twice point completed)
+      | None ↦ option_map_or (refusal_of_duration moment point link) (activated_before moments moment link) (Some (why.NotActive point))
     ]
 
 -- why a listed point is refused, with the points before it in the list completed
@@ -99,8 +99,8 @@ none_overdue setting moment moments = option_map_or Err (first_overdue setting m
 abbrev pub completed_in : Execution → (moment : ℕ) → List PointId → Result Moments Why
 completed_in execution moment listed =
     elim (completions_taken execution.setting (moments_before execution moment) moment listed) [
-      Ok moments ↦ none_overdue execution.setting moment moments
-    | Err why ↦ Err why
+      | Ok moments ↦ none_overdue execution.setting moment moments
+      | Err why ↦ Err why
     ]
 
 -- why a moment can't be fed, whatever completes
@@ -126,11 +126,11 @@ after_feed execution moment moments = record execution {
 abbrev pub IsFed : Execution → (moment : ℕ) → List PointId → Fed → Execution → Type 0
 IsFed execution moment listed answer after =
     elim execution.refused [
-      Some cause ↦ (answer ≡ fed.Ended cause) × (after ≡ execution)
-    | None ↦ elim (taken execution moment listed) [
-          Err cause ↦ (answer ≡ fed.Refused cause) × (after ≡ record execution { refused = Some cause })
+      | Some cause ↦ (answer ≡ fed.Ended cause) × (after ≡ execution)
+      | None ↦ elim (taken execution moment listed) [
+        | Err cause ↦ (answer ≡ fed.Refused cause) × (after ≡ record execution { refused = Some cause })
         | Ok moments ↦ (answer ≡ fed.Acts) × (after ≡ after_feed execution moment moments)
-        ]
+      ]
     ]
 
 -- a contingent point that has not completed
@@ -159,11 +159,11 @@ pub record IsWhole (execution : Execution) (after : Execution) : Type 0 where
 abbrev pub IsFinished : Execution → Finished → Execution → Type 0
 IsFinished execution answer after =
     elim execution.refused [
-      Some cause ↦ (answer ≡ finished.Ended cause) × (after ≡ execution)
-    | None ↦ elim (first_open execution) [
-          Some point ↦ (answer ≡ finished.Unfinished point) × (after ≡ execution)
+      | Some cause ↦ (answer ≡ finished.Ended cause) × (after ≡ execution)
+      | None ↦ elim (first_open execution) [
+        | Some point ↦ (answer ≡ finished.Unfinished point) × (after ≡ execution)
         | None ↦ (answer ≡ finished.Complete) × IsWhole execution after
-        ]
+      ]
     ]
 
 -- the next moment at which a point is executed if nothing completes before, or that there is none

@@ -4,15 +4,14 @@ use Rattle.std.specs.Prelude.{◌≡◌, ◌↔◌, ℕ, ◌≤◌, true, false,
 use Rattle.std.specs.List.{All}
 use Rattle.net_model.specs.Network.{Plan, IsPlan, IsContingent}
 use Rattle.net_model.specs.declared.ids.PointId.{PointId}
-use Rattle.net_model.specs.declared.part.Link.{Link}
 use Rattle.closure_model.specs.Tables.{Graph, IsGraph}
 use Rattle.closure_model.specs.Closure.{IsClosure}
 use Rattle.closure_model.specs.Orders.{IsOrder}
 use Rattle.strategy_model.specs.Control.{IsEarliest}
 use Rattle.dispatch_net.specs.Dispatchable.{MayDispatch, dispatchable}
-use Rattle.execution_model.specs.Execution.{Moments, Setting, moment_of, link_to, acts_at, acts_while, time_runs}
-use Rattle.execution_model.specs.Feeding.{Execution, started, next_moment, most_moment, taken, first_open, IsWhole}
-use Rattle.execution_model.specs.Streams.{Listing, Stream, Shows, IsFaithful, fixed_by}
+use Rattle.execution_model.specs.Execution.{Moments, Setting, moment_of, acts_at}
+use Rattle.execution_model.specs.Feeding.{Execution, started, most_moment, taken, first_open, IsWhole}
+use Rattle.execution_model.specs.Streams.{Listing, Stream, Shows, IsFaithful, fixed_by, IsExecution}
 use Rattle.execution_model.specs.Timely.{IsInTime, with_completed, AreInTime, fed_all}
 
 -- the setting of a network that is dispatched by a table
@@ -25,6 +24,13 @@ pub record IsDispatchedByClosure (net : Plan) (table : Graph) (order : List Poin
   pub closure : IsClosure net table
   pub graph : IsGraph table
   pub ordered : IsOrder table order
+
+-- an execution of a network: by the links of the network, and with as many points
+pub record IsExecutionOf (net : Plan) (execution : Execution) : Type 0 where
+  pub sound : IsPlan net
+  pub links : execution.setting.links ≡ net.links
+  pub dispatch : length execution.setting.dispatch ≡ length net.points
+  pub moments : length execution.moments ≡ length net.points
 
 -- a stream that goes on
 abbrev pub going_on : List Listing → Stream
@@ -41,7 +47,7 @@ AreWithinLimit listings = All (λ (listing : Listing). listing.moment ≤ most_m
 -- a feed within the limit is taken exactly where its completions are in time, and then they are the moments that are new
 abbrev pub FeedsAreTakenInTime : Type 0
 FeedsAreTakenInTime =
-    (execution : Execution) (moment : ℕ) (listed : List PointId) → moment ≤ most_moment
+    (net : Plan) (execution : Execution) (moment : ℕ) (listed : List PointId) → IsExecutionOf net execution → moment ≤ most_moment
     → (IsInTime execution moment listed ↔ (taken execution moment listed ≡ Ok (with_completed execution moment listed)))
     × ((moments : Moments) → taken execution moment listed ≡ Ok moments → moments ≡ with_completed execution moment listed)
 
@@ -65,8 +71,7 @@ FeedsExecuteEarliest =
 abbrev pub DoneWhereNoneIsOpen : Type 0
 DoneWhereNoneIsOpen =
     (net : Plan) (table : Graph) (order : List PointId) (listings : List Listing) (execution : Execution) → IsDispatchedByClosure net table order
-    → AreWithinLimit listings → fed_all (started (setting_of net table)) listings ≡ Ok execution
-    → (IsFaithful net (ended listings) ↔ (first_open execution ≡ None))
+    → fed_all (started (setting_of net table)) listings ≡ Ok execution → (IsFaithful net (ended listings) ↔ (first_open execution ≡ None))
 
 -- and the end makes the whole of the earliest schedule of every situation that it fits
 abbrev pub EndsAreEarliest : Type 0
@@ -75,6 +80,18 @@ EndsAreEarliest =
     → IsDispatchedByClosure net table order → fed_all (started (setting_of net table)) listings ≡ Ok execution
     → IsWhole execution after → IsEarliest net situation schedule → Shows net (ended listings) schedule
     → after.moments ≡ map Some schedule
+
+-- a stream has at most one execution
+abbrev pub ExecutionsAreOne : Type 0
+ExecutionsAreOne =
+    (net : Plan) (stream : Stream) (first second : Moments) → IsPlan net → IsExecution net stream first → IsExecution net stream second → first ≡ second
+
+-- and feeds that are all taken make it, up to the last moment, and whole at the end where no contingent point is open
+abbrev pub StreamsAreExecuted : Type 0
+StreamsAreExecuted =
+    (net : Plan) (table : Graph) (order : List PointId) (listings : List Listing) (execution : Execution) → IsDispatchedByClosure net table order
+    → fed_all (started (setting_of net table)) listings ≡ Ok execution → IsExecution net (going_on listings) execution.moments
+    × (first_open execution ≡ None → (after : Execution) → IsWhole execution after → IsExecution net (ended listings) after.moments)
 
 -- where a network is dispatched by a table in an order, every contingent point has completed and no moment brings an act, every point
 -- has come

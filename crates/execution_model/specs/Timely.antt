@@ -5,9 +5,9 @@ use Rattle.std.specs.List.{All, Contains, IsDistinct}
 use Rattle.net_model.specs.declared.ids.PointId.{PointId}
 use Rattle.net_model.specs.declared.part.Link.{Link}
 use Rattle.strategy_model.specs.Plays.{same_point}
-use Rattle.execution_model.specs.Execution.{Moments, Setting, moment_of, link_to, time_runs}
-use Rattle.execution_model.specs.Feeding.{Execution, next_moment, moments_before, completed_at, taken, after_feed, first_open}
-use Rattle.execution_model.specs.Streams.{Listing, Stream}
+use Rattle.execution_model.specs.Execution.{Moments, Setting, moment_of, link_to}
+use Rattle.execution_model.specs.Feeding.{Execution, next_moment, moments_before, completed_at, taken, after_feed}
+use Rattle.execution_model.specs.Streams.{Listing}
 use Rattle.execution_model.specs.declared.feeding.Why.{Why}
 
 -- a point completes at a moment, neither too soon nor too late after the activation of its link
@@ -45,6 +45,6 @@ abbrev pub fed_all : Execution → List Listing → Result Execution Why
 fed_all execution [] = Ok execution
 fed_all execution (listing ∷ others) =
     elim (taken execution listing.moment listing.points) [
-      Ok moments ↦ fed_all (after_feed execution listing.moment moments) others
-    | Err why ↦ Err why
+      | Ok moments ↦ fed_all (after_feed execution listing.moment moments) others
+      | Err why ↦ Err why
     ]

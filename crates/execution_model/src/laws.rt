@@ -1,1 +1,49 @@
 //! Laws about executions, each the contract of a function without parameters.
+
+ghost use Rattle.execution_model.specs.Laws.{FeedsAreTakenInTime, FaithfulStreamsAreTaken, FeedsExecuteEarliest, DoneWhereNoneIsOpen, EndsAreEarliest, ExecutionsAreOne, StreamsAreExecuted, NoActsLeftIsWhole};
+
+/// A feed within the limit is taken exactly where its completions are in time: its moment is after the last one fed, each listed point
+/// completes neither too soon nor too late and stands once, and none is left out whose latest moment is reached. Then the moments are
+/// those before with the listed points completed.
+pub fn feeds_are_taken_in_time()
+    ensures { FeedsAreTakenInTime }
+{}
+
+/// Where every contingent point has completed, and no moment from some one on brings an act, every point has come.
+pub fn no_acts_left_is_whole()
+    ensures { NoActsLeftIsWhole }
+{}
+
+/// From the start of a network that is dispatched by its closure, the feeds of a list within the limit are all taken exactly where the
+/// list is a faithful stream that goes on, and exactly where each is in time. So the first refusal comes exactly where a stream stops
+/// being faithful.
+pub fn faithful_streams_are_taken()
+    ensures { FaithfulStreamsAreTaken }
+{}
+
+/// After feeds that were all taken, the moments so far are those of the earliest schedule of every situation that the stream fits, up to
+/// its last moment.
+pub fn feeds_execute_earliest()
+    ensures { FeedsExecuteEarliest }
+{}
+
+/// A stream of feeds that were all taken may be said to be done exactly where no contingent point is open.
+pub fn done_where_none_is_open()
+    ensures { DoneWhereNoneIsOpen }
+{}
+
+/// The end makes the whole of the earliest schedule of every situation that the done stream fits.
+pub fn ends_are_earliest()
+    ensures { EndsAreEarliest }
+{}
+
+/// A stream has at most one execution: that of every situation that it fits is the same, as far as the stream fixes it.
+pub fn executions_are_one()
+    ensures { ExecutionsAreOne }
+{}
+
+/// Feeds that were all taken make the execution of their stream: up to its last moment, and whole at the end where no contingent point is
+/// open.
+pub fn streams_are_executed()
+    ensures { StreamsAreExecuted }
+{}

@@ -1,0 +1,14 @@
+pub mod LinkLemmas
+pub mod MomentLemmas
+pub mod TimelyLemmas
+pub mod WholeLemmas
+pub mod FedLemmas
+pub mod PlaceLemmas
+pub mod CutLemmas
+pub mod TimeLemmas
+pub mod FittingLemmas
+pub mod StreamLemmas
+pub mod SituationLemmas
+pub mod SeenLemmas
+pub mod LawLemmas
+pub mod ExecutionLemmas
