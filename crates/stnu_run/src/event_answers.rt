@@ -1,9 +1,8 @@
 //! The answers to events: acts, due moments, and why an event is refused.
 
-ghost use Rattle.std.specs.Prelude.{◌≡◌, ◌≤◌, ◌++◌, ◌∷◌, ◌*◌, ◌+◌, [], length, codes};
+ghost use Rattle.std.specs.Prelude.{◌≡◌, ◌≤◌, ◌++◌, ◌∷◌, ◌*◌, ◌+◌, [], length};
 ghost use Rattle.std.specs.Fmt.{decimal};
 ghost use Rattle.std.specs.List.{All};
-ghost use Rattle.texts.specs.Printing.{printed_line};
 ghost use Rattle.net_model.specs.Network.{IsPoint};
 ghost use Rattle.commands.specs.Limits.{least_room};
 ghost use Rattle.commands.specs.Words.{most_word, word_text};
@@ -37,7 +36,11 @@ fn put_act(answer: &mut Answer, net: &Network, act: &Act)
     ensures size { length answer.new.text ≤ length answer.old.text + most_act }
     ensures capacity { answer.old.capacity ≤ answer.new.capacity }
 {
-    answer.put_line(&[Word::Text("act"), Word::Number(act.moment), Word::Name(name_of(net, act.point))]);
+    answer.put_line(&[
+        Word::Text("act"),
+        Word::Number(act.moment),
+        Word::Name(name_of(net, act.point)),
+    ]);
 }
 
 /// Puts the next due moment.
@@ -59,7 +62,12 @@ pub(crate) fn refuse_line(answer: &mut Answer, number: u32, kind: FormatKind) ->
     ensures capacity { answer.old.capacity ≤ answer.new.capacity }
 {
     if kind == FormatKind::NumberLimit {
-        answer.refuse(&[Word::Text("error"), Word::Text("limit"), Word::Number(u64::from(number)), Word::Text("moment")]);
+        answer.refuse(&[
+            Word::Text("error"),
+            Word::Text("limit"),
+            Word::Number(u64::from(number)),
+            Word::Text("moment"),
+        ]);
         return End::Limit;
     }
     let fault = Fault::Format(number, kind);
@@ -74,21 +82,48 @@ pub(crate) fn refuse_event(answer: &mut Answer, net: &Network, number: u32, why:
     ensures end { result ≡ EventRefused }
     ensures capacity { answer.old.capacity ≤ answer.new.capacity }
 {
-    let line = Word::Number(u64::from(number));
     match why {
-        Why::NotLater(last) => refuse(answer, line, "not-later", Word::Number(last)),
-        Why::NotContingent(point) => refuse(answer, line, "not-contingent", Word::Name(name_of(net, point))),
+        Why::NotLater(last) => refuse(answer, number, "not-later", Word::Number(last)),
+        Why::NotContingent(point) => refuse(
+            answer,
+            number,
+            "not-contingent",
+            Word::Name(name_of(net, point)),
+        ),
         Why::Twice(point, moment) => {
-            refuse_at(answer, line, "twice", Word::Name(name_of(net, point)), moment)
+            refuse_at(
+                answer,
+                number,
+                "twice",
+                Word::Name(name_of(net, point)),
+                moment,
+            )
         }
-        Why::NotActive(point) => refuse(answer, line, "not-active", Word::Name(name_of(net, point))),
+        Why::NotActive(point) => refuse(
+            answer,
+            number,
+            "not-active",
+            Word::Name(name_of(net, point)),
+        ),
         Why::TooSoon(point, earliest) => {
-            refuse_at(answer, line, "too-soon", Word::Name(name_of(net, point)), earliest)
+            refuse_at(
+                answer,
+                number,
+                "too-soon",
+                Word::Name(name_of(net, point)),
+                earliest,
+            )
         }
         Why::Overdue(point, latest) => {
-            refuse_at(answer, line, "overdue", Word::Name(name_of(net, point)), latest)
+            refuse_at(
+                answer,
+                number,
+                "overdue",
+                Word::Name(name_of(net, point)),
+                latest,
+            )
         }
-        Why::MomentLimit => refuse(answer, line, "moment", Word::Number(MOST_MOMENT)),
+        Why::MomentLimit => refuse(answer, number, "moment", Word::Number(MOST_MOMENT)),
     }
     End::EventRefused
 }
@@ -99,35 +134,41 @@ pub(crate) fn refuse_end(answer: &mut Answer, net: &Network, number: u32, point:
     ensures put { answer.new.text ≡ event_line number (unfinished_words net.now point) }
     ensures end { result ≡ EventRefused }
 {
-    refuse(answer, Word::Number(u64::from(number)), "unfinished", Word::Name(name_of(net, point)));
+    refuse(
+        answer,
+        number,
+        "unfinished",
+        Word::Name(name_of(net, point)),
+    );
     End::EventRefused
 }
 
 /// Puts the line of an event that is refused: a word, and what it speaks of.
-fn refuse<'a>(answer: &mut Answer, line: Word<'a>, word: &'a str, of: Word<'a>)
-    requires { (most_word line ≤ 32) × (length word.now ≤ 32) × (most_word of ≤ 32) }
-    ensures put { answer.new.text ≡ printed_line (codes "error" ∷ codes "event" ∷ word_text line.entry ∷ word.now ∷ word_text of.entry ∷ []) }
+fn refuse<'a>(answer: &mut Answer, number: u32, word: &'a str, of: Word<'a>)
+    requires { (length word.now ≤ 32) × (most_word of ≤ 32) }
+    ensures put { answer.new.text ≡ event_line number (word.now ∷ word_text of.entry ∷ []) }
     ensures capacity { answer.old.capacity ≤ answer.new.capacity }
 {
-    answer.refuse(&[Word::Text("error"), Word::Text("event"), line, Word::Text(word), of]);
+    let line = Word::Number(u64::from(number));
+    answer.refuse(&[
+        Word::Text("error"),
+        Word::Text("event"),
+        line,
+        Word::Text(word),
+        of,
+    ]);
 }
 
 /// Puts the line of an event that is refused: a word, a point, and a moment.
-fn refuse_at<'a>(
-    answer: &mut Answer,
-    line: Word<'a>,
-    word: &'a str,
-    point: Word<'a>,
-    moment: u64,
-)
-    requires { (most_word line ≤ 32) × (length word.now ≤ 32) × (most_word point ≤ 32) }
-    ensures put { answer.new.text ≡ printed_line (codes "error" ∷ codes "event" ∷ word_text line.entry ∷ word.now ∷ word_text point.entry ∷ decimal moment ∷ []) }
+fn refuse_at<'a>(answer: &mut Answer, number: u32, word: &'a str, point: Word<'a>, moment: u64)
+    requires { (length word.now ≤ 32) × (most_word point ≤ 32) }
+    ensures put { answer.new.text ≡ event_line number (word.now ∷ word_text point.entry ∷ decimal moment ∷ []) }
     ensures capacity { answer.old.capacity ≤ answer.new.capacity }
 {
     answer.refuse(&[
         Word::Text("error"),
         Word::Text("event"),
-        line,
+        Word::Number(u64::from(number)),
         Word::Text(word),
         point,
         Word::Number(moment),
