@@ -10,8 +10,12 @@ pub mod JudgeLemmas
 pub mod PlanLemmas
 pub mod OrderedLemmas
 pub mod VerdictLemmas
+pub mod CauseLemmas
+pub mod FeedingLemmas
 pub mod CheckLemmas
 pub mod AnswerLemmas
 pub mod ProgramLemmas
 pub mod KeptLemmas
 pub mod RefutationLemmas
+pub mod RunOnceLemmas
+pub mod ExaminedLemmas

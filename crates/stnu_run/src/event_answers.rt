@@ -7,7 +7,7 @@ ghost use Rattle.net_model.specs.Network.{IsPoint};
 ghost use Rattle.commands.specs.Limits.{least_room};
 ghost use Rattle.commands.specs.Words.{most_word, word_text};
 ghost use Rattle.commands.specs.declared.endings.End.TheVariants.{EventRefused};
-ghost use Rattle.stnu_run.specs.EventAnswers.{name_in, acts_text, act_line, due_line, most_act, NamesPoints, why_words, unfinished_words, event_line, event_fault_line};
+ghost use Rattle.stnu_run.specs.EventAnswers.{name_in, acts_text, act_line, due_line, complete_line, most_act, NamesPoints, why_words, unfinished_words, event_line, event_fault_line};
 ghost use Rattle.stnu_run.specs.Faults.{fault_end};
 ghost use Rattle.stnu_run.specs.declared.faults.Fault.TheVariants.{Format};
 
@@ -15,6 +15,9 @@ use crate::faults::Fault;
 use commands::{Answer, End, Refusal, Word};
 use execution_model::{Act, MOST_MOMENT, Why};
 use net_model::{FormatKind, Network, PointId};
+
+/// How many bytes the line of an act takes at most.
+pub(crate) const MOST_ACT: usize = 64;
 
 /// Puts a line for each of these acts.
 pub(crate) fn put_acts(answer: &mut Answer, net: &Network, acts: &[Act])
@@ -45,7 +48,7 @@ fn put_act(answer: &mut Answer, net: &Network, act: &Act)
 
 /// Puts the next due moment.
 pub(crate) fn put_due(answer: &mut Answer, due: Option<u64>)
-    requires { length answer.old.text + least_room ≤ answer.old.capacity }
+    requires { length answer.old.text + most_act ≤ answer.old.capacity }
     ensures text { answer.new.text ≡ answer.old.text ++ due_line due }
     ensures capacity { answer.old.capacity ≤ answer.new.capacity }
 {
@@ -53,6 +56,15 @@ pub(crate) fn put_due(answer: &mut Answer, due: Option<u64>)
         Some(moment) => answer.put_line(&[Word::Text("due"), Word::Number(moment)]),
         None => answer.put_line(&[Word::Text("due"), Word::Text("none")]),
     }
+}
+
+/// Puts that the execution is complete.
+pub(crate) fn put_complete(answer: &mut Answer)
+    requires { length answer.old.text + least_room ≤ answer.old.capacity }
+    ensures text { answer.new.text ≡ answer.old.text ++ complete_line }
+    ensures capacity { answer.old.capacity ≤ answer.new.capacity }
+{
+    answer.put_line(&[Word::Text("complete")]);
 }
 
 /// Refuses a line that is no line of events.
@@ -133,6 +145,7 @@ pub(crate) fn refuse_end(answer: &mut Answer, net: &Network, number: u32, point:
     requires { IsPoint net.now point }
     ensures put { answer.new.text ≡ event_line number (unfinished_words net.now point) }
     ensures end { result ≡ EventRefused }
+    ensures capacity { answer.old.capacity ≤ answer.new.capacity }
 {
     refuse(
         answer,
