@@ -15,3 +15,6 @@ pub mod AnswerLemmas
 pub mod ProgramLemmas
 pub mod KeptLemmas
 pub mod RefutationLemmas
+pub mod RunLemmas
+pub mod GivenLemmas
+pub mod EventLemmas

@@ -25,3 +25,7 @@ fn each_defines_one()
     Judging::defines_one();
     Checking::defines_one();
 }
+
+fn probe()
+    ensures { ℕ }
+{}
