@@ -18,3 +18,4 @@ pub mod RefutationLemmas
 pub mod RunLemmas
 pub mod GivenLemmas
 pub mod EventLemmas
+pub mod CourseLemmas
