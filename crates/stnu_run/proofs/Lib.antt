@@ -19,3 +19,4 @@ pub mod RunLemmas
 pub mod GivenLemmas
 pub mod EventLemmas
 pub mod CourseLemmas
+pub mod DayLemmas
