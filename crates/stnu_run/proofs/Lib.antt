@@ -20,3 +20,4 @@ pub mod GivenLemmas
 pub mod EventLemmas
 pub mod CourseLemmas
 pub mod DayLemmas
+pub mod RunningLemmas

@@ -3,6 +3,7 @@ use Rattle.std.specs.Prelude.{◌≡◌, ◌⊎◌, ℕ, List, ◌++◌, Option}
 use Rattle.texts.specs.Lines.{input_lines}
 use Rattle.net_model.specs.Network.{Plan}
 use Rattle.strategy_model.specs.Control.{IsControllable}
+use Rattle.strategy_model.specs.Situations.{Satisfies}
 use Rattle.cert_format.specs.declared.certificate.Certificate.{Certificate}
 use Rattle.cert_checker.specs.Judgement.{judgement_of}
 use Rattle.cert_checker.specs.declared.judgement.Claim.TheVariants.{NotControllable}
@@ -26,12 +27,12 @@ OpensExecution net put end =
 
 -- What `run` promises. `opens`: it opens the execution of the network that the input declares, or puts the first refusal of the input.
 -- `executes`: for a controllable network and a faithful stream that is done, it puts the acts of the earliest schedule of the situation
--- that the stream fits, which with the completions listed is the whole schedule. `completes`: only then does it end so. `refuses` and
+-- that the stream fits, which with the completions listed is the whole schedule, and satisfies the network. `completes`: only then does it end so. `refuses` and
 -- `refused`: it ends by a refused event exactly where a line tells what no faithful stream does.
 pub record RunPromise (input put : List ℕ) (end : End) : Type 0 where
   pub opens : AnswersText plan_grammar OpensExecution input put end
   pub executes : (net : Plan) (listings : List Listing) (situation : List ℕ) → IsWholeDay (input_lines input) net listings
-      → (fits : Fits net (ended listings) situation) → PutsDay net fits.schedule listings put end
+      → (fits : Fits net (ended listings) situation) → Satisfies net fits.schedule × PutsDay net fits.schedule listings put end
   pub completes : end ≡ ends.Done → (net : Plan) × (listings : List Listing) × IsWholeDay (input_lines input) net listings
   pub refuses : IsRefusedDay (input_lines input) → end ≡ ends.EventRefused
   pub refused : end ≡ ends.EventRefused → IsRefusedDay (input_lines input)

@@ -1,5 +1,4 @@
-use Rattle.stnu_run.proofs.GivenLemmas.{declared_given}
-use Rattle.stnu_run.proofs.DayLemmas.{whole_there}
+use Rattle.stnu_run.proofs.RunningLemmas.{earliest_satisfies}
 use Rattle.stnu_run.proofs.laws.probe.Goals as goal
 
 pub returns : goal.returns
