@@ -283,11 +283,11 @@ module _ (net : Plan) (table : Graph) (schedule : List ℕ) (run : IsRun net tab
           is_first.first t (All-weaker (Contains asked) (λ m. m ≤ t) (asked_met met) asked (All-contains_itself asked))
 
       -- so the point is due exactly at its moment
-      is_due_now : moment_in schedule point ≡ t → is_due setting moments t point ≡ true
+      pub is_due_now : moment_in schedule point ≡ t → is_due setting moments t point ≡ true
       is_due_now now =
           due_from setting moments t point (executable_has_none net setting refl point executable) (seen.unknown point executable (omega (arith, now))) (met_by_then (omega (arith, now)))
 
-      not_due_before : t < moment_in schedule point → is_due setting moments t point ≡ false
+      pub not_due_before : t < moment_in schedule point → is_due setting moments t point ≡ false
       not_due_before before =
           and_right (is_none (link_to setting point) && is_none (moment_of moments point)) (meets setting moments t conditions)
           (false_from_ne_true (meets setting moments t conditions) (λ met. let come = come_where_met met in omega (arith, come, before)))
@@ -307,7 +307,7 @@ module _ (net : Plan) (table : Graph) (schedule : List ℕ) (run : IsRun net tab
     stays : (point : PointId) → IsPoint net point → is_due setting moments t point ≡ false → moment_of (acted setting moments t) point ≡ moment_of moments point
     stays point within not_due = moment_not_due setting moments t point (omega (arith, within, dispatch_length)) not_due
 
-    never_due : (point : PointId) → Ending net point → is_due setting moments t point ≡ false
+    pub never_due : (point : PointId) → Ending net point → is_due setting moments t point ≡ false
     never_due point ending = contingent_not_due setting moments t point ending.link (link_found net run.plan setting refl point ending)
 
     pub acts_cut : IsCut net schedule (acted setting moments t) (suc t)

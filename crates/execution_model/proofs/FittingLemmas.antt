@@ -125,7 +125,7 @@ module _ (net : Plan) (table : Graph) (schedule : List ℕ) (run : IsRun net tab
     }
 
     -- the completions are those of the schedule
-    seen : IsSeen net schedule (with_completed execution listing.moment listing.points) listing.moment
+    pub seen : IsSeen net schedule (with_completed execution listing.moment listing.points) listing.moment
     seen = record { long = length-completed_all listing.moment (moments_before execution listing.moment) listing.points ∙ before.long; known = known; completed = completed; not_yet = not_yet; unknown = unknown }
       where
         kept : (point : PointId) → (Contains listing.points point → ⊥)

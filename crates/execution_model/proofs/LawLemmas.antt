@@ -22,6 +22,7 @@ use Rattle.execution_model.specs.Feeding.{Execution, started, next_moment, is_op
 use Rattle.execution_model.specs.Streams.{Listing, IsListed, Shows, IsFaithful, last_moment}
 use Rattle.execution_model.specs.Timely.{AreInTime, fed_all}
 use Rattle.execution_model.specs.Laws.{setting_of, IsDispatchedByClosure, IsExecutionOf, going_on, ended, FaithfulStreamsAreTaken, FeedsExecuteEarliest, DoneWhereNoneIsOpen, EndsAreEarliest, StreamsAreExecuted}
+use Rattle.execution_model.proofs.GraphLemmas.{closures_are_graphs}
 use Rattle.execution_model.proofs.MomentLemmas.{Contains-point}
 use Rattle.execution_model.proofs.PlaceLemmas.{link_found, ending_of, ending_point, contingent_ending, ending_contingent}
 use Rattle.execution_model.proofs.CutLemmas.{IsCut, IsRun, came, cut_value}
@@ -44,10 +45,10 @@ module _ (net : Plan) (table : Graph) (order : List PointId) (by : IsDispatchedB
   run_of situation schedule earliest = record {
     plan = by.sound;
     for = by.closure.for_network;
-    sound = by.graph;
+    sound = closures_are_graphs net table by.sound by.closure;
     situation = situation;
     is_situation = earliest.is_situation;
-    executed = (closures_execute_earliest net table order situation schedule by.sound by.closure by.graph by.ordered earliest.is_situation).0 earliest;
+    executed = (closures_execute_earliest net table order situation schedule by.sound by.closure (closures_are_graphs net table by.sound by.closure) by.ordered earliest.is_situation).0 earliest;
   }
 
   module _ (listings : List Listing) (execution : Execution) (fed : fed_all (started (setting_of net table)) listings ≡ Ok execution) (schedule : List ℕ)
@@ -109,8 +110,8 @@ module _ (net : Plan) (table : Graph) (order : List PointId) (by : IsDispatchedB
     in_time_fits =
         let closed : IsClosed net table = (closure_is_closed net table by.closure).0 in
         let situation = situation_seen net final in
-        let (schedule, executed) = (executions_satisfy net table order by.sound by.closure.for_network by.graph closed by.ordered).executed situation is_situation in
-        let run : IsRun net table schedule = record { plan = by.sound; for = by.closure.for_network; sound = by.graph; situation = situation; is_situation = is_situation; executed = executed } in
+        let (schedule, executed) = (executions_satisfy net table order by.sound by.closure.for_network (closures_are_graphs net table by.sound by.closure) closed by.ordered).executed situation is_situation in
+        let run : IsRun net table schedule = record { plan = by.sound; for = by.closure.for_network; sound = closures_are_graphs net table by.sound by.closure; situation = situation; is_situation = is_situation; executed = executed } in
         let shown : IsShownBy net table schedule final = record {
           run = run;
           each = each_lasted;
@@ -120,7 +121,7 @@ module _ (net : Plan) (table : Graph) (order : List PointId) (by : IsDispatchedB
           situation,
           record {
             schedule = schedule;
-            earliest = (closures_execute_earliest net table order situation schedule by.sound by.closure by.graph by.ordered is_situation).1 executed;
+            earliest = (closures_execute_earliest net table order situation schedule by.sound by.closure (closures_are_graphs net table by.sound by.closure) by.ordered is_situation).1 executed;
             shows = next_shows net schedule listings next;
           },
         )
@@ -131,7 +132,7 @@ module _ (net : Plan) (table : Graph) (order : List PointId) (by : IsDispatchedB
       feeds_in_time net table fits.schedule (run_of net table order by situation fits.schedule fits.earliest) listings (started (setting_of net table)) (start_keeps net table fits.schedule by.closure.for_network)
       (shows_next net fits.schedule listings fits.shows)
 
-  fed_faithful : (execution : Execution) → fed_all (started (setting_of net table)) listings ≡ Ok execution → IsFaithful net (going_on listings)
+  pub fed_faithful : (execution : Execution) → fed_all (started (setting_of net table)) listings ≡ Ok execution → IsFaithful net (going_on listings)
   fed_faithful execution fed =
       in_time_fits (fed_in_time net listings (started (setting_of net table)) execution (started_of net table by.sound by.closure.for_network) fed).0
 
