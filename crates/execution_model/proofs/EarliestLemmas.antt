@@ -73,6 +73,12 @@ refused_after : (listings : List Listing) (execution : Execution) → (after_all
 refused_after [] execution = refl
 refused_after (listing ∷ others) execution = refused_after others (after_listing execution listing)
 
+none_refused : (net : Plan) (table : Graph) (order : List PointId) (listings : List Listing) (execution : Execution) → IsDispatchedByClosure net table order
+    → fed_all (started (setting_of net table)) listings ≡ Ok execution → execution.refused ≡ None
+none_refused net table order listings execution by fed =
+    let leads = (fed_in_time net listings (started (setting_of net table)) execution (started_of net table by.sound by.closure.for_network) fed).1 in
+    ap (λ (e : Execution). e.refused) (sym leads) ∙ refused_after listings (started (setting_of net table))
+
 -- what comes next, in two parts
 next_parts : (net : Plan) (schedule : List ℕ) (from : ℕ) (listings : List Listing) (listing : Listing) → AreNext net schedule from (listings ++ listing ∷ [])
     → AreNext net schedule from listings × IsNext net schedule (end_of from listings) listing
@@ -224,11 +230,6 @@ module _ (old : Execution) (moment : ℕ) (listed : List PointId) (answer : Fed)
     abbrev stream : Stream
     stream = going_on (listings ++ listing ∷ [])
 
-    not_refused : old.refused ≡ None
-    not_refused =
-        let leads = (fed_in_time net listings (started (setting_of net table)) old (started_of net table by.sound by.closure.for_network) went).1 in
-        ap (λ (e : Execution). e.refused) (sym leads) ∙ refused_after listings (started (setting_of net table))
-
     went_on : (r : Result Moments Why) → taken old moment listed ≡ r → fed_all (started (setting_of net table)) (listings ++ listing ∷ []) ≡ fed_on old listing [] r
     went_on r took = fed_append listings (listing ∷ []) (started (setting_of net table)) old went ∙ ap (fed_on old listing []) took
 
@@ -259,7 +260,7 @@ module _ (old : Execution) (moment : ℕ) (listed : List PointId) (answer : Fed)
             err_ok end cause (sym (went_on (Err cause) took) ∙ fed_to)
 
     fed_is_earliest : IsFedEarliest net stream old moment answer after
-    fed_is_earliest = by_answer (taken old moment listed) refl (subst FedWhere not_refused is)
+    fed_is_earliest = by_answer (taken old moment listed) refl (subst FedWhere (none_refused net table order listings old by went) is)
 
 pub feeds_are_earliest : FeedsAreEarliest
 feeds_are_earliest old moment listed answer after is net table order listings by went within =
@@ -280,11 +281,6 @@ module _ (old : Execution) (answer : Finished) (after : Execution) where
 
   module _ (is : IsFinished old answer after) (net : Plan) (table : Graph) (order : List PointId) (listings : List Listing) (by : IsDispatchedByClosure net table order)
       (went : fed_all (started (setting_of net table)) listings ≡ Ok old) where
-    none_refused : old.refused ≡ None
-    none_refused =
-        let leads = (fed_in_time net listings (started (setting_of net table)) old (started_of net table by.sound by.closure.for_network) went).1 in
-        ap (λ (e : Execution). e.refused) (sym leads) ∙ refused_after listings (started (setting_of net table))
-
     by_open : (o : Option PointId) → first_open old ≡ o → EndedBy o → IsEndedEarliest net (ended listings) old answer after
     by_open (Some point) found (unfinished, same) = record {
       answered = (
@@ -308,7 +304,7 @@ module _ (old : Execution) (answer : Finished) (after : Execution) where
     }
 
     ended_is_earliest : IsEndedEarliest net (ended listings) old answer after
-    ended_is_earliest = by_open (first_open old) refl (subst EndedWhere none_refused is)
+    ended_is_earliest = by_open (first_open old) refl (subst EndedWhere (none_refused net table order listings old by went) is)
 
 pub ends_are_earliest_too : EndsAreEarliestToo
 ends_are_earliest_too old answer after is net table order listings by went = ended_is_earliest old answer after is net table order listings by went
