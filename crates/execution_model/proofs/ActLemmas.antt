@@ -110,7 +110,8 @@ module _ (net : Plan) (table : Graph) (schedule : List ℕ) (run : IsRun net tab
         let one_more : suc count ≡ suc listing.moment - next = omega (arith, later) in
         let before = none_before net table schedule run next listing is in
         let first = acts_while_are count execution.moments next keeps.cut (λ point ending at_least below. before point ending at_least (omega (arith, below, there))) in
-        let last = acts_are (with_completed execution listing.moment listing.points) listing.moment (seen net table schedule run execution listing keeps is) ∙ ap (scheduled_at net schedule) (sym there) in
+        let last =
+        acts_are (with_completed execution listing.moment listing.points) listing.moment (seen net table schedule run execution listing keeps is) ∙ ap (scheduled_at net schedule) (sym there) in
         ap acts_made keeps.setting
         ∙ (λ i. first i ++ last i)
         ∙ sym (scheduled_on net schedule next count)

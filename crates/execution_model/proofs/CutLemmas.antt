@@ -144,7 +144,8 @@ module _ (net : Plan) (table : Graph) (schedule : List ℕ) (run : IsRun net tab
     seen_completed point ending by_then =
         elim (cases_lt (moment_in schedule point) t) [
           | inl less ↦ seen.known point (ending_point net run.plan point ending) less
-          | inr above ↦ (let same : moment_in schedule point ≡ t = omega (arith, above, by_then) in seen.completed point ending same ∙ ap (λ (m : ℕ). let o : Option ℕ = Some m in o) (sym same))
+          | inr above ↦
+              (let same : moment_in schedule point ≡ t = omega (arith, above, by_then) in seen.completed point ending same ∙ ap (λ (m : ℕ). let o : Option ℕ = Some m in o) (sym same))
         ]
 
     module _ (point : PointId) (executable : IsExecutable net point) where
@@ -177,7 +178,8 @@ module _ (net : Plan) (table : Graph) (schedule : List ℕ) (run : IsRun net tab
       wait_sound wait among =
           let (above, found) = (exact.waits wait.0 wait.1).0 among in
           let (activation, has) = found in
-          let labelled : slice_get table.shape.activations wait.0.0 ≡ Some activation = (run.sound.keys (record { from = point; to = activation; label = Some wait.0; weight = pos 0 -ℤ wait.1 }) has).labelled in
+          let labelled : slice_get table.shape.activations wait.0.0 ≡ Some activation =
+          (run.sound.keys (record { from = point; to = activation; label = Some wait.0; weight = pos 0 -ℤ wait.1 }) has).labelled in
           let (link, declared) = waited wait.0 activation labelled in
           (link, declared, some_positive wait.1 above)
 
@@ -224,7 +226,8 @@ module _ (net : Plan) (table : Graph) (schedule : List ℕ) (run : IsRun net tab
               wait_met_is wait link declared
               ∙ and_from (has_come moments link.from) (has_come moments link.to || has_gone_by moments t link.from wait.1) (ap is_some begun)
               (elim (cases_lt t (moment_in schedule link.to)) [
-                | inl later ↦ or_right (has_come moments link.to) (has_gone_by moments t link.from wait.1) (gone_by moments t link.from wait.1 (moment_in schedule link.from) begun (omega (arith, is, asks, later)))
+                | inl later ↦
+                    or_right (has_come moments link.to) (has_gone_by moments t link.from wait.1) (gone_by moments t link.from wait.1 (moment_in schedule link.from) begun (omega (arith, is, asks, later)))
                 | inr by_now ↦ or_left (has_come moments link.to) (has_gone_by moments t link.from wait.1) (ap is_some (seen_completed link.to ending by_now))
               ])
 

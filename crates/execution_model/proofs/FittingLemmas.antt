@@ -113,20 +113,23 @@ module _ (net : Plan) (table : Graph) (schedule : List ℕ) (run : IsRun net tab
             let high = its.high in
             let contingent = ending_contingent net point ending in
             let not_yet : listing.moment ≤ moment_in schedule point = not_sooner net schedule (moments_before execution listing.moment) listing.moment before point within unknown in
-            let begun : moment_in schedule link.from ≡ activated = sym (cut_value net schedule (moments_before execution listing.moment) listing.moment before link.from activated sound.from_point active).0 in
+            let begun : moment_in schedule link.from ≡ activated =
+            sym (cut_value net schedule (moments_before execution listing.moment) listing.moment before link.from activated sound.from_point active).0 in
             is.listed point contingent (let later = is.later in omega (arith, later, not_yet)) (omega (arith, reached, begun, lasting, high, at))
 
     in_time : IsInTime execution listing.moment listing.points
     in_time = record {
       later = is.later;
       once = is.once;
-      completes = All-weaker (Contains listing.points) (CompletesInTime execution.setting (moments_before execution listing.moment) listing.moment) completes listing.points (All-contains_itself listing.points);
+      completes =
+          All-weaker (Contains listing.points) (CompletesInTime execution.setting (moments_before execution listing.moment) listing.moment) completes listing.points (All-contains_itself listing.points);
       none_left = none_left;
     }
 
     -- the completions are those of the schedule
     pub seen : IsSeen net schedule (with_completed execution listing.moment listing.points) listing.moment
-    seen = record { long = length-completed_all listing.moment (moments_before execution listing.moment) listing.points ∙ before.long; known = known; completed = completed; not_yet = not_yet; unknown = unknown }
+    seen =
+        record { long = length-completed_all listing.moment (moments_before execution listing.moment) listing.points ∙ before.long; known = known; completed = completed; not_yet = not_yet; unknown = unknown }
       where
         kept : (point : PointId) → (Contains listing.points point → ⊥)
             → moment_of (with_completed execution listing.moment listing.points) point ≡ moment_of (moments_before execution listing.moment) point

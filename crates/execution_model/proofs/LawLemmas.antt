@@ -110,8 +110,10 @@ module _ (net : Plan) (table : Graph) (order : List PointId) (by : IsDispatchedB
     in_time_fits =
         let closed : IsClosed net table = (closure_is_closed net table by.closure).0 in
         let situation = situation_seen net final in
-        let (schedule, executed) = (executions_satisfy net table order by.sound by.closure.for_network (closures_are_graphs net table by.sound by.closure) closed by.ordered).executed situation is_situation in
-        let run : IsRun net table schedule = record { plan = by.sound; for = by.closure.for_network; sound = closures_are_graphs net table by.sound by.closure; situation = situation; is_situation = is_situation; executed = executed } in
+        let (schedule, executed) =
+        (executions_satisfy net table order by.sound by.closure.for_network (closures_are_graphs net table by.sound by.closure) closed by.ordered).executed situation is_situation in
+        let run : IsRun net table schedule =
+        record { plan = by.sound; for = by.closure.for_network; sound = closures_are_graphs net table by.sound by.closure; situation = situation; is_situation = is_situation; executed = executed } in
         let shown : IsShownBy net table schedule final = record {
           run = run;
           each = each_lasted;

@@ -137,7 +137,8 @@ module _ (net : Plan) (execution : Execution) (of : IsExecutionOf net execution)
           let timely = All-contains (CompletesInTime execution.setting (moments_before execution listing.moment) listing.moment) listing.points link.to in_time.completes among in
           let now : listing.moment ≡ completed = same_Some listing.moment completed (sym (feed_listed net execution of listing in_time link.to ending among) ∙ found) in
           let same : timely.link ≡ link = same_Some timely.link link (sym timely.ends ∙ link_of_is_link_to net execution.setting of.links of.sound name link link.to declared refl) in
-          let active : moment_of (moments_before execution listing.moment) link.from ≡ Some timely.activated = ap (λ (l : Link). moment_of (moments_before execution listing.moment) l.from) (sym same) ∙ timely.active in
+          let active : moment_of (moments_before execution listing.moment) link.from ≡ Some timely.activated =
+          ap (λ (l : Link). moment_of (moments_before execution listing.moment) l.from) (sym same) ∙ timely.active in
           let low_same : unsigned_abs timely.link.low ≡ unsigned_abs link.low = ap (λ (l : Link). unsigned_abs l.low) same in
           let high_same : unsigned_abs timely.link.high ≡ unsigned_abs link.high = ap (λ (l : Link). unsigned_abs l.high) same in
           let low = timely.not_too_soon in
