@@ -227,7 +227,8 @@ module _ (net : Plan) (table : Graph) (schedule : List ℕ) (run : IsRun net tab
               ∙ and_from (has_come moments link.from) (has_come moments link.to || has_gone_by moments t link.from wait.1) (ap is_some begun)
               (elim (cases_lt t (moment_in schedule link.to)) [
                 | inl later ↦
-                    or_right (has_come moments link.to) (has_gone_by moments t link.from wait.1) (gone_by moments t link.from wait.1 (moment_in schedule link.from) begun (omega (arith, is, asks, later)))
+                    or_right (has_come moments link.to) (has_gone_by moments t link.from wait.1)
+                    (gone_by moments t link.from wait.1 (moment_in schedule link.from) begun (omega (arith, is, asks, later)))
                 | inr by_now ↦ or_left (has_come moments link.to) (has_gone_by moments t link.from wait.1) (ap is_some (seen_completed link.to ending by_now))
               ])
 

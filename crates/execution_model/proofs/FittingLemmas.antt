@@ -60,7 +60,8 @@ module _ (net : Plan) (table : Graph) (schedule : List ℕ) (run : IsRun net tab
       (subst
       (λ (setting : Setting). IsCut net schedule (time_runs setting execution.moments (next_moment execution) (moments_to execution moment)) (next_moment execution + moments_to execution moment))
       (sym keeps.setting)
-      (time_cut net table schedule run (moments_to execution moment) execution.moments (next_moment execution) keeps.cut (λ point ending at_least below. none point ending at_least (omega (arith, below, there)))))
+      (time_cut net table schedule run (moments_to execution moment) execution.moments (next_moment execution) keeps.cut
+      (λ point ending at_least below. none point ending at_least (omega (arith, below, there)))))
 
   pub none_before : (from : ℕ) (listing : Listing) → IsNext net schedule from listing → NoneComes net schedule from listing.moment
   none_before from listing is point ending at_least below =
@@ -122,14 +123,21 @@ module _ (net : Plan) (table : Graph) (schedule : List ℕ) (run : IsRun net tab
       later = is.later;
       once = is.once;
       completes =
-          All-weaker (Contains listing.points) (CompletesInTime execution.setting (moments_before execution listing.moment) listing.moment) completes listing.points (All-contains_itself listing.points);
+          All-weaker (Contains listing.points) (CompletesInTime execution.setting (moments_before execution listing.moment) listing.moment) completes listing.points
+          (All-contains_itself listing.points);
       none_left = none_left;
     }
 
     -- the completions are those of the schedule
     pub seen : IsSeen net schedule (with_completed execution listing.moment listing.points) listing.moment
     seen =
-        record { long = length-completed_all listing.moment (moments_before execution listing.moment) listing.points ∙ before.long; known = known; completed = completed; not_yet = not_yet; unknown = unknown }
+        record {
+          long = length-completed_all listing.moment (moments_before execution listing.moment) listing.points ∙ before.long;
+          known = known;
+          completed = completed;
+          not_yet = not_yet;
+          unknown = unknown;
+        }
       where
         kept : (point : PointId) → (Contains listing.points point → ⊥)
             → moment_of (with_completed execution listing.moment listing.points) point ≡ moment_of (moments_before execution listing.moment) point

@@ -30,7 +30,8 @@ module _ (net : Plan) (table : Graph) (plan : IsPlan net) (closure : IsClosure n
   -- an edge of the closure is derivable
   derivable : (edge : Edge) → HasEdge table edge → IsDerivable net edge
   derivable edge has =
-      (subst (λ (o : Option ℤ). MatchOption o ((weight : ℤ) → IsDerivableFor net (key_of edge) weight → ⊥) (IsLeastDerivable net (key_of edge))) has (closure.weights (key_of edge))).derivable
+      (subst (λ (o : Option ℤ). MatchOption o ((weight : ℤ) → IsDerivableFor net (key_of edge) weight → ⊥) (IsLeastDerivable net (key_of edge))) has
+      (closure.weights (key_of edge))).derivable
 
   key_is : (edge : Edge) → IsEdge net edge → IsKey shape (key_of edge)
   key_is edge is = record { to_point = is.to_point; from_point = is.from_point; labelled = labelled edge.label is.labelled }

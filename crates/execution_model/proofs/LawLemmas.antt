@@ -131,7 +131,8 @@ module _ (net : Plan) (table : Graph) (order : List PointId) (by : IsDispatchedB
   -- and a faithful stream is in time
   pub faithful_in_time : IsFaithful net (going_on listings) → AreInTime (started (setting_of net table)) listings
   faithful_in_time (situation, fits) =
-      feeds_in_time net table fits.schedule (run_of net table order by situation fits.schedule fits.earliest) listings (started (setting_of net table)) (start_keeps net table fits.schedule by.closure.for_network)
+      feeds_in_time net table fits.schedule (run_of net table order by situation fits.schedule fits.earliest) listings (started (setting_of net table))
+      (start_keeps net table fits.schedule by.closure.for_network)
       (shows_next net fits.schedule listings fits.shows)
 
   pub fed_faithful : (execution : Execution) → fed_all (started (setting_of net table)) listings ≡ Ok execution → IsFaithful net (going_on listings)

@@ -33,7 +33,8 @@ keeps_none p a zero fails = refl
 keeps_none p a (suc n) fails =
     let rest = keeps_none p (a + 1) n (λ k from below. fails k (omega arith) (omega arith)) in
     let first : PointId = record { 0 = a } in
-    ap (λ (b : Bool). if b then first ∷ filter p (map (λ k. record { 0 = k }) (range_with_len (a + 1) n)) else filter p (map (λ k. record { 0 = k }) (range_with_len (a + 1) n))) (fails a (omega arith) (omega arith)) ∙ rest
+    ap (λ (b : Bool). if b then first ∷ filter p (map (λ k. record { 0 = k }) (range_with_len (a + 1) n)) else filter p (map (λ k. record { 0 = k }) (range_with_len (a + 1) n)))
+    (fails a (omega arith) (omega arith)) ∙ rest
 
 -- ---- lists of moments
 -- a point beyond the points has no moment
@@ -155,7 +156,8 @@ module _ (setting : Setting) (moments : Moments) (t : ℕ) where
 
   pub none_due_no_acts : ((point : PointId) → point.0 < length setting.dispatch → is_due setting moments t point ≡ false) → acts_at setting moments t ≡ []
   none_due_no_acts none =
-      ap (map (λ p. let act : Act = record { moment = t; point = p } in act)) (keeps_none (is_due setting moments t) 0 (length setting.dispatch) (λ k from below. none (record { 0 = k }) (omega arith)))
+      ap (map (λ p. let act : Act = record { moment = t; point = p } in act))
+      (keeps_none (is_due setting moments t) 0 (length setting.dispatch) (λ k from below. none (record { 0 = k }) (omega arith)))
 
   pub no_acts_same : length moments ≡ length setting.dispatch → acts_at setting moments t ≡ [] → acted setting moments t ≡ moments
   no_acts_same long none = same_moments (acted setting moments t) moments (length-acted ∙ sym long) (λ point. by point (cases_lt point.0 (length setting.dispatch)))

@@ -56,7 +56,8 @@ module _ (setting : Setting) (moments : Moments) (moment : ℕ) (point : PointId
       → CompletesInTime setting moments moment point
   over_link link activated ends new active free =
       let fits =
-      duration_fits (activated + unsigned_abs link.low) (activated + unsigned_abs link.high) moment (why.TooSoon point (activated + unsigned_abs link.low)) (why.Overdue point (activated + unsigned_abs link.high)) (nat_lt moment (activated + unsigned_abs link.low)) (nat_lt (activated + unsigned_abs link.high) moment) refl refl free in
+      duration_fits (activated + unsigned_abs link.low) (activated + unsigned_abs link.high) moment (why.TooSoon point (activated + unsigned_abs link.low))
+      (why.Overdue point (activated + unsigned_abs link.high)) (nat_lt moment (activated + unsigned_abs link.low)) (nat_lt (activated + unsigned_abs link.high) moment) refl refl free in
       record { link = link; ends = ends; is_open = new; activated = activated; active = active; not_too_soon = fits.0; not_too_late = fits.1 }
 
   -- a completion that is not refused is in time
@@ -97,7 +98,8 @@ module _ (setting : Setting) (moments : Moments) (moment : ℕ) (point : PointId
       ap (λ (o : Option Link). option_map_or (refusal_of_completion moments moment point) o (Some (why.NotContingent point))) timely.ends
       ∙ ap (refusal_at moments moment point link) timely.is_open
       ∙ ap (λ (o : Option ℕ). option_map_or (refusal_of_duration moment point link) o not_active) active
-      ∙ duration_free (timely.activated + unsigned_abs link.low) (timely.activated + unsigned_abs link.high) moment (why.TooSoon point (timely.activated + unsigned_abs link.low)) (why.Overdue point (timely.activated + unsigned_abs link.high)) timely.not_too_soon timely.not_too_late
+      ∙ duration_free (timely.activated + unsigned_abs link.low) (timely.activated + unsigned_abs link.high) moment (why.TooSoon point (timely.activated + unsigned_abs link.low))
+      (why.Overdue point (timely.activated + unsigned_abs link.high)) timely.not_too_soon timely.not_too_late
 
 -- ---- a point that should have completed
 record IsLate (setting : Setting) (moments : Moments) (moment : ℕ) (point : PointId) : Type 0 where
@@ -357,7 +359,8 @@ module _ (net : Plan) (execution : Execution) (of : IsExecutionOf net execution)
           → IsInTime execution moment listed × (after ≡ with_completed execution moment listed)
       by_taken later (Err cause) is took = absurd (cc)
       by_taken later (Ok made) is took =
-          by_overdue made later (taken_means net execution.setting of.links of.sound moment (moments_before execution moment) made listed long_before is) (first_overdue execution.setting made moment) refl took
+          by_overdue made later (taken_means net execution.setting of.links of.sound moment (moments_before execution moment) made listed long_before is)
+          (first_overdue execution.setting made moment) refl took
 
       by : (o : Option Why) → refusal_of_moment execution moment ≡ o → option_map_or Err o (completed_in execution moment listed) ≡ Ok after
           → IsInTime execution moment listed × (after ≡ with_completed execution moment listed)

@@ -45,7 +45,8 @@ module _ (moments : Moments) where
   are_met : (bounds : List (PointId × ℤ)) → All (λ (bound : PointId × ℤ). IsSome (moment_of moments bound.0)) bounds → AreMet bounds
   are_met [] come = record { from = 0; met = λ t late. refl }
   are_met (bound ∷ others) come =
-      by (moment_of moments bound.0) refl (All-head (λ (b : PointId × ℤ). IsSome (moment_of moments b.0)) bound others come) (are_met others (All-tail (λ (b : PointId × ℤ). IsSome (moment_of moments b.0)) bound others come))
+      by (moment_of moments bound.0) refl (All-head (λ (b : PointId × ℤ). IsSome (moment_of moments b.0)) bound others come)
+      (are_met others (All-tail (λ (b : PointId × ℤ). IsSome (moment_of moments b.0)) bound others come))
     where
       by : (o : Option ℕ) → moment_of moments bound.0 ≡ o → IsSome o → AreMet others → AreMet (bound ∷ others)
       by None none some rest = absurd (true≢false (sym some))
@@ -134,11 +135,13 @@ module _ (net : Plan) (table : Graph) (order : List PointId) (moments : Moments)
       bound_come : (bound : PointId × ℤ) → Contains conditions.lower_bounds bound → IsSome (moment_of moments bound.0)
       bound_come bound listed =
           let (above, has) = (exact.bounds bound.0 bound.1).0 listed in
-          earlier bound.0 (sound.keys (record { from = point; to = bound.0; label = None; weight = pos 0 -ℤ bound.1 }) has).to_point (goes_to_bound net table order plan sound may point bound.0 bound.1 above has)
+          earlier bound.0 (sound.keys (record { from = point; to = bound.0; label = None; weight = pos 0 -ℤ bound.1 }) has).to_point
+          (goes_to_bound net table order plan sound may point bound.0 bound.1 above has)
 
       bounds_met : AreMet moments conditions.lower_bounds
       bounds_met =
-          are_met moments conditions.lower_bounds (All-weaker (Contains conditions.lower_bounds) (λ (b : PointId × ℤ). IsSome (moment_of moments b.0)) bound_come conditions.lower_bounds (All-contains_itself conditions.lower_bounds))
+          are_met moments conditions.lower_bounds
+          (All-weaker (Contains conditions.lower_bounds) (λ (b : PointId × ℤ). IsSome (moment_of moments b.0)) bound_come conditions.lower_bounds (All-contains_itself conditions.lower_bounds))
 
       wait_met : (t : ℕ) (wait : LinkId × ℤ) → Contains conditions.waits wait → meets_wait (setting_of net table) moments t wait ≡ true
       wait_met t wait listed =
@@ -155,7 +158,8 @@ module _ (net : Plan) (table : Graph) (order : List PointId) (moments : Moments)
 
       waits_met : (t : ℕ) → list_all (meets_wait (setting_of net table) moments t) conditions.waits ≡ true
       waits_met t =
-          list_all-from_AllPass (meets_wait (setting_of net table) moments t) conditions.waits (All-weaker (Contains conditions.waits) (λ (w : LinkId × ℤ). meets_wait (setting_of net table) moments t w ≡ true) (wait_met t) conditions.waits (All-contains_itself conditions.waits))
+          list_all-from_AllPass (meets_wait (setting_of net table) moments t) conditions.waits
+          (All-weaker (Contains conditions.waits) (λ (w : LinkId × ℤ). meets_wait (setting_of net table) moments t w ≡ true) (wait_met t) conditions.waits (All-contains_itself conditions.waits))
 
       by : (o : Option ℕ) → moment_of moments point ≡ o → IsSome (moment_of moments point)
       by (Some m) come = ap is_some come

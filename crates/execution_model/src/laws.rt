@@ -2,7 +2,8 @@
 
 ghost use Rattle.execution_model.specs.Acts.{ActsAreEarliest, LastActsAreEarliest};
 ghost use Rattle.execution_model.specs.Earliest.{EndsAreEarliestToo, FeedsAreEarliest};
-ghost use Rattle.execution_model.specs.Laws.{ClosuresAreGraphs, FeedsAreTakenInTime, FaithfulStreamsAreTaken, FeedsExecuteEarliest, DoneWhereNoneIsOpen, EndsAreEarliest, ExecutionsAreOne, StreamsAreExecuted, NoActsLeftIsWhole};
+ghost use Rattle.execution_model.specs.Laws.{ClosuresAreGraphs, DoneWhereNoneIsOpen, EndsAreEarliest, ExecutionsAreOne, FaithfulStreamsAreTaken};
+ghost use Rattle.execution_model.specs.Laws.{FeedsAreTakenInTime, FeedsExecuteEarliest, NoActsLeftIsWhole, StreamsAreExecuted};
 
 /// A feed within the limit is taken exactly where its completions are in time: its moment is after the last one fed, each listed point
 /// completes neither too soon nor too late and stands once, and none is left out whose latest moment is reached. Then the moments are
