@@ -26,15 +26,13 @@ use Rattle.execution_model.specs.declared.feeding.Fed.TheVariants as fed
 use Rattle.execution_model.specs.declared.feeding.Finished.{Finished}
 use Rattle.execution_model.specs.declared.feeding.Finished.TheVariants as finished
 use Rattle.execution_model.proofs.MomentLemmas.{within_from_some}
-use Rattle.execution_model.proofs.PlaceLemmas.{ending_contingent}
 use Rattle.execution_model.proofs.TimelyLemmas.{taken_in_time}
 use Rattle.execution_model.proofs.FedLemmas.{after_listing, after_all, fed_on, started_of, taken_within, same_ok, err_ok, fed_in_time}
 use Rattle.execution_model.proofs.CutLemmas.{IsCut, IsRun}
-use Rattle.execution_model.proofs.TimeLemmas.{NoneComes, time_cut}
 use Rattle.execution_model.proofs.FittingLemmas.{IsNext, AreNext, end_of, KeepsTo}
-use Rattle.execution_model.proofs.StreamLemmas.{shows_next, next_shows, done_shows, done_before_end}
+use Rattle.execution_model.proofs.StreamLemmas.{shows_next, next_shows}
 use Rattle.execution_model.proofs.ActLemmas.{acts_while_are, fed_acts}
-use Rattle.execution_model.proofs.LawLemmas.{run_of, fed_keeps, fed_end, fed_faithful, feeds_execute_earliest, ends_are_earliest, faithful_streams_are_taken, done_where_none_is_open}
+use Rattle.execution_model.proofs.LawLemmas.{run_of, fed_keeps, fed_end, done_keeps, none_comes, end_cut, fed_faithful, feeds_execute_earliest, ends_are_earliest, faithful_streams_are_taken, done_where_none_is_open}
 
 -- ---- lists of feeds
 -- feeds in two parts
@@ -169,39 +167,29 @@ module _ (net : Plan) (table : Graph) (order : List PointId) (by : IsDispatchedB
   whole_run : IsRun net table schedule
   whole_run = run_of net table order by situation schedule earliest
 
-  shows_on : Shows net (going_on listings) schedule
-  shows_on = done_shows net schedule listings shows
-
   kept : KeepsTo net table schedule execution
-  kept = fed_keeps net table order by listings execution fed schedule whole_run shows_on
-
-  none_comes : NoneComes net schedule (next_moment execution) (next_moment execution + whole.count)
-  none_comes point ending at_least below =
-      let before = done_before_end net schedule listings shows point (ending_contingent net point ending) in
-      let end = fed_end net table order by listings execution fed schedule whole_run shows_on in
-      omega (arith, before, end, at_least)
+  kept = done_keeps net table order by listings execution fed schedule whole_run shows whole.count
 
   acts_of_end : after.acts ≡ scheduled net schedule (next_moment execution) whole.count
   acts_of_end =
       ap (λ (e : Execution). e.acts) whole.after_it
       ∙ ap (λ (setting : Setting). acts_while setting execution.moments (next_moment execution) whole.count) kept.setting
-      ∙ acts_while_are net table schedule whole_run whole.count execution.moments (next_moment execution) kept.cut none_comes
+      ∙ acts_while_are net table schedule whole_run whole.count execution.moments (next_moment execution) kept.cut
+      (none_comes net table order by listings execution fed schedule whole_run shows whole.count)
 
   -- nothing is left
-  end_cut : IsCut net schedule (time_runs execution.setting execution.moments (next_moment execution) whole.count) (next_moment execution + whole.count)
-  end_cut =
-      subst (λ (setting : Setting). IsCut net schedule (time_runs setting execution.moments (next_moment execution) whole.count) (next_moment execution + whole.count)) (sym kept.setting)
-      (time_cut net table schedule whole_run whole.count execution.moments (next_moment execution) kept.cut none_comes)
+  whole_cut : IsCut net schedule (time_runs execution.setting execution.moments (next_moment execution) whole.count) (next_moment execution + whole.count)
+  whole_cut = end_cut net table order by listings execution fed schedule whole_run shows whole.count
 
   none_later : All (λ (moment : ℕ). moment < next_moment execution + whole.count) schedule
   none_later k d inside =
       let size = whole_run.executed.complete in
-      let long = end_cut.long in
+      let long = whole_cut.long in
       let same = get_or_default schedule k d 0 inside in
       elim (cases_lt (get_or schedule k 0) (next_moment execution + whole.count)) [
         | inl less ↦ omega (arith, same, less)
         | inr above ↦
-            (let unknown = end_cut.unknown (record { 0 = k }) (omega (arith, inside, size)) above in
+            (let unknown = whole_cut.unknown (record { 0 = k }) (omega (arith, inside, size)) above in
             absurd (false≢true (sym (ap is_some unknown) ∙ whole.come k None (omega (arith, inside, size, long)))))
       ]
 

@@ -67,6 +67,26 @@ module _ (net : Plan) (table : Graph) (order : List PointId) (by : IsDispatchedB
     pub fed_end : next_moment execution ≡ end_of 0 listings
     fed_end = ap next_moment (sym leads) ∙ end_after (started (setting_of net table)) listings
 
+  -- where the stream is said to be done, no contingent point comes after it, however long time runs
+  module _ (listings : List Listing) (execution : Execution) (fed : fed_all (started (setting_of net table)) listings ≡ Ok execution) (schedule : List ℕ)
+      (run : IsRun net table schedule) (shows : Shows net (ended listings) schedule) (count : ℕ) where
+    shows_on : Shows net (going_on listings) schedule
+    shows_on = done_shows net schedule listings shows
+
+    pub done_keeps : KeepsTo net table schedule execution
+    done_keeps = fed_keeps listings execution fed schedule run shows_on
+
+    pub none_comes : NoneComes net schedule (next_moment execution) (next_moment execution + count)
+    none_comes point ending at_least below =
+        let before = done_before_end net schedule listings shows point (ending_contingent net point ending) in
+        let end = fed_end listings execution fed schedule run shows_on in
+        omega (arith, before, end, at_least)
+
+    pub end_cut : IsCut net schedule (time_runs execution.setting execution.moments (next_moment execution) count) (next_moment execution + count)
+    end_cut =
+        subst (λ (setting : Setting). IsCut net schedule (time_runs setting execution.moments (next_moment execution) count) (next_moment execution + count)) (sym done_keeps.setting)
+        (time_cut net table schedule run count execution.moments (next_moment execution) done_keeps.cut none_comes)
+
 pub feeds_execute_earliest : FeedsExecuteEarliest
 feeds_execute_earliest net table order listings execution situation schedule by fed earliest shows =
     let run = run_of net table order by situation schedule earliest in
@@ -77,16 +97,9 @@ feeds_execute_earliest net table order listings execution situation schedule by 
 pub ends_are_earliest : EndsAreEarliest
 ends_are_earliest net table order listings execution after situation schedule by fed whole earliest shows =
     let run = run_of net table order by situation schedule earliest in
-    let shows_on = done_shows net schedule listings shows in
-    let keeps = fed_keeps net table order by listings execution fed schedule run shows_on in
-    let end = fed_end net table order by listings execution fed schedule run shows_on in
-    let none : NoneComes net schedule (next_moment execution) (next_moment execution + whole.count) =
-    λ point ending at_least below. let before = done_before_end net schedule listings shows point (ending_contingent net point ending) in omega (arith, before, end, at_least) in
-    let cut = time_cut net table schedule run whole.count execution.moments (next_moment execution) keeps.cut none in
-    let here : IsCut net schedule (time_runs execution.setting execution.moments (next_moment execution) whole.count) (next_moment execution + whole.count) =
-    subst (λ (setting : Setting). IsCut net schedule (time_runs setting execution.moments (next_moment execution) whole.count) (next_moment execution + whole.count)) (sym keeps.setting) cut in
+    let cut = end_cut net table order by listings execution fed schedule run shows whole.count in
     ap (λ (e : Execution). e.moments) whole.after_it
-    ∙ whole_is net schedule (time_runs execution.setting execution.moments (next_moment execution) whole.count) (next_moment execution + whole.count) run.executed.complete here whole.come
+    ∙ whole_is net schedule (time_runs execution.setting execution.moments (next_moment execution) whole.count) (next_moment execution + whole.count) run.executed.complete cut whole.come
 
 -- ---- faithful streams
 module _ (net : Plan) (table : Graph) (order : List PointId) (by : IsDispatchedByClosure net table order) (listings : List Listing) where
