@@ -32,7 +32,7 @@ use Rattle.stnu_run.specs.Faults.{fault_end}
 use Rattle.stnu_run.specs.ToRead.{Come, texts, room_after}
 use Rattle.stnu_run.specs.declared.faults.Fault.{Fault}
 use Rattle.stnu_run.specs.declared.faults.Fault.TheVariants.{Format, LineTooLong as LongLine, InputTooMuch as MuchInput}
-use Rattle.stnu_run.proofs.RunLemmas.{GoesOver, first_reply, last_reply}
+use Rattle.stnu_run.proofs.ReplyLemmas.{GoesOver, first_reply, last_reply}
 
 -- where the execution of a network stands in a run
 abbrev pub at : Plan → Execution → List PointId → (number room : ℕ) → Here Course

@@ -18,7 +18,7 @@ use Rattle.stnu_run.specs.declared.plan_text.PlanText.{PlanText}
 use Rattle.stnu_run.proofs.OnceLemmas.{same_network}
 use Rattle.stnu_run.proofs.PathLemmas.{Last, ended, too_long, too_much, refused, given, path}
 use Rattle.stnu_run.proofs.PlanLemmas.{plan_by, plan_once}
-use Rattle.stnu_run.proofs.RunLemmas.{come_both, room_both}
+use Rattle.stnu_run.proofs.ReplyLemmas.{come_both, room_both}
 use Rattle.stnu_run.proofs.TextLemmas.{OutcomeIs, outcome_is, given_here, stands_there, none_refused, texts_many}
 
 -- what the reading of an input comes to

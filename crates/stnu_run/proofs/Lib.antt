@@ -15,9 +15,9 @@ pub mod AnswerLemmas
 pub mod ProgramLemmas
 pub mod KeptLemmas
 pub mod RefutationLemmas
-pub mod RunLemmas
+pub mod ReplyLemmas
 pub mod GivenLemmas
 pub mod EventLemmas
 pub mod CourseLemmas
 pub mod DayLemmas
-pub mod RunningLemmas
+pub mod RunLemmas

@@ -1,75 +1,341 @@
--- A run over lines, by what comes first; and lines that come.
-use Rattle.std.proofs.Common.{◌≡◌, ◌⊎◌, ℕ, ◌+◌, ◌-◌, List, [], ◌∷◌, ◌++◌, length, refl, sym, ap, ◌∙◌, subst, arith, inl, inr, append_assoc}
-use Rattle.texts.specs.Lines.{InputLine, line_size}
+-- `run` keeps its promise.
+use Rattle.std.proofs.Common.{◌≡◌, ◌⊎◌, ℕ, ◌+◌, List, [], ◌∷◌, ◌++◌, length, Option, Some, None, Result, Ok, Err, refl, sym, ap, ◌∙◌, subst, inl, inr, append_assoc, append-nil}
+use Rattle.std.proofs.lemmas.Option.{same_Some}
+use Rattle.texts.specs.Lines.{InputLine, input_lines, lines}
+use Rattle.net_model.specs.Network.{Plan, IsPlan}
+use Rattle.net_model.specs.declared.fault.BuildFault.TheVariants as part
+use Rattle.net_model.specs.declared.format.FormatKind.TheVariants as kind
+use Rattle.net_model.specs.declared.ids.PointId.{PointId}
+use Rattle.closure_model.specs.Derivations.{base_support}
+use Rattle.closure_model.specs.Orders.{placed_points}
+use Rattle.closure_model.specs.ReferenceRounds.{closed}
+use Rattle.strategy_model.specs.Control.{IsControllable, IsEarliest}
+use Rattle.strategy_model.specs.Situations.{Satisfies}
 use Rattle.plan_port.specs.Limits.{most_line}
 use Rattle.plan_port.specs.Lines.{Comes, coming}
-use Rattle.commands.specs.Machine.{Machine}
-use Rattle.commands.specs.Runs.{Here, after_line, Replies, Answers, Run}
+use Rattle.plan_format.specs.PlanNetwork.{DeclaresNetwork}
+use Rattle.cert_format.specs.CertificateWords.{printed_certificate}
+use Rattle.cert_format.specs.declared.certificate.Certificate.{Certificate}
+use Rattle.event_stream.specs.EventText.{EventLine, blank, completed, done, IsLine}
+use Rattle.execution_model.specs.Acts.{scheduled}
+use Rattle.execution_model.specs.Execution.{Moments}
+use Rattle.execution_model.specs.Feeding.{Execution, started, taken, first_open}
+use Rattle.execution_model.specs.Laws.{setting_of, IsDispatchedByClosure, going_on, ended, AreWithinLimit}
+use Rattle.execution_model.specs.Streams.{Listing, IsFaithful, Fits}
+use Rattle.execution_model.specs.Timely.{fed_all}
+use Rattle.execution_model.specs.declared.feeding.Act.{Act}
+use Rattle.execution_model.specs.declared.feeding.Why.{Why}
+use Rattle.execution_model.proofs.StreamLemmas.{done_shows}
+use Rattle.commands.specs.Asked.{AnswersOutcome}
+use Rattle.commands.specs.Limits.{most_input}
+use Rattle.commands.specs.Phases.{FollowsOutcome, GoesOn}
+use Rattle.commands.specs.Reading.{Outcome, Given, Faulty}
+use Rattle.commands.specs.Runs.{Run as RunOver, Runs, begins}
 use Rattle.commands.specs.declared.endings.End.{End}
+use Rattle.commands.specs.declared.endings.End.TheVariants as ends
+use Rattle.commands.specs.declared.machines.Onward.{Onward}
 use Rattle.commands.specs.declared.machines.Onward.TheVariants.{Goes, Ends}
-use Rattle.stnu_run.specs.ToRead.{Come, room_after}
+use Rattle.commands.proofs.PhaseLemmas.{run_is}
+use Rattle.stnu_run.specs.Checking.{controllable_line, refuted_line, PutsRefuted, RoundsClose, IsCertificateOf}
+use Rattle.stnu_run.specs.Course.{Course}
+use Rattle.stnu_run.specs.Day.{IsDay, IsUnfaithfulWith, IsRefusedDay, IsWholeDay, PutsDay, moment_after}
+use Rattle.stnu_run.specs.EventAnswers.{acts_text, due_line, complete_line}
+use Rattle.stnu_run.specs.Executing.{executing_machine}
+use Rattle.stnu_run.specs.Faults.{refusing, fault_end}
+use Rattle.stnu_run.specs.PlanText.{plan_begun, plan_reader}
+use Rattle.stnu_run.specs.RunPromise.{OpensExecution, RunPromise}
+use Rattle.stnu_run.specs.Running.{BeginsExecution, BeginsRefuted, run_begins, run_machine, run_start}
+use Rattle.stnu_run.specs.ToCheck.{plan_grammar}
+use Rattle.stnu_run.specs.ToRead.{AnswersText, AnswersOrRefuses, Come, texts, room_after}
+use Rattle.stnu_run.specs.declared.faults.Fault.{Fault}
+use Rattle.stnu_run.specs.declared.faults.Fault.TheVariants.{Format, Part, LineTooLong, InputTooMuch}
+use Rattle.stnu_run.proofs.CourseLemmas.{OverEvents, over_events, EndsAt, EndsSo, ends_so}
+use Rattle.stnu_run.proofs.DayLemmas.{RunLaws, lists_within, puts_listings, all_come, acts_left, faithful_fed, fed_faithful, taken_faithful, closed_faithful, faithful_closed, unfaithful_there, whole_there}
+use Rattle.stnu_run.proofs.EventLemmas.{at, one_refused, one_done, one_unfinished}
+use Rattle.stnu_run.proofs.GivenLemmas.{outcome_of, IsGivenAt, is_given, declared_given}
+use Rattle.stnu_run.proofs.NetworkLemmas.{declared_sound}
+use Rattle.stnu_run.proofs.PlanLemmas.{plan_by, plan_once}
+use Rattle.stnu_run.proofs.ReplyLemmas.{come_first, come_then, come_both}
+use Rattle.stnu_run.proofs.TextLemmas.{outcome_answered}
+use Rattle.stnu_run.proofs.VerdictLemmas.{closes_placed, closing_controls, certificate_accepted}
 
-module _ {C : Type 0} (machine : Machine C) where
-  -- the first line is answered, and the run goes on over the others
-  pub record GoesOver (here : Here C) (line : InputLine) (lines : List InputLine) (put : List ℕ) (end : End) : Type 0 where
-    pub answer : List ℕ
-    pub more : List ℕ
-    pub state : C
-    pub replies : Replies machine here (line ∷ lines) answer (Goes state)
-    pub all : put ≡ answer ++ more
-    pub later : Run machine (after_line here line state) lines more end
+-- ---- what follows on the reading of a plan
+-- how a run follows on what the reading of its plan came to
+abbrev Follows : Outcome Plan Fault → List ℕ → End → Type 0
+Follows outcome put end = FollowsOutcome run_begins plan_reader refusing executing_machine (record {}) outcome put end
 
-  ended_there : (here : Here C) (lines : List InputLine) (put : List ℕ) (end : End) (rest : List InputLine) (said : List ℕ) (there : Here C) (last : List ℕ) → lines ≡ rest → said ≡ [] → here ≡ there → put ≡ said ++ last
-      → Replies machine there rest last (Ends end) → Replies machine here lines put (Ends end)
-  ended_there here lines put end rest said there last same nothing stays all replies =
-      let whole : last ≡ put = sym (all ∙ ap (λ (s : List ℕ). s ++ last) nothing) in
-      subst (λ (p : List ℕ). Replies machine here lines p (Ends end)) whole
-      (subst (λ (ls : List InputLine). Replies machine here ls last (Ends end)) (sym same)
-      (subst (λ (h : Here C). Replies machine h rest last (Ends end)) (sym stays) replies))
+-- an execution is opened, and goes on over lines of events
+record Opened (net : Plan) (number room : ℕ) (rest : List InputLine) (put : List ℕ) (end : End) : Type 0 where
+  pub closing : RoundsClose net
+  pub due : Option ℕ
+  pub more : List ℕ
+  pub all : put ≡ controllable_line ++ (due_line due ++ more)
+  pub later : RunOver executing_machine (at net (started (setting_of net closing.after.table)) [] number room) rest more end
 
-  -- a run over no lines is its last reply
-  pub last_reply : (here : Here C) (put : List ℕ) (end : End) → Run machine here [] put end → Replies machine here [] put (Ends end)
-  last_reply here put end one = by one.first one.rest one.said one.there one.last one.divided one.answers one.ends one.all
+-- or a certificate is put
+record RefutedSo (net : Plan) (put : List ℕ) (end : End) : Type 0 where
+  pub cert : Certificate
+  pub of : IsCertificateOf net cert
+  pub puts : PutsRefuted cert put end
+
+begun : (net : Plan) (number room : ℕ) (rest : List InputLine) (put answer more : List ℕ) (onward : Onward Course) (end : End) → run_begins (record {}) net answer onward → put ≡ answer ++ more
+    → GoesOn run_begins plan_reader refusing executing_machine onward number room rest more end → Opened net number room rest put end ⊎ RefutedSo net put end
+begun net number room rest put answer more onward end (inl begins) all on = inl (record {
+  closing = begins.closing;
+  due = begins.due;
+  more = more;
+  all = all ∙ (ap (λ (a : List ℕ). a ++ more) begins.put ∙ append_assoc controllable_line (due_line begins.due) more);
+  later = subst (λ (o : Onward Course). GoesOn run_begins plan_reader refusing executing_machine o number room rest more end) begins.goes on;
+})
+begun net number room rest put answer more onward end (inr begins) all on =
+    let over = subst (λ (o : Onward Course). GoesOn run_begins plan_reader refusing executing_machine o number room rest more end) begins.ends on in
+    inr (record {
+      cert = begins.certificate;
+      of = begins.refutation;
+      puts = (all ∙ (ap (λ (m : List ℕ). answer ++ m) over.0 ∙ (append-nil answer ∙ begins.put)), over.1);
+    })
+
+opened_or : (net : Plan) (number room : ℕ) (rest : List InputLine) (put : List ℕ) (end : End) → Follows (Given net number room rest) put end → Opened net number room rest put end ⊎ RefutedSo net put end
+opened_or net number room rest put end (answer, more, onward, begins, all, on) = begun net number room rest put answer more onward end begins all on
+
+-- what is put for a network, whatever lines follow
+abbrev Begins : Plan → List ℕ → End → Type 0
+Begins net put end = (number : ℕ) × (room : ℕ) × (rest : List InputLine) × Follows (Given net number room rest) put end
+
+abbrev begins_answers : Unit {0} → Plan → List ℕ → End → Type 0
+begins_answers one net put end = Begins net put end
+
+follows_answered : (outcome : Outcome Plan Fault) (put : List ℕ) (end : End) → Follows outcome put end → AnswersOutcome begins_answers plan_reader refusing tt outcome put end
+follows_answered (Given net number room rest) put end follows = (number, room, rest, follows)
+follows_answered (Faulty fault) put end follows = follows
+
+-- a fault ends no run as one whose event is refused, or that is whole
+fault_ends_so : (fault : Fault) → (fault_end fault ≡ ends.Limit) ⊎ ((fault_end fault ≡ ends.Fault) ⊎ (fault_end fault ≡ ends.Refused))
+fault_ends_so (Format number kind.NumberLimit) = inl refl
+fault_ends_so (Format number k) = inr (inl refl)
+fault_ends_so (Part number (part.Limit which place)) = inl refl
+fault_ends_so (Part number why) = inr (inl refl)
+fault_ends_so (LineTooLong number) = inl refl
+fault_ends_so (InputTooMuch number) = inl refl
+
+module _ (laws : RunLaws) where
+  opens_by : (net : Plan) → IsPlan net → (put : List ℕ) (end : End) → Begins net put end → OpensExecution net put end
+  opens_by net plan put end (number, room, rest, follows) = by (opened_or net number room rest put end follows)
     where
-      by : (first rest : List InputLine) (said : List ℕ) (there : Here C) (last : List ℕ) → [] ≡ first ++ rest → Answers machine here first said there → Replies machine there rest last (Ends end) → put ≡ said ++ last → Replies machine here [] put (Ends end)
-      by [] rest said there last divided answers ends all = ended_there here [] put end rest said there last divided answers.0 answers.1 all ends
-      by (line ∷ first) rest said there last divided answers ends all = absurd cc
+      by : Opened net number room rest put end ⊎ RefutedSo net put end → OpensExecution net put end
+      by (inl opened) = inl (closing_controls laws.verdict net plan opened.closing, (opened.due, opened.more, opened.all))
+      by (inr refuted) =
+          let accepted = certificate_accepted laws.verdict net plan refuted.cert refuted.of in
+          inr (laws.verdict.exclude net refuted.cert plan accepted, (refuted.cert, accepted, refuted.puts))
 
-  -- the reply to the first line ends a run, or the run goes on
-  pub first_reply : (here : Here C) (line : InputLine) (lines : List InputLine) (put : List ℕ) (end : End) → Run machine here (line ∷ lines) put end
-      → Replies machine here (line ∷ lines) put (Ends end) ⊎ GoesOver here line lines put end
-  first_reply here line lines put end one = by one.first one.rest one.said one.there one.last one.divided one.answers one.ends one.all
-    where
-      by : (first rest : List InputLine) (said : List ℕ) (there : Here C) (last : List ℕ) → line ∷ lines ≡ first ++ rest → Answers machine here first said there → Replies machine there rest last (Ends end) → put ≡ said ++ last
-          → Replies machine here (line ∷ lines) put (Ends end) ⊎ GoesOver here line lines put end
-      by [] rest said there last divided answers ends all = inl (ended_there here (line ∷ lines) put end rest said there last divided answers.0 answers.1 all ends)
-      by (other ∷ first) rest said there last divided answers ends all =
-          let head : other ≡ line = cc in
-          let tail : lines ≡ first ++ rest = cc in
-          let replies : Replies machine here (line ∷ lines) answers.0 (Goes answers.2) = subst (λ (l : InputLine). Replies machine here (l ∷ lines) answers.0 (Goes answers.2)) head answers.3 in
-          let later : Answers machine (after_line here line answers.2) first answers.1 there = subst (λ (l : InputLine). Answers machine (after_line here l answers.2) first answers.1 there) head answers.5 in
-          inr (record {
-            answer = answers.0;
-            more = answers.1 ++ last;
-            state = answers.2;
-            replies = replies;
-            all = all ∙ (ap (λ (s : List ℕ). s ++ last) answers.4 ∙ append_assoc answers.0 answers.1 last);
-            later = record { first = first; rest = rest; said = answers.1; there = there; last = last; divided = tail; answers = later; ends = ends; all = refl };
-          })
+  opens_text : (input put : List ℕ) (end : End) → AnswersOrRefuses plan_grammar Begins input put end → AnswersOrRefuses plan_grammar OpensExecution input put end
+  opens_text input put end (inl (net, after, is, begins)) = inl (net, after, is, opens_by net (declared_sound (lines input) net after is) put end begins)
+  opens_text input put end (inr refused) = inr refused
 
--- ---- lines that come
-pub come_first : (room : ℕ) (before after : List InputLine) → Come room (before ++ after) → Come room before
-come_first room [] after come = tt
-come_first room (line ∷ before) after come = (come.0, come_first (room - line_size line) before after come.1)
+  -- ---- the network is dispatched by its closure
+  dispatched : (net : Plan) → IsPlan net → (closes : RoundsClose net) → IsDispatchedByClosure net closes.after.table (placed_points closes.after.table)
+  dispatched net plan closes =
+      let base = laws.verdict.base net in
+      record {
+        sound = plan;
+        closure = laws.verdict.close net (base_support net) closes.after closes.rounds closes.order plan base closes.ends;
+        ordered = laws.verdict.placed closes.after.table (closes_placed net (base_support net) closes.after closes.rounds (closed closes.order) closes.order refl closes.ends);
+      }
 
-pub come_then : (room : ℕ) (before after : List InputLine) → Come room (before ++ after) → Come (room_after room before) after
-come_then room [] after come = come
-come_then room (line ∷ before) after come = come_then (room - line_size line) before after come.1
+  -- the earliest schedule satisfies the network
+  pub earliest_satisfies : (net : Plan) (situation schedule : List ℕ) → IsEarliest net situation schedule → Satisfies net schedule
+  earliest_satisfies net situation schedule earliest =
+      let controls = earliest.controls situation earliest.is_situation in
+      subst (Satisfies net) (same_Some controls.0 schedule (sym controls.1 ∙ earliest.played)) controls.2
 
-pub come_both : (room : ℕ) (before after : List InputLine) → Come room before → Come (room_after room before) after → Come room (before ++ after)
-come_both room [] after first then = then
-come_both room (line ∷ before) after first then = (first.0, come_both (room - line_size line) before after first.1 then)
+  module _ (input put : List ℕ) (end : End) (follows : Follows (outcome_of (input_lines input)) put end) where
+    -- ---- from the day of an input
+    -- a run over the day of a controllable network opens its execution
+    day_opens : (net : Plan) (listings : List Listing) (told : EventLine) (day : IsDay (input_lines input) net listings told) → IsControllable net
+        → Opened net (length day.plan) (room_after most_input day.plan) (day.events ++ day.last ∷ day.rest) put end
+    day_opens net listings told day controls =
+        let come = come_first most_input day.plan (day.events ++ day.last ∷ []) day.come in
+        let is = declared_given (input_lines input) day.plan (day.events ++ day.last ∷ day.rest) net day.divided come day.declared in
+        let here = subst (λ (o : Outcome Plan Fault). Follows o put end) is follows in
+        by (opened_or net (length day.plan) (room_after most_input day.plan) (day.events ++ day.last ∷ day.rest) put end here)
+      where
+        plan : IsPlan net
+        plan = declared_sound _ net _ day.declared
 
-pub room_both : (room : ℕ) (before after : List InputLine) → room_after room (before ++ after) ≡ room_after (room_after room before) after
-room_both room [] after = refl
-room_both room (line ∷ before) after = room_both (room - line_size line) before after
+        by : Opened net (length day.plan) (room_after most_input day.plan) (day.events ++ day.last ∷ day.rest) put end ⊎ RefutedSo net put end
+            → Opened net (length day.plan) (room_after most_input day.plan) (day.events ++ day.last ∷ day.rest) put end
+        by (inl opened) = opened
+        by (inr refuted) = absurd (laws.verdict.exclude net refuted.cert plan (certificate_accepted laws.verdict net plan refuted.cert refuted.of) controls)
+
+    module _ (net : Plan) (listings : List Listing) (told : EventLine) (day : IsDay (input_lines input) net listings told) (controls : IsControllable net) (faithful : IsFaithful net (going_on listings)) where
+      opened : Opened net (length day.plan) (room_after most_input day.plan) (day.events ++ day.last ∷ day.rest) put end
+      opened = day_opens net listings told day controls
+
+      by_closure : IsDispatchedByClosure net opened.closing.after.table (placed_points opened.closing.after.table)
+      by_closure = dispatched net (declared_sound _ net _ day.declared) opened.closing
+
+      within : AreWithinLimit listings
+      within = lists_within net (texts day.events) listings day.lists
+
+      final : Execution
+      final = (faithful_fed laws net _ _ by_closure listings within faithful).0
+
+      fed : fed_all (started (setting_of net opened.closing.after.table)) listings ≡ Ok final
+      unfolding final
+      fed = (faithful_fed laws net _ _ by_closure listings within faithful).1
+
+      coming_events : Come (room_after most_input day.plan) (day.events ++ day.last ∷ [])
+      coming_events = come_then most_input day.plan (day.events ++ day.last ∷ []) day.come
+
+      over : OverEvents net (started (setting_of net opened.closing.after.table)) final listings (day.last ∷ day.rest) (room_after (room_after most_input day.plan) day.events) opened.more end
+      over = over_events laws.reading net day.events (day.last ∷ day.rest) listings (started (setting_of net opened.closing.after.table)) final [] (length day.plan) (room_after most_input day.plan) opened.more end
+          refl (come_first (room_after most_input day.plan) day.events (day.last ∷ []) coming_events) day.lists fed opened.later
+
+      last_comes : coming most_line (room_after (room_after most_input day.plan) day.events) day.last ≡ Comes
+      last_comes = (come_then (room_after most_input day.plan) day.events (day.last ∷ []) coming_events).0
+
+      refused_by : (told : EventLine) → IsLine net told day.last.text → IsUnfaithfulWith net listings told → end ≡ ends.EventRefused
+      refused_by blank is unfaithful = absurd unfaithful
+      refused_by (completed moment points) is unfaithful = by (taken final moment points) refl
+        where
+          by : (result : Result Moments Why) → taken final moment points ≡ result → end ≡ ends.EventRefused
+          by (Err cause) refuses = one_refused laws.reading net final over.listed over.number _ over.none day.last day.rest over.more end last_comes over.later moment points cause is refuses
+          by (Ok moments) takes = absurd (unfaithful (taken_faithful laws net _ _ by_closure listings final moment points moments within is.within fed takes))
+      refused_by done is unfaithful = by (first_open final) refl
+        where
+          by : (first : Option PointId) → first_open final ≡ first → end ≡ ends.EventRefused
+          by (Some point) opens = one_unfinished laws.reading net final over.listed over.number _ over.none day.last day.rest over.more end last_comes over.later point is opens
+          by None shut = absurd (unfaithful (closed_faithful laws net _ _ by_closure listings final fed shut))
+
+    refuses_by : IsRefusedDay (input_lines input) → end ≡ ends.EventRefused
+    refuses_by is = refused_by is.net is.listings is.told is.day is.controllable is.faithful is.told is.day.tells is.unfaithful
+
+    -- what is put for a whole day
+    module _ (net : Plan) (listings : List Listing) (situation : List ℕ) (whole : IsWholeDay (input_lines input) net listings) (fits : Fits net (ended listings) situation) where
+      going : IsFaithful net (going_on listings)
+      going = (situation, record { schedule = fits.schedule; earliest = fits.earliest; shows = done_shows net fits.schedule listings fits.shows })
+
+      puts_day : PutsDay net fits.schedule listings put end
+      puts_day =
+          let start = opened net listings done whole.day whole.controllable going in
+          let closure = by_closure net listings done whole.day whole.controllable going in
+          let then = over net listings done whole.day whole.controllable going in
+          let here = final net listings done whole.day whole.controllable going in
+          let all_fed = fed net listings done whole.day whole.controllable going in
+          let shut = faithful_closed laws net _ _ closure listings here all_fed whole.faithful in
+          let last = one_done laws.reading net here then.listed then.number _ then.none whole.day.last whole.day.rest then.more end (last_comes net listings done whole.day whole.controllable going) then.later whole.day.tells shut in
+          let left = acts_left laws net _ _ closure situation fits.schedule fits.earliest listings here all_fed fits.shows last.0 last.1 in
+          let rest : then.more ≡ acts_text net (scheduled net fits.schedule (moment_after listings) last.1.count) ++ complete_line = last.2 ∙ ap (λ (acts : List Act). acts_text net acts ++ complete_line) left in
+          record {
+            first = start.due;
+            said = then.said;
+            count = last.1.count;
+            listed = puts_listings laws net _ _ closure situation fits.schedule fits.earliest listings [] _ then.said 0 refl refl (done_shows net fits.schedule listings fits.shows) then.says;
+            whole = all_come laws net _ _ closure situation fits.schedule fits.earliest listings here all_fed fits.shows last.0 last.1;
+            all = start.all ∙ ap (λ (m : List ℕ). controllable_line ++ (due_line start.due ++ m)) (then.all ∙ ap (λ (m : List ℕ). then.said ++ m) rest);
+            ends = last.3;
+          }
+
+    -- ---- to the day of an input
+    -- an execution that is opened and ends at a line of events, of a network that the input declares
+    record Lasts : Type 0 where
+      pub net : Plan
+      pub room : ℕ
+      pub number : ℕ
+      pub rest : List InputLine
+      pub given : IsGivenAt (input_lines input) net number room rest
+      pub opening : Opened net number room rest put end
+      pub ending : EndsAt net rest room (started (setting_of net opening.closing.after.table)) end
+
+    lasts : (end ≡ ends.EventRefused) ⊎ (end ≡ ends.Done) → Lasts
+    lasts so = by (outcome_of (input_lines input)) refl follows
+      where
+        not_such : (other : End) → end ≡ other → (other ≡ ends.Limit) ⊎ ((other ≡ ends.Fault) ⊎ (other ≡ ends.Refused)) → (end ≡ ends.EventRefused) ⊎ (end ≡ ends.Done) → ⊥
+        not_such other is (inl limit) (inl event) = absurd (cc (is, limit, event))
+        not_such other is (inl limit) (inr whole) = absurd (cc (is, limit, whole))
+        not_such other is (inr (inl fault)) (inl event) = absurd (cc (is, fault, event))
+        not_such other is (inr (inl fault)) (inr whole) = absurd (cc (is, fault, whole))
+        not_such other is (inr (inr refused)) (inl event) = absurd (cc (is, refused, event))
+        not_such other is (inr (inr refused)) (inr whole) = absurd (cc (is, refused, whole))
+
+        no_fault : (fault : Fault) → end ≡ fault_end fault → ⊥
+        no_fault fault is = not_such (fault_end fault) is (fault_ends_so fault) so
+
+        lasts_to : (net : Plan) (number room : ℕ) (rest : List InputLine) → IsGivenAt (input_lines input) net number room rest → (opening : Opened net number room rest put end)
+            → EndsSo net rest room (started (setting_of net opening.closing.after.table)) end → Lasts
+        lasts_to net number room rest given opening (inl ending) = record { net = net; room = room; number = number; rest = rest; given = given; opening = opening; ending = ending }
+        lasts_to net number room rest given opening (inr (fault, is)) = absurd (no_fault fault is)
+
+        opens : (net : Plan) (number room : ℕ) (rest : List InputLine) → IsGivenAt (input_lines input) net number room rest → Opened net number room rest put end ⊎ RefutedSo net put end → Lasts
+        opens net number room rest given (inl opening) =
+            lasts_to net number room rest given opening (ends_so laws.reading net rest (started (setting_of net opening.closing.after.table)) [] number room opening.more end refl opening.later)
+        opens net number room rest given (inr refuted) = absurd (not_such ends.Refused refuted.puts.1 (inr (inr refl)) so)
+
+        by : (outcome : Outcome Plan Fault) → outcome_of (input_lines input) ≡ outcome → Follows outcome put end → Lasts
+        by (Given net number room rest) is on = opens net number room rest (is_given (input_lines input) net number room rest is) (opened_or net number room rest put end on)
+        by (Faulty fault) is on = absurd (no_fault fault on.1)
+
+    module _ (one : Lasts) where
+      plan_of : IsPlan one.net
+      plan_of = declared_sound _ one.net _ one.given.declared
+
+      closure_of : IsDispatchedByClosure one.net one.opening.closing.after.table (placed_points one.opening.closing.after.table)
+      closure_of = dispatched one.net plan_of one.opening.closing
+
+      controllable_of : IsControllable one.net
+      controllable_of = closing_controls laws.verdict one.net plan_of one.opening.closing
+
+      day_of : IsDay (input_lines input) one.net one.ending.listings one.ending.told
+      day_of = record {
+        plan = one.given.used;
+        events = one.ending.events;
+        last = one.ending.last;
+        rest = one.ending.rest;
+        divided = one.given.divided ∙ ap (λ (ls : List InputLine). one.given.used ++ ls) one.ending.divided;
+        come = come_both most_input one.given.used (one.ending.events ++ one.ending.last ∷ []) one.given.come (subst (λ (room : ℕ). Come room (one.ending.events ++ one.ending.last ∷ [])) one.given.left one.ending.come);
+        declared = subst (λ (ls : List InputLine). DeclaresNetwork (texts (input_lines input)) one.net (texts ls)) one.ending.divided one.given.declared;
+        lists = one.ending.lists;
+        tells = one.ending.tells;
+      }
+
+      within_of : AreWithinLimit one.ending.listings
+      within_of = lists_within one.net (texts one.ending.events) one.ending.listings one.ending.lists
+
+      whole_day_of : end ≡ ends.Done → IsWholeDay (input_lines input) one.net one.ending.listings
+      whole_day_of whole =
+          let there = whole_there laws one.net _ _ closure_of one.ending.listings one.ending.final one.ending.told end one.ending.fed one.ending.decides whole in
+          record { day = subst (IsDay (input_lines input) one.net one.ending.listings) there.0 day_of; controllable = controllable_of; faithful = there.1 }
+
+      refused_day_of : end ≡ ends.EventRefused → IsRefusedDay (input_lines input)
+      refused_day_of refused = record {
+        net = one.net;
+        listings = one.ending.listings;
+        told = one.ending.told;
+        day = day_of;
+        controllable = controllable_of;
+        faithful = fed_faithful laws one.net _ _ closure_of one.ending.listings one.ending.final within_of one.ending.fed;
+        unfaithful = unfaithful_there laws one.net _ _ closure_of one.ending.listings one.ending.final one.ending.told one.ending.last.text end within_of one.ending.tells one.ending.fed one.ending.decides refused;
+      }
+
+    completes_by : end ≡ ends.Done → (net : Plan) × (listings : List Listing) × IsWholeDay (input_lines input) net listings
+    completes_by whole = let one = lasts (inr whole) in (one.net, one.ending.listings, whole_day_of one whole)
+
+    refused_by_day : end ≡ ends.EventRefused → IsRefusedDay (input_lines input)
+    refused_by_day refused = refused_day_of (lasts (inl refused)) refused
+
+  -- each run keeps the promise
+  pub run_keeps : (input put : List ℕ) (end : End) → Runs run_machine run_start input put end → RunPromise input put end
+  run_keeps input put end runs =
+      let follows = run_is run_begins plan_reader refusing executing_machine (record {}) (begins plan_begun) (input_lines input) put end runs in
+      let text = outcome_answered plan_reader plan_grammar plan_begun plan_by plan_once begins_answers tt input put end (follows_answered (outcome_of (input_lines input)) put end follows) in
+      record {
+        opens = record {
+          answers = opens_text input put end text.answers;
+          declared = λ net is. opens_by net (declared_sound _ net _ is.declared) put end (text.declared net is);
+          refuses = text.refuses;
+        };
+        executes = λ net listings situation whole fits. (earliest_satisfies net situation fits.schedule fits.earliest, puts_day input put end follows net listings situation whole fits);
+        completes = completes_by input put end follows;
+        refuses = refuses_by input put end follows;
+        refused = refused_by_day input put end follows;
+      }
