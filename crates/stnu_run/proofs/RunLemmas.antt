@@ -38,7 +38,7 @@ use Rattle.commands.specs.declared.machines.Onward.TheVariants.{Goes, Ends}
 use Rattle.commands.proofs.PhaseLemmas.{run_is}
 use Rattle.stnu_run.specs.Checking.{controllable_line, refuted_line, PutsRefuted, RoundsClose, IsCertificateOf}
 use Rattle.stnu_run.specs.Course.{Course}
-use Rattle.stnu_run.specs.Day.{IsDay, IsUnfaithfulWith, IsRefusedDay, IsWholeDay, PutsDay, moment_after}
+use Rattle.stnu_run.specs.Day.{IsUnderway, IsDay, IsUnfaithfulWith, IsRefusedDay, IsWholeDay, PutsSoFar, PutsDay, moment_after}
 use Rattle.stnu_run.specs.EventAnswers.{acts_text, due_line, complete_line}
 use Rattle.stnu_run.specs.Executing.{executing_machine}
 use Rattle.stnu_run.specs.Faults.{refusing, fault_end}
@@ -55,7 +55,7 @@ use Rattle.stnu_run.proofs.EventLemmas.{at, one_refused, one_done, one_unfinishe
 use Rattle.stnu_run.proofs.GivenLemmas.{outcome_of, IsGivenAt, is_given, declared_given}
 use Rattle.stnu_run.proofs.NetworkLemmas.{declared_sound}
 use Rattle.stnu_run.proofs.PlanLemmas.{plan_by, plan_once}
-use Rattle.stnu_run.proofs.ReplyLemmas.{come_first, come_then, come_both}
+use Rattle.stnu_run.proofs.ReplyLemmas.{come_first, come_then, come_both, room_both}
 use Rattle.stnu_run.proofs.TextLemmas.{outcome_answered}
 use Rattle.stnu_run.proofs.VerdictLemmas.{closes_placed, closing_controls, certificate_accepted}
 
@@ -149,92 +149,115 @@ module _ (laws : RunLaws) where
       subst (Satisfies net) (same_Some controls.0 schedule (sym controls.1 ∙ earliest.played)) controls.2
 
   module _ (input put : List ℕ) (end : End) (follows : Follows (outcome_of (input_lines input)) put end) where
-    -- ---- from the day of an input
-    -- a run over the day of a controllable network opens its execution
-    day_opens : (net : Plan) (listings : List Listing) (told : EventLine) (day : IsDay (input_lines input) net listings told) → IsControllable net
-        → Opened net (length day.plan) (room_after most_input day.plan) (day.events ++ day.last ∷ day.rest) put end
-    day_opens net listings told day controls =
-        let come = come_first most_input day.plan (day.events ++ day.last ∷ []) day.come in
-        let is = declared_given (input_lines input) day.plan (day.events ++ day.last ∷ day.rest) net day.divided come day.declared in
-        let here = subst (λ (o : Outcome Plan Fault). Follows o put end) is follows in
-        by (opened_or net (length day.plan) (room_after most_input day.plan) (day.events ++ day.last ∷ day.rest) put end here)
-      where
-        plan : IsPlan net
-        plan = declared_sound _ net _ day.declared
+    -- ---- from the lines of an input
+    module _ (net : Plan) (listings : List Listing) (day : IsUnderway (input_lines input) net listings) (controls : IsControllable net) where
+      plan : IsPlan net
+      plan = declared_sound _ net _ day.declared
 
-        by : Opened net (length day.plan) (room_after most_input day.plan) (day.events ++ day.last ∷ day.rest) put end ⊎ RefutedSo net put end
-            → Opened net (length day.plan) (room_after most_input day.plan) (day.events ++ day.last ∷ day.rest) put end
-        by (inl opened) = opened
-        by (inr refuted) = absurd (laws.verdict.exclude net refuted.cert plan (certificate_accepted laws.verdict net plan refuted.cert refuted.of) controls)
+      -- a run over lines that declare a controllable network opens its execution
+      opened_by : Opened net (length day.plan) (room_after most_input day.plan) (day.events ++ day.rest) put end ⊎ RefutedSo net put end
+          → Opened net (length day.plan) (room_after most_input day.plan) (day.events ++ day.rest) put end
+      opened_by (inl opening) = opening
+      opened_by (inr refuted) = absurd (laws.verdict.exclude net refuted.cert plan (certificate_accepted laws.verdict net plan refuted.cert refuted.of) controls)
 
-    module _ (net : Plan) (listings : List Listing) (told : EventLine) (day : IsDay (input_lines input) net listings told) (controls : IsControllable net) (faithful : IsFaithful net (going_on listings)) where
-      opened : Opened net (length day.plan) (room_after most_input day.plan) (day.events ++ day.last ∷ day.rest) put end
-      opened = day_opens net listings told day controls
+      opened : Opened net (length day.plan) (room_after most_input day.plan) (day.events ++ day.rest) put end
+      opened =
+          let come = come_first most_input day.plan day.events day.come in
+          let is = declared_given (input_lines input) day.plan (day.events ++ day.rest) net day.divided come day.declared in
+          let here = subst (λ (o : Outcome Plan Fault). Follows o put end) is follows in
+          opened_by (opened_or net (length day.plan) (room_after most_input day.plan) (day.events ++ day.rest) put end here)
 
       by_closure : IsDispatchedByClosure net opened.closing.after.table (placed_points opened.closing.after.table)
-      by_closure = dispatched net (declared_sound _ net _ day.declared) opened.closing
+      by_closure = dispatched net plan opened.closing
+
+      abbrev first : Execution
+      first = started (setting_of net opened.closing.after.table)
 
       within : AreWithinLimit listings
       within = lists_within net (texts day.events) listings day.lists
 
-      final : Execution
-      final = (faithful_fed laws net _ _ by_closure listings within faithful).0
+      -- the execution is fed the stream, and the run goes on
+      record FedAll : Type 0 where
+        pub final : Execution
+        pub fed : fed_all first listings ≡ Ok final
+        pub over : OverEvents net first final listings day.rest (room_after most_input (day.plan ++ day.events)) opened.more end
 
-      fed : fed_all (started (setting_of net opened.closing.after.table)) listings ≡ Ok final
-      unfolding final
-      fed = (faithful_fed laws net _ _ by_closure listings within faithful).1
+      fed_over : IsFaithful net (going_on listings) → FedAll
+      fed_over faithful =
+          let (final, fed) = faithful_fed laws net _ _ by_closure listings within faithful in
+          let start_room : ℕ = room_after most_input day.plan in
+          let over = over_events laws.reading net day.events day.rest listings first final [] (length day.plan) start_room opened.more end refl
+              (come_then most_input day.plan day.events day.come) day.lists fed opened.later in
+          record {
+            final = final;
+            fed = fed;
+            over = subst (λ (room : ℕ). OverEvents net first final listings day.rest room opened.more end) (sym (room_both most_input day.plan day.events)) over;
+          }
 
-      coming_events : Come (room_after most_input day.plan) (day.events ++ day.last ∷ [])
-      coming_events = come_then most_input day.plan (day.events ++ day.last ∷ []) day.come
+      puts_so_far : (situation : List ℕ) (fits : Fits net (going_on listings) situation) → PutsSoFar net fits.schedule listings put
+      puts_so_far situation fits =
+          let all = fed_over (situation, fits) in
+          record {
+            first = opened.due;
+            said = all.over.said;
+            more = all.over.more;
+            listed = puts_listings laws net _ _ by_closure situation fits.schedule fits.earliest listings [] first all.over.said 0 refl refl fits.shows all.over.says;
+            all = opened.all ∙ ap (λ (m : List ℕ). controllable_line ++ (due_line opened.due ++ m)) all.over.all;
+          }
 
-      over : OverEvents net (started (setting_of net opened.closing.after.table)) final listings (day.last ∷ day.rest) (room_after (room_after most_input day.plan) day.events) opened.more end
-      over = over_events laws.reading net day.events (day.last ∷ day.rest) listings (started (setting_of net opened.closing.after.table)) final [] (length day.plan) (room_after most_input day.plan) opened.more end
-          refl (come_first (room_after most_input day.plan) day.events (day.last ∷ []) coming_events) day.lists fed opened.later
+      module _ (last : InputLine) (others : List InputLine) (next : day.rest ≡ last ∷ others)
+          (comes : coming most_line (room_after most_input (day.plan ++ day.events)) last ≡ Comes) where
+        later_run : (all : FedAll) → RunOver executing_machine (at net all.final all.over.listed all.over.number (room_after most_input (day.plan ++ day.events))) (last ∷ others) all.over.more end
+        later_run all = subst (λ (ls : List InputLine). RunOver executing_machine (at net all.final all.over.listed all.over.number (room_after most_input (day.plan ++ day.events))) ls all.over.more end) next all.over.later
 
-      last_comes : coming most_line (room_after (room_after most_input day.plan) day.events) day.last ≡ Comes
-      last_comes = (come_then (room_after most_input day.plan) day.events (day.last ∷ []) coming_events).0
+        -- a line that tells what no faithful stream does ends the run as a refused event
+        refused_there : FedAll → (told : EventLine) → IsLine net told last.text → IsUnfaithfulWith net listings told → end ≡ ends.EventRefused
+        refused_there all blank is unfaithful = absurd unfaithful
+        refused_there all (completed moment points) is unfaithful = by (taken all.final moment points) refl
+          where
+            by : (result : Result Moments Why) → taken all.final moment points ≡ result → end ≡ ends.EventRefused
+            by (Err cause) refuses =
+                one_refused laws.reading net all.final all.over.listed all.over.number _ all.over.none last others all.over.more end comes (later_run all) moment points cause is refuses
+            by (Ok moments) takes = absurd (unfaithful (taken_faithful laws net _ _ by_closure listings all.final moment points moments within is.within all.fed takes))
+        refused_there all done is unfaithful = by (first_open all.final) refl
+          where
+            by : (open_point : Option PointId) → first_open all.final ≡ open_point → end ≡ ends.EventRefused
+            by (Some point) opens =
+                one_unfinished laws.reading net all.final all.over.listed all.over.number _ all.over.none last others all.over.more end comes (later_run all) point is opens
+            by None shut = absurd (unfaithful (closed_faithful laws net _ _ by_closure listings all.final all.fed shut))
 
-      refused_by : (told : EventLine) → IsLine net told day.last.text → IsUnfaithfulWith net listings told → end ≡ ends.EventRefused
-      refused_by blank is unfaithful = absurd unfaithful
-      refused_by (completed moment points) is unfaithful = by (taken final moment points) refl
-        where
-          by : (result : Result Moments Why) → taken final moment points ≡ result → end ≡ ends.EventRefused
-          by (Err cause) refuses = one_refused laws.reading net final over.listed over.number _ over.none day.last day.rest over.more end last_comes over.later moment points cause is refuses
-          by (Ok moments) takes = absurd (unfaithful (taken_faithful laws net _ _ by_closure listings final moment points moments within is.within fed takes))
-      refused_by done is unfaithful = by (first_open final) refl
-        where
-          by : (first : Option PointId) → first_open final ≡ first → end ≡ ends.EventRefused
-          by (Some point) opens = one_unfinished laws.reading net final over.listed over.number _ over.none day.last day.rest over.more end last_comes over.later point is opens
-          by None shut = absurd (unfaithful (closed_faithful laws net _ _ by_closure listings final fed shut))
+        -- the end of a faithful stream makes the execution whole
+        puts_day : IsLine net done last.text → (situation : List ℕ) (fits : Fits net (ended listings) situation) → PutsDay net fits.schedule listings put end
+        puts_day is situation fits =
+            let shows = done_shows net fits.schedule listings fits.shows in
+            let all = fed_over (situation, record { schedule = fits.schedule; earliest = fits.earliest; shows = shows }) in
+            let shut = faithful_closed laws net _ _ by_closure listings all.final all.fed (situation, fits) in
+            let whole = one_done laws.reading net all.final all.over.listed all.over.number _ all.over.none last others all.over.more end comes (later_run all) is shut in
+            let left = acts_left laws net _ _ by_closure situation fits.schedule fits.earliest listings all.final all.fed fits.shows whole.0 whole.1 in
+            let rest : all.over.more ≡ acts_text net (scheduled net fits.schedule (moment_after listings) whole.1.count) ++ complete_line = whole.2 ∙ ap (λ (acts : List Act). acts_text net acts ++ complete_line) left in
+            record {
+              first = opened.due;
+              said = all.over.said;
+              count = whole.1.count;
+              listed = puts_listings laws net _ _ by_closure situation fits.schedule fits.earliest listings [] first all.over.said 0 refl refl shows all.over.says;
+              whole = all_come laws net _ _ by_closure situation fits.schedule fits.earliest listings all.final all.fed fits.shows whole.0 whole.1;
+              all = opened.all ∙ ap (λ (m : List ℕ). controllable_line ++ (due_line opened.due ++ m)) (all.over.all ∙ ap (λ (m : List ℕ). all.over.said ++ m) rest);
+              ends = whole.3;
+            }
+
+    underway_by : (net : Plan) (listings : List Listing) (situation : List ℕ) → IsUnderway (input_lines input) net listings → (fits : Fits net (going_on listings) situation) → PutsSoFar net fits.schedule listings put
+    underway_by net listings situation day fits = puts_so_far net listings day (fits.earliest.strategy, fits.earliest.controls) situation fits
+
+    executes_by : (net : Plan) (listings : List Listing) (situation : List ℕ) → IsWholeDay (input_lines input) net listings → (fits : Fits net (ended listings) situation) → PutsDay net fits.schedule listings put end
+    executes_by net listings situation whole fits =
+        let day = whole.day in
+        puts_day net listings day.underway whole.controllable day.last day.others day.next day.comes day.tells situation fits
 
     refuses_by : IsRefusedDay (input_lines input) → end ≡ ends.EventRefused
-    refuses_by is = refused_by is.net is.listings is.told is.day is.controllable is.faithful is.told is.day.tells is.unfaithful
-
-    -- what is put for a whole day
-    module _ (net : Plan) (listings : List Listing) (situation : List ℕ) (whole : IsWholeDay (input_lines input) net listings) (fits : Fits net (ended listings) situation) where
-      going : IsFaithful net (going_on listings)
-      going = (situation, record { schedule = fits.schedule; earliest = fits.earliest; shows = done_shows net fits.schedule listings fits.shows })
-
-      puts_day : PutsDay net fits.schedule listings put end
-      puts_day =
-          let start = opened net listings done whole.day whole.controllable going in
-          let closure = by_closure net listings done whole.day whole.controllable going in
-          let then = over net listings done whole.day whole.controllable going in
-          let here = final net listings done whole.day whole.controllable going in
-          let all_fed = fed net listings done whole.day whole.controllable going in
-          let shut = faithful_closed laws net _ _ closure listings here all_fed whole.faithful in
-          let last = one_done laws.reading net here then.listed then.number _ then.none whole.day.last whole.day.rest then.more end (last_comes net listings done whole.day whole.controllable going) then.later whole.day.tells shut in
-          let left = acts_left laws net _ _ closure situation fits.schedule fits.earliest listings here all_fed fits.shows last.0 last.1 in
-          let rest : then.more ≡ acts_text net (scheduled net fits.schedule (moment_after listings) last.1.count) ++ complete_line = last.2 ∙ ap (λ (acts : List Act). acts_text net acts ++ complete_line) left in
-          record {
-            first = start.due;
-            said = then.said;
-            count = last.1.count;
-            listed = puts_listings laws net _ _ closure situation fits.schedule fits.earliest listings [] _ then.said 0 refl refl (done_shows net fits.schedule listings fits.shows) then.says;
-            whole = all_come laws net _ _ closure situation fits.schedule fits.earliest listings here all_fed fits.shows last.0 last.1;
-            all = start.all ∙ ap (λ (m : List ℕ). controllable_line ++ (due_line start.due ++ m)) (then.all ∙ ap (λ (m : List ℕ). then.said ++ m) rest);
-            ends = last.3;
-          }
+    refuses_by is =
+        let day = is.day in
+        refused_there is.net is.listings day.underway is.controllable day.last day.others day.next day.comes
+        (fed_over is.net is.listings day.underway is.controllable is.faithful) is.told day.tells is.unfaithful
 
     -- ---- to the day of an input
     -- an execution that is opened and ends at a line of events, of a network that the input declares
@@ -286,17 +309,27 @@ module _ (laws : RunLaws) where
       controllable_of = closing_controls laws.verdict one.net plan_of one.opening.closing
 
       day_of : IsDay (input_lines input) one.net one.ending.listings one.ending.told
-      day_of = record {
-        plan = one.given.used;
-        events = one.ending.events;
-        last = one.ending.last;
-        rest = one.ending.rest;
-        divided = one.given.divided ∙ ap (λ (ls : List InputLine). one.given.used ++ ls) one.ending.divided;
-        come = come_both most_input one.given.used (one.ending.events ++ one.ending.last ∷ []) one.given.come (subst (λ (room : ℕ). Come room (one.ending.events ++ one.ending.last ∷ [])) one.given.left one.ending.come);
-        declared = subst (λ (ls : List InputLine). DeclaresNetwork (texts (input_lines input)) one.net (texts ls)) one.ending.divided one.given.declared;
-        lists = one.ending.lists;
-        tells = one.ending.tells;
-      }
+      day_of =
+          let events = one.ending.events in
+          let last = one.ending.last in
+          let come = subst (λ (room : ℕ). Come room (events ++ last ∷ [])) one.given.left one.ending.come in
+          let whole : one.given.used ++ (events ++ last ∷ one.ending.rest) ≡ input_lines input = sym (one.given.divided ∙ ap (λ (ls : List InputLine). one.given.used ++ ls) one.ending.divided) in
+          record {
+            underway = record {
+              plan = one.given.used;
+              events = events;
+              rest = last ∷ one.ending.rest;
+              divided = sym whole;
+              come = come_both most_input one.given.used events one.given.come (come_first (room_after most_input one.given.used) events (last ∷ []) come);
+              declared = subst (λ (ls : List InputLine). DeclaresNetwork (texts (input_lines input)) one.net (texts ls)) one.ending.divided one.given.declared;
+              lists = one.ending.lists;
+            };
+            last = last;
+            others = one.ending.rest;
+            next = refl;
+            comes = subst (λ (room : ℕ). coming most_line room last ≡ Comes) (sym (room_both most_input one.given.used events)) (come_then (room_after most_input one.given.used) events (last ∷ []) come).0;
+            tells = one.ending.tells;
+          }
 
       within_of : AreWithinLimit one.ending.listings
       within_of = lists_within one.net (texts one.ending.events) one.ending.listings one.ending.lists
@@ -334,7 +367,8 @@ module _ (laws : RunLaws) where
           declared = λ net is. opens_by net (declared_sound _ net _ is.declared) put end (text.declared net is);
           refuses = text.refuses;
         };
-        executes = λ net listings situation whole fits. (earliest_satisfies net situation fits.schedule fits.earliest, puts_day input put end follows net listings situation whole fits);
+        underway = underway_by input put end follows;
+        executes = λ net listings situation whole fits. (earliest_satisfies net situation fits.schedule fits.earliest, executes_by input put end follows net listings situation whole fits);
         completes = completes_by input put end follows;
         refuses = refuses_by input put end follows;
         refused = refused_by_day input put end follows;

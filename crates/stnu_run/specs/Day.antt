@@ -7,6 +7,8 @@ use Rattle.texts.specs.Lines.{InputLine}
 use Rattle.net_model.specs.Network.{Plan}
 use Rattle.net_model.specs.declared.ids.PointId.{PointId}
 use Rattle.strategy_model.specs.Control.{IsControllable}
+use Rattle.plan_port.specs.Limits.{most_line}
+use Rattle.plan_port.specs.Lines.{Comes, coming}
 use Rattle.plan_format.specs.PlanNetwork.{DeclaresNetwork}
 use Rattle.event_stream.specs.EventText.{EventLine, blank, completed, done, IsLine}
 use Rattle.execution_model.specs.Acts.{scheduled}
@@ -17,7 +19,7 @@ use Rattle.commands.specs.declared.endings.End.{End}
 use Rattle.commands.specs.declared.endings.End.TheVariants.{Done}
 use Rattle.stnu_run.specs.Checking.{controllable_line}
 use Rattle.stnu_run.specs.EventAnswers.{acts_text, due_line, complete_line}
-use Rattle.stnu_run.specs.ToRead.{texts, Come}
+use Rattle.stnu_run.specs.ToRead.{texts, room_after, Come}
 
 -- these lines of events list a stream that goes on
 abbrev pub ListLines : Plan → List (List ℕ) → List Listing → Type 0
@@ -27,17 +29,24 @@ ListLines net (line ∷ lines) listings =
     ⊎ ((moment : ℕ) × (points : List PointId) × (others : List Listing) × IsLine net (completed moment points) line
     × (listings ≡ record { moment = moment; points = points } ∷ others) × ListLines net lines others)
 
--- An input in which lines declare a network, lines of events after them list a stream that goes on, and one more line tells this; all
--- these lines come within the limits.
-pub record IsDay (input : List InputLine) (net : Plan) (listings : List Listing) (told : EventLine) : Type 0 where
+-- An input in which lines declare a network, and lines of events after them list a stream that goes on; all these lines come within the
+-- limits.
+pub record IsUnderway (input : List InputLine) (net : Plan) (listings : List Listing) : Type 0 where
   pub plan : List InputLine
   pub events : List InputLine
-  pub last : InputLine
   pub rest : List InputLine
-  pub divided : input ≡ plan ++ (events ++ last ∷ rest)
-  pub come : Come most_input (plan ++ (events ++ last ∷ []))
-  pub declared : DeclaresNetwork (texts input) net (texts (events ++ last ∷ rest))
+  pub divided : input ≡ plan ++ (events ++ rest)
+  pub come : Come most_input (plan ++ events)
+  pub declared : DeclaresNetwork (texts input) net (texts (events ++ rest))
   pub lists : ListLines net (texts events) listings
+
+-- and one more line, which comes too, tells this
+pub record IsDay (input : List InputLine) (net : Plan) (listings : List Listing) (told : EventLine) : Type 0 where
+  pub underway : IsUnderway input net listings
+  pub last : InputLine
+  pub others : List InputLine
+  pub next : underway.rest ≡ last ∷ others
+  pub comes : coming most_line (room_after most_input (underway.plan ++ underway.events)) last ≡ Comes
   pub tells : IsLine net told last.text
 
 -- a stream that goes on is not faithful any more with what a line tells
@@ -73,6 +82,15 @@ PutsListings net schedule moment (listing ∷ others) put =
     (due : Option ℕ) × (more : List ℕ)
     × (put ≡ acts_text net (scheduled net schedule moment (suc listing.moment - moment)) ++ (due_line due ++ more))
     × PutsListings net schedule (suc listing.moment) others more
+
+-- what is put for a stream so far by a schedule, before all else: that the network is controllable, a due moment, and then the acts of
+-- the schedule up to each listing
+pub record PutsSoFar (net : Plan) (schedule : List ℕ) (listings : List Listing) (put : List ℕ) : Type 0 where
+  pub first : Option ℕ
+  pub said : List ℕ
+  pub more : List ℕ
+  pub listed : PutsListings net schedule 0 listings said
+  pub all : put ≡ controllable_line ++ (due_line first ++ (said ++ more))
 
 -- what is put for a whole day by a schedule: that the network is controllable, the acts of the schedule up to each listing, those that
 -- remain after the last one, and that the execution is complete
