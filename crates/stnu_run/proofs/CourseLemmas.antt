@@ -10,7 +10,7 @@ use Rattle.plan_port.specs.Lines.{Coming, Comes, TooLong, TooMuch, coming}
 use Rattle.event_stream.specs.EventText.{EventLine, blank, completed, done, IsLine, AreWordsOf, IsFaultOfWords}
 use Rattle.event_stream.specs.Laws.{OneReading}
 use Rattle.execution_model.specs.Execution.{Moments}
-use Rattle.execution_model.specs.Feeding.{Execution, taken, after_feed, first_open}
+use Rattle.execution_model.specs.Feeding.{Execution, taken, after_feed, first_open, IsDueAnswer}
 use Rattle.execution_model.specs.Streams.{Listing}
 use Rattle.execution_model.specs.Timely.{fed_all}
 use Rattle.execution_model.specs.declared.feeding.Why.{Why}
@@ -61,6 +61,7 @@ abbrev pub SaysListings : Plan → Execution → List Listing → List ℕ → T
 SaysListings net execution [] said = said ≡ []
 SaysListings net execution (listing ∷ others) said =
     (moments : Moments) × (due : Option ℕ) × (more : List ℕ) × (taken execution listing.moment listing.points ≡ Ok moments)
+    × IsDueAnswer (after_feed execution listing.moment moments) due
     × (said ≡ acts_text net (after_feed execution listing.moment moments).acts ++ (due_line due ++ more))
     × SaysListings net (after_feed execution listing.moment moments) others more
 
@@ -138,15 +139,15 @@ module _ (reading : (net : Plan) (line : List (List ℕ)) → OneReading net lin
       by (Err cause) takes = absurd (cc (fed_stops execution first others cause takes, all_fed))
       by (Ok moments) takes =
           let went = one_feed reading net execution listed number room none line (events ++ rest) put end comes run moment points moments is takes in
-          let on = later others (after_feed execution moment moments) points went.1 none lists (sym (fed_step execution first others moments takes) ∙ all_fed) went.3 in
+          let on = later others (after_feed execution moment moments) points went.1 none lists (sym (fed_step execution first others moments takes) ∙ all_fed) went.4 in
           let before : List ℕ = acts_text net (after_feed execution moment moments).acts in
           record {
             said = before ++ (due_line went.0 ++ on.said);
             more = on.more;
             listed = on.listed;
             number = on.number;
-            says = (moments, went.0, on.said, takes, refl, on.says);
-            all = went.2 ∙ (ap (λ (s : List ℕ). before ++ (due_line went.0 ++ s)) on.all ∙ (ap (λ (s : List ℕ). before ++ s) (sym (append_assoc (due_line went.0) on.said on.more)) ∙ sym (append_assoc before (due_line went.0 ++ on.said) on.more)));
+            says = (moments, went.0, on.said, takes, went.2, refl, on.says);
+            all = went.3 ∙ (ap (λ (s : List ℕ). before ++ (due_line went.0 ++ s)) on.all ∙ (ap (λ (s : List ℕ). before ++ s) (sym (append_assoc (due_line went.0) on.said on.more)) ∙ sym (append_assoc before (due_line went.0 ++ on.said) on.more)));
             later = on.later;
             none = on.none;
           }
@@ -230,7 +231,7 @@ module _ (reading : (net : Plan) (line : List (List ℕ)) → OneReading net lin
           inl (ends_here line lines room execution end (completed moment points) comes is (cause, refuses, one_refused reading net execution listed number room none line lines put end comes run moment points cause is refuses))
       by (Ok moments) takes =
           let went = one_feed reading net execution listed number room none line lines put end comes run moment points moments is takes in
-          after_one line lines room execution end moment points moments comes is takes (later (after_feed execution moment moments) points went.1 none went.3)
+          after_one line lines room execution end moment points moments comes is takes (later (after_feed execution moment moments) points went.1 none went.4)
   line_ends line lines execution listed number room put end Comes none comes (inl (done, is)) run later = by (first_open execution) refl
     where
       by : (first : Option PointId) → first_open execution ≡ first → EndsSo net (line ∷ lines) room execution end

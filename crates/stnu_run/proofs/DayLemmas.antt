@@ -26,9 +26,11 @@ use Rattle.execution_model.proofs.MomentLemmas.{time_runs_from}
 use Rattle.execution_model.proofs.StreamLemmas.{shows_next, next_shows, done_shows}
 use Rattle.commands.specs.declared.endings.End.{End}
 use Rattle.commands.specs.declared.endings.End.TheVariants as ends
-use Rattle.stnu_run.specs.Day.{ListLines, IsUnfaithfulWith, moment_after, PutsListings}
+use Rattle.stnu_run.specs.Day.{ListLines, IsUnfaithfulWith, PutsListings}
+use Rattle.stnu_run.specs.Due.{moment_after}
 use Rattle.stnu_run.specs.EventAnswers.{acts_text, due_line}
 use Rattle.stnu_run.proofs.CourseLemmas.{SaysListings, Decides, fed_step, fed_stops, fed_both}
+use Rattle.stnu_run.proofs.DueLemmas.{shows_first, fed_moment, due_after}
 use Rattle.stnu_run.proofs.VerdictLemmas.{Laws}
 
 -- the laws on which the promise of `run` rests
@@ -41,14 +43,6 @@ pub record RunLaws : Type 0 where
   pub acts : ActsAreEarliest
   pub last : LastActsAreEarliest
 
--- ---- the first part of a stream
-next_first : (net : Plan) (schedule : List ℕ) (from : ℕ) (first more : List Listing) → AreNext net schedule from (first ++ more) → AreNext net schedule from first
-next_first net schedule from [] more are = tt
-next_first net schedule from (listing ∷ first) more are = (are.0, next_first net schedule (listing.moment + 1) first more are.1)
-
-pub shows_first : (net : Plan) (schedule : List ℕ) (first more : List Listing) → Shows net (going_on (first ++ more)) schedule → Shows net (going_on first) schedule
-shows_first net schedule first more shows = next_shows net schedule first (next_first net schedule 0 first more (shows_next net schedule (first ++ more) shows))
-
 -- lines of events list no moment beyond the limit
 pub lists_within : (net : Plan) (lines : List (List ℕ)) (listings : List Listing) → ListLines net lines listings → AreWithinLimit listings
 lists_within net [] listings lists = subst AreWithinLimit (sym lists) (All-nil (λ (listing : Listing). listing.moment ≤ most_moment))
@@ -56,31 +50,29 @@ lists_within net (line ∷ lines) listings (inl (is, lists)) = lists_within net 
 lists_within net (line ∷ lines) listings (inr (moment, points, others, is, same, lists)) =
     subst AreWithinLimit (sym same) (All-cons (λ (listing : Listing). listing.moment ≤ most_moment) (record { moment = moment; points = points }) others is.within (lists_within net lines others lists))
 
-next_after : (last : Option ℕ) → option_map_or (λ l. l + 1) last 0 ≡ option_map_or suc last 0
-next_after None = refl
-next_after (Some last) = omega arith
-
 module _ (laws : RunLaws) (net : Plan) (table : Graph) (order : List PointId) (by : IsDispatchedByClosure net table order) where
   abbrev start : Execution
   start = started (setting_of net table)
 
   -- ---- what is put for listings, by the schedule
   module _ (situation schedule : List ℕ) (earliest : IsEarliest net situation schedule) where
-    pub puts_listings : (listings before : List Listing) (execution : Execution) (said : List ℕ) (moment : ℕ) → next_moment execution ≡ moment → fed_all start before ≡ Ok execution
-        → Shows net (going_on (before ++ listings)) schedule → SaysListings net execution listings said → PutsListings net schedule moment listings said
-    puts_listings [] before execution said moment at fed shows says = says
-    puts_listings (listing ∷ others) before execution said moment at fed shows (moments, due, more, takes, is, says) =
+    pub puts_listings : (listings before : List Listing) (execution : Execution) (said : List ℕ) → execution.refused ≡ None → fed_all start before ≡ Ok execution
+        → Shows net (going_on (before ++ listings)) schedule → SaysListings net execution listings said → PutsListings net schedule before listings said
+    puts_listings [] before execution said none fed shows says = says
+    puts_listings (listing ∷ others) before execution said none fed shows (moments, due, more, takes, due_answer, is, says) =
         let split : before ++ listing ∷ others ≡ (before ++ listing ∷ []) ++ others = sym (append_assoc before (listing ∷ []) others) in
         let on : Shows net (going_on ((before ++ listing ∷ []) ++ others)) schedule = subst (λ (ls : List Listing). Shows net (going_on ls) schedule) split shows in
+        let after : Execution = after_feed execution listing.moment moments in
         let acts = laws.acts net table order before listing execution moments situation schedule by fed takes earliest (shows_first net schedule (before ++ listing ∷ []) others on) in
-        let here : (after_feed execution listing.moment moments).acts ≡ scheduled net schedule moment (suc listing.moment - moment) = subst (λ (m : ℕ). (after_feed execution listing.moment moments).acts ≡ scheduled net schedule m (suc listing.moment - m)) at acts in
-        let more_fed : fed_all start (before ++ listing ∷ []) ≡ Ok (after_feed execution listing.moment moments) = fed_both before (listing ∷ []) start execution fed ∙ fed_step execution listing [] moments takes in
-        let next : next_moment (after_feed execution listing.moment moments) ≡ suc listing.moment = omega arith in
+        let at = fed_moment before (setting_of net table) execution fed in
+        let here : after.acts ≡ scheduled net schedule (moment_after before) (suc listing.moment - moment_after before) = subst (λ (m : ℕ). after.acts ≡ scheduled net schedule m (suc listing.moment - m)) at acts in
+        let more_fed : fed_all start (before ++ listing ∷ []) ≡ Ok after = fed_both before (listing ∷ []) start execution fed ∙ fed_step execution listing [] moments takes in
         (
           due,
           more,
+          due_after net table order by (before ++ listing ∷ []) after more_fed none due due_answer,
           is ∙ ap (λ (acts : List Act). acts_text net acts ++ (due_line due ++ more)) here,
-          puts_listings others (before ++ listing ∷ []) (after_feed execution listing.moment moments) more (suc listing.moment) next more_fed on says,
+          puts_listings others (before ++ listing ∷ []) after more none more_fed on says,
         )
 
     -- ---- and what is put at the end
@@ -95,7 +87,7 @@ module _ (laws : RunLaws) (net : Plan) (table : Graph) (order : List PointId) (b
       keeps = fed_keeps net table order by listings final fed schedule run going
 
       there : next_moment final ≡ moment_after listings
-      there = ap (λ (last : Option ℕ). option_map_or (λ l. l + 1) last 0) (fed_last net table order by listings final fed schedule run going) ∙ next_after (last_moment (going_on listings))
+      there = fed_moment listings (setting_of net table) final fed
 
       moments_are : time_runs final.setting final.moments (next_moment final) whole.count ≡ map Some schedule
       moments_are = sym (ap (λ (e : Execution). e.moments) whole.after_it) ∙ laws.ends net table order listings final after situation schedule by fed whole earliest shows

@@ -11,7 +11,7 @@ use Rattle.plan_port.specs.Lines.{Coming, Comes, TooLong, TooMuch, coming}
 use Rattle.event_stream.specs.EventText.{EventLine, blank, completed, done, IsLine, IsFaultOf}
 use Rattle.event_stream.specs.Laws.{OneReading}
 use Rattle.execution_model.specs.Execution.{Moments}
-use Rattle.execution_model.specs.Feeding.{Execution, taken, after_feed, IsFed, first_open, IsFinished, IsWhole}
+use Rattle.execution_model.specs.Feeding.{Execution, taken, after_feed, IsFed, first_open, IsFinished, IsWhole, IsDueAnswer}
 use Rattle.execution_model.specs.Streams.{Listing}
 use Rattle.execution_model.specs.Timely.{fed_all}
 use Rattle.execution_model.specs.declared.feeding.Fed.{Fed}
@@ -76,13 +76,14 @@ finished_so execution answer after first none is so =
 module _ (state : Course) (number : ℕ) (none : state.execution.refused ≡ None) (answer : List ℕ) (onward : Onward Course) where
   -- a feed that is taken: its acts, the next due moment, and the run goes on
   taken_goes : (moment : ℕ) (points : List PointId) (moments : Moments) → taken state.execution moment points ≡ Ok moments → AnswersEvent state number (completed moment points) answer onward
-      → (due : Option ℕ) × (answer ≡ acts_text state.net (after_feed state.execution moment moments).acts ++ due_line due)
+      → (due : Option ℕ) × IsDueAnswer (after_feed state.execution moment moments) due
+      × (answer ≡ acts_text state.net (after_feed state.execution moment moments).acts ++ due_line due)
       × (onward ≡ Goes (record state { execution = after_feed state.execution moment moments; listed = points }))
   taken_goes moment points moments is (answered, after, so, answers) =
       let by = fed_so state.execution moment points answered after (Ok moments) none is so in
       let there = subst (λ (e : Execution). AnswersFeed state number answered (record state { execution = e; listed = points }) answer onward) by.1 answers in
       let now = subst (λ (f : Fed). AnswersFeed state number f (record state { execution = after_feed state.execution moment moments; listed = points }) answer onward) by.0 there in
-      (now.0, now.2, now.3)
+      (now.0, now.1, now.2, now.3)
 
   -- one that is refused ends the run so
   refused_ends : (moment : ℕ) (points : List PointId) (cause : Why) → taken state.execution moment points ≡ Err cause → AnswersEvent state number (completed moment points) answer onward → onward ≡ Ends ends.EventRefused
@@ -179,12 +180,13 @@ module _ (reading : (net : Plan) (line : List (List ℕ)) → OneReading net lin
         subst (λ (p : List ℕ). Run executing_machine (at net execution listed (number + 1) (room - line_size line)) lines p end) (sym (on.1 ∙ ap (λ (a : List ℕ). a ++ on.0) answers.0)) on.2
 
     pub one_feed : (moment : ℕ) (points : List PointId) (moments : Moments) → IsLine net (completed moment points) line.text → taken execution moment points ≡ Ok moments
-        → (due : Option ℕ) × (more : List ℕ) × (put ≡ acts_text net (after_feed execution moment moments).acts ++ (due_line due ++ more))
+        → (due : Option ℕ) × (more : List ℕ) × IsDueAnswer (after_feed execution moment moments) due
+        × (put ≡ acts_text net (after_feed execution moment moments).acts ++ (due_line due ++ more))
         × Run executing_machine (at net (after_feed execution moment moments) points (number + 1) (room - line_size line)) lines more end
     one_feed moment points moments is takes =
         let goes = taken_goes here.state (number + 1) none one.answer one.onward moment points moments takes (tells (completed moment points) is) in
-        let on = on_as _ goes.2 in
-        (goes.0, on.0, on.1 ∙ (ap (λ (a : List ℕ). a ++ on.0) goes.1 ∙ append_assoc (acts_text net (after_feed execution moment moments).acts) (due_line goes.0) on.0), on.2)
+        let on = on_as _ goes.3 in
+        (goes.0, on.0, goes.1, on.1 ∙ (ap (λ (a : List ℕ). a ++ on.0) goes.2 ∙ append_assoc (acts_text net (after_feed execution moment moments).acts) (due_line goes.0) on.0), on.2)
 
     pub one_refused : (moment : ℕ) (points : List PointId) (cause : Why) → IsLine net (completed moment points) line.text → taken execution moment points ≡ Err cause → end ≡ ends.EventRefused
     one_refused moment points cause is refuses =

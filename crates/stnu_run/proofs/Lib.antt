@@ -19,5 +19,6 @@ pub mod ReplyLemmas
 pub mod GivenLemmas
 pub mod EventLemmas
 pub mod CourseLemmas
+pub mod DueLemmas
 pub mod DayLemmas
 pub mod RunLemmas

@@ -19,7 +19,7 @@ use Rattle.cert_format.specs.declared.certificate.Certificate.{Certificate}
 use Rattle.event_stream.specs.EventText.{EventLine, blank, completed, done, IsLine}
 use Rattle.execution_model.specs.Acts.{scheduled}
 use Rattle.execution_model.specs.Execution.{Moments}
-use Rattle.execution_model.specs.Feeding.{Execution, started, taken, first_open}
+use Rattle.execution_model.specs.Feeding.{Execution, started, taken, first_open, IsDueAnswer}
 use Rattle.execution_model.specs.Laws.{setting_of, IsDispatchedByClosure, going_on, ended, AreWithinLimit}
 use Rattle.execution_model.specs.Streams.{Listing, IsFaithful, Fits}
 use Rattle.execution_model.specs.Timely.{fed_all}
@@ -38,7 +38,8 @@ use Rattle.commands.specs.declared.machines.Onward.TheVariants.{Goes, Ends}
 use Rattle.commands.proofs.PhaseLemmas.{run_is}
 use Rattle.stnu_run.specs.Checking.{controllable_line, refuted_line, PutsRefuted, RoundsClose, IsCertificateOf}
 use Rattle.stnu_run.specs.Course.{Course}
-use Rattle.stnu_run.specs.Day.{IsUnderway, IsDay, IsUnfaithfulWith, IsRefusedDay, IsWholeDay, PutsSoFar, PutsDay, moment_after}
+use Rattle.stnu_run.specs.Day.{IsUnderway, IsDay, IsUnfaithfulWith, IsRefusedDay, IsWholeDay, PutsSoFar, PutsDay}
+use Rattle.stnu_run.specs.Due.{moment_after, IsDueAfter}
 use Rattle.stnu_run.specs.EventAnswers.{acts_text, due_line, complete_line}
 use Rattle.stnu_run.specs.Executing.{executing_machine}
 use Rattle.stnu_run.specs.Faults.{refusing, fault_end}
@@ -51,6 +52,7 @@ use Rattle.stnu_run.specs.declared.faults.Fault.{Fault}
 use Rattle.stnu_run.specs.declared.faults.Fault.TheVariants.{Format, Part, LineTooLong, InputTooMuch}
 use Rattle.stnu_run.proofs.CourseLemmas.{OverEvents, over_events, EndsAt, EndsSo, ends_so}
 use Rattle.stnu_run.proofs.DayLemmas.{RunLaws, lists_within, puts_listings, all_come, acts_left, faithful_fed, fed_faithful, taken_faithful, closed_faithful, faithful_closed, unfaithful_there, whole_there}
+use Rattle.stnu_run.proofs.DueLemmas.{due_after}
 use Rattle.stnu_run.proofs.EventLemmas.{at, one_refused, one_done, one_unfinished}
 use Rattle.stnu_run.proofs.GivenLemmas.{outcome_of, IsGivenAt, is_given, declared_given}
 use Rattle.stnu_run.proofs.NetworkLemmas.{declared_sound}
@@ -68,6 +70,7 @@ Follows outcome put end = FollowsOutcome run_begins plan_reader refusing executi
 record Opened (net : Plan) (number room : ℕ) (rest : List InputLine) (put : List ℕ) (end : End) : Type 0 where
   pub closing : RoundsClose net
   pub due : Option ℕ
+  pub first : IsDueAnswer (started (setting_of net closing.after.table)) due
   pub more : List ℕ
   pub all : put ≡ controllable_line ++ (due_line due ++ more)
   pub later : RunOver executing_machine (at net (started (setting_of net closing.after.table)) [] number room) rest more end
@@ -83,6 +86,7 @@ begun : (net : Plan) (number room : ℕ) (rest : List InputLine) (put answer mor
 begun net number room rest put answer more onward end (inl begins) all on = inl (record {
   closing = begins.closing;
   due = begins.due;
+  first = begins.first;
   more = more;
   all = all ∙ (ap (λ (a : List ℕ). a ++ more) begins.put ∙ append_assoc controllable_line (due_line begins.due) more);
   later = subst (λ (o : Onward Course). GoesOn run_begins plan_reader refusing executing_machine o number room rest more end) begins.goes on;
@@ -119,19 +123,6 @@ fault_ends_so (LineTooLong number) = inl refl
 fault_ends_so (InputTooMuch number) = inl refl
 
 module _ (laws : RunLaws) where
-  opens_by : (net : Plan) → IsPlan net → (put : List ℕ) (end : End) → Begins net put end → OpensExecution net put end
-  opens_by net plan put end (number, room, rest, follows) = by (opened_or net number room rest put end follows)
-    where
-      by : Opened net number room rest put end ⊎ RefutedSo net put end → OpensExecution net put end
-      by (inl opened) = inl (closing_controls laws.verdict net plan opened.closing, (opened.due, opened.more, opened.all))
-      by (inr refuted) =
-          let accepted = certificate_accepted laws.verdict net plan refuted.cert refuted.of in
-          inr (laws.verdict.exclude net refuted.cert plan accepted, (refuted.cert, accepted, refuted.puts))
-
-  opens_text : (input put : List ℕ) (end : End) → AnswersOrRefuses plan_grammar Begins input put end → AnswersOrRefuses plan_grammar OpensExecution input put end
-  opens_text input put end (inl (net, after, is, begins)) = inl (net, after, is, opens_by net (declared_sound (lines input) net after is) put end begins)
-  opens_text input put end (inr refused) = inr refused
-
   -- ---- the network is dispatched by its closure
   dispatched : (net : Plan) → IsPlan net → (closes : RoundsClose net) → IsDispatchedByClosure net closes.after.table (placed_points closes.after.table)
   dispatched net plan closes =
@@ -141,6 +132,21 @@ module _ (laws : RunLaws) where
         closure = laws.verdict.close net (base_support net) closes.after closes.rounds closes.order plan base closes.ends;
         ordered = laws.verdict.placed closes.after.table (closes_placed net (base_support net) closes.after closes.rounds (closed closes.order) closes.order refl closes.ends);
       }
+
+  opens_by : (net : Plan) → IsPlan net → (put : List ℕ) (end : End) → Begins net put end → OpensExecution net put end
+  opens_by net plan put end (number, room, rest, follows) = by (opened_or net number room rest put end follows)
+    where
+      by : Opened net number room rest put end ⊎ RefutedSo net put end → OpensExecution net put end
+      by (inl opened) =
+          let first = due_after net _ _ (dispatched net plan opened.closing) [] (started (setting_of net opened.closing.after.table)) refl refl opened.due opened.first in
+          inl (closing_controls laws.verdict net plan opened.closing, (opened.due, opened.more, first, opened.all))
+      by (inr refuted) =
+          let accepted = certificate_accepted laws.verdict net plan refuted.cert refuted.of in
+          inr (laws.verdict.exclude net refuted.cert plan accepted, (refuted.cert, accepted, refuted.puts))
+
+  opens_text : (input put : List ℕ) (end : End) → AnswersOrRefuses plan_grammar Begins input put end → AnswersOrRefuses plan_grammar OpensExecution input put end
+  opens_text input put end (inl (net, after, is, begins)) = inl (net, after, is, opens_by net (declared_sound (lines input) net after is) put end begins)
+  opens_text input put end (inr refused) = inr refused
 
   -- the earliest schedule satisfies the network
   pub earliest_satisfies : (net : Plan) (situation schedule : List ℕ) → IsEarliest net situation schedule → Satisfies net schedule
@@ -173,6 +179,9 @@ module _ (laws : RunLaws) where
       abbrev first : Execution
       first = started (setting_of net opened.closing.after.table)
 
+      first_due : IsDueAfter net [] opened.due
+      first_due = due_after net _ _ by_closure [] first refl refl opened.due opened.first
+
       within : AreWithinLimit listings
       within = lists_within net (texts day.events) listings day.lists
 
@@ -199,9 +208,10 @@ module _ (laws : RunLaws) where
           let all = fed_over (situation, fits) in
           record {
             first = opened.due;
+            due = first_due;
             said = all.over.said;
             more = all.over.more;
-            listed = puts_listings laws net _ _ by_closure situation fits.schedule fits.earliest listings [] first all.over.said 0 refl refl fits.shows all.over.says;
+            listed = puts_listings laws net _ _ by_closure situation fits.schedule fits.earliest listings [] first all.over.said refl refl fits.shows all.over.says;
             all = opened.all ∙ ap (λ (m : List ℕ). controllable_line ++ (due_line opened.due ++ m)) all.over.all;
           }
 
@@ -237,9 +247,10 @@ module _ (laws : RunLaws) where
             let rest : all.over.more ≡ acts_text net (scheduled net fits.schedule (moment_after listings) whole.1.count) ++ complete_line = whole.2 ∙ ap (λ (acts : List Act). acts_text net acts ++ complete_line) left in
             record {
               first = opened.due;
+              due = first_due;
               said = all.over.said;
               count = whole.1.count;
-              listed = puts_listings laws net _ _ by_closure situation fits.schedule fits.earliest listings [] first all.over.said 0 refl refl shows all.over.says;
+              listed = puts_listings laws net _ _ by_closure situation fits.schedule fits.earliest listings [] first all.over.said refl refl shows all.over.says;
               whole = all_come laws net _ _ by_closure situation fits.schedule fits.earliest listings all.final all.fed fits.shows whole.0 whole.1;
               all = opened.all ∙ ap (λ (m : List ℕ). controllable_line ++ (due_line opened.due ++ m)) (all.over.all ∙ ap (λ (m : List ℕ). all.over.said ++ m) rest);
               ends = whole.3;

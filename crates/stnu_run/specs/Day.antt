@@ -2,7 +2,6 @@
 -- choice.
 use Rattle.std.specs.Prelude.{◌≡◌, ◌⊎◌, ℕ, suc, ◌+◌, ◌-◌, ◌<◌, List, [], ◌∷◌, ◌++◌, Option}
 use Rattle.std.specs.List.{All}
-use Rattle.std.specs.Option.{option_map_or}
 use Rattle.texts.specs.Lines.{InputLine}
 use Rattle.net_model.specs.Network.{Plan}
 use Rattle.net_model.specs.declared.ids.PointId.{PointId}
@@ -13,11 +12,12 @@ use Rattle.plan_format.specs.PlanNetwork.{DeclaresNetwork}
 use Rattle.event_stream.specs.EventText.{EventLine, blank, completed, done, IsLine}
 use Rattle.execution_model.specs.Acts.{scheduled}
 use Rattle.execution_model.specs.Laws.{going_on, ended}
-use Rattle.execution_model.specs.Streams.{Listing, IsFaithful, last_moment}
+use Rattle.execution_model.specs.Streams.{Listing, IsFaithful}
 use Rattle.commands.specs.Limits.{most_input}
 use Rattle.commands.specs.declared.endings.End.{End}
 use Rattle.commands.specs.declared.endings.End.TheVariants.{Done}
 use Rattle.stnu_run.specs.Checking.{controllable_line}
+use Rattle.stnu_run.specs.Due.{moment_after, IsDueAfter}
 use Rattle.stnu_run.specs.EventAnswers.{acts_text, due_line, complete_line}
 use Rattle.stnu_run.specs.ToRead.{texts, room_after, Come}
 
@@ -71,25 +71,22 @@ pub record IsWholeDay (input : List InputLine) (net : Plan) (listings : List Lis
   pub controllable : IsControllable net
   pub faithful : IsFaithful net (ended listings)
 
--- the first moment after those of a list
-abbrev pub moment_after : List Listing → ℕ
-moment_after listings = option_map_or suc (last_moment (going_on listings)) 0
+-- what is put by a schedule for listings after others: for each its acts of the schedule since the one before, and the next due moment
+abbrev pub PutsListings : Plan → List ℕ → (before : List Listing) → List Listing → List ℕ → Type 0
+PutsListings net schedule before [] put = put ≡ []
+PutsListings net schedule before (listing ∷ others) put =
+    (due : Option ℕ) × (more : List ℕ) × IsDueAfter net (before ++ listing ∷ []) due
+    × (put ≡ acts_text net (scheduled net schedule (moment_after before) (suc listing.moment - moment_after before)) ++ (due_line due ++ more))
+    × PutsListings net schedule (before ++ listing ∷ []) others more
 
--- what is put for listings, from a moment on, by a schedule: for each its acts of the schedule since the one before, and the next due moment
-abbrev pub PutsListings : Plan → List ℕ → (moment : ℕ) → List Listing → List ℕ → Type 0
-PutsListings net schedule moment [] put = put ≡ []
-PutsListings net schedule moment (listing ∷ others) put =
-    (due : Option ℕ) × (more : List ℕ)
-    × (put ≡ acts_text net (scheduled net schedule moment (suc listing.moment - moment)) ++ (due_line due ++ more))
-    × PutsListings net schedule (suc listing.moment) others more
-
--- what is put for a stream so far by a schedule, before all else: that the network is controllable, a due moment, and then the acts of
+-- what is put for a stream so far by a schedule, before all else: that the network is controllable, the first due moment, and then the acts of
 -- the schedule up to each listing
 pub record PutsSoFar (net : Plan) (schedule : List ℕ) (listings : List Listing) (put : List ℕ) : Type 0 where
   pub first : Option ℕ
   pub said : List ℕ
   pub more : List ℕ
-  pub listed : PutsListings net schedule 0 listings said
+  pub due : IsDueAfter net [] first
+  pub listed : PutsListings net schedule [] listings said
   pub all : put ≡ controllable_line ++ (due_line first ++ (said ++ more))
 
 -- what is put for a whole day by a schedule: that the network is controllable, the acts of the schedule up to each listing, those that
@@ -98,7 +95,8 @@ pub record PutsDay (net : Plan) (schedule : List ℕ) (listings : List Listing) 
   pub first : Option ℕ
   pub said : List ℕ
   pub count : ℕ
-  pub listed : PutsListings net schedule 0 listings said
+  pub due : IsDueAfter net [] first
+  pub listed : PutsListings net schedule [] listings said
   pub whole : All (λ moment. moment < moment_after listings + count) schedule
   pub all : put ≡ controllable_line ++ (due_line first ++ (said ++ (acts_text net (scheduled net schedule (moment_after listings) count) ++ complete_line)))
   pub ends : end ≡ Done

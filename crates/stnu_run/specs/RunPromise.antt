@@ -1,5 +1,5 @@
 -- What `run` promises of what it puts for an input. This project's own choice.
-use Rattle.std.specs.Prelude.{◌≡◌, ◌⊎◌, ℕ, List, ◌++◌, Option}
+use Rattle.std.specs.Prelude.{◌≡◌, ◌⊎◌, ℕ, List, [], ◌++◌, Option}
 use Rattle.texts.specs.Lines.{input_lines}
 use Rattle.net_model.specs.Network.{Plan}
 use Rattle.strategy_model.specs.Control.{IsControllable}
@@ -14,6 +14,7 @@ use Rattle.commands.specs.declared.endings.End.{End}
 use Rattle.commands.specs.declared.endings.End.TheVariants as ends
 use Rattle.stnu_run.specs.Checking.{controllable_line, PutsRefuted}
 use Rattle.stnu_run.specs.Day.{IsUnderway, IsWholeDay, IsRefusedDay, PutsSoFar, PutsDay}
+use Rattle.stnu_run.specs.Due.{IsDueAfter}
 use Rattle.stnu_run.specs.EventAnswers.{due_line}
 use Rattle.stnu_run.specs.ToCheck.{plan_grammar}
 use Rattle.stnu_run.specs.ToRead.{AnswersText}
@@ -22,7 +23,7 @@ use Rattle.stnu_run.specs.ToRead.{AnswersText}
 -- not, and it is not, and a certificate that the judge accepts.
 abbrev pub OpensExecution : Plan → List ℕ → End → Type 0
 OpensExecution net put end =
-    (IsControllable net × ((due : Option ℕ) × (more : List ℕ) × put ≡ controllable_line ++ (due_line due ++ more)))
+    (IsControllable net × ((due : Option ℕ) × (more : List ℕ) × IsDueAfter net [] due × put ≡ controllable_line ++ (due_line due ++ more)))
     ⊎ ((¬ IsControllable net) × ((cert : Certificate) × (judgement_of net cert ≡ Accepted NotControllable) × PutsRefuted cert put end))
 
 -- What `run` promises. `opens`: it opens the execution of the network that the input declares, or puts the first refusal of the input.
