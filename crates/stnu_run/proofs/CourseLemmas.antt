@@ -42,7 +42,8 @@ pub fed_stops : (execution : Execution) (listing : Listing) (others : List Listi
     → fed_all execution (listing ∷ others) ≡ Err cause
 fed_stops execution listing others cause is = ap (fed_on execution listing others) is
 
-fed_both_by : (execution : Execution) (listing : Listing) (others more : List Listing) (middle : Execution) (result : Result Moments Why) → taken execution listing.moment listing.points ≡ result
+fed_both_by : (execution : Execution) (listing : Listing) (others more : List Listing) (middle : Execution) (result : Result Moments Why)
+    → taken execution listing.moment listing.points ≡ result
     → fed_all execution (listing ∷ others) ≡ Ok middle → ((next : Execution) → fed_all next others ≡ Ok middle → fed_all next (others ++ more) ≡ fed_all middle more)
     → fed_all execution (listing ∷ others ++ more) ≡ fed_all middle more
 fed_both_by execution listing others more middle (Ok moments) is fed later =
@@ -76,7 +77,8 @@ pub record OverEvents (net : Plan) (execution final : Execution) (listings : Lis
   pub later : Run executing_machine (at net final listed number room) rest more end
   pub none : final.refused ≡ None
 
-over_none : (net : Plan) (execution final : Execution) (listings : List Listing) (rest : List InputLine) (listed : List PointId) (number room : ℕ) (put : List ℕ) (end : End) → execution.refused ≡ None → listings ≡ [] → fed_all execution listings ≡ Ok final
+over_none : (net : Plan) (execution final : Execution) (listings : List Listing) (rest : List InputLine) (listed : List PointId) (number room : ℕ) (put : List ℕ) (end : End)
+    → execution.refused ≡ None → listings ≡ [] → fed_all execution listings ≡ Ok final
     → Run executing_machine (at net execution listed number room) rest put end → OverEvents net execution final listings rest room put end
 over_none net execution final [] rest listed number room put end none nothing fed run =
     let same : execution ≡ final = cc in
@@ -121,8 +123,10 @@ module _ (reading : (net : Plan) (line : List (List ℕ)) → OneReading net lin
   over_line : (line : InputLine) (events rest : List InputLine) (listings : List Listing) (execution final : Execution) (listed : List PointId) (number room : ℕ) (put : List ℕ) (end : End)
       → execution.refused ≡ None → coming most_line room line ≡ Comes → ListLines net (texts (line ∷ events)) listings → fed_all execution listings ≡ Ok final
       → Run executing_machine (at net execution listed number room) (line ∷ events ++ rest) put end
-      → ((others : List Listing) (next : Execution) (points : List PointId) (more : List ℕ) → next.refused ≡ None → ListLines net (texts events) others → fed_all next others ≡ Ok final
-      → Run executing_machine (at net next points (number + 1) (room - line_size line)) (events ++ rest) more end → OverEvents net next final others rest (room_after (room - line_size line) events) more end)
+      → ((others : List Listing) (next : Execution) (points : List PointId)
+      (more : List ℕ) → next.refused ≡ None → ListLines net (texts events) others → fed_all next others ≡ Ok final
+      → Run executing_machine (at net next points (number + 1) (room - line_size line)) (events ++ rest) more end
+      → OverEvents net next final others rest (room_after (room - line_size line) events) more end)
       → OverEvents net execution final listings rest (room_after (room - line_size line) events) put end
   over_line line events rest listings execution final listed number room put end none comes (inl (is, lists)) fed run later =
       later listings execution listed put none lists fed (one_blank reading net execution listed number room none line (events ++ rest) put end comes run is)
@@ -147,7 +151,9 @@ module _ (reading : (net : Plan) (line : List (List ℕ)) → OneReading net lin
             listed = on.listed;
             number = on.number;
             says = (moments, went.0, on.said, takes, went.2, refl, on.says);
-            all = went.3 ∙ (ap (λ (s : List ℕ). before ++ (due_line went.0 ++ s)) on.all ∙ (ap (λ (s : List ℕ). before ++ s) (sym (append_assoc (due_line went.0) on.said on.more)) ∙ sym (append_assoc before (due_line went.0 ++ on.said) on.more)));
+            all =
+                went.3 ∙ (ap (λ (s : List ℕ). before ++ (due_line went.0 ++ s)) on.all
+                ∙ (ap (λ (s : List ℕ). before ++ s) (sym (append_assoc (due_line went.0) on.said on.more)) ∙ sym (append_assoc before (due_line went.0 ++ on.said) on.more)));
             later = on.later;
             none = on.none;
           }
@@ -163,7 +169,8 @@ module _ (reading : (net : Plan) (line : List (List ℕ)) → OneReading net lin
       (λ others next points more unrefused list goes on. over_events events rest others next final points (number + 1) (room - line_size line) more end unrefused come.1 list goes on)
 
   -- ---- the line at which a run ends
-  ends_here : (line : InputLine) (lines : List InputLine) (room : ℕ) (execution : Execution) (end : End) (told : EventLine) → coming most_line room line ≡ Comes → IsLine net told line.text → Decides execution told end
+  ends_here : (line : InputLine) (lines : List InputLine) (room : ℕ) (execution : Execution) (end : End) (told : EventLine) → coming most_line room line ≡ Comes → IsLine net told line.text
+      → Decides execution told end
       → EndsAt net (line ∷ lines) room execution end
   ends_here line lines room execution end told comes is decides = record {
     events = [];
@@ -198,7 +205,8 @@ module _ (reading : (net : Plan) (line : List (List ℕ)) → OneReading net lin
     decides = one.decides;
   })
 
-  after_one : (line : InputLine) (lines : List InputLine) (room : ℕ) (execution : Execution) (end : End) (moment : ℕ) (points : List PointId) (moments : Moments) → coming most_line room line ≡ Comes
+  after_one : (line : InputLine) (lines : List InputLine) (room : ℕ) (execution : Execution) (end : End) (moment : ℕ) (points : List PointId) (moments : Moments)
+      → coming most_line room line ≡ Comes
       → IsLine net (completed moment points) line.text → taken execution moment points ≡ Ok moments
       → EndsSo net lines (room - line_size line) (after_feed execution moment moments) end → EndsSo net (line ∷ lines) room execution end
   after_one line lines room execution end moment points moments comes is takes (inr fault) = inr fault
@@ -217,10 +225,12 @@ module _ (reading : (net : Plan) (line : List (List ℕ)) → OneReading net lin
     decides = one.decides;
   })
 
-  line_ends : (line : InputLine) (lines : List InputLine) (execution : Execution) (listed : List PointId) (number room : ℕ) (put : List ℕ) (end : End) (how : Coming) → execution.refused ≡ None → coming most_line room line ≡ how
+  line_ends : (line : InputLine) (lines : List InputLine) (execution : Execution) (listed : List PointId) (number room : ℕ) (put : List ℕ) (end : End) (how : Coming)
+      → execution.refused ≡ None → coming most_line room line ≡ how
       → ((told : EventLine) × AreWordsOf net told (words line.text)) ⊎ ((kind : FormatKind) × IsFaultOfWords net (words line.text) kind)
       → Run executing_machine (at net execution listed number room) (line ∷ lines) put end
-      → ((next : Execution) (points : List PointId) (more : List ℕ) → next.refused ≡ None → Run executing_machine (at net next points (number + 1) (room - line_size line)) lines more end → EndsSo net lines (room - line_size line) next end)
+      → ((next : Execution) (points : List PointId) (more : List ℕ) → next.refused ≡ None → Run executing_machine (at net next points (number + 1)
+      (room - line_size line)) lines more end → EndsSo net lines (room - line_size line) next end)
       → EndsSo net (line ∷ lines) room execution end
   line_ends line lines execution listed number room put end Comes none comes (inl (blank, is)) run later =
       after_blank line lines room execution end comes is (later execution listed put none (one_blank reading net execution listed number room none line lines put end comes run is))
@@ -228,7 +238,8 @@ module _ (reading : (net : Plan) (line : List (List ℕ)) → OneReading net lin
     where
       by : (result : Result Moments Why) → taken execution moment points ≡ result → EndsSo net (line ∷ lines) room execution end
       by (Err cause) refuses =
-          inl (ends_here line lines room execution end (completed moment points) comes is (cause, refuses, one_refused reading net execution listed number room none line lines put end comes run moment points cause is refuses))
+          inl (ends_here line lines room execution end (completed moment points) comes is
+          (cause, refuses, one_refused reading net execution listed number room none line lines put end comes run moment points cause is refuses))
       by (Ok moments) takes =
           let went = one_feed reading net execution listed number room none line lines put end comes run moment points moments is takes in
           after_one line lines room execution end moment points moments comes is takes (later (after_feed execution moment moments) points went.1 none went.4)

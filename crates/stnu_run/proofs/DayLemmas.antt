@@ -1,7 +1,6 @@
 -- What an execution over a stream puts and decides, by the schedules that the stream shows.
-use Rattle.std.proofs.Common.{◌≡◌, ◌⊎◌, ℕ, suc, ◌+◌, ◌-◌, ◌<◌, ◌≤◌, List, [], ◌∷◌, ◌++◌, length, map, get_or, Option, Some, None, Result, Ok, Err, refl, sym, ap, ◌∙◌, subst, arith, inl, inr, append_assoc}
+use Rattle.std.proofs.Common.{◌≡◌, ℕ, suc, ◌+◌, ◌-◌, ◌<◌, ◌≤◌, List, [], ◌∷◌, ◌++◌, length, map, get_or, Some, None, Ok, Err, refl, sym, ap, ◌∙◌, subst, arith, inl, inr, append_assoc}
 use Rattle.std.specs.List.{All}
-use Rattle.std.specs.Option.{option_map_or}
 use Rattle.std.proofs.lemmas.List.{get_or-map}
 use Rattle.std.proofs.lemmas.List.Elements.{All-nil, All-cons, All-append}
 use Rattle.net_model.specs.Network.{Plan}
@@ -15,15 +14,15 @@ use Rattle.execution_model.specs.Acts.{scheduled, ActsAreEarliest, LastActsAreEa
 use Rattle.execution_model.specs.Execution.{Moments, moment_of, time_runs}
 use Rattle.execution_model.specs.Feeding.{Execution, started, next_moment, most_moment, taken, after_feed, first_open, IsWhole}
 use Rattle.execution_model.specs.Laws.{setting_of, IsDispatchedByClosure, going_on, ended, AreWithinLimit, FaithfulStreamsAreTaken, DoneWhereNoneIsOpen, EndsAreEarliest}
-use Rattle.execution_model.specs.Streams.{Listing, Shows, IsFaithful, last_moment}
+use Rattle.execution_model.specs.Streams.{Listing, Shows, IsFaithful}
 use Rattle.execution_model.specs.Timely.{fed_all}
 use Rattle.execution_model.specs.declared.feeding.Act.{Act}
 use Rattle.execution_model.specs.declared.feeding.Why.{Why}
 use Rattle.execution_model.proofs.CutLemmas.{IsRun, cut_value}
-use Rattle.execution_model.proofs.FittingLemmas.{AreNext, KeepsTo}
-use Rattle.execution_model.proofs.LawLemmas.{run_of, fed_keeps, fed_last}
+use Rattle.execution_model.proofs.FittingLemmas.{KeepsTo}
+use Rattle.execution_model.proofs.LawLemmas.{run_of, fed_keeps}
 use Rattle.execution_model.proofs.MomentLemmas.{time_runs_from}
-use Rattle.execution_model.proofs.StreamLemmas.{shows_next, next_shows, done_shows}
+use Rattle.execution_model.proofs.StreamLemmas.{done_shows}
 use Rattle.commands.specs.declared.endings.End.{End}
 use Rattle.commands.specs.declared.endings.End.TheVariants as ends
 use Rattle.stnu_run.specs.Day.{ListLines, IsUnfaithfulWith, PutsListings}
@@ -48,7 +47,8 @@ pub lists_within : (net : Plan) (lines : List (List ℕ)) (listings : List Listi
 lists_within net [] listings lists = subst AreWithinLimit (sym lists) (All-nil (λ (listing : Listing). listing.moment ≤ most_moment))
 lists_within net (line ∷ lines) listings (inl (is, lists)) = lists_within net lines listings lists
 lists_within net (line ∷ lines) listings (inr (moment, points, others, is, same, lists)) =
-    subst AreWithinLimit (sym same) (All-cons (λ (listing : Listing). listing.moment ≤ most_moment) (record { moment = moment; points = points }) others is.within (lists_within net lines others lists))
+    subst AreWithinLimit (sym same)
+    (All-cons (λ (listing : Listing). listing.moment ≤ most_moment) (record { moment = moment; points = points }) others is.within (lists_within net lines others lists))
 
 module _ (laws : RunLaws) (net : Plan) (table : Graph) (order : List PointId) (by : IsDispatchedByClosure net table order) where
   abbrev start : Execution
@@ -65,9 +65,9 @@ module _ (laws : RunLaws) (net : Plan) (table : Graph) (order : List PointId) (b
         let after : Execution = after_feed execution listing.moment moments in
         let acts = laws.acts net table order before listing execution moments situation schedule by fed takes earliest (shows_first net schedule (before ++ listing ∷ []) others on) in
         let at = fed_moment before (setting_of net table) execution fed in
-        let here : after.acts ≡ scheduled net schedule (moment_after before) (suc listing.moment - moment_after before) = subst (λ (m : ℕ). after.acts ≡ scheduled net schedule m (suc listing.moment - m)) at acts in
-        let more_fed : fed_all start (before ++ listing ∷ []) ≡ Ok after = fed_both before (listing ∷ []) start execution fed ∙ fed_step execution listing [] moments takes in
-        (
+        let here : after.acts ≡ scheduled net schedule (moment_after before) (suc listing.moment - moment_after before) =
+        subst (λ (m : ℕ). after.acts ≡ scheduled net schedule m (suc listing.moment - m)) at acts in
+        let more_fed : fed_all start (before ++ listing ∷ []) ≡ Ok after = fed_both before (listing ∷ []) start execution fed ∙ fed_step execution listing [] moments takes in (
           due,
           more,
           due_after net table order by (before ++ listing ∷ []) after more_fed none due due_answer,
@@ -76,7 +76,8 @@ module _ (laws : RunLaws) (net : Plan) (table : Graph) (order : List PointId) (b
         )
 
     -- ---- and what is put at the end
-    module _ (listings : List Listing) (final : Execution) (fed : fed_all start listings ≡ Ok final) (shows : Shows net (ended listings) schedule) (after : Execution) (whole : IsWhole final after) where
+    module _ (listings : List Listing) (final : Execution) (fed : fed_all start listings ≡ Ok final)
+        (shows : Shows net (ended listings) schedule) (after : Execution) (whole : IsWhole final after) where
       going : Shows net (going_on listings) schedule
       going = done_shows net schedule listings shows
 
@@ -101,7 +102,8 @@ module _ (laws : RunLaws) (net : Plan) (table : Graph) (order : List PointId) (b
           let m : ℕ = get_or schedule k d in
           let complete = run.executed.complete in
           let within : k < length net.points = omega (arith, inside, complete) in
-          let come : moment_of (time_runs final.setting final.moments (next_moment final) whole.count) point ≡ Some m = ap (λ (ms : Moments). get_or ms k None) moments_are ∙ get_or-map Some schedule k d None inside in
+          let come : moment_of (time_runs final.setting final.moments (next_moment final) whole.count) point ≡ Some m =
+          ap (λ (ms : Moments). get_or ms k None) moments_are ∙ get_or-map Some schedule k d None inside in
           elim (time_runs_from final.setting final.moments (next_moment final) whole.count long point m come) [
             | inl before ↦ (let less = (cut_value net schedule final.moments (next_moment final) keeps.cut point m within before).1 in omega (arith, less, there))
             | inr later ↦ (let less = later.1 in omega (arith, less, there))
@@ -122,19 +124,22 @@ module _ (laws : RunLaws) (net : Plan) (table : Graph) (order : List PointId) (b
   fed_faithful listings final within fed = (laws.taken net table order listings by within).0.1 (final, fed)
 
   -- with one more listing
-  within_more : (listings : List Listing) (moment : ℕ) (points : List PointId) → AreWithinLimit listings → moment ≤ most_moment → AreWithinLimit (listings ++ record { moment = moment; points = points } ∷ [])
+  within_more : (listings : List Listing) (moment : ℕ) (points : List PointId) → AreWithinLimit listings → moment ≤ most_moment
+      → AreWithinLimit (listings ++ record { moment = moment; points = points } ∷ [])
   within_more listings moment points within small =
       let test : Listing → Type 0 = λ listing. listing.moment ≤ most_moment in
       All-append test listings (record { moment = moment; points = points } ∷ []) within (All-cons test (record { moment = moment; points = points }) [] small (All-nil test))
 
-  pub taken_faithful : (listings : List Listing) (final : Execution) (moment : ℕ) (points : List PointId) (moments : Moments) → AreWithinLimit listings → moment ≤ most_moment → fed_all start listings ≡ Ok final
+  pub taken_faithful : (listings : List Listing) (final : Execution) (moment : ℕ) (points : List PointId) (moments : Moments) → AreWithinLimit listings → moment ≤ most_moment
+      → fed_all start listings ≡ Ok final
       → taken final moment points ≡ Ok moments → IsFaithful net (going_on (listings ++ record { moment = moment; points = points } ∷ []))
   taken_faithful listings final moment points moments within small fed takes =
       let listing : Listing = record { moment = moment; points = points } in
       fed_faithful (listings ++ listing ∷ []) (after_feed final moment moments) (within_more listings moment points within small)
       (fed_both listings (listing ∷ []) start final fed ∙ fed_step final listing [] moments takes)
 
-  refused_unfaithful : (listings : List Listing) (final : Execution) (moment : ℕ) (points : List PointId) (cause : Why) → AreWithinLimit listings → moment ≤ most_moment → fed_all start listings ≡ Ok final
+  refused_unfaithful : (listings : List Listing) (final : Execution) (moment : ℕ) (points : List PointId) (cause : Why) → AreWithinLimit listings → moment ≤ most_moment
+      → fed_all start listings ≡ Ok final
       → taken final moment points ≡ Err cause → IsFaithful net (going_on (listings ++ record { moment = moment; points = points } ∷ [])) → ⊥
   refused_unfaithful listings final moment points cause within small fed refuses faithful =
       let listing : Listing = record { moment = moment; points = points } in
@@ -149,7 +154,8 @@ module _ (laws : RunLaws) (net : Plan) (table : Graph) (order : List PointId) (b
   faithful_closed listings final fed = (laws.done net table order listings final by fed).0
 
   -- a run that ends by a refused event ends where a line tells what no faithful stream does
-  pub unfaithful_there : (listings : List Listing) (final : Execution) (told : EventLine) (line : List ℕ) (end : End) → AreWithinLimit listings → IsLine net told line → fed_all start listings ≡ Ok final
+  pub unfaithful_there : (listings : List Listing) (final : Execution) (told : EventLine) (line : List ℕ) (end : End) → AreWithinLimit listings → IsLine net told line
+      → fed_all start listings ≡ Ok final
       → Decides final told end → end ≡ ends.EventRefused → IsUnfaithfulWith net listings told
   unfaithful_there listings final blank line end within is fed decides refused = absurd decides
   unfaithful_there listings final (completed moment points) line end within is fed (cause, refuses, so) refused =

@@ -1,5 +1,5 @@
 -- The lines of events of a run: what each of them brings, and where the run stands after several.
-use Rattle.std.proofs.Common.{◌≡◌, ◌⊎◌, ℕ, ◌+◌, ◌-◌, List, [], ◌∷◌, ◌++◌, length, Option, Some, None, Result, Ok, Err, refl, sym, ap, ◌∙◌, subst, inl, inr, append_assoc}
+use Rattle.std.proofs.Common.{◌≡◌, ◌⊎◌, ℕ, ◌+◌, ◌-◌, List, [], ◌∷◌, ◌++◌, Option, Some, None, Result, Ok, Err, refl, sym, ap, ◌∙◌, subst, inl, inr, append_assoc}
 use Rattle.texts.specs.Lines.{InputLine, line_size}
 use Rattle.texts.specs.Words.{words}
 use Rattle.net_model.specs.Network.{Plan}
@@ -12,8 +12,6 @@ use Rattle.event_stream.specs.EventText.{EventLine, blank, completed, done, IsLi
 use Rattle.event_stream.specs.Laws.{OneReading}
 use Rattle.execution_model.specs.Execution.{Moments}
 use Rattle.execution_model.specs.Feeding.{Execution, taken, after_feed, IsFed, first_open, IsFinished, IsWhole, IsDueAnswer}
-use Rattle.execution_model.specs.Streams.{Listing}
-use Rattle.execution_model.specs.Timely.{fed_all}
 use Rattle.execution_model.specs.declared.feeding.Fed.{Fed}
 use Rattle.execution_model.specs.declared.feeding.Fed.TheVariants as fed
 use Rattle.execution_model.specs.declared.feeding.Finished.{Finished}
@@ -25,11 +23,9 @@ use Rattle.commands.specs.declared.endings.End.TheVariants as ends
 use Rattle.commands.specs.declared.machines.Onward.{Onward}
 use Rattle.commands.specs.declared.machines.Onward.TheVariants.{Goes, Ends}
 use Rattle.stnu_run.specs.Course.{Course}
-use Rattle.stnu_run.specs.Day.{ListLines}
 use Rattle.stnu_run.specs.EventAnswers.{acts_text, due_line, complete_line}
 use Rattle.stnu_run.specs.Executing.{AnswersFeed, AnswersEnd, AnswersEvent, TakesEvent, executing_machine}
 use Rattle.stnu_run.specs.Faults.{fault_end}
-use Rattle.stnu_run.specs.ToRead.{Come, texts, room_after}
 use Rattle.stnu_run.specs.declared.faults.Fault.{Fault}
 use Rattle.stnu_run.specs.declared.faults.Fault.TheVariants.{Format, LineTooLong as LongLine, InputTooMuch as MuchInput}
 use Rattle.stnu_run.proofs.ReplyLemmas.{GoesOver, first_reply, last_reply}
@@ -50,7 +46,8 @@ FedBy refused result execution moment answer after =
       ]
     ]
 
-fed_so : (execution : Execution) (moment : ℕ) (points : List PointId) (answer : Fed) (after : Execution) (result : Result Moments Why) → execution.refused ≡ None → taken execution moment points ≡ result
+fed_so : (execution : Execution) (moment : ℕ) (points : List PointId) (answer : Fed) (after : Execution) (result : Result Moments Why) → execution.refused ≡ None
+    → taken execution moment points ≡ result
     → IsFed execution moment points answer after → FedBy None result execution moment answer after
 fed_so execution moment points answer after result none is so =
     subst (λ (r : Result Moments Why). FedBy None r execution moment answer after) is
@@ -75,7 +72,8 @@ finished_so execution answer after first none is so =
 
 module _ (state : Course) (number : ℕ) (none : state.execution.refused ≡ None) (answer : List ℕ) (onward : Onward Course) where
   -- a feed that is taken: its acts, the next due moment, and the run goes on
-  taken_goes : (moment : ℕ) (points : List PointId) (moments : Moments) → taken state.execution moment points ≡ Ok moments → AnswersEvent state number (completed moment points) answer onward
+  taken_goes : (moment : ℕ) (points : List PointId) (moments : Moments) → taken state.execution moment points ≡ Ok moments
+      → AnswersEvent state number (completed moment points) answer onward
       → (due : Option ℕ) × IsDueAnswer (after_feed state.execution moment moments) due
       × (answer ≡ acts_text state.net (after_feed state.execution moment moments).acts ++ due_line due)
       × (onward ≡ Goes (record state { execution = after_feed state.execution moment moments; listed = points }))
@@ -86,7 +84,8 @@ module _ (state : Course) (number : ℕ) (none : state.execution.refused ≡ Non
       (now.0, now.1, now.2, now.3)
 
   -- one that is refused ends the run so
-  refused_ends : (moment : ℕ) (points : List PointId) (cause : Why) → taken state.execution moment points ≡ Err cause → AnswersEvent state number (completed moment points) answer onward → onward ≡ Ends ends.EventRefused
+  refused_ends : (moment : ℕ) (points : List PointId) (cause : Why) → taken state.execution moment points ≡ Err cause → AnswersEvent state number (completed moment points) answer onward
+      → onward ≡ Ends ends.EventRefused
   refused_ends moment points cause is (answered, after, so, answers) =
       let by = fed_so state.execution moment points answered after (Err cause) none is so in
       (subst (λ (f : Fed). AnswersFeed state number f (record state { execution = after; listed = points }) answer onward) by.0 answers).1
@@ -118,7 +117,8 @@ record Replied (here : Here Course) (line : InputLine) (lines : List InputLine) 
   pub replies : RepliesTo executing_machine how here line.text answer onward
   pub on : Continues here line lines put end onward answer
 
-replied : (here : Here Course) (line : InputLine) (lines : List InputLine) (put : List ℕ) (end : End) (how : Coming) → coming most_line here.room line ≡ how → Run executing_machine here (line ∷ lines) put end → Replied here line lines put end how
+replied : (here : Here Course) (line : InputLine) (lines : List InputLine) (put : List ℕ) (end : End) (how : Coming) → coming most_line here.room line ≡ how
+    → Run executing_machine here (line ∷ lines) put end → Replied here line lines put end how
 replied here line lines put end how comes run = by (first_reply executing_machine here line lines put end run)
   where
     so : (answer : List ℕ) (onward : Onward Course) → Replies executing_machine here (line ∷ lines) answer onward → RepliesTo executing_machine how here line.text answer onward
@@ -129,14 +129,16 @@ replied here line lines put end how comes run = by (first_reply executing_machin
     by (inr goes) = record { answer = goes.answer; onward = Goes goes.state; replies = so goes.answer (Goes goes.state) goes.replies; on = (goes.more, goes.all, goes.later) }
 
 -- where no line comes, the run ends by a fault
-pub no_line : (net : Plan) (execution : Execution) (listed : List PointId) (number room : ℕ) (put : List ℕ) (end : End) → Run executing_machine (at net execution listed number room) [] put end → (fault : Fault) × (end ≡ fault_end fault)
+pub no_line : (net : Plan) (execution : Execution) (listed : List PointId) (number room : ℕ) (put : List ℕ) (end : End)
+    → Run executing_machine (at net execution listed number room) [] put end → (fault : Fault) × (end ≡ fault_end fault)
 no_line net execution listed number room put end run =
     let last = last_reply executing_machine (at net execution listed number room) put end run in
     let same : end ≡ last.0 = cc (last.1) in
     (Format (number + 1) NoEnd, same ∙ last.2.1)
 
 pub stopped : (net : Plan) (execution : Execution) (listed : List PointId) (number room : ℕ) (line : InputLine) (lines : List InputLine) (put : List ℕ) (end : End)
-    → (coming most_line room line ≡ TooLong) ⊎ (coming most_line room line ≡ TooMuch) → Run executing_machine (at net execution listed number room) (line ∷ lines) put end → (fault : Fault) × (end ≡ fault_end fault)
+    → (coming most_line room line ≡ TooLong) ⊎ (coming most_line room line ≡ TooMuch) → Run executing_machine (at net execution listed number room) (line ∷ lines) put end
+    → (fault : Fault) × (end ≡ fault_end fault)
 stopped net execution listed number room line lines put end (inl long) run =
     let here = at net execution listed number room in
     let one = replied here line lines put end TooLong long run in
@@ -150,12 +152,14 @@ stopped net execution listed number room line lines put end (inr much) run =
 
 module _ (reading : (net : Plan) (line : List (List ℕ)) → OneReading net line) where
   -- what a line tells decides the answer
-  told_answers : (state : Course) (number : ℕ) (told : EventLine) (line answer : List ℕ) (onward : Onward Course) → IsLine state.net told line → TakesEvent state number line answer onward → AnswersEvent state number told answer onward
+  told_answers : (state : Course) (number : ℕ) (told : EventLine) (line answer : List ℕ) (onward : Onward Course) → IsLine state.net told line → TakesEvent state number line answer onward
+      → AnswersEvent state number told answer onward
   told_answers state number told line answer onward is (inl (other, also, answers)) =
       subst (λ (t : EventLine). AnswersEvent state number t answer onward) ((reading state.net (words line)).one_telling other told also is) answers
   told_answers state number told line answer onward is (inr (kind, fault, puts, so)) = absurd ((reading state.net (words line)).not_both told kind is fault)
 
-  fault_ends : (state : Course) (number : ℕ) (kind : FormatKind) (line answer : List ℕ) (onward : Onward Course) → IsFaultOf state.net line kind → TakesEvent state number line answer onward → (fault : Fault) × (onward ≡ Ends (fault_end fault))
+  fault_ends : (state : Course) (number : ℕ) (kind : FormatKind) (line answer : List ℕ) (onward : Onward Course) → IsFaultOf state.net line kind
+      → TakesEvent state number line answer onward → (fault : Fault) × (onward ≡ Ends (fault_end fault))
   fault_ends state number kind line answer onward is (inl (told, also, answers)) = absurd ((reading state.net (words line)).not_both told kind also is)
   fault_ends state number kind line answer onward is (inr (other, fault, puts, so)) = (Format number other, so)
 
@@ -188,11 +192,13 @@ module _ (reading : (net : Plan) (line : List (List ℕ)) → OneReading net lin
         let on = on_as _ goes.3 in
         (goes.0, on.0, goes.1, on.1 ∙ (ap (λ (a : List ℕ). a ++ on.0) goes.2 ∙ append_assoc (acts_text net (after_feed execution moment moments).acts) (due_line goes.0) on.0), on.2)
 
-    pub one_refused : (moment : ℕ) (points : List PointId) (cause : Why) → IsLine net (completed moment points) line.text → taken execution moment points ≡ Err cause → end ≡ ends.EventRefused
+    pub one_refused : (moment : ℕ) (points : List PointId) (cause : Why) → IsLine net (completed moment points) line.text → taken execution moment points ≡ Err cause
+        → end ≡ ends.EventRefused
     one_refused moment points cause is refuses =
         (on_as (Ends ends.EventRefused) (refused_ends here.state (number + 1) none one.answer one.onward moment points cause refuses (tells (completed moment points) is))).1
 
-    pub one_done : IsLine net done line.text → first_open execution ≡ None → (after : Execution) × IsWhole execution after × (put ≡ acts_text net after.acts ++ complete_line) × (end ≡ ends.Done)
+    pub one_done : IsLine net done line.text → first_open execution ≡ None
+        → (after : Execution) × IsWhole execution after × (put ≡ acts_text net after.acts ++ complete_line) × (end ≡ ends.Done)
     one_done is closed =
         let whole = done_whole here.state (number + 1) none one.answer one.onward closed (tells done is) in
         let on = on_as (Ends ends.Done) whole.3 in

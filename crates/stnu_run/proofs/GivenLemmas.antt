@@ -1,15 +1,12 @@
 -- The reading of an input that declares a network: the network is given where the lines of its text end.
-use Rattle.std.proofs.Common.{◌≡◌, ℕ, ◌+◌, ◌-◌, List, [], ◌∷◌, ◌++◌, length, refl, sym, ap, ◌∙◌, subst, arith, append_assoc}
+use Rattle.std.proofs.Common.{◌≡◌, ℕ, ◌+◌, List, [], ◌∷◌, ◌++◌, length, refl, sym, ap, ◌∙◌, subst, arith, append_assoc}
 use Rattle.std.proofs.lemmas.List.{length-append}
-use Rattle.texts.specs.Lines.{InputLine, line_size}
+use Rattle.texts.specs.Lines.{InputLine}
 use Rattle.net_model.specs.Network.{Plan}
 use Rattle.plan_format.specs.PlanNetwork.{DeclaresNetwork}
-use Rattle.plan_port.specs.Limits.{most_line}
-use Rattle.plan_port.specs.Lines.{Comes, coming}
 use Rattle.commands.specs.Limits.{most_input}
 use Rattle.commands.specs.Reading.{Outcome, Given, Faulty, reading}
 use Rattle.commands.specs.Runs.{begins}
-use Rattle.commands.specs.declared.reading.Step.TheVariants.{Goes, Gives, Refused}
 use Rattle.stnu_run.specs.PlanText.{plan_begun, plan_reader}
 use Rattle.stnu_run.specs.ToCheck.{plan_grammar}
 use Rattle.stnu_run.specs.ToRead.{Come, texts, room_after}
@@ -86,7 +83,8 @@ pub declared_given : (input used rest : List InputLine) (net : Plan) → input �
     → outcome_of input ≡ Given net (length used) (room_after most_input used) rest
 declared_given input used rest net divided come declared = by (outcome_of input) refl (outcome_is plan_reader plan_grammar plan_begun plan_by plan_once input)
   where
-    by : (outcome : Outcome Plan Fault) → outcome_of input ≡ outcome → OutcomeIs plan_reader plan_grammar plan_begun plan_by plan_once input outcome → outcome ≡ Given net (length used) (room_after most_input used) rest
+    by : (outcome : Outcome Plan Fault) → outcome_of input ≡ outcome → OutcomeIs plan_reader plan_grammar plan_begun plan_by plan_once input outcome
+        → outcome ≡ Given net (length used) (room_after most_input used) rest
     by (Given other number room left) comes is =
         let at = is_given input other number room left comes in
         let same = same_network (texts input) other net (texts left) (texts rest) at.declared declared in
@@ -98,4 +96,5 @@ declared_given input used rest net divided come declared = by (outcome_of input)
         let others = front.1 in
         cc
     by (Faulty fault) comes is =
-        absurd (none_refused plan_reader plan_grammar plan_begun plan_by plan_once input used rest net (texts rest) is.before is.rest fault divided come (sym (texts_many rest)) declared is.divided is.underway is.causes)
+        absurd (none_refused plan_reader plan_grammar plan_begun plan_by plan_once input used rest net (texts rest) is.before is.rest fault
+        divided come (sym (texts_many rest)) declared is.divided is.underway is.causes)

@@ -1,8 +1,6 @@
 -- A run over lines, by what comes first; and lines that come.
-use Rattle.std.proofs.Common.{◌≡◌, ◌⊎◌, ℕ, ◌+◌, ◌-◌, List, [], ◌∷◌, ◌++◌, length, refl, sym, ap, ◌∙◌, subst, arith, inl, inr, append_assoc}
+use Rattle.std.proofs.Common.{◌≡◌, ◌⊎◌, ℕ, ◌-◌, List, [], ◌∷◌, ◌++◌, refl, sym, ap, ◌∙◌, subst, inl, inr, append_assoc}
 use Rattle.texts.specs.Lines.{InputLine, line_size}
-use Rattle.plan_port.specs.Limits.{most_line}
-use Rattle.plan_port.specs.Lines.{Comes, coming}
 use Rattle.commands.specs.Machine.{Machine}
 use Rattle.commands.specs.Runs.{Here, after_line, Replies, Answers, Run}
 use Rattle.commands.specs.declared.endings.End.{End}
@@ -19,7 +17,8 @@ module _ {C : Type 0} (machine : Machine C) where
     pub all : put ≡ answer ++ more
     pub later : Run machine (after_line here line state) lines more end
 
-  ended_there : (here : Here C) (lines : List InputLine) (put : List ℕ) (end : End) (rest : List InputLine) (said : List ℕ) (there : Here C) (last : List ℕ) → lines ≡ rest → said ≡ [] → here ≡ there → put ≡ said ++ last
+  ended_there : (here : Here C) (lines : List InputLine) (put : List ℕ) (end : End) (rest : List InputLine) (said : List ℕ) (there : Here C) (last : List ℕ) → lines ≡ rest
+      → said ≡ [] → here ≡ there → put ≡ said ++ last
       → Replies machine there rest last (Ends end) → Replies machine here lines put (Ends end)
   ended_there here lines put end rest said there last same nothing stays all replies =
       let whole : last ≡ put = sym (all ∙ ap (λ (s : List ℕ). s ++ last) nothing) in
@@ -31,7 +30,8 @@ module _ {C : Type 0} (machine : Machine C) where
   pub last_reply : (here : Here C) (put : List ℕ) (end : End) → Run machine here [] put end → Replies machine here [] put (Ends end)
   last_reply here put end one = by one.first one.rest one.said one.there one.last one.divided one.answers one.ends one.all
     where
-      by : (first rest : List InputLine) (said : List ℕ) (there : Here C) (last : List ℕ) → [] ≡ first ++ rest → Answers machine here first said there → Replies machine there rest last (Ends end) → put ≡ said ++ last → Replies machine here [] put (Ends end)
+      by : (first rest : List InputLine) (said : List ℕ) (there : Here C) (last : List ℕ) → [] ≡ first ++ rest → Answers machine here first said there
+          → Replies machine there rest last (Ends end) → put ≡ said ++ last → Replies machine here [] put (Ends end)
       by [] rest said there last divided answers ends all = ended_there here [] put end rest said there last divided answers.0 answers.1 all ends
       by (line ∷ first) rest said there last divided answers ends all = absurd cc
 
@@ -40,14 +40,16 @@ module _ {C : Type 0} (machine : Machine C) where
       → Replies machine here (line ∷ lines) put (Ends end) ⊎ GoesOver here line lines put end
   first_reply here line lines put end one = by one.first one.rest one.said one.there one.last one.divided one.answers one.ends one.all
     where
-      by : (first rest : List InputLine) (said : List ℕ) (there : Here C) (last : List ℕ) → line ∷ lines ≡ first ++ rest → Answers machine here first said there → Replies machine there rest last (Ends end) → put ≡ said ++ last
+      by : (first rest : List InputLine) (said : List ℕ) (there : Here C) (last : List ℕ) → line ∷ lines ≡ first ++ rest → Answers machine here first said there
+          → Replies machine there rest last (Ends end) → put ≡ said ++ last
           → Replies machine here (line ∷ lines) put (Ends end) ⊎ GoesOver here line lines put end
       by [] rest said there last divided answers ends all = inl (ended_there here (line ∷ lines) put end rest said there last divided answers.0 answers.1 all ends)
       by (other ∷ first) rest said there last divided answers ends all =
           let head : other ≡ line = cc in
           let tail : lines ≡ first ++ rest = cc in
           let replies : Replies machine here (line ∷ lines) answers.0 (Goes answers.2) = subst (λ (l : InputLine). Replies machine here (l ∷ lines) answers.0 (Goes answers.2)) head answers.3 in
-          let later : Answers machine (after_line here line answers.2) first answers.1 there = subst (λ (l : InputLine). Answers machine (after_line here l answers.2) first answers.1 there) head answers.5 in
+          let later : Answers machine (after_line here line answers.2) first answers.1 there =
+          subst (λ (l : InputLine). Answers machine (after_line here l answers.2) first answers.1 there) head answers.5 in
           inr (record {
             answer = answers.0;
             more = answers.1 ++ last;

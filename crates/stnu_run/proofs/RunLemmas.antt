@@ -1,5 +1,5 @@
 -- `run` keeps its promise.
-use Rattle.std.proofs.Common.{◌≡◌, ◌⊎◌, ℕ, ◌+◌, List, [], ◌∷◌, ◌++◌, length, Option, Some, None, Result, Ok, Err, refl, sym, ap, ◌∙◌, subst, inl, inr, append_assoc, append-nil}
+use Rattle.std.proofs.Common.{◌≡◌, ◌⊎◌, ℕ, List, [], ◌∷◌, ◌++◌, length, Option, Some, None, Result, Ok, Err, refl, sym, ap, ◌∙◌, subst, inl, inr, append_assoc, append-nil}
 use Rattle.std.proofs.lemmas.Option.{same_Some}
 use Rattle.texts.specs.Lines.{InputLine, input_lines, lines}
 use Rattle.net_model.specs.Network.{Plan, IsPlan}
@@ -14,7 +14,6 @@ use Rattle.strategy_model.specs.Situations.{Satisfies}
 use Rattle.plan_port.specs.Limits.{most_line}
 use Rattle.plan_port.specs.Lines.{Comes, coming}
 use Rattle.plan_format.specs.PlanNetwork.{DeclaresNetwork}
-use Rattle.cert_format.specs.CertificateWords.{printed_certificate}
 use Rattle.cert_format.specs.declared.certificate.Certificate.{Certificate}
 use Rattle.event_stream.specs.EventText.{EventLine, blank, completed, done, IsLine}
 use Rattle.execution_model.specs.Acts.{scheduled}
@@ -34,9 +33,8 @@ use Rattle.commands.specs.Runs.{Run as RunOver, Runs, begins}
 use Rattle.commands.specs.declared.endings.End.{End}
 use Rattle.commands.specs.declared.endings.End.TheVariants as ends
 use Rattle.commands.specs.declared.machines.Onward.{Onward}
-use Rattle.commands.specs.declared.machines.Onward.TheVariants.{Goes, Ends}
 use Rattle.commands.proofs.PhaseLemmas.{run_is}
-use Rattle.stnu_run.specs.Checking.{controllable_line, refuted_line, PutsRefuted, RoundsClose, IsCertificateOf}
+use Rattle.stnu_run.specs.Checking.{controllable_line, PutsRefuted, RoundsClose, IsCertificateOf}
 use Rattle.stnu_run.specs.Course.{Course}
 use Rattle.stnu_run.specs.Day.{IsUnderway, IsDay, IsUnfaithfulWith, IsRefusedDay, IsWholeDay, PutsSoFar, PutsDay}
 use Rattle.stnu_run.specs.Due.{moment_after, IsDueAfter}
@@ -45,9 +43,9 @@ use Rattle.stnu_run.specs.Executing.{executing_machine}
 use Rattle.stnu_run.specs.Faults.{refusing, fault_end}
 use Rattle.stnu_run.specs.PlanText.{plan_begun, plan_reader}
 use Rattle.stnu_run.specs.RunPromise.{OpensExecution, RunPromise}
-use Rattle.stnu_run.specs.Running.{BeginsExecution, BeginsRefuted, run_begins, run_machine, run_start}
+use Rattle.stnu_run.specs.Running.{run_begins, run_machine, run_start}
 use Rattle.stnu_run.specs.ToCheck.{plan_grammar}
-use Rattle.stnu_run.specs.ToRead.{AnswersText, AnswersOrRefuses, Come, texts, room_after}
+use Rattle.stnu_run.specs.ToRead.{AnswersOrRefuses, Come, texts, room_after}
 use Rattle.stnu_run.specs.declared.faults.Fault.{Fault}
 use Rattle.stnu_run.specs.declared.faults.Fault.TheVariants.{Format, Part, LineTooLong, InputTooMuch}
 use Rattle.stnu_run.proofs.CourseLemmas.{OverEvents, over_events, EndsAt, EndsSo, ends_so}
@@ -81,7 +79,8 @@ record RefutedSo (net : Plan) (put : List ℕ) (end : End) : Type 0 where
   pub of : IsCertificateOf net cert
   pub puts : PutsRefuted cert put end
 
-begun : (net : Plan) (number room : ℕ) (rest : List InputLine) (put answer more : List ℕ) (onward : Onward Course) (end : End) → run_begins (record {}) net answer onward → put ≡ answer ++ more
+begun : (net : Plan) (number room : ℕ) (rest : List InputLine) (put answer more : List ℕ) (onward : Onward Course) (end : End) → run_begins (record {}) net answer onward
+    → put ≡ answer ++ more
     → GoesOn run_begins plan_reader refusing executing_machine onward number room rest more end → Opened net number room rest put end ⊎ RefutedSo net put end
 begun net number room rest put answer more onward end (inl begins) all on = inl (record {
   closing = begins.closing;
@@ -99,7 +98,8 @@ begun net number room rest put answer more onward end (inr begins) all on =
       puts = (all ∙ (ap (λ (m : List ℕ). answer ++ m) over.0 ∙ (append-nil answer ∙ begins.put)), over.1);
     })
 
-opened_or : (net : Plan) (number room : ℕ) (rest : List InputLine) (put : List ℕ) (end : End) → Follows (Given net number room rest) put end → Opened net number room rest put end ⊎ RefutedSo net put end
+opened_or : (net : Plan) (number room : ℕ) (rest : List InputLine) (put : List ℕ) (end : End) → Follows (Given net number room rest) put end
+    → Opened net number room rest put end ⊎ RefutedSo net put end
 opened_or net number room rest put end (answer, more, onward, begins, all, on) = begun net number room rest put answer more onward end begins all on
 
 -- what is put for a network, whatever lines follow
@@ -196,7 +196,7 @@ module _ (laws : RunLaws) where
           let (final, fed) = faithful_fed laws net _ _ by_closure listings within faithful in
           let start_room : ℕ = room_after most_input day.plan in
           let over = over_events laws.reading net day.events day.rest listings first final [] (length day.plan) start_room opened.more end refl
-              (come_then most_input day.plan day.events day.come) day.lists fed opened.later in
+          (come_then most_input day.plan day.events day.come) day.lists fed opened.later in
           record {
             final = final;
             fed = fed;
@@ -217,8 +217,11 @@ module _ (laws : RunLaws) where
 
       module _ (last : InputLine) (others : List InputLine) (next : day.rest ≡ last ∷ others)
           (comes : coming most_line (room_after most_input (day.plan ++ day.events)) last ≡ Comes) where
-        later_run : (all : FedAll) → RunOver executing_machine (at net all.final all.over.listed all.over.number (room_after most_input (day.plan ++ day.events))) (last ∷ others) all.over.more end
-        later_run all = subst (λ (ls : List InputLine). RunOver executing_machine (at net all.final all.over.listed all.over.number (room_after most_input (day.plan ++ day.events))) ls all.over.more end) next all.over.later
+        later_run : (all : FedAll)
+            → RunOver executing_machine (at net all.final all.over.listed all.over.number (room_after most_input (day.plan ++ day.events))) (last ∷ others) all.over.more end
+        later_run all =
+            let here = at net all.final all.over.listed all.over.number (room_after most_input (day.plan ++ day.events)) in
+            subst (λ (ls : List InputLine). RunOver executing_machine here ls all.over.more end) next all.over.later
 
         -- a line that tells what no faithful stream does ends the run as a refused event
         refused_there : FedAll → (told : EventLine) → IsLine net told last.text → IsUnfaithfulWith net listings told → end ≡ ends.EventRefused
@@ -244,7 +247,8 @@ module _ (laws : RunLaws) where
             let shut = faithful_closed laws net _ _ by_closure listings all.final all.fed (situation, fits) in
             let whole = one_done laws.reading net all.final all.over.listed all.over.number _ all.over.none last others all.over.more end comes (later_run all) is shut in
             let left = acts_left laws net _ _ by_closure situation fits.schedule fits.earliest listings all.final all.fed fits.shows whole.0 whole.1 in
-            let rest : all.over.more ≡ acts_text net (scheduled net fits.schedule (moment_after listings) whole.1.count) ++ complete_line = whole.2 ∙ ap (λ (acts : List Act). acts_text net acts ++ complete_line) left in
+            let rest : all.over.more ≡ acts_text net (scheduled net fits.schedule (moment_after listings) whole.1.count) ++ complete_line =
+            whole.2 ∙ ap (λ (acts : List Act). acts_text net acts ++ complete_line) left in
             record {
               first = opened.due;
               due = first_due;
@@ -256,10 +260,12 @@ module _ (laws : RunLaws) where
               ends = whole.3;
             }
 
-    underway_by : (net : Plan) (listings : List Listing) (situation : List ℕ) → IsUnderway (input_lines input) net listings → (fits : Fits net (going_on listings) situation) → PutsSoFar net fits.schedule listings put
+    underway_by : (net : Plan) (listings : List Listing) (situation : List ℕ) → IsUnderway (input_lines input) net listings → (fits : Fits net (going_on listings) situation)
+        → PutsSoFar net fits.schedule listings put
     underway_by net listings situation day fits = puts_so_far net listings day (fits.earliest.strategy, fits.earliest.controls) situation fits
 
-    executes_by : (net : Plan) (listings : List Listing) (situation : List ℕ) → IsWholeDay (input_lines input) net listings → (fits : Fits net (ended listings) situation) → PutsDay net fits.schedule listings put end
+    executes_by : (net : Plan) (listings : List Listing) (situation : List ℕ) → IsWholeDay (input_lines input) net listings → (fits : Fits net (ended listings) situation)
+        → PutsDay net fits.schedule listings put end
     executes_by net listings situation whole fits =
         let day = whole.day in
         puts_day net listings day.underway whole.controllable day.last day.others day.next day.comes day.tells situation fits
@@ -284,7 +290,8 @@ module _ (laws : RunLaws) where
     lasts : (end ≡ ends.EventRefused) ⊎ (end ≡ ends.Done) → Lasts
     lasts so = by (outcome_of (input_lines input)) refl follows
       where
-        not_such : (other : End) → end ≡ other → (other ≡ ends.Limit) ⊎ ((other ≡ ends.Fault) ⊎ (other ≡ ends.Refused)) → (end ≡ ends.EventRefused) ⊎ (end ≡ ends.Done) → ⊥
+        not_such : (other : End) → end ≡ other → (other ≡ ends.Limit) ⊎ ((other ≡ ends.Fault) ⊎ (other ≡ ends.Refused)) → (end ≡ ends.EventRefused) ⊎ (end ≡ ends.Done)
+            → ⊥
         not_such other is (inl limit) (inl event) = absurd (cc (is, limit, event))
         not_such other is (inl limit) (inr whole) = absurd (cc (is, limit, whole))
         not_such other is (inr (inl fault)) (inl event) = absurd (cc (is, fault, event))
@@ -300,7 +307,8 @@ module _ (laws : RunLaws) where
         lasts_to net number room rest given opening (inl ending) = record { net = net; room = room; number = number; rest = rest; given = given; opening = opening; ending = ending }
         lasts_to net number room rest given opening (inr (fault, is)) = absurd (no_fault fault is)
 
-        opens : (net : Plan) (number room : ℕ) (rest : List InputLine) → IsGivenAt (input_lines input) net number room rest → Opened net number room rest put end ⊎ RefutedSo net put end → Lasts
+        opens : (net : Plan) (number room : ℕ) (rest : List InputLine) → IsGivenAt (input_lines input) net number room rest → Opened net number room rest put end ⊎ RefutedSo net put end
+            → Lasts
         opens net number room rest given (inl opening) =
             lasts_to net number room rest given opening (ends_so laws.reading net rest (started (setting_of net opening.closing.after.table)) [] number room opening.more end refl opening.later)
         opens net number room rest given (inr refuted) = absurd (not_such ends.Refused refuted.puts.1 (inr (inr refl)) so)
@@ -338,7 +346,9 @@ module _ (laws : RunLaws) where
             last = last;
             others = one.ending.rest;
             next = refl;
-            comes = subst (λ (room : ℕ). coming most_line room last ≡ Comes) (sym (room_both most_input one.given.used events)) (come_then (room_after most_input one.given.used) events (last ∷ []) come).0;
+            comes =
+                subst (λ (room : ℕ). coming most_line room last ≡ Comes) (sym (room_both most_input one.given.used events))
+                (come_then (room_after most_input one.given.used) events (last ∷ []) come).0;
             tells = one.ending.tells;
           }
 
@@ -358,7 +368,8 @@ module _ (laws : RunLaws) where
         day = day_of;
         controllable = controllable_of;
         faithful = fed_faithful laws one.net _ _ closure_of one.ending.listings one.ending.final within_of one.ending.fed;
-        unfaithful = unfaithful_there laws one.net _ _ closure_of one.ending.listings one.ending.final one.ending.told one.ending.last.text end within_of one.ending.tells one.ending.fed one.ending.decides refused;
+        unfaithful =
+            unfaithful_there laws one.net _ _ closure_of one.ending.listings one.ending.final one.ending.told one.ending.last.text end within_of one.ending.tells one.ending.fed one.ending.decides refused;
       }
 
     completes_by : end ≡ ends.Done → (net : Plan) × (listings : List Listing) × IsWholeDay (input_lines input) net listings
