@@ -144,7 +144,8 @@ module _ (net : Plan) (table : Graph) (schedule : List ℕ) (run : IsRun net tab
     seen_completed point ending by_then =
         elim (cases_lt (moment_in schedule point) t) [
           | inl less ↦ seen.known point (ending_point net run.plan point ending) less
-          | inr above ↦ (let same : moment_in schedule point ≡ t = omega (arith, above, by_then) in seen.completed point ending same ∙ ap (λ (m : ℕ). let o : Option ℕ = Some m in o) (sym same))
+          | inr above ↦
+              (let same : moment_in schedule point ≡ t = omega (arith, above, by_then) in seen.completed point ending same ∙ ap (λ (m : ℕ). let o : Option ℕ = Some m in o) (sym same))
         ]
 
     module _ (point : PointId) (executable : IsExecutable net point) where
@@ -177,7 +178,8 @@ module _ (net : Plan) (table : Graph) (schedule : List ℕ) (run : IsRun net tab
       wait_sound wait among =
           let (above, found) = (exact.waits wait.0 wait.1).0 among in
           let (activation, has) = found in
-          let labelled : slice_get table.shape.activations wait.0.0 ≡ Some activation = (run.sound.keys (record { from = point; to = activation; label = Some wait.0; weight = pos 0 -ℤ wait.1 }) has).labelled in
+          let labelled : slice_get table.shape.activations wait.0.0 ≡ Some activation =
+          (run.sound.keys (record { from = point; to = activation; label = Some wait.0; weight = pos 0 -ℤ wait.1 }) has).labelled in
           let (link, declared) = waited wait.0 activation labelled in
           (link, declared, some_positive wait.1 above)
 
@@ -224,7 +226,9 @@ module _ (net : Plan) (table : Graph) (schedule : List ℕ) (run : IsRun net tab
               wait_met_is wait link declared
               ∙ and_from (has_come moments link.from) (has_come moments link.to || has_gone_by moments t link.from wait.1) (ap is_some begun)
               (elim (cases_lt t (moment_in schedule link.to)) [
-                | inl later ↦ or_right (has_come moments link.to) (has_gone_by moments t link.from wait.1) (gone_by moments t link.from wait.1 (moment_in schedule link.from) begun (omega (arith, is, asks, later)))
+                | inl later ↦
+                    or_right (has_come moments link.to) (has_gone_by moments t link.from wait.1)
+                    (gone_by moments t link.from wait.1 (moment_in schedule link.from) begun (omega (arith, is, asks, later)))
                 | inr by_now ↦ or_left (has_come moments link.to) (has_gone_by moments t link.from wait.1) (ap is_some (seen_completed link.to ending by_now))
               ])
 
@@ -283,11 +287,11 @@ module _ (net : Plan) (table : Graph) (schedule : List ℕ) (run : IsRun net tab
           is_first.first t (All-weaker (Contains asked) (λ m. m ≤ t) (asked_met met) asked (All-contains_itself asked))
 
       -- so the point is due exactly at its moment
-      is_due_now : moment_in schedule point ≡ t → is_due setting moments t point ≡ true
+      pub is_due_now : moment_in schedule point ≡ t → is_due setting moments t point ≡ true
       is_due_now now =
           due_from setting moments t point (executable_has_none net setting refl point executable) (seen.unknown point executable (omega (arith, now))) (met_by_then (omega (arith, now)))
 
-      not_due_before : t < moment_in schedule point → is_due setting moments t point ≡ false
+      pub not_due_before : t < moment_in schedule point → is_due setting moments t point ≡ false
       not_due_before before =
           and_right (is_none (link_to setting point) && is_none (moment_of moments point)) (meets setting moments t conditions)
           (false_from_ne_true (meets setting moments t conditions) (λ met. let come = come_where_met met in omega (arith, come, before)))
@@ -307,7 +311,7 @@ module _ (net : Plan) (table : Graph) (schedule : List ℕ) (run : IsRun net tab
     stays : (point : PointId) → IsPoint net point → is_due setting moments t point ≡ false → moment_of (acted setting moments t) point ≡ moment_of moments point
     stays point within not_due = moment_not_due setting moments t point (omega (arith, within, dispatch_length)) not_due
 
-    never_due : (point : PointId) → Ending net point → is_due setting moments t point ≡ false
+    pub never_due : (point : PointId) → Ending net point → is_due setting moments t point ≡ false
     never_due point ending = contingent_not_due setting moments t point ending.link (link_found net run.plan setting refl point ending)
 
     pub acts_cut : IsCut net schedule (acted setting moments t) (suc t)

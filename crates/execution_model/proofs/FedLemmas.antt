@@ -49,7 +49,7 @@ pub listed_of : (net : Plan) (execution : Execution) (listing : Listing) → IsE
 listed_of net execution listing = fed_of net execution listing.moment (with_completed execution listing.moment listing.points)
 
 -- what comes of the answer to the first feed of a list
-abbrev fed_on : Execution → Listing → List Listing → Result Moments Why → Result Execution Why
+abbrev pub fed_on : Execution → Listing → List Listing → Result Moments Why → Result Execution Why
 fed_on execution listing others (Ok moments) = fed_all (after_feed execution listing.moment moments) others
 fed_on execution listing others (Err cause) = Err cause
 
@@ -70,13 +70,13 @@ not_refused execution moment none = by (nat_lt moment (next_moment execution)) r
     by true less is = no_last execution.last less is
     by false not_less is = by_limit (nat_lt most_moment moment) refl is
 
-err_ok : {A B : Type 0} (a : A) (b : B) → Err b ≡ Ok a → ⊥
+pub err_ok : {A B : Type 0} (a : A) (b : B) → Err b ≡ Ok a → ⊥
 err_ok a b is = absurd (cc)
 
-same_ok : {A B : Type 0} (a b : A) → ◌≡◌ {A = Result A B} (Ok a) (Ok b) → a ≡ b
+pub same_ok : {A B : Type 0} (a b : A) → ◌≡◌ {A = Result A B} (Ok a) (Ok b) → a ≡ b
 same_ok a b is = cc
 
-taken_within : (execution : Execution) (moment : ℕ) (listed : List PointId) (moments : Moments) → taken execution moment listed ≡ Ok moments → moment ≤ most_moment
+pub taken_within : (execution : Execution) (moment : ℕ) (listed : List PointId) (moments : Moments) → taken execution moment listed ≡ Ok moments → moment ≤ most_moment
 taken_within execution moment listed moments is = by (refusal_of_moment execution moment) refl is
   where
     by : (o : Option Why) → refusal_of_moment execution moment ≡ o → option_map_or Err o (completed_in execution moment listed) ≡ Ok moments → moment ≤ most_moment

@@ -60,7 +60,8 @@ module _ (net : Plan) (table : Graph) (schedule : List ℕ) (run : IsRun net tab
       (subst
       (λ (setting : Setting). IsCut net schedule (time_runs setting execution.moments (next_moment execution) (moments_to execution moment)) (next_moment execution + moments_to execution moment))
       (sym keeps.setting)
-      (time_cut net table schedule run (moments_to execution moment) execution.moments (next_moment execution) keeps.cut (λ point ending at_least below. none point ending at_least (omega (arith, below, there)))))
+      (time_cut net table schedule run (moments_to execution moment) execution.moments (next_moment execution) keeps.cut
+      (λ point ending at_least below. none point ending at_least (omega (arith, below, there)))))
 
   pub none_before : (from : ℕ) (listing : Listing) → IsNext net schedule from listing → NoneComes net schedule from listing.moment
   none_before from listing is point ending at_least below =
@@ -113,20 +114,30 @@ module _ (net : Plan) (table : Graph) (schedule : List ℕ) (run : IsRun net tab
             let high = its.high in
             let contingent = ending_contingent net point ending in
             let not_yet : listing.moment ≤ moment_in schedule point = not_sooner net schedule (moments_before execution listing.moment) listing.moment before point within unknown in
-            let begun : moment_in schedule link.from ≡ activated = sym (cut_value net schedule (moments_before execution listing.moment) listing.moment before link.from activated sound.from_point active).0 in
+            let begun : moment_in schedule link.from ≡ activated =
+            sym (cut_value net schedule (moments_before execution listing.moment) listing.moment before link.from activated sound.from_point active).0 in
             is.listed point contingent (let later = is.later in omega (arith, later, not_yet)) (omega (arith, reached, begun, lasting, high, at))
 
     in_time : IsInTime execution listing.moment listing.points
     in_time = record {
       later = is.later;
       once = is.once;
-      completes = All-weaker (Contains listing.points) (CompletesInTime execution.setting (moments_before execution listing.moment) listing.moment) completes listing.points (All-contains_itself listing.points);
+      completes =
+          All-weaker (Contains listing.points) (CompletesInTime execution.setting (moments_before execution listing.moment) listing.moment) completes listing.points
+          (All-contains_itself listing.points);
       none_left = none_left;
     }
 
     -- the completions are those of the schedule
-    seen : IsSeen net schedule (with_completed execution listing.moment listing.points) listing.moment
-    seen = record { long = length-completed_all listing.moment (moments_before execution listing.moment) listing.points ∙ before.long; known = known; completed = completed; not_yet = not_yet; unknown = unknown }
+    pub seen : IsSeen net schedule (with_completed execution listing.moment listing.points) listing.moment
+    seen =
+        record {
+          long = length-completed_all listing.moment (moments_before execution listing.moment) listing.points ∙ before.long;
+          known = known;
+          completed = completed;
+          not_yet = not_yet;
+          unknown = unknown;
+        }
       where
         kept : (point : PointId) → (Contains listing.points point → ⊥)
             → moment_of (with_completed execution listing.moment listing.points) point ≡ moment_of (moments_before execution listing.moment) point

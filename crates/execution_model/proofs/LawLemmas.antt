@@ -22,6 +22,7 @@ use Rattle.execution_model.specs.Feeding.{Execution, started, next_moment, is_op
 use Rattle.execution_model.specs.Streams.{Listing, IsListed, Shows, IsFaithful, last_moment}
 use Rattle.execution_model.specs.Timely.{AreInTime, fed_all}
 use Rattle.execution_model.specs.Laws.{setting_of, IsDispatchedByClosure, IsExecutionOf, going_on, ended, FaithfulStreamsAreTaken, FeedsExecuteEarliest, DoneWhereNoneIsOpen, EndsAreEarliest, StreamsAreExecuted}
+use Rattle.execution_model.proofs.GraphLemmas.{closures_are_graphs}
 use Rattle.execution_model.proofs.MomentLemmas.{Contains-point}
 use Rattle.execution_model.proofs.PlaceLemmas.{link_found, ending_of, ending_point, contingent_ending, ending_contingent}
 use Rattle.execution_model.proofs.CutLemmas.{IsCut, IsRun, came, cut_value}
@@ -44,10 +45,10 @@ module _ (net : Plan) (table : Graph) (order : List PointId) (by : IsDispatchedB
   run_of situation schedule earliest = record {
     plan = by.sound;
     for = by.closure.for_network;
-    sound = by.graph;
+    sound = closures_are_graphs net table by.sound by.closure;
     situation = situation;
     is_situation = earliest.is_situation;
-    executed = (closures_execute_earliest net table order situation schedule by.sound by.closure by.graph by.ordered earliest.is_situation).0 earliest;
+    executed = (closures_execute_earliest net table order situation schedule by.sound by.closure (closures_are_graphs net table by.sound by.closure) by.ordered earliest.is_situation).0 earliest;
   }
 
   module _ (listings : List Listing) (execution : Execution) (fed : fed_all (started (setting_of net table)) listings ≡ Ok execution) (schedule : List ℕ)
@@ -66,6 +67,26 @@ module _ (net : Plan) (table : Graph) (order : List PointId) (by : IsDispatchedB
     pub fed_end : next_moment execution ≡ end_of 0 listings
     fed_end = ap next_moment (sym leads) ∙ end_after (started (setting_of net table)) listings
 
+  -- where the stream is said to be done, no contingent point comes after it, however long time runs
+  module _ (listings : List Listing) (execution : Execution) (fed : fed_all (started (setting_of net table)) listings ≡ Ok execution) (schedule : List ℕ)
+      (run : IsRun net table schedule) (shows : Shows net (ended listings) schedule) (count : ℕ) where
+    shows_on : Shows net (going_on listings) schedule
+    shows_on = done_shows net schedule listings shows
+
+    pub done_keeps : KeepsTo net table schedule execution
+    done_keeps = fed_keeps listings execution fed schedule run shows_on
+
+    pub none_comes : NoneComes net schedule (next_moment execution) (next_moment execution + count)
+    none_comes point ending at_least below =
+        let before = done_before_end net schedule listings shows point (ending_contingent net point ending) in
+        let end = fed_end listings execution fed schedule run shows_on in
+        omega (arith, before, end, at_least)
+
+    pub end_cut : IsCut net schedule (time_runs execution.setting execution.moments (next_moment execution) count) (next_moment execution + count)
+    end_cut =
+        subst (λ (setting : Setting). IsCut net schedule (time_runs setting execution.moments (next_moment execution) count) (next_moment execution + count)) (sym done_keeps.setting)
+        (time_cut net table schedule run count execution.moments (next_moment execution) done_keeps.cut none_comes)
+
 pub feeds_execute_earliest : FeedsExecuteEarliest
 feeds_execute_earliest net table order listings execution situation schedule by fed earliest shows =
     let run = run_of net table order by situation schedule earliest in
@@ -76,16 +97,9 @@ feeds_execute_earliest net table order listings execution situation schedule by 
 pub ends_are_earliest : EndsAreEarliest
 ends_are_earliest net table order listings execution after situation schedule by fed whole earliest shows =
     let run = run_of net table order by situation schedule earliest in
-    let shows_on = done_shows net schedule listings shows in
-    let keeps = fed_keeps net table order by listings execution fed schedule run shows_on in
-    let end = fed_end net table order by listings execution fed schedule run shows_on in
-    let none : NoneComes net schedule (next_moment execution) (next_moment execution + whole.count) =
-    λ point ending at_least below. let before = done_before_end net schedule listings shows point (ending_contingent net point ending) in omega (arith, before, end, at_least) in
-    let cut = time_cut net table schedule run whole.count execution.moments (next_moment execution) keeps.cut none in
-    let here : IsCut net schedule (time_runs execution.setting execution.moments (next_moment execution) whole.count) (next_moment execution + whole.count) =
-    subst (λ (setting : Setting). IsCut net schedule (time_runs setting execution.moments (next_moment execution) whole.count) (next_moment execution + whole.count)) (sym keeps.setting) cut in
+    let cut = end_cut net table order by listings execution fed schedule run shows whole.count in
     ap (λ (e : Execution). e.moments) whole.after_it
-    ∙ whole_is net schedule (time_runs execution.setting execution.moments (next_moment execution) whole.count) (next_moment execution + whole.count) run.executed.complete here whole.come
+    ∙ whole_is net schedule (time_runs execution.setting execution.moments (next_moment execution) whole.count) (next_moment execution + whole.count) run.executed.complete cut whole.come
 
 -- ---- faithful streams
 module _ (net : Plan) (table : Graph) (order : List PointId) (by : IsDispatchedByClosure net table order) (listings : List Listing) where
@@ -109,8 +123,10 @@ module _ (net : Plan) (table : Graph) (order : List PointId) (by : IsDispatchedB
     in_time_fits =
         let closed : IsClosed net table = (closure_is_closed net table by.closure).0 in
         let situation = situation_seen net final in
-        let (schedule, executed) = (executions_satisfy net table order by.sound by.closure.for_network by.graph closed by.ordered).executed situation is_situation in
-        let run : IsRun net table schedule = record { plan = by.sound; for = by.closure.for_network; sound = by.graph; situation = situation; is_situation = is_situation; executed = executed } in
+        let (schedule, executed) =
+        (executions_satisfy net table order by.sound by.closure.for_network (closures_are_graphs net table by.sound by.closure) closed by.ordered).executed situation is_situation in
+        let run : IsRun net table schedule =
+        record { plan = by.sound; for = by.closure.for_network; sound = closures_are_graphs net table by.sound by.closure; situation = situation; is_situation = is_situation; executed = executed } in
         let shown : IsShownBy net table schedule final = record {
           run = run;
           each = each_lasted;
@@ -120,7 +136,7 @@ module _ (net : Plan) (table : Graph) (order : List PointId) (by : IsDispatchedB
           situation,
           record {
             schedule = schedule;
-            earliest = (closures_execute_earliest net table order situation schedule by.sound by.closure by.graph by.ordered is_situation).1 executed;
+            earliest = (closures_execute_earliest net table order situation schedule by.sound by.closure (closures_are_graphs net table by.sound by.closure) by.ordered is_situation).1 executed;
             shows = next_shows net schedule listings next;
           },
         )
@@ -128,10 +144,11 @@ module _ (net : Plan) (table : Graph) (order : List PointId) (by : IsDispatchedB
   -- and a faithful stream is in time
   pub faithful_in_time : IsFaithful net (going_on listings) → AreInTime (started (setting_of net table)) listings
   faithful_in_time (situation, fits) =
-      feeds_in_time net table fits.schedule (run_of net table order by situation fits.schedule fits.earliest) listings (started (setting_of net table)) (start_keeps net table fits.schedule by.closure.for_network)
+      feeds_in_time net table fits.schedule (run_of net table order by situation fits.schedule fits.earliest) listings (started (setting_of net table))
+      (start_keeps net table fits.schedule by.closure.for_network)
       (shows_next net fits.schedule listings fits.shows)
 
-  fed_faithful : (execution : Execution) → fed_all (started (setting_of net table)) listings ≡ Ok execution → IsFaithful net (going_on listings)
+  pub fed_faithful : (execution : Execution) → fed_all (started (setting_of net table)) listings ≡ Ok execution → IsFaithful net (going_on listings)
   fed_faithful execution fed =
       in_time_fits (fed_in_time net listings (started (setting_of net table)) execution (started_of net table by.sound by.closure.for_network) fed).0
 

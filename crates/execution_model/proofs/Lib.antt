@@ -10,5 +10,8 @@ pub mod FittingLemmas
 pub mod StreamLemmas
 pub mod SituationLemmas
 pub mod SeenLemmas
+pub mod ActLemmas
+pub mod GraphLemmas
 pub mod LawLemmas
 pub mod ExecutionLemmas
+pub mod EarliestLemmas

@@ -22,7 +22,8 @@ kept_none : {X Y : Type 0} (p : X → Bool) (f : X → Y) (xs : List X) → map 
 kept_none p f [] none x inside = absurd (Contains-none x inside)
 kept_none {X} {Y} p f (y ∷ ys) none x inside = by (kept_none p f ys) (p y) refl none (Contains-cases y ys x inside)
   where
-    by : (map f (filter p ys) ≡ [] → (z : X) → Contains ys z → p z ≡ false) → (b : Bool) → p y ≡ b → map f (if b then y ∷ filter p ys else filter p ys) ≡ [] → (y ≡ x) ⊎ Contains ys x → p x ≡ false
+    by : (map f (filter p ys) ≡ [] → (z : X) → Contains ys z → p z ≡ false) → (b : Bool) → p y ≡ b → map f (if b then y ∷ filter p ys else filter p ys) ≡ []
+        → (y ≡ x) ⊎ Contains ys x → p x ≡ false
     by rest true is kept at = absurd (cc)
     by rest false is kept (inl same) = ap p (sym same) ∙ is
     by rest false is kept (inr there) = rest kept x there
@@ -32,7 +33,8 @@ keeps_none p a zero fails = refl
 keeps_none p a (suc n) fails =
     let rest = keeps_none p (a + 1) n (λ k from below. fails k (omega arith) (omega arith)) in
     let first : PointId = record { 0 = a } in
-    ap (λ (b : Bool). if b then first ∷ filter p (map (λ k. record { 0 = k }) (range_with_len (a + 1) n)) else filter p (map (λ k. record { 0 = k }) (range_with_len (a + 1) n))) (fails a (omega arith) (omega arith)) ∙ rest
+    ap (λ (b : Bool). if b then first ∷ filter p (map (λ k. record { 0 = k }) (range_with_len (a + 1) n)) else filter p (map (λ k. record { 0 = k }) (range_with_len (a + 1) n)))
+    (fails a (omega arith) (omega arith)) ∙ rest
 
 -- ---- lists of moments
 -- a point beyond the points has no moment
@@ -72,7 +74,8 @@ module _ (setting : Setting) (moments : Moments) (t : ℕ) where
   pub length-acted : length (acted setting moments t) ≡ length setting.dispatch
   length-acted = length-map (points_of setting) (λ point. if is_due setting moments t point then Some t else moment_of moments point) ∙ length-points setting
 
-  pub moment_acted : (point : PointId) → point.0 < length setting.dispatch → moment_of (acted setting moments t) point ≡ (if is_due setting moments t point then Some t else moment_of moments point)
+  pub moment_acted : (point : PointId) → point.0 < length setting.dispatch
+      → moment_of (acted setting moments t) point ≡ (if is_due setting moments t point then Some t else moment_of moments point)
   moment_acted point inside =
       let f : PointId → Option ℕ = λ p. if is_due setting moments t p then Some t else moment_of moments p in
       let none : PointId = record { 0 = 0 } in
@@ -96,14 +99,16 @@ module _ (setting : Setting) (moments : Moments) (t : ℕ) where
 
   -- nor is a contingent point
   pub contingent_not_due : (point : PointId) (link : Link) → link_to setting point ≡ Some link → is_due setting moments t point ≡ false
-  contingent_not_due point link ends = contingent_by (is_none (link_to setting point)) (is_none (moment_of moments point)) (meets setting moments t (conditions_at setting.dispatch point)) (ap is_none ends)
+  contingent_not_due point link ends =
+      contingent_by (is_none (link_to setting point)) (is_none (moment_of moments point)) (meets setting moments t (conditions_at setting.dispatch point)) (ap is_none ends)
     where
       contingent_by : (a b c : Bool) → a ≡ false → (a && b && c) ≡ false
       contingent_by true b c none = absurd (true≢false none)
       contingent_by false b c none = refl
 
   -- a due point is executable, has not come, and its conditions are met
-  pub due_parts : (point : PointId) → is_due setting moments t point ≡ true → (link_to setting point ≡ None) × (moment_of moments point ≡ None) × (meets setting moments t (conditions_at setting.dispatch point) ≡ true)
+  pub due_parts : (point : PointId) → is_due setting moments t point ≡ true
+      → (link_to setting point ≡ None) × (moment_of moments point ≡ None) × (meets setting moments t (conditions_at setting.dispatch point) ≡ true)
   due_parts point due = parts (link_to setting point) (moment_of moments point) (meets setting moments t (conditions_at setting.dispatch point)) due
     where
       parts : (a : Option Link) (b : Option ℕ) (c : Bool) → (is_none a && is_none b && c) ≡ true → (a ≡ None) × (b ≡ None) × (c ≡ true)
@@ -112,7 +117,8 @@ module _ (setting : Setting) (moments : Moments) (t : ℕ) where
       parts None (Some m) c holds = absurd (true≢false (sym holds))
       parts (Some l) b c holds = absurd (true≢false (sym holds))
 
-  pub due_from : (point : PointId) → link_to setting point ≡ None → moment_of moments point ≡ None → meets setting moments t (conditions_at setting.dispatch point) ≡ true → is_due setting moments t point ≡ true
+  pub due_from : (point : PointId) → link_to setting point ≡ None → moment_of moments point ≡ None → meets setting moments t (conditions_at setting.dispatch point) ≡ true
+      → is_due setting moments t point ≡ true
   due_from point none new met = λ i. is_none (none i) && is_none (new i) && met i
 
   -- a moment once known stays
@@ -122,7 +128,8 @@ module _ (setting : Setting) (moments : Moments) (t : ℕ) where
       moment_not_due point (omega arith) (come_not_due point m come) ∙ come
 
   -- a contingent point's moment stays as it was
-  pub acted_contingent : length moments ≡ length setting.dispatch → (point : PointId) (link : Link) → link_to setting point ≡ Some link → moment_of (acted setting moments t) point ≡ moment_of moments point
+  pub acted_contingent : length moments ≡ length setting.dispatch → (point : PointId) (link : Link) → link_to setting point ≡ Some link
+      → moment_of (acted setting moments t) point ≡ moment_of moments point
   acted_contingent long point link ends = by (cases_lt point.0 (length setting.dispatch))
     where
       by : (point.0 < length setting.dispatch) ⊎ (length setting.dispatch ≤ point.0) → moment_of (acted setting moments t) point ≡ moment_of moments point
@@ -130,14 +137,16 @@ module _ (setting : Setting) (moments : Moments) (t : ℕ) where
       by (inr past) = let here = length-acted in past_none (acted setting moments t) point (omega arith) ∙ sym (past_none moments point (omega arith))
 
   -- a point that has a moment after the acts had it before, or came at t
-  pub acted_from : length moments ≡ length setting.dispatch → (point : PointId) (m : ℕ) → moment_of (acted setting moments t) point ≡ Some m → (moment_of moments point ≡ Some m) ⊎ ((m ≡ t) × (is_due setting moments t point ≡ true))
+  pub acted_from : length moments ≡ length setting.dispatch → (point : PointId) (m : ℕ) → moment_of (acted setting moments t) point ≡ Some m
+      → (moment_of moments point ≡ Some m) ⊎ ((m ≡ t) × (is_due setting moments t point ≡ true))
   acted_from long point m come =
       let here = length-acted in
       let low : point.0 < length (acted setting moments t) = within_from_some (acted setting moments t) point m come in
       let inside : point.0 < length setting.dispatch = omega arith in
       by inside (is_due setting moments t point) refl
     where
-      by : point.0 < length setting.dispatch → (b : Bool) → is_due setting moments t point ≡ b → (moment_of moments point ≡ Some m) ⊎ ((m ≡ t) × (is_due setting moments t point ≡ true))
+      by : point.0 < length setting.dispatch → (b : Bool) → is_due setting moments t point ≡ b
+          → (moment_of moments point ≡ Some m) ⊎ ((m ≡ t) × (is_due setting moments t point ≡ true))
       by inside true due = let same : Some m ≡ Some t = sym come ∙ moment_due point inside due in inr (same_Some m t same, due)
       by inside false not_due = inl (sym (moment_not_due point inside not_due) ∙ come)
 
@@ -146,7 +155,9 @@ module _ (setting : Setting) (moments : Moments) (t : ℕ) where
   no_acts_none_due none point inside = kept_none (is_due setting moments t) (λ p. record { moment = t; point = p }) (points_of setting) none point (Contains-point setting point inside)
 
   pub none_due_no_acts : ((point : PointId) → point.0 < length setting.dispatch → is_due setting moments t point ≡ false) → acts_at setting moments t ≡ []
-  none_due_no_acts none = ap (map (λ p. let act : Act = record { moment = t; point = p } in act)) (keeps_none (is_due setting moments t) 0 (length setting.dispatch) (λ k from below. none (record { 0 = k }) (omega arith)))
+  none_due_no_acts none =
+      ap (map (λ p. let act : Act = record { moment = t; point = p } in act))
+      (keeps_none (is_due setting moments t) 0 (length setting.dispatch) (λ k from below. none (record { 0 = k }) (omega arith)))
 
   pub no_acts_same : length moments ≡ length setting.dispatch → acts_at setting moments t ≡ [] → acted setting moments t ≡ moments
   no_acts_same long none = same_moments (acted setting moments t) moments (length-acted ∙ sym long) (λ point. by point (cases_lt point.0 (length setting.dispatch)))
@@ -161,16 +172,21 @@ module _ (setting : Setting) where
   length-time_runs moments t zero long = long
   length-time_runs moments t (suc count) long = length-time_runs (acted setting moments t) (suc t) count (length-acted setting moments t)
 
-  pub time_runs_keeps : (moments : Moments) (t count : ℕ) → length moments ≡ length setting.dispatch → (point : PointId) (m : ℕ) → moment_of moments point ≡ Some m → moment_of (time_runs setting moments t count) point ≡ Some m
+  pub time_runs_keeps : (moments : Moments) (t count : ℕ) → length moments ≡ length setting.dispatch → (point : PointId) (m : ℕ) → moment_of moments point ≡ Some m
+      → moment_of (time_runs setting moments t count) point ≡ Some m
   time_runs_keeps moments t zero long point m come = come
-  time_runs_keeps moments t (suc count) long point m come = time_runs_keeps (acted setting moments t) (suc t) count (length-acted setting moments t) point m (acted_keeps setting moments t long point m come)
+  time_runs_keeps moments t (suc count) long point m come =
+      time_runs_keeps (acted setting moments t) (suc t) count (length-acted setting moments t) point m (acted_keeps setting moments t long point m come)
 
-  pub time_runs_contingent : (moments : Moments) (t count : ℕ) → length moments ≡ length setting.dispatch → (point : PointId) (link : Link) → link_to setting point ≡ Some link → moment_of (time_runs setting moments t count) point ≡ moment_of moments point
+  pub time_runs_contingent : (moments : Moments) (t count : ℕ) → length moments ≡ length setting.dispatch → (point : PointId) (link : Link) → link_to setting point ≡ Some link
+      → moment_of (time_runs setting moments t count) point ≡ moment_of moments point
   time_runs_contingent moments t zero long point link ends = refl
-  time_runs_contingent moments t (suc count) long point link ends = time_runs_contingent (acted setting moments t) (suc t) count (length-acted setting moments t) point link ends ∙ acted_contingent setting moments t long point link ends
+  time_runs_contingent moments t (suc count) long point link ends =
+      time_runs_contingent (acted setting moments t) (suc t) count (length-acted setting moments t) point link ends ∙ acted_contingent setting moments t long point link ends
 
   -- what time brings comes in that time
-  pub time_runs_from : (moments : Moments) (t count : ℕ) → length moments ≡ length setting.dispatch → (point : PointId) (m : ℕ) → moment_of (time_runs setting moments t count) point ≡ Some m
+  pub time_runs_from : (moments : Moments) (t count : ℕ) → length moments ≡ length setting.dispatch → (point : PointId) (m : ℕ)
+      → moment_of (time_runs setting moments t count) point ≡ Some m
       → (moment_of moments point ≡ Some m) ⊎ ((t ≤ m) × (m < t + count))
   time_runs_from moments t zero long point m come = inl come
   time_runs_from moments t (suc count) long point m come =
@@ -188,7 +204,8 @@ module _ (setting : Setting) where
   time_runs_on moments t (suc first) second =
       let all : suc first + second ≡ suc (first + second) = omega arith in
       let next : suc t + first ≡ t + suc first = omega arith in
-      ap (time_runs setting moments t) all ∙ (time_runs_on (acted setting moments t) (suc t) first second ∙ ap (λ n. time_runs setting (time_runs setting (acted setting moments t) (suc t) first) n second) next)
+      ap (time_runs setting moments t) all
+      ∙ (time_runs_on (acted setting moments t) (suc t) first second ∙ ap (λ n. time_runs setting (time_runs setting (acted setting moments t) (suc t) first) n second) next)
 
 -- ---- after a completion
 module _ (moments : Moments) (moment : ℕ) (point : PointId) where
@@ -218,9 +235,11 @@ module _ (moment : ℕ) where
   length-completed_all moments (point ∷ others) = length-completed_all (completed_at moments moment point) others ∙ length-completed_at moments moment point
 
   -- a point that is not listed keeps its moment
-  pub moment_not_listed : (moments : Moments) (listed : List PointId) (point : PointId) → is_among listed point ≡ false → moment_of (completed_all moments moment listed) point ≡ moment_of moments point
+  pub moment_not_listed : (moments : Moments) (listed : List PointId) (point : PointId) → is_among listed point ≡ false
+      → moment_of (completed_all moments moment listed) point ≡ moment_of moments point
   moment_not_listed moments [] point not_listed = refl
-  moment_not_listed moments (first ∷ others) point not_listed = by (first.0 == point.0) refl (is_among others point) refl not_listed (moment_not_listed (completed_at moments moment first) others point)
+  moment_not_listed moments (first ∷ others) point not_listed =
+      by (first.0 == point.0) refl (is_among others point) refl not_listed (moment_not_listed (completed_at moments moment first) others point)
     where
       by : (a : Bool) → first.0 == point.0 ≡ a → (b : Bool) → is_among others point ≡ b → (a || b) ≡ false
           → (is_among others point ≡ false → moment_of (completed_all (completed_at moments moment first) moment others) point ≡ moment_of (completed_at moments moment first) point)
@@ -230,7 +249,8 @@ module _ (moment : ℕ) where
       by false apart false is holds rest = let other : point.0 ≢ first.0 = grind (arith, nat_tests) in rest is ∙ moment_of_other moments moment first point other
 
   -- a listed point has the moment
-  pub moment_listed : (moments : Moments) (listed : List PointId) (point : PointId) → point.0 < length moments → is_among listed point ≡ true → moment_of (completed_all moments moment listed) point ≡ Some moment
+  pub moment_listed : (moments : Moments) (listed : List PointId) (point : PointId) → point.0 < length moments → is_among listed point ≡ true
+      → moment_of (completed_all moments moment listed) point ≡ Some moment
   moment_listed moments [] point inside among = absurd (true≢false (sym among))
   moment_listed moments (first ∷ others) point inside among =
       let long = length-completed_at moments moment first in

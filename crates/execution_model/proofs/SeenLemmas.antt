@@ -142,11 +142,15 @@ module _ (net : Plan) (table : Graph) (schedule : List ℕ) (final : Moments) (s
         let timely = All-contains (CompletesInTime execution.setting (moments_before execution listing.moment) listing.moment) listing.points point in_time.completes among in
         let (ending, same) = ending_of net shown.run.plan execution.setting of.links point timely.link timely.ends in
         let link = ending.link in
-        let active : moment_of (moments_before execution listing.moment) link.from ≡ Some timely.activated = ap (λ (l : Link). moment_of (moments_before execution listing.moment) l.from) same ∙ timely.active in
+        let active : moment_of (moments_before execution listing.moment) link.from ≡ Some timely.activated =
+        ap (λ (l : Link). moment_of (moments_before execution listing.moment) l.from) same ∙ timely.active in
         let sound = link_sound net shown.run.plan ending.name.0 link ending.declared in
         let begun = sym (cut_value net schedule (moments_before execution listing.moment) listing.moment before_cut link.from timely.activated sound.from_point active).0 in
-        let found : moment_of final link.to ≡ Some listing.moment = ap (moment_of final) ending.ends ∙ listed_finally point ending among in
-        (ending_contingent net point ending, sym (ap (moment_in schedule) ending.ends) ∙ seen_end ending.name link listing.moment timely.activated ending.declared found (finally link.from timely.activated active) begun)
+        let found : moment_of final link.to ≡ Some listing.moment = ap (moment_of final) ending.ends ∙ listed_finally point ending among in (
+          ending_contingent net point ending,
+          sym (ap (moment_in schedule) ending.ends) ∙ seen_end ending.name link listing.moment timely.activated ending.declared found
+              (finally link.from timely.activated active) begun,
+        )
 
     listed : (point : PointId) → IsContingent net point → next_moment execution ≤ moment_in schedule point → moment_in schedule point ≤ listing.moment → Contains listing.points point
     listed point contingent at_least by_then =

@@ -38,7 +38,8 @@ module _ (net : Plan) (execution : Execution) (of : IsExecutionOf net execution)
 
     pub before_contingent : (point : PointId) → Ending net point → moment_of (moments_before execution moment) point ≡ moment_of execution.moments point
     before_contingent point ending =
-        time_runs_contingent execution.setting execution.moments (next_moment execution) (moments_to execution moment) long point ending.link (link_found net of.sound execution.setting of.links point ending)
+        time_runs_contingent execution.setting execution.moments (next_moment execution) (moments_to execution moment) long point ending.link
+        (link_found net of.sound execution.setting of.links point ending)
 
   module _ (listing : Listing) (in_time : IsInTime execution listing.moment listing.points) where
     -- a listed point has not come before
@@ -63,7 +64,8 @@ module _ (net : Plan) (execution : Execution) (of : IsExecutionOf net execution)
     after_contingent : (point : PointId) → Ending net point
         → moment_of (after_listing execution listing).moments point ≡ moment_of (with_completed execution listing.moment listing.points) point
     after_contingent point ending =
-        acted_contingent execution.setting (with_completed execution listing.moment listing.points) listing.moment length_completed point ending.link (link_found net of.sound execution.setting of.links point ending)
+        acted_contingent execution.setting (with_completed execution listing.moment listing.points) listing.moment length_completed point ending.link
+        (link_found net of.sound execution.setting of.links point ending)
 
     -- a contingent point has come after a feed where it is listed or had come before
     pub feed_listed : (point : PointId) → Ending net point → Contains listing.points point
@@ -137,7 +139,8 @@ module _ (net : Plan) (execution : Execution) (of : IsExecutionOf net execution)
           let timely = All-contains (CompletesInTime execution.setting (moments_before execution listing.moment) listing.moment) listing.points link.to in_time.completes among in
           let now : listing.moment ≡ completed = same_Some listing.moment completed (sym (feed_listed net execution of listing in_time link.to ending among) ∙ found) in
           let same : timely.link ≡ link = same_Some timely.link link (sym timely.ends ∙ link_of_is_link_to net execution.setting of.links of.sound name link link.to declared refl) in
-          let active : moment_of (moments_before execution listing.moment) link.from ≡ Some timely.activated = ap (λ (l : Link). moment_of (moments_before execution listing.moment) l.from) (sym same) ∙ timely.active in
+          let active : moment_of (moments_before execution listing.moment) link.from ≡ Some timely.activated =
+          ap (λ (l : Link). moment_of (moments_before execution listing.moment) l.from) (sym same) ∙ timely.active in
           let low_same : unsigned_abs timely.link.low ≡ unsigned_abs link.low = ap (λ (l : Link). unsigned_abs l.low) same in
           let high_same : unsigned_abs timely.link.high ≡ unsigned_abs link.high = ap (λ (l : Link). unsigned_abs l.high) same in
           let low = timely.not_too_soon in
@@ -213,7 +216,8 @@ module _ (net : Plan) (plan : IsPlan net) (moments : Moments) (each : EachLasted
           by None none = subst (IsDuration link) (sym (not_seen_lasts link none)) (longest_fits link.low link.high sound.positive sound.interval)
           by (Some c) found =
               let its = each (record { 0 = k }) link c declared found in
-              subst (IsDuration link) (sym (seen_lasts (record { 0 = k }) link c its.activated found its.active)) (seen_fits link.low link.high c its.activated sound.positive sound.interval its.low its.high)
+              subst (IsDuration link) (sym (seen_lasts (record { 0 = k }) link c its.activated found its.active))
+              (seen_fits link.low link.high c its.activated sound.positive sound.interval its.low its.high)
 
   pub seen_duration : (name : LinkId) (link : Link) → IsLinkOf net name link → slice_get (situation_seen net moments) name.0 ≡ Some (duration_seen moments link)
   seen_duration name link declared = slice_get-map (duration_seen moments) net.links name.0 ∙ ap (option_map (duration_seen moments)) declared

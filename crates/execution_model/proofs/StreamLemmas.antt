@@ -101,7 +101,8 @@ module _ (net : Plan) (schedule : List ℕ) where
       comes : (one : Listing) (point : PointId) → Contains (listing ∷ others) one → Contains one.points point → IsContingent net point × (moment_in schedule point ≡ one.moment)
       comes one point among named =
           elim (Contains-cases listing others one among) [
-            | inl same ↦ subst (λ (l : Listing). IsContingent net point × (moment_in schedule point ≡ l.moment)) same (is.comes point (subst (λ (l : Listing). Contains l.points point) (sym same) named))
+            | inl same ↦
+                subst (λ (l : Listing). IsContingent net point × (moment_in schedule point ≡ l.moment)) same (is.comes point (subst (λ (l : Listing). Contains l.points point) (sym same) named))
             | inr later ↦ shows.comes one point later named
           ]
 

@@ -51,10 +51,13 @@ refusal_at moments moment point link (Some completed) = Some (why.Twice point co
 refusal_at moments moment point link None = option_map_or (refusal_of_duration moment point link) (activated_before moments moment link) (Some (why.NotActive point))
 
 module _ (setting : Setting) (moments : Moments) (moment : ℕ) (point : PointId) where
-  over_link : (link : Link) (activated : ℕ) → link_to setting point ≡ Some link → moment_of moments point ≡ None → moment_of moments link.from ≡ Some activated → refusal_of_duration moment point link activated ≡ None
+  over_link : (link : Link) (activated : ℕ) → link_to setting point ≡ Some link → moment_of moments point ≡ None → moment_of moments link.from ≡ Some activated
+      → refusal_of_duration moment point link activated ≡ None
       → CompletesInTime setting moments moment point
   over_link link activated ends new active free =
-      let fits = duration_fits (activated + unsigned_abs link.low) (activated + unsigned_abs link.high) moment (why.TooSoon point (activated + unsigned_abs link.low)) (why.Overdue point (activated + unsigned_abs link.high)) (nat_lt moment (activated + unsigned_abs link.low)) (nat_lt (activated + unsigned_abs link.high) moment) refl refl free in
+      let fits =
+      duration_fits (activated + unsigned_abs link.low) (activated + unsigned_abs link.high) moment (why.TooSoon point (activated + unsigned_abs link.low))
+      (why.Overdue point (activated + unsigned_abs link.high)) (nat_lt moment (activated + unsigned_abs link.low)) (nat_lt (activated + unsigned_abs link.high) moment) refl refl free in
       record { link = link; ends = ends; is_open = new; activated = activated; active = active; not_too_soon = fits.0; not_too_late = fits.1 }
 
   -- a completion that is not refused is in time
@@ -78,7 +81,8 @@ module _ (setting : Setting) (moments : Moments) (moment : ℕ) (point : PointId
       by_moment link ends None new free = by_active link ends new (moment_of moments link.from) refl free
       by_moment link ends (Some completed) come free = absurd (cc)
 
-      by_link : (o : Option Link) → link_to setting point ≡ o → option_map_or (refusal_of_completion moments moment point) o (Some (why.NotContingent point)) ≡ None → CompletesInTime setting moments moment point
+      by_link : (o : Option Link) → link_to setting point ≡ o → option_map_or (refusal_of_completion moments moment point) o (Some (why.NotContingent point)) ≡ None
+          → CompletesInTime setting moments moment point
       by_link None none free = absurd (cc)
       by_link (Some link) ends free = by_moment link ends (moment_of moments point) refl free
 
@@ -89,11 +93,13 @@ module _ (setting : Setting) (moments : Moments) (moment : ℕ) (point : PointId
       let not_active : Option Why = Some (why.NotActive point) in
       let before : nat_lt timely.activated moment ≡ true = lt-ltb timely.activated moment (omega (arith, timely.not_too_soon)) in
       let active : activated_before moments moment link ≡ Some timely.activated =
-      ap (option_and_then (λ activated. if nat_lt activated moment then Some activated else None)) timely.active ∙ ap (λ (b : Bool). let none : Option ℕ = None in if b then Some timely.activated else none) before in
+      ap (option_and_then (λ activated. if nat_lt activated moment then Some activated else None)) timely.active
+      ∙ ap (λ (b : Bool). let none : Option ℕ = None in if b then Some timely.activated else none) before in
       ap (λ (o : Option Link). option_map_or (refusal_of_completion moments moment point) o (Some (why.NotContingent point))) timely.ends
       ∙ ap (refusal_at moments moment point link) timely.is_open
       ∙ ap (λ (o : Option ℕ). option_map_or (refusal_of_duration moment point link) o not_active) active
-      ∙ duration_free (timely.activated + unsigned_abs link.low) (timely.activated + unsigned_abs link.high) moment (why.TooSoon point (timely.activated + unsigned_abs link.low)) (why.Overdue point (timely.activated + unsigned_abs link.high)) timely.not_too_soon timely.not_too_late
+      ∙ duration_free (timely.activated + unsigned_abs link.low) (timely.activated + unsigned_abs link.high) moment (why.TooSoon point (timely.activated + unsigned_abs link.low))
+      (why.Overdue point (timely.activated + unsigned_abs link.high)) timely.not_too_soon timely.not_too_late
 
 -- ---- a point that should have completed
 record IsLate (setting : Setting) (moments : Moments) (moment : ℕ) (point : PointId) : Type 0 where
@@ -116,7 +122,8 @@ module _ (setting : Setting) (moments : Moments) (moment : ℕ) where
       by_active link ends new None active reached = absurd (true≢false (sym reached))
       by_active link ends new (Some activated) active reached = record { link = link; ends = ends; is_open = new; activated = activated; active = active; reached = grind (arith, nat_tests) }
 
-      by : (o : Option ℕ) → moment_of moments point ≡ o → (l : Option Link) → link_to setting point ≡ l → option_map_or (λ latest. nat_le latest moment) (if is_some o then None else latest_over l) false ≡ true → IsLate setting moments moment point
+      by : (o : Option ℕ) → moment_of moments point ≡ o → (l : Option Link) → link_to setting point ≡ l
+          → option_map_or (λ latest. nat_le latest moment) (if is_some o then None else latest_over l) false ≡ true → IsLate setting moments moment point
       by (Some m) come l ends reached = absurd (true≢false (sym reached))
       by None new None ends reached = absurd (true≢false (sym reached))
       by None new (Some link) ends reached = by_active link ends new (moment_of moments link.from) refl reached
@@ -128,7 +135,8 @@ module _ (setting : Setting) (moments : Moments) (moment : ℕ) where
       ∙ ap (option_map (λ activated. activated + unsigned_abs late.link.high)) late.active
 
   late_overdue : (point : PointId) → IsLate setting moments moment point → is_overdue setting moments moment point ≡ true
-  late_overdue point late = ap (λ (o : Option ℕ). option_map_or (λ latest. nat_le latest moment) o false) (latest_is point late) ∙ le-leb (late.activated + unsigned_abs late.link.high) moment late.reached
+  late_overdue point late =
+      ap (λ (o : Option ℕ). option_map_or (λ latest. nat_le latest moment) o false) (latest_is point late) ∙ le-leb (late.activated + unsigned_abs late.link.high) moment late.reached
 
   -- where none is late, none is overdue
   none_late_free : ((point : PointId) → IsLate setting moments moment point → ⊥) → first_overdue setting moments moment ≡ None
@@ -174,10 +182,12 @@ module _ (net : Plan) (setting : Setting) (links : setting.links ≡ net.links) 
   -- what is in time after another completion of the moment was so before it, and is of another point
   apart_after : (moments : Moments) (first point : PointId) → first.0 < length moments → CompletesInTime setting (completed_at moments moment first) moment point → first.0 ≢ point.0
   apart_after moments first point inside timely same =
-      let come : moment_of (completed_at moments moment first) point ≡ Some moment = ap (λ (k : ℕ). moment_of (completed_at moments moment first) (record { 0 = k })) (sym same) ∙ moment_completed moments moment first inside in
+      let come : moment_of (completed_at moments moment first) point ≡ Some moment =
+      ap (λ (k : ℕ). moment_of (completed_at moments moment first) (record { 0 = k })) (sym same) ∙ moment_completed moments moment first inside in
       none-some moment (sym timely.is_open ∙ come)
 
-  in_time_before : (moments : Moments) (first point : PointId) → first.0 < length moments → CompletesInTime setting (completed_at moments moment first) moment point → CompletesInTime setting moments moment point
+  in_time_before : (moments : Moments) (first point : PointId) → first.0 < length moments → CompletesInTime setting (completed_at moments moment first) moment point
+      → CompletesInTime setting moments moment point
   in_time_before moments first point inside timely =
       record {
         link = timely.link;
@@ -191,13 +201,15 @@ module _ (net : Plan) (setting : Setting) (links : setting.links ≡ net.links) 
     where
       activation_apart : timely.link.from.0 ≢ first.0
       activation_apart same =
-          let come : moment_of (completed_at moments moment first) timely.link.from ≡ Some moment = ap (λ (k : ℕ). moment_of (completed_at moments moment first) (record { 0 = k })) same ∙ moment_completed moments moment first inside in
+          let come : moment_of (completed_at moments moment first) timely.link.from ≡ Some moment =
+          ap (λ (k : ℕ). moment_of (completed_at moments moment first) (record { 0 = k })) same ∙ moment_completed moments moment first inside in
           let now : timely.activated ≡ moment = same_Some timely.activated moment (sym timely.active ∙ come) in
           let least = least_of point timely.link timely.ends in
           absurd (omega (arith, now, least, timely.not_too_soon))
 
   -- what is in time is so after the completion of another point
-  in_time_after : (moments : Moments) (first point : PointId) → moment_of moments first ≡ None → first.0 ≢ point.0 → CompletesInTime setting moments moment point → CompletesInTime setting (completed_at moments moment first) moment point
+  in_time_after : (moments : Moments) (first point : PointId) → moment_of moments first ≡ None → first.0 ≢ point.0 → CompletesInTime setting moments moment point
+      → CompletesInTime setting (completed_at moments moment first) moment point
   in_time_after moments first point new apart timely =
       record {
         link = timely.link;
@@ -214,7 +226,8 @@ module _ (net : Plan) (setting : Setting) (links : setting.links ≡ net.links) 
           let none : moment_of moments timely.link.from ≡ None = ap (λ (k : ℕ). moment_of moments (record { 0 = k })) same ∙ new in
           none-some timely.activated (sym none ∙ timely.active)
 
-  taken_means : (moments after : Moments) (listed : List PointId) → length moments ≡ length net.points → completions_taken setting moments moment listed ≡ Ok after → AreTaken setting moments moment listed after
+  taken_means : (moments after : Moments) (listed : List PointId) → length moments ≡ length net.points → completions_taken setting moments moment listed ≡ Ok after
+      → AreTaken setting moments moment listed after
   unfolding IsDistinct
   taken_means moments after [] long took = record { once = tt; completes = All-nil (CompletesInTime setting moments moment); are = sym (let same : moments ≡ after = cc in same) }
   taken_means moments after (point ∷ others) long took =
@@ -228,7 +241,8 @@ module _ (net : Plan) (setting : Setting) (links : setting.links ≡ net.links) 
           let first = in_time_from setting moments moment point free in
           let inside : point.0 < length moments = point_of moments long point first.link first.ends in
           let more = rest took in
-          let apart : All (λ q. same_point point q ≡ false) others = λ k d low. ne_eqb point.0 (get_or others k d).0 (apart_after moments point (get_or others k d) inside (more.completes k d low)) in
+          let apart : All (λ q. same_point point q ≡ false) others =
+          λ k d low. ne_eqb point.0 (get_or others k d).0 (apart_after moments point (get_or others k d) inside (more.completes k d low)) in
           record {
             once = IsDistinct-cons same_point point others (recursion_from_All (λ q. same_point point q ≡ false) others apart) more.once;
             completes = All-cons (CompletesInTime setting moments moment) point others first (λ k d low. in_time_before moments point (get_or others k d) inside (more.completes k d low));
@@ -312,7 +326,8 @@ module _ (net : Plan) (execution : Execution) (of : IsExecutionOf net execution)
           omega (arith, first)
       by last is false not_before free = grind (arith, nat_tests)
 
-  in_time_of : (after : Moments) → next_moment execution ≤ moment → AreTaken execution.setting (moments_before execution moment) moment listed after → first_overdue execution.setting after moment ≡ None → IsInTime execution moment listed
+  in_time_of : (after : Moments) → next_moment execution ≤ moment → AreTaken execution.setting (moments_before execution moment) moment listed after
+      → first_overdue execution.setting after moment ≡ None → IsInTime execution moment listed
   in_time_of after later took free = record { later = later; once = took.once; completes = took.completes; none_left = none_left }
     where
       none_left : (point : PointId) (link : Link) (activated : ℕ) → link_to execution.setting point ≡ Some link → moment_of (moments_before execution moment) point ≡ None
@@ -333,18 +348,22 @@ module _ (net : Plan) (execution : Execution) (of : IsExecutionOf net execution)
   in_time_where_taken : (after : Moments) → taken execution moment listed ≡ Ok after → IsInTime execution moment listed × (after ≡ with_completed execution moment listed)
   in_time_where_taken after took = by (refusal_of_moment execution moment) refl took
     where
-      by_overdue : (made : Moments) → next_moment execution ≤ moment → AreTaken execution.setting (moments_before execution moment) moment listed made → (o : Option Why) → first_overdue execution.setting made moment ≡ o
+      by_overdue : (made : Moments) → next_moment execution ≤ moment → AreTaken execution.setting (moments_before execution moment) moment listed made → (o : Option Why)
+          → first_overdue execution.setting made moment ≡ o
           → option_map_or Err o (Ok made) ≡ Ok after → IsInTime execution moment listed × (after ≡ with_completed execution moment listed)
       by_overdue made later are (Some cause) is took = absurd (cc)
       by_overdue made later are None free took = let same : made ≡ after = cc in (in_time_of made later are free, sym same ∙ are.are)
 
-      by_taken : next_moment execution ≤ moment → (r : Result Moments Why) → completions_taken execution.setting (moments_before execution moment) moment listed ≡ r → onward execution moment r ≡ Ok after
+      by_taken : next_moment execution ≤ moment → (r : Result Moments Why) → completions_taken execution.setting (moments_before execution moment) moment listed ≡ r
+          → onward execution moment r ≡ Ok after
           → IsInTime execution moment listed × (after ≡ with_completed execution moment listed)
       by_taken later (Err cause) is took = absurd (cc)
       by_taken later (Ok made) is took =
-          by_overdue made later (taken_means net execution.setting of.links of.sound moment (moments_before execution moment) made listed long_before is) (first_overdue execution.setting made moment) refl took
+          by_overdue made later (taken_means net execution.setting of.links of.sound moment (moments_before execution moment) made listed long_before is)
+          (first_overdue execution.setting made moment) refl took
 
-      by : (o : Option Why) → refusal_of_moment execution moment ≡ o → option_map_or Err o (completed_in execution moment listed) ≡ Ok after → IsInTime execution moment listed × (after ≡ with_completed execution moment listed)
+      by : (o : Option Why) → refusal_of_moment execution moment ≡ o → option_map_or Err o (completed_in execution moment listed) ≡ Ok after
+          → IsInTime execution moment listed × (after ≡ with_completed execution moment listed)
       by (Some cause) refused took = absurd (cc)
       by None free took = by_taken (later_from free) (completions_taken execution.setting (moments_before execution moment) moment listed) refl took
 

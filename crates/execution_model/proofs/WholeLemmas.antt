@@ -45,7 +45,8 @@ module _ (moments : Moments) where
   are_met : (bounds : List (PointId × ℤ)) → All (λ (bound : PointId × ℤ). IsSome (moment_of moments bound.0)) bounds → AreMet bounds
   are_met [] come = record { from = 0; met = λ t late. refl }
   are_met (bound ∷ others) come =
-      by (moment_of moments bound.0) refl (All-head (λ (b : PointId × ℤ). IsSome (moment_of moments b.0)) bound others come) (are_met others (All-tail (λ (b : PointId × ℤ). IsSome (moment_of moments b.0)) bound others come))
+      by (moment_of moments bound.0) refl (All-head (λ (b : PointId × ℤ). IsSome (moment_of moments b.0)) bound others come)
+      (are_met others (All-tail (λ (b : PointId × ℤ). IsSome (moment_of moments b.0)) bound others come))
     where
       by : (o : Option ℕ) → moment_of moments bound.0 ≡ o → IsSome o → AreMet others → AreMet (bound ∷ others)
       by None none some rest = absurd (true≢false (sym some))
@@ -80,7 +81,8 @@ module _ (net : Plan) (table : Graph) (order : List PointId) (plan : IsPlan net)
       goes_by from to (pos 0 -ℤ n) (turned_below n above) (at_most_from table (record { from = from; to = to; label = None; weight = pos 0 -ℤ n }) (pos 0 -ℤ n) has (le_refl (pos 0 -ℤ n)))
 
   -- a labelled edge ends in the activation point of its link
-  activation_of : (from to : PointId) (label : LinkId) (w : ℤ) → HasEdge table (record { from = from; to = to; label = Some label; weight = w }) → (link : Link) × IsLinkOf net label link × (to ≡ link.from)
+  activation_of : (from to : PointId) (label : LinkId) (w : ℤ) → HasEdge table (record { from = from; to = to; label = Some label; weight = w })
+      → (link : Link) × IsLinkOf net label link × (to ≡ link.from)
   activation_of from to label w has = by (slice_get net.links label.0) refl
     where
       labelled : slice_get table.shape.activations label.0 ≡ Some to
@@ -94,14 +96,16 @@ module _ (net : Plan) (table : Graph) (order : List PointId) (plan : IsPlan net)
       by (Some link) declared = (link, declared, same_Some to link.from (sym labelled ∙ read ∙ ap (option_map (λ (link : Link). link.from)) declared))
 
   -- a wait is after the activation point of its link: by removal there is an ordinary edge, and it is negative
-  goes_to_activation : (from to : PointId) (label : LinkId) (n : ℤ) → pos 0 <ℤ n → HasEdge table (record { from = from; to = to; label = Some label; weight = pos 0 -ℤ n }) → goes table from to ≡ true
+  goes_to_activation : (from to : PointId) (label : LinkId) (n : ℤ) → pos 0 <ℤ n → HasEdge table (record { from = from; to = to; label = Some label; weight = pos 0 -ℤ n })
+      → goes table from to ≡ true
   unfolding removal
   goes_to_activation from to label n above has =
       let (link, declared, begins) = activation_of from to label (pos 0 -ℤ n) has in
       let premise : Edge = record { from = from; to = to; label = Some label; weight = pos 0 -ℤ n } in
       let v : ℤ = int_max (pos 0 -ℤ n) (pos 0 -ℤ link.low) in
       let edge : Edge = record { from = from; to = to; label = None; weight = v } in
-      let made : removal net premise ≡ Some edge = ap (option_and_then (λ (l : Link). let e : Edge = record { from = from; to = to; label = None; weight = int_max (pos 0 -ℤ n) (pos 0 -ℤ l.low) } in Some e)) declared in
+      let made : removal net premise ≡ Some edge =
+      ap (option_and_then (λ (l : Link). let e : Edge = record { from = from; to = to; label = None; weight = int_max (pos 0 -ℤ n) (pos 0 -ℤ l.low) } in Some e)) declared in
       let here : IsLink net link = subst (IsLink net) (get_or_from_slice_get net.links label.0 link link declared) (plan.links_sound label.0 link (slice_get_within net.links label.0 link declared)) in
       goes_by from to v (removed_below n link.low above here.positive) (may.closed edge (rules_of.by_removal premise (edge_listed table premise has) made))
 
@@ -118,7 +122,8 @@ module _ (net : Plan) (table : Graph) (order : List PointId) (moments : Moments)
   open is use {plan, sound, may, contingent, still}
 
   -- a point has come where those have that stand before it by a negative edge
-  comes_after : (point : PointId) → IsExecutable net point → ((other : PointId) → other.0 < table.shape.points → goes table point other ≡ true → IsSome (moment_of moments other)) → IsSome (moment_of moments point)
+  comes_after : (point : PointId) → IsExecutable net point → ((other : PointId) → other.0 < table.shape.points → goes table point other ≡ true → IsSome (moment_of moments other))
+      → IsSome (moment_of moments point)
   comes_after point executable earlier = by (moment_of moments point) refl
     where
       conditions : Conditions
@@ -130,10 +135,13 @@ module _ (net : Plan) (table : Graph) (order : List PointId) (moments : Moments)
       bound_come : (bound : PointId × ℤ) → Contains conditions.lower_bounds bound → IsSome (moment_of moments bound.0)
       bound_come bound listed =
           let (above, has) = (exact.bounds bound.0 bound.1).0 listed in
-          earlier bound.0 (sound.keys (record { from = point; to = bound.0; label = None; weight = pos 0 -ℤ bound.1 }) has).to_point (goes_to_bound net table order plan sound may point bound.0 bound.1 above has)
+          earlier bound.0 (sound.keys (record { from = point; to = bound.0; label = None; weight = pos 0 -ℤ bound.1 }) has).to_point
+          (goes_to_bound net table order plan sound may point bound.0 bound.1 above has)
 
       bounds_met : AreMet moments conditions.lower_bounds
-      bounds_met = are_met moments conditions.lower_bounds (All-weaker (Contains conditions.lower_bounds) (λ (b : PointId × ℤ). IsSome (moment_of moments b.0)) bound_come conditions.lower_bounds (All-contains_itself conditions.lower_bounds))
+      bounds_met =
+          are_met moments conditions.lower_bounds
+          (All-weaker (Contains conditions.lower_bounds) (λ (b : PointId × ℤ). IsSome (moment_of moments b.0)) bound_come conditions.lower_bounds (All-contains_itself conditions.lower_bounds))
 
       wait_met : (t : ℕ) (wait : LinkId × ℤ) → Contains conditions.waits wait → meets_wait (setting_of net table) moments t wait ≡ true
       wait_met t wait listed =
@@ -141,14 +149,17 @@ module _ (net : Plan) (table : Graph) (order : List PointId) (moments : Moments)
           let (to, has) = found in
           let (link, declared, begins) = activation_of net table order plan sound may point to wait.0 (pos 0 -ℤ wait.1) has in
           let inside : to.0 < table.shape.points = (sound.keys (record { from = point; to = to; label = Some wait.0; weight = pos 0 -ℤ wait.1 }) has).to_point in
-          let active : has_come moments link.from ≡ true = subst (λ (p : PointId). IsSome (moment_of moments p)) begins (earlier to inside (goes_to_activation net table order plan sound may point to wait.0 wait.1 above has)) in
+          let active : has_come moments link.from ≡ true =
+          subst (λ (p : PointId). IsSome (moment_of moments p)) begins (earlier to inside (goes_to_activation net table order plan sound may point to wait.0 wait.1 above has)) in
           let completed : has_come moments link.to ≡ true = contingent link.to (ap is_some (ends_there net plan wait.0 link link.to declared refl)) in
           ap (λ (o : Option Link). option_map_or (meets_wait_for moments t wait.1) o false) declared
           ∙ ap (λ (b : Bool). b && (has_come moments link.to || has_gone_by moments t link.from wait.1)) active
           ∙ ap (λ (b : Bool). b || has_gone_by moments t link.from wait.1) completed
 
       waits_met : (t : ℕ) → list_all (meets_wait (setting_of net table) moments t) conditions.waits ≡ true
-      waits_met t = list_all-from_AllPass (meets_wait (setting_of net table) moments t) conditions.waits (All-weaker (Contains conditions.waits) (λ (w : LinkId × ℤ). meets_wait (setting_of net table) moments t w ≡ true) (wait_met t) conditions.waits (All-contains_itself conditions.waits))
+      waits_met t =
+          list_all-from_AllPass (meets_wait (setting_of net table) moments t) conditions.waits
+          (All-weaker (Contains conditions.waits) (λ (w : LinkId × ℤ). meets_wait (setting_of net table) moments t w ≡ true) (wait_met t) conditions.waits (All-contains_itself conditions.waits))
 
       by : (o : Option ℕ) → moment_of moments point ≡ o → IsSome (moment_of moments point)
       by (Some m) come = ap is_some come
@@ -156,7 +167,8 @@ module _ (net : Plan) (table : Graph) (order : List PointId) (moments : Moments)
           let t : ℕ = from + bounds_met.from in
           let met : meets (setting_of net table) moments t conditions ≡ true =
           ap (λ (b : Bool). b && list_all (meets_wait (setting_of net table) moments t) conditions.waits) (bounds_met.met t (omega arith)) ∙ waits_met t in
-          let due : is_due (setting_of net table) moments t point ≡ true = due_from (setting_of net table) moments t point (executable_has_none net (setting_of net table) refl point executable) new met in
+          let due : is_due (setting_of net table) moments t point ≡ true =
+          due_from (setting_of net table) moments t point (executable_has_none net (setting_of net table) refl point executable) new met in
           let inside : point.0 < length (dispatchable net table) = let long = dispatchable_length net table may.for_network in let within : point.0 < length net.points = executable.0 in omega arith in
           absurd (true≢false (sym due ∙ no_acts_none_due (setting_of net table) moments t (still t (omega arith)) point inside))
 
@@ -171,7 +183,8 @@ module _ (net : Plan) (table : Graph) (order : List PointId) (moments : Moments)
           let count = point_count net table may.for_network in
           omega arith
 
-      by : ((other : PointId) (j : ℕ) → j < n → j < length order → get_or order j other ≡ other → IsSome (moment_of moments other)) → IsExecutable net point ⊎ Ending net point → IsSome (moment_of moments point)
+      by : ((other : PointId) (j : ℕ) → j < n → j < length order → get_or order j other ≡ other → IsSome (moment_of moments other)) → IsExecutable net point ⊎ Ending net point
+          → IsSome (moment_of moments point)
       by rest (inr ending) = contingent point (ap is_some (ends_there net plan ending.name ending.link point ending.declared (sym ending.ends)))
       by rest (inl executable) = comes_after point executable earlier
         where

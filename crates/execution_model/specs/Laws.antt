@@ -22,8 +22,11 @@ setting_of net table = record { links = net.links; dispatch = dispatchable net t
 pub record IsDispatchedByClosure (net : Plan) (table : Graph) (order : List PointId) : Type 0 where
   pub sound : IsPlan net
   pub closure : IsClosure net table
-  pub graph : IsGraph table
   pub ordered : IsOrder table order
+
+-- the closure of a network is a sound table
+abbrev pub ClosuresAreGraphs : Type 0
+ClosuresAreGraphs = (net : Plan) (table : Graph) → IsPlan net → IsClosure net table → IsGraph table
 
 -- an execution of a network: by the links of the network, and with as many points
 pub record IsExecutionOf (net : Plan) (execution : Execution) : Type 0 where

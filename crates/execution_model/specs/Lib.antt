@@ -4,3 +4,4 @@ pub mod Streams
 pub mod Timely
 pub mod Laws
 pub mod Acts
+pub mod Earliest

@@ -1,6 +1,9 @@
 //! Laws about executions, each the contract of a function without parameters.
 
-ghost use Rattle.execution_model.specs.Laws.{FeedsAreTakenInTime, FaithfulStreamsAreTaken, FeedsExecuteEarliest, DoneWhereNoneIsOpen, EndsAreEarliest, ExecutionsAreOne, StreamsAreExecuted, NoActsLeftIsWhole};
+ghost use Rattle.execution_model.specs.Acts.{ActsAreEarliest, LastActsAreEarliest};
+ghost use Rattle.execution_model.specs.Earliest.{EndsAreEarliestToo, FeedsAreEarliest};
+ghost use Rattle.execution_model.specs.Laws.{ClosuresAreGraphs, DoneWhereNoneIsOpen, EndsAreEarliest, ExecutionsAreOne, FaithfulStreamsAreTaken};
+ghost use Rattle.execution_model.specs.Laws.{FeedsAreTakenInTime, FeedsExecuteEarliest, NoActsLeftIsWhole, StreamsAreExecuted};
 
 /// A feed within the limit is taken exactly where its completions are in time: its moment is after the last one fed, each listed point
 /// completes neither too soon nor too late and stands once, and none is left out whose latest moment is reached. Then the moments are
@@ -46,4 +49,34 @@ pub fn executions_are_one()
 /// open.
 pub fn streams_are_executed()
     ensures { StreamsAreExecuted }
+{}
+
+/// The closure of a network is a sound table: of keys that there are, and of weights that a table may hold.
+pub fn closures_are_graphs()
+    ensures { ClosuresAreGraphs }
+{}
+
+/// From the start of a network that is dispatched by its closure, the acts of a feed that is taken are those of the earliest schedule of
+/// every situation that the stream fits: of the moments since the last feed, and of the moment itself.
+pub fn acts_are_earliest()
+    ensures { ActsAreEarliest }
+{}
+
+/// The acts of the end are those of the earliest schedule too, moment by moment until every point has come.
+pub fn last_acts_are_earliest()
+    ensures { LastActsAreEarliest }
+{}
+
+/// A feed within the limit is taken exactly where the stream with its listing is faithful. Then the moments and the acts are those of the
+/// earliest schedule of every situation that the stream fits, and no strategy that controls the network plays any of the points that have
+/// come sooner there.
+pub fn feeds_are_earliest()
+    ensures { FeedsAreEarliest }
+{}
+
+/// The end is complete exactly where the stream, said to be done, is faithful. Then the moments are the whole earliest schedule of every
+/// situation that the stream fits, the acts are all that remained of it, and no strategy that controls the network plays any point sooner
+/// there.
+pub fn ends_are_earliest_too()
+    ensures { EndsAreEarliestToo }
 {}

@@ -34,9 +34,11 @@ module _ (net : Plan) (before after : Support) (outcome : Outcome) (propagated :
   pub closed_examined : (rounds : ℕ) (order : List PointId) (dispatch : List Conditions) → IsPlan net → before ≡ base_support net → outcome ≡ Closed rounds order
       → dispatch ≡ dispatchable net after.table → length dispatch ≡ length net.points → IsExamined net (Controllable dispatch)
   closed_examined rounds order dispatch plan base is dispatched count =
-      let made : IsPropagated net before after (Closed rounds order) = subst (IsPropagated net before after) is propagated in
-      ((record { rounds = rounds; after = after; order = order; ends = subst (λ (s : Support). RoundsEnd net s rounds after (closed order)) base made.ends }, dispatched),
-      record { table = after.table; order = order; graph = standing_sound net plan after propagated.stands; may = closed_may rounds order plan is; made = dispatched }, count)
+      let made : IsPropagated net before after (Closed rounds order) = subst (IsPropagated net before after) is propagated in (
+        (record { rounds = rounds; after = after; order = order; ends = subst (λ (s : Support). RoundsEnd net s rounds after (closed order)) base made.ends }, dispatched),
+        record { table = after.table; order = order; graph = standing_sound net plan after propagated.stands; may = closed_may rounds order plan is; made = dispatched },
+        count,
+      )
 
   pub looped_examined : (rounds : ℕ) (cycle : List PointId) (cert : Certificate) → before ≡ base_support net → outcome ≡ Looped rounds cycle
       → IsCertificateBy net after.nodes cycle cert → IsExamined net (Refuted cert)

@@ -19,3 +19,10 @@ pub mod KeptLemmas
 pub mod RefutationLemmas
 pub mod RunOnceLemmas
 pub mod ExaminedLemmas
+pub mod ReplyLemmas
+pub mod GivenLemmas
+pub mod EventLemmas
+pub mod CourseLemmas
+pub mod DueLemmas
+pub mod DayLemmas
+pub mod RunLemmas

@@ -14,5 +14,6 @@ pub mod Course
 pub mod EventAnswers
 pub mod Executing
 pub mod Running
+pub mod Due
 pub mod Day
 pub mod RunPromise

@@ -5,22 +5,34 @@ ghost use Rattle.commands.specs.Machine.{HasRoom};
 ghost use Rattle.execution_model.specs.Feeding.{IsDueAnswer};
 ghost use Rattle.live_executor.specs.Sound.{IsDispatchOf};
 ghost use Rattle.stnu_run.specs.Executing.{executing_machine, answer_room};
-ghost use Rattle.stnu_run.specs.Running.{run_begins, IsExamined, PutsBegun, GoesOnFrom};
+ghost use Rattle.stnu_run.specs.RunPromise.{RunPromise};
+ghost use Rattle.stnu_run.specs.Running.{run_begins, run_start, IsExamined, PutsBegun, GoesOnFrom};
 
 use crate::checking::put_refuted;
 use crate::event_answers::put_due;
 use crate::executing::Executing;
 use crate::plan_text::PlanText;
+use crate::promising::Promising;
+use cert_checker::laws::accepted_excludes;
 use cert_format::Certificate;
+use closure_model::laws::base_stands;
+use closure_model::{order_laws, round_laws};
 use commands::{Answer, Begin, Onward, Planned, Word};
+use controllability::laws::closures_decide;
 use derivation_dag::{Plain, Supports};
 use dispatch_net::Dispatch;
+use event_stream::laws::lines_have_one_reading;
+use execution_model::laws as execution_laws;
 use net_model::Network;
 use parallel_rounds::{NoGate, Outcome, propagate};
+use refutations::laws::refutations_are_accepted;
 use refutations::refutation;
 use std::alloc::{AllocError, Global};
 
-/// The execution of a network: the command `run` reads a plan, and then lines of events.
+/// The execution of a network: the command `run` reads a plan, and puts `controllable` and the first due moment where a strategy controls
+/// its network, else `not controllable` and a certificate which `judge` accepts, and then it ends with 1. Over the lines of events that
+/// follow it puts the acts of each feed and the next due moment, and at the end the acts that remain, and `complete`, and it ends with 0.
+/// An event that no execution of the network shows ends it with 7, after the line `error event` and the cause.
 #[derive(Clone, Copy)]
 pub struct Run;
 
@@ -53,6 +65,39 @@ impl Begin<Network> for Run {
                 Ok(Onward::Ends(put_refuted(alloc, answer, &certificate)?))
             }
         }
+    }
+}
+
+impl Promising for Running {
+    ghost start = { run_start };
+
+    ghost promise = { RunPromise };
+
+    fn begun(alloc: Global) -> Running {
+        Planned::Reading(Run, PlanText::new(alloc))
+    }
+
+    fn keeps_its_promise() {
+        base_stands();
+        round_laws::rounds_that_close();
+        round_laws::rounds_stand();
+        order_laws::placed_points_are_an_order();
+        order_laws::cycles_are_met();
+        closures_decide();
+        refutations_are_accepted();
+        accepted_excludes();
+        lines_have_one_reading();
+        execution_laws::faithful_streams_are_taken();
+        execution_laws::done_where_none_is_open();
+        execution_laws::ends_are_earliest();
+        execution_laws::acts_are_earliest();
+        execution_laws::last_acts_are_earliest();
+    }
+
+    fn puts_nothing_without_memory() {}
+
+    fn defines_one() {
+        lines_have_one_reading();
     }
 }
 
