@@ -41,7 +41,18 @@ use Rattle.closure_model.proofs.RoundsLaw.{rounds_end_in_one_way}
 use Rattle.stnu_run.proofs.RefutationLemmas.{certificate_one, never_both}
 
 -- ---- the next due moment is one
-next_abbrev DueWhere : Execution → Option Why → Option ℕ → Type 0
+next_due_one : (execution : Execution) (due other : Option ℕ) → IsNextDue execution due → IsNextDue execution other → due ≡ other
+next_due_one execution None None a b = refl
+next_due_one execution None (Some t) a b = absurd (b.2 (a t b.0))
+next_due_one execution (Some t) None a b = absurd (a.2 (b t a.0))
+next_due_one execution (Some t) (Some u) a b = by (cases_lt t u) (cases_lt u t)
+  where
+    by : (t < u) ⊎ (u ≤ t) → (u < t) ⊎ (t ≤ u) → ◌≡◌ {A = Option ℕ} (Some t) (Some u)
+    by (inl less) later = absurd (a.2 (b.1 t a.0 less))
+    by (inr most) (inl less) = absurd (b.2 (a.1 u b.0 less))
+    by (inr most) (inr least) = let same : t ≡ u = omega arith in ap (λ (n : ℕ). Some n) same
+
+abbrev DueWhere : Execution → Option Why → Option ℕ → Type 0
 DueWhere execution (Some cause) answer = answer ≡ None
 DueWhere execution None answer = IsNextDue execution answer
 
@@ -89,9 +100,10 @@ module _ (setting : Setting) where
   no_more moments t (suc count) long come =
       let none = come_no_acts moments t long come in
       let same : acted setting moments t ≡ moments = no_acts_same setting moments t long none in
-      let rest = no_more moments (suc t) count long come in
-      (ap (λ (m : Moments). time_runs setting m (suc t) count) same ∙ rest.0,
-      ap (λ (acts : List Act). acts ++ acts_while setting (acted setting moments t) (suc t) count) none ∙ (ap (λ (m : Moments). acts_while setting m (suc t) count) same ∙ rest.1))
+      let rest = no_more moments (suc t) count long come in (
+        ap (λ (m : Moments). time_runs setting m (suc t) count) same ∙ rest.0,
+        ap (λ (acts : List Act). acts ++ acts_while setting (acted setting moments t) (suc t) count) none ∙ (ap (λ (m : Moments). acts_while setting m (suc t) count) same ∙ rest.1),
+      )
 
   settled : (first count : ℕ) → first ≤ count → (moments : Moments) (t : ℕ) → length moments ≡ length setting.dispatch → All IsSome (time_runs setting moments t first)
       → (time_runs setting moments t count ≡ time_runs setting moments t first) × (acts_while setting moments t count ≡ acts_while setting moments t first)
@@ -177,9 +189,10 @@ module _ (reading : (net : Plan) (line : List (List ℕ)) → OneReading net lin
   line_once state number line a b x y course (inl (told, is, answers)) (inr (kind, it, puts)) = absurd ((reading state.net (words line)).not_both told kind is it)
   line_once state number line a b x y course (inr (kind, is, puts)) (inl (other, it, others)) = absurd ((reading state.net (words line)).not_both other kind it is)
   line_once state number line a b x y course (inr (kind, is, puts)) (inr (other, it, also)) =
-      let same = (reading state.net (words line)).one_fault kind other is it in
-      (puts.0 ∙ (ap (event_fault_line number) same ∙ sym also.0),
-      puts.1 ∙ (ap (λ (k : FormatKind). let onward : Onward Course = Ends (fault_end (Format number k)) in onward) same ∙ sym also.1))
+      let same = (reading state.net (words line)).one_fault kind other is it in (
+        puts.0 ∙ (ap (event_fault_line number) same ∙ sym also.0),
+        puts.1 ∙ (ap (λ (k : FormatKind). let onward : Onward Course = Ends (fault_end (Format number k)) in onward) same ∙ sym also.1),
+      )
 
   pub executing_single : IsSingle executing_machine
   executing_single = record {
