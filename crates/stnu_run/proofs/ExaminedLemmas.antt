@@ -6,6 +6,7 @@ use Rattle.closure_model.specs.Derivations.{Support, base_support}
 use Rattle.closure_model.specs.ReferenceRounds.{RoundsEnd, closed, looped}
 use Rattle.closure_model.specs.Tables.{Graph}
 use Rattle.closure_model.proofs.RoundClosing.{standing_sound}
+use Rattle.cert_format.specs.CertificateWords.{HasWeights}
 use Rattle.cert_format.specs.declared.certificate.Certificate.{Certificate}
 use Rattle.refutations.specs.Certifying.{IsCertificateBy}
 use Rattle.parallel_rounds.specs.Propagated.{IsPropagated}
@@ -41,31 +42,33 @@ module _ (net : Plan) (before after : Support) (outcome : Outcome) (propagated :
       )
 
   pub looped_examined : (rounds : ℕ) (cycle : List PointId) (cert : Certificate) → before ≡ base_support net → outcome ≡ Looped rounds cycle
-      → IsCertificateBy net after.nodes cycle cert → IsExamined net (Refuted cert)
-  looped_examined rounds cycle cert base is by =
-      let made : IsPropagated net before after (Looped rounds cycle) = subst (IsPropagated net before after) is propagated in
-      record {
-        nodes = after.nodes;
-        lines = by.lines;
-        walk = by.walk;
-        refutation = record {
-          rounds = rounds;
-          after = after;
-          cycle = cycle;
-          ends = subst (λ (s : Support). RoundsEnd net s rounds after (looped cycle)) base made.ends;
-          list = refl;
-          by_cycle = by.refutation;
-        };
-        is = by.is;
-      }
+      → IsCertificateBy net after.nodes cycle cert → HasWeights cert → IsExamined net (Refuted cert)
+  looped_examined rounds cycle cert base is by weights =
+      let made : IsPropagated net before after (Looped rounds cycle) = subst (IsPropagated net before after) is propagated in (
+        record {
+          nodes = after.nodes;
+          lines = by.lines;
+          walk = by.walk;
+          refutation = record {
+            rounds = rounds;
+            after = after;
+            cycle = cycle;
+            ends = subst (λ (s : Support). RoundsEnd net s rounds after (looped cycle)) base made.ends;
+            list = refl;
+            by_cycle = by.refutation;
+          };
+          is = by.is;
+        },
+        weights,
+      )
 
 -- the beginning, by what was shown
 pub execution_begins : (net : Plan) (dispatch : List Conditions) (put : List ℕ) (onward : Onward Course) → IsExamined net (Controllable dispatch) → GoesOnFrom net dispatch put onward → run_begins (record {}) net put onward
-execution_begins net dispatch put onward ((closing, made), rest) ((due, is, puts), goes) =
+execution_begins net dispatch put onward ((closing, made), of, count) ((due, is, puts), goes) =
     let from : List Conditions → Execution = λ d. started (record { links = net.links; dispatch = d }) in
     let on : List Conditions → Onward Course = λ d. Goes (record { net = net; execution = from d; listed = [] }) in
     inl (record { closing = closing; due = due; first = subst (λ (d : List Conditions). IsDueAnswer (from d) due) made is; put = puts; goes = goes ∙ ap on made })
 
 pub refutation_begins : (net : Plan) (cert : Certificate) (put : List ℕ) (end : End) → IsExamined net (Refuted cert) → PutsRefuted cert put end → run_begins (record {}) net put (Ends end)
 refutation_begins net cert put end examined puts =
-    inr (record { certificate = cert; refutation = examined; put = puts.0; ends = ap (λ (e : End). let onward : Onward Course = Ends e in onward) puts.1 })
+    inr (record { certificate = cert; refutation = examined.0; put = puts.0; ends = ap (λ (e : End). let onward : Onward Course = Ends e in onward) puts.1 })

@@ -1,5 +1,5 @@
 -- `run` gives at most one answer: its beginning to a network is one, and so is the answer to each line of events.
-use Rattle.std.proofs.Common.{◌≡◌, ◌⊎◌, inl, inr, ℕ, zero, suc, ◌<◌, ◌≤◌, false, List, [], ◌∷◌, ◌++◌, Option, Some, None, Result, Ok, Err, refl, ap, sym, subst, ◌∙◌, arith, length}
+use Rattle.std.proofs.Common.{◌≡◌, ◌⊎◌, inl, inr, ℕ, zero, suc, ◌<◌, ◌≤◌, true, false, List, [], ◌∷◌, ◌++◌, Option, Some, None, Result, Ok, Err, refl, ap, sym, subst, ◌∙◌, arith, length}
 use Rattle.std.specs.Prelude.{IsSome}
 use Rattle.std.proofs.lemmas.Bool.{cases_lt}
 use Rattle.std.specs.List.{All}
@@ -52,35 +52,35 @@ next_due_one execution (Some t) (Some u) a b = by (cases_lt t u) (cases_lt u t)
     by (inr most) (inl less) = absurd (b.2 (a.1 u b.0 less))
     by (inr most) (inr least) = let same : t ≡ u = omega arith in ap (λ (n : ℕ). Some n) same
 
-abbrev DueWhere : Execution → Option Why → Option ℕ → Type 0
-DueWhere execution (Some cause) answer = answer ≡ None
-DueWhere execution None answer = IsNextDue execution answer
+abbrev DueWhere : Execution → Option ℕ → Option Why → Type 0
+DueWhere execution answer (Some cause) = answer ≡ None
+DueWhere execution answer None = IsNextDue execution answer
 
 due_one : (execution : Execution) (due other : Option ℕ) → IsDueAnswer execution due → IsDueAnswer execution other → due ≡ other
 due_one execution due other a b = by execution.refused a b
   where
-    by : (refused : Option Why) → DueWhere execution refused due → DueWhere execution refused other → due ≡ other
+    by : (refused : Option Why) → DueWhere execution due refused → DueWhere execution other refused → due ≡ other
     by (Some cause) x y = x ∙ sym y
     by None x y = next_due_one execution due other x y
 
 -- ---- a feed is answered in one way
 module _ (execution : Execution) (moment : ℕ) (listed : List PointId) where
-  abbrev FedBy : Result Moments Why → Fed → Execution → Type 0
-  FedBy (Err cause) answer after = (answer ≡ fed.Refused cause) × (after ≡ record execution { refused = Some cause })
-  FedBy (Ok moments) answer after = (answer ≡ fed.Acts) × (after ≡ after_feed execution moment moments)
+  abbrev FedBy : Fed → Execution → Result Moments Why → Type 0
+  FedBy answer after (Err cause) = (answer ≡ fed.Refused cause) × (after ≡ record execution { refused = Some cause })
+  FedBy answer after (Ok moments) = (answer ≡ fed.Acts) × (after ≡ after_feed execution moment moments)
 
-  abbrev FedWhere : Option Why → Fed → Execution → Type 0
-  FedWhere (Some cause) answer after = (answer ≡ fed.Ended cause) × (after ≡ execution)
-  FedWhere None answer after = FedBy (taken execution moment listed) answer after
+  abbrev FedWhere : Fed → Execution → Option Why → Type 0
+  FedWhere answer after (Some cause) = (answer ≡ fed.Ended cause) × (after ≡ execution)
+  FedWhere answer after None = FedBy answer after (taken execution moment listed)
 
   fed_one : (answer other : Fed) (after also : Execution) → IsFed execution moment listed answer after → IsFed execution moment listed other also → (answer ≡ other) × (after ≡ also)
   fed_one answer other after also a b = by execution.refused a b
     where
-      by_taken : (r : Result Moments Why) → FedBy r answer after → FedBy r other also → (answer ≡ other) × (after ≡ also)
+      by_taken : (r : Result Moments Why) → FedBy answer after r → FedBy other also r → (answer ≡ other) × (after ≡ also)
       by_taken (Err cause) x y = (x.0 ∙ sym y.0, x.1 ∙ sym y.1)
       by_taken (Ok moments) x y = (x.0 ∙ sym y.0, x.1 ∙ sym y.1)
 
-      by : (refused : Option Why) → FedWhere refused answer after → FedWhere refused other also → (answer ≡ other) × (after ≡ also)
+      by : (refused : Option Why) → FedWhere answer after refused → FedWhere other also refused → (answer ≡ other) × (after ≡ also)
       by (Some cause) x y = (x.0 ∙ sym y.0, x.1 ∙ sym y.1)
       by None x y = by_taken (taken execution moment listed) x y
 
@@ -91,7 +91,7 @@ module _ (setting : Setting) where
       none_due_no_acts setting moments t (λ point inside. by point (moment_of moments point) refl (come point.0 None (omega (arith, inside, long))))
     where
       by : (point : PointId) (found : Option ℕ) → moment_of moments point ≡ found → IsSome (moment_of moments point) → is_due setting moments t point ≡ false
-      by point None none some = absurd (subst (λ (o : Option ℕ). IsSome o) none some)
+      by point None none some = let wrong : false ≡ true = subst (λ (o : Option ℕ). IsSome o) none some in absurd (cc)
       by point (Some m) is some = come_not_due setting moments t point m is
 
   no_more : (moments : Moments) (t count : ℕ) → length moments ≡ length setting.dispatch → All IsSome moments
@@ -131,22 +131,22 @@ module _ (execution : Execution) (long : length execution.moments ≡ length exe
         | inr most ↦ sym (ordered_one second first b a most)
       ]
 
-  abbrev FinishedBy : Option PointId → Finished → Execution → Type 0
-  FinishedBy (Some point) answer after = (answer ≡ finished.Unfinished point) × (after ≡ execution)
-  FinishedBy None answer after = (answer ≡ finished.Complete) × IsWhole execution after
+  abbrev FinishedBy : Finished → Execution → Option PointId → Type 0
+  FinishedBy answer after (Some point) = (answer ≡ finished.Unfinished point) × (after ≡ execution)
+  FinishedBy answer after None = (answer ≡ finished.Complete) × IsWhole execution after
 
-  abbrev FinishedWhere : Option Why → Finished → Execution → Type 0
-  FinishedWhere (Some cause) answer after = (answer ≡ finished.Ended cause) × (after ≡ execution)
-  FinishedWhere None answer after = FinishedBy (first_open execution) answer after
+  abbrev FinishedWhere : Finished → Execution → Option Why → Type 0
+  FinishedWhere answer after (Some cause) = (answer ≡ finished.Ended cause) × (after ≡ execution)
+  FinishedWhere answer after None = FinishedBy answer after (first_open execution)
 
   finished_one : (answer other : Finished) (after also : Execution) → IsFinished execution answer after → IsFinished execution other also → (answer ≡ other) × (after ≡ also)
   finished_one answer other after also a b = by execution.refused a b
     where
-      by_open : (o : Option PointId) → FinishedBy o answer after → FinishedBy o other also → (answer ≡ other) × (after ≡ also)
+      by_open : (o : Option PointId) → FinishedBy answer after o → FinishedBy other also o → (answer ≡ other) × (after ≡ also)
       by_open (Some point) x y = (x.0 ∙ sym y.0, x.1 ∙ sym y.1)
       by_open None x y = (x.0 ∙ sym y.0, whole_one after also x.1 y.1)
 
-      by : (refused : Option Why) → FinishedWhere refused answer after → FinishedWhere refused other also → (answer ≡ other) × (after ≡ also)
+      by : (refused : Option Why) → FinishedWhere answer after refused → FinishedWhere other also refused → (answer ≡ other) × (after ≡ also)
       by (Some cause) x y = (x.0 ∙ sym y.0, x.1 ∙ sym y.1)
       by None x y = by_open (first_open execution) x y
 
@@ -186,13 +186,11 @@ module _ (reading : (net : Plan) (line : List (List ℕ)) → OneReading net lin
   line_once state number line a b x y course (inl (told, is, answers)) (inl (other, it, others)) =
       let same = (reading state.net (words line)).one_telling told other is it in
       event_once state number other a b x y course (subst (λ (t : EventLine). AnswersEvent state number t a x) same answers) others
-  line_once state number line a b x y course (inl (told, is, answers)) (inr (kind, it, puts)) = absurd ((reading state.net (words line)).not_both told kind is it)
-  line_once state number line a b x y course (inr (kind, is, puts)) (inl (other, it, others)) = absurd ((reading state.net (words line)).not_both other kind it is)
-  line_once state number line a b x y course (inr (kind, is, puts)) (inr (other, it, also)) =
+  line_once state number line a b x y course (inl (told, is, answers)) (inr (kind, it, put, ended)) = absurd ((reading state.net (words line)).not_both told kind is it)
+  line_once state number line a b x y course (inr (kind, is, put, ended)) (inl (other, it, others)) = absurd ((reading state.net (words line)).not_both other kind it is)
+  line_once state number line a b x y course (inr (kind, is, put, ended)) (inr (other, it, also, so)) =
       let same = (reading state.net (words line)).one_fault kind other is it in (
-        puts.0 ∙ (ap (event_fault_line number) same ∙ sym also.0),
-        puts.1 ∙ (ap (λ (k : FormatKind). let onward : Onward Course = Ends (fault_end (Format number k)) in onward) same ∙ sym also.1),
-      )
+      (put ∙ (ap (event_fault_line number) same ∙ sym also), ended ∙ (ap (λ (k : FormatKind). let onward : Onward Course = Ends (fault_end (Format number k)) in onward) same ∙ sym so))
 
   pub executing_single : IsSingle executing_machine
   executing_single = record {

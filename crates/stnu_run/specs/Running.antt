@@ -1,7 +1,7 @@
 -- The command `run`: a plan, and after it lines of events, over which its network is executed. This project's own choice.
 use Rattle.std.specs.Prelude.{◌≡◌, ◌⊎◌, ℕ, List, [], ◌++◌, length, Option}
 use Rattle.net_model.specs.Network.{Plan}
-use Rattle.cert_format.specs.CertificateWords.{printed_certificate}
+use Rattle.cert_format.specs.CertificateWords.{printed_certificate, HasWeights}
 use Rattle.cert_format.specs.declared.certificate.Certificate.{Certificate}
 use Rattle.dispatch_net.specs.declared.dispatch.Conditions.{Conditions}
 use Rattle.dispatch_net.specs.Dispatchable.{dispatchable}
@@ -52,11 +52,12 @@ GoesOnFrom net dispatch put onward =
     PutsBegun (started (record { links = net.links; dispatch = dispatch })) put
     × (onward ≡ Goes (record { net = net; execution = started (record { links = net.links; dispatch = dispatch }); listed = [] }))
 
--- what the rounds show of a network: they close, and this is the dispatchable network of the closed table; or this is its refutation
+-- what the rounds show of a network: they close, and this is the dispatchable network of the closed table; or this is its refutation, of weights
+-- that can be printed
 abbrev pub IsExamined : Plan → Examined → Type 0
 IsExamined net (Controllable dispatch) =
     ((closing : RoundsClose net) × (dispatch ≡ dispatchable net closing.after.table)) × IsDispatchOf net dispatch × (length dispatch ≡ length net.points)
-IsExamined net (Refuted certificate) = IsCertificateOf net certificate
+IsExamined net (Refuted certificate) = IsCertificateOf net certificate × HasWeights certificate
 
 abbrev pub run_begins : Run → Plan → List ℕ → Onward Course → Type 0
 run_begins start net answer onward = BeginsExecution net answer onward ⊎ BeginsRefuted net answer onward

@@ -3,6 +3,7 @@
 ghost use Rattle.std.specs.Prelude.{◌≡◌, ◌++◌, ◌∷◌, ℕ, [], List, IfOk, OnOk};
 ghost use Rattle.closure_model.specs.Derivations.{StandsOn};
 ghost use Rattle.closure_model.specs.Orders.{IsCycle};
+ghost use Rattle.cert_format.specs.CertificateWords.{HasWeights};
 ghost use Rattle.cert_format.specs.declared.certificate.Certificate.{Certificate};
 ghost use Rattle.refutations.specs.Certifying.{IsCertificateBy};
 ghost use Rattle.stnu_run.specs.CheckPromise.{CheckPromise};
@@ -112,7 +113,8 @@ pub(crate) fn put_refuted(
     answer: &mut Answer,
     certificate: &Certificate,
 ) -> Result<End, AllocError>
-    requires { answer.old.text ≡ [] }
+    requires empty { answer.old.text ≡ [] }
+    requires weights { HasWeights certificate.now }
     ensures { IfOk result (λ end. PutsRefuted certificate.now answer.new.text end) }
 {
     let text = print_certificate(alloc, certificate)?;
