@@ -189,7 +189,7 @@ module _ (reading : (net : Plan) (line : List (List ℕ)) → OneReading net lin
   line_once state number line a b x y course (inl (told, is, answers)) (inr (kind, it, put, ended)) = absurd ((reading state.net (words line)).not_both told kind is it)
   line_once state number line a b x y course (inr (kind, is, put, ended)) (inl (other, it, others)) = absurd ((reading state.net (words line)).not_both other kind it is)
   line_once state number line a b x y course (inr (kind, is, put, ended)) (inr (other, it, also, so)) =
-      let same = (reading state.net (words line)).one_fault kind other is it in (
+      let same = (reading state.net (words line)).one_fault kind other is it in
       (put ∙ (ap (event_fault_line number) same ∙ sym also), ended ∙ (ap (λ (k : FormatKind). let onward : Onward Course = Ends (fault_end (Format number k)) in onward) same ∙ sym so))
 
   pub executing_single : IsSingle executing_machine
