@@ -1,15 +1,15 @@
 -- The cause of a refused event names points of the network, and the acts of an execution are of its points.
-use Rattle.std.proofs.Common.{◌≡◌, ℕ, zero, suc, ◌+◌, ◌<◌, Bool, true, false, List, [], ◌∷◌, map, filter, length, Option, Some, None, Result, Ok, Err, refl, ap, sym, subst, ◌∙◌, arith}
+use Rattle.std.proofs.Common.{◌≡◌, ℕ, zero, suc, ◌+◌, ◌<◌, Bool, true, false, List, [], ◌∷◌, filter, length, Option, Some, None, Result, Ok, Err, sym, subst, arith}
 use Rattle.std.specs.Prelude.{find, nat_lt, unsigned_abs, if◌then◌else◌}
-use Rattle.std.specs.List.{All, Contains, range_with_len}
+use Rattle.std.specs.List.{All, range_with_len}
 use Rattle.std.specs.Option.{IfSome, option_map, option_map_or, option_and_then}
 use Rattle.std.proofs.lemmas.List.Elements.{All-head, All-tail, All-map, All-filter, All-append}
 use Rattle.std.proofs.lemmas.List.FromFn.{get_or-range_with_len, length-range_with_len}
 use Rattle.net_model.specs.Network.{Plan, IsPoint}
 use Rattle.net_model.specs.declared.ids.PointId.{PointId}
 use Rattle.net_model.specs.declared.part.Link.{Link}
-use Rattle.execution_model.specs.Execution.{Moments, Setting, moment_of, points_of, link_to, is_due, acts_at, acted, time_runs, acts_while}
-use Rattle.execution_model.specs.Feeding.{Execution, next_moment, most_moment, moments_to, moments_before, refusal_of_duration, activated_before, refusal_of_completion, refusal_of, completed_at, completions_taken, latest_of, is_overdue, overdue_why, first_overdue, none_overdue, completed_in, refusal_of_moment, taken, after_feed, is_open, first_open}
+use Rattle.execution_model.specs.Execution.{Moments, Setting, moment_of, points_of, link_to, is_due, acts_at, acted, acts_while}
+use Rattle.execution_model.specs.Feeding.{Execution, next_moment, most_moment, moments_to, moments_before, refusal_of_duration, activated_before, refusal_of_completion, refusal_of, completed_at, completions_taken, latest_of, is_overdue, overdue_why, first_overdue, none_overdue, completed_in, refusal_of_moment, taken, after_feed, is_open}
 use Rattle.execution_model.specs.declared.feeding.Act.{Act}
 use Rattle.execution_model.specs.declared.feeding.Why.{Why}
 use Rattle.execution_model.specs.declared.feeding.Why.TheVariants as why

@@ -1,10 +1,9 @@
 -- What the propagation through a network shows, and the beginning of its execution.
-use Rattle.std.proofs.Common.{◌≡◌, ℕ, List, [], length, refl, sym, subst, ◌∙◌, inl, inr, ap}
+use Rattle.std.proofs.Common.{◌≡◌, ℕ, List, [], length, refl, subst, ◌∙◌, inl, inr, ap}
 use Rattle.net_model.specs.Network.{Plan, IsPlan}
 use Rattle.net_model.specs.declared.ids.PointId.{PointId}
 use Rattle.closure_model.specs.Derivations.{Support, base_support}
 use Rattle.closure_model.specs.ReferenceRounds.{RoundsEnd, closed, looped}
-use Rattle.closure_model.specs.Tables.{Graph}
 use Rattle.closure_model.proofs.RoundClosing.{standing_sound}
 use Rattle.cert_format.specs.CertificateWords.{HasWeights}
 use Rattle.cert_format.specs.declared.certificate.Certificate.{Certificate}
@@ -22,7 +21,6 @@ use Rattle.commands.specs.declared.machines.Onward.TheVariants.{Goes, Ends}
 use Rattle.stnu_run.specs.Checking.{PutsRefuted}
 use Rattle.stnu_run.specs.Course.{Course}
 use Rattle.stnu_run.specs.Running.{IsExamined, GoesOnFrom, run_begins}
-use Rattle.stnu_run.specs.declared.running.Examined.{Examined}
 use Rattle.stnu_run.specs.declared.running.Examined.TheVariants.{Controllable, Refuted}
 
 module _ (net : Plan) (before after : Support) (outcome : Outcome) (propagated : IsPropagated net before after outcome) where

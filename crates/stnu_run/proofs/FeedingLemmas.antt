@@ -1,16 +1,15 @@
 -- The answers to feeds, to the end and to lines of events, by what the executor and the reader of lines ensure.
-use Rattle.std.proofs.Common.{◌≡◌, ◌⊎◌, inl, inr, ℕ, ◌<◌, List, [], Option, Some, None, Result, Ok, Err, length, refl, ap, sym, subst, ◌∙◌}
-use Rattle.std.specs.Prelude.{find}
+use Rattle.std.proofs.Common.{◌≡◌, ◌⊎◌, inl, inr, ℕ, ◌<◌, List, Option, Some, None, Result, Ok, Err, length, refl, ap, sym, subst, ◌∙◌}
 use Rattle.std.specs.List.{All}
 use Rattle.std.specs.Option.{IfSome}
 use Rattle.net_model.specs.Network.{Plan, IsPoint}
 use Rattle.net_model.specs.declared.ids.PointId.{PointId}
 use Rattle.net_model.specs.declared.format.FormatKind.{FormatKind}
-use Rattle.event_stream.specs.EventText.{EventLine, completed, done, said, kept, IsLine, IsFaultOf}
+use Rattle.event_stream.specs.EventText.{completed, done, said, kept, IsLine, IsFaultOf}
 use Rattle.event_stream.specs.declared.event.Event.{Event}
 use Rattle.event_stream.specs.declared.event.Event.TheVariants.{Blank, At, Done}
-use Rattle.execution_model.specs.Execution.{Moments, Setting, points_of, acts_while}
-use Rattle.execution_model.specs.Feeding.{Execution, next_moment, taken, after_feed, IsFed, is_open, first_open, IsWhole, IsFinished}
+use Rattle.execution_model.specs.Execution.{Moments}
+use Rattle.execution_model.specs.Feeding.{Execution, next_moment, taken, after_feed, IsFed, first_open, IsWhole, IsFinished}
 use Rattle.execution_model.specs.declared.feeding.Why.{Why}
 use Rattle.execution_model.specs.declared.feeding.Fed.{Fed}
 use Rattle.execution_model.specs.declared.feeding.Fed.TheVariants as fed

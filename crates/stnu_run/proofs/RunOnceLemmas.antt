@@ -1,5 +1,5 @@
 -- `run` gives at most one answer: its beginning to a network is one, and so is the answer to each line of events.
-use Rattle.std.proofs.Common.{◌≡◌, ◌⊎◌, inl, inr, ℕ, zero, suc, ◌<◌, ◌≤◌, true, false, List, [], ◌∷◌, ◌++◌, Option, Some, None, Result, Ok, Err, refl, ap, sym, subst, ◌∙◌, arith, length}
+use Rattle.std.proofs.Common.{◌≡◌, ◌⊎◌, inl, inr, ℕ, zero, suc, ◌<◌, ◌≤◌, true, false, List, [], ◌++◌, Option, Some, None, Result, Ok, Err, refl, ap, sym, subst, ◌∙◌, arith, length}
 use Rattle.std.specs.Prelude.{IsSome}
 use Rattle.std.proofs.lemmas.Bool.{cases_lt}
 use Rattle.std.specs.List.{All}
@@ -9,7 +9,6 @@ use Rattle.net_model.specs.declared.ids.PointId.{PointId}
 use Rattle.net_model.specs.declared.format.FormatKind.{FormatKind}
 use Rattle.closure_model.specs.Derivations.{Support, base_support}
 use Rattle.closure_model.specs.ReferenceRounds.{closed}
-use Rattle.closure_model.specs.Tables.{Graph}
 use Rattle.cert_format.specs.CertificateWords.{printed_certificate}
 use Rattle.cert_format.specs.declared.certificate.Certificate.{Certificate}
 use Rattle.event_stream.specs.EventText.{EventLine, blank, completed, done}
@@ -25,18 +24,15 @@ use Rattle.execution_model.specs.declared.feeding.Finished.{Finished}
 use Rattle.execution_model.specs.declared.feeding.Finished.TheVariants as finished
 use Rattle.execution_model.proofs.MomentLemmas.{length-acted, come_not_due, none_due_no_acts, no_acts_same}
 use Rattle.commands.specs.Single.{IsSingle, IsSingleAnswer}
-use Rattle.commands.specs.declared.endings.End.{End}
-use Rattle.commands.specs.declared.endings.End.TheVariants as ends
 use Rattle.commands.specs.declared.machines.Onward.{Onward}
 use Rattle.commands.specs.declared.machines.Onward.TheVariants.{Goes, Ends}
-use Rattle.stnu_run.specs.Checking.{controllable_line, refuted_line, RoundsClose, IsCertificateOf}
+use Rattle.stnu_run.specs.Checking.{controllable_line, refuted_line}
 use Rattle.stnu_run.specs.Course.{Course, IsCourse}
-use Rattle.stnu_run.specs.EventAnswers.{acts_text, due_line, complete_line, why_words, unfinished_words, event_line, event_fault_line}
-use Rattle.stnu_run.specs.Executing.{RefusesEvent, AnswersFeed, AnswersEnd, AnswersEvent, TakesEvent, executing_machine}
+use Rattle.stnu_run.specs.EventAnswers.{acts_text, due_line, event_fault_line}
+use Rattle.stnu_run.specs.Executing.{AnswersFeed, AnswersEnd, AnswersEvent, TakesEvent, executing_machine}
 use Rattle.stnu_run.specs.Faults.{fault_end}
 use Rattle.stnu_run.specs.declared.faults.Fault.TheVariants.{Format}
-use Rattle.stnu_run.specs.Running.{run_begins, BeginsExecution, BeginsRefuted}
-use Rattle.stnu_run.specs.declared.running.Run.{Run}
+use Rattle.stnu_run.specs.Running.{run_begins, BeginsExecution}
 use Rattle.closure_model.proofs.RoundsLaw.{rounds_end_in_one_way}
 use Rattle.stnu_run.proofs.RefutationLemmas.{certificate_one, never_both}
 

@@ -1,4 +1,4 @@
-use Rattle.std.proofs.Common.{rules, ◌≡◌, true, subst, sym}
+use Rattle.std.proofs.Common.{rules, ◌≡◌, true}
 use Rattle.net_model.specs.Names.{is_name}
 use Rattle.net_model.proofs.NameLemmas.{length_of_name}
 use Rattle.stnu_run.proofs.event_answers.name_of.Goals as goal

@@ -1,4 +1,4 @@
-use Rattle.std.proofs.Common.{◌≡◌, ◌∙◌, ℕ, ◌<◌, List, length, sym, subst, ap}
+use Rattle.std.proofs.Common.{ℕ, ◌<◌, List, sym, subst}
 use Rattle.std.specs.List.{All}
 use Rattle.net_model.specs.Network.{IsPoint}
 use Rattle.net_model.specs.declared.ids.PointId.{PointId}

@@ -1,4 +1,4 @@
-use Rattle.std.proofs.Common.{◌≡◌, ℕ, ◌<◌, length, sym, subst}
+use Rattle.std.proofs.Common.{ℕ, ◌<◌, sym, subst}
 use Rattle.std.specs.List.{All}
 use Rattle.net_model.specs.Network.{IsPoint}
 use Rattle.execution_model.specs.declared.feeding.Act.{Act}

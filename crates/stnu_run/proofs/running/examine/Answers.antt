@@ -1,7 +1,6 @@
-use Rattle.std.proofs.Common.{rules, ◌≡◌, ◌∙◌, List, sym, subst, ap}
+use Rattle.std.proofs.Common.{◌≡◌, ◌∙◌, List, sym, subst, ap}
 use Rattle.net_model.specs.declared.ids.PointId.{PointId}
 use Rattle.closure_model.specs.Tables.{Graph}
-use Rattle.dispatch_net.specs.declared.dispatch.Conditions.{Conditions}
 use Rattle.dispatch_net.specs.Dispatchable.{MayDispatch, dispatchable}
 use Rattle.refutations.specs.Certifying.{IsCertificateBy}
 use Rattle.stnu_run.proofs.ExaminedLemmas.{closed_may, closed_examined, looped_examined}

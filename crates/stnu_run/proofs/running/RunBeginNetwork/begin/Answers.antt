@@ -1,7 +1,6 @@
-use Rattle.std.proofs.Common.{◌≡◌, ◌∙◌, List, sym, subst, ap}
+use Rattle.std.proofs.Common.{subst}
 use Rattle.std.proofs.lemmas.Result.{IfOk-weaker}
 use Rattle.stnu_run.specs.Running.{IsExamined, GoesOnFrom, run_begins}
-use Rattle.stnu_run.specs.declared.running.Examined.{Examined}
 use Rattle.stnu_run.specs.declared.running.Examined.TheVariants.{Controllable}
 use Rattle.stnu_run.proofs.ExaminedLemmas.{execution_begins}
 use Rattle.stnu_run.proofs.running.RunBeginNetwork.begin.Goals as goal
