@@ -1,17 +1,17 @@
 -- The acts of a moment, point after point, are those of the definition.
-use Rattle.std.proofs.Common.{◌≡◌, ◌≢◌, ℕ, zero, suc, ◌+◌, ◌<◌, ◌≤◌, Bool, true, false, cond, List, [], ◌∷◌, ◌++◌, length, map, get_or, set, Option, Some, None, refl, ap, sym, ◌∙◌, arith, inl, inr, append_assoc, subst, add-one}
+use Rattle.std.proofs.Common.{◌≡◌, ◌≢◌, ℕ, zero, suc, ◌+◌, ◌<◌, Bool, true, false, cond, List, [], ◌∷◌, ◌++◌, length, map, get_or, set, Option, Some, None, refl, ap, sym, ◌∙◌, arith, inl, inr, append_assoc, subst, add-one}
 use Rattle.std.specs.Prelude.{filter, is_none, ◌&&◌}
-use Rattle.std.specs.List.{range_with_len, list_any}
+use Rattle.std.specs.List.{range_with_len}
 use Rattle.std.proofs.lemmas.Bool.{cases_lt}
 use Rattle.std.proofs.lemmas.List.{map-append, length-set, get_or-set_same, get_or-set_other}
 use Rattle.std.proofs.lemmas.Simd.{map-map}
 use Rattle.std.proofs.lemmas.List.FromFn.{filter_of_map_range_with_len_more, fill_by_all}
 use Rattle.std.proofs.lemmas.List.Folds.{list_any_at}
 use Rattle.net_model.specs.declared.ids.PointId.{PointId}
-use Rattle.execution_model.specs.Execution.{Moments, Setting, moment_of, is_due, link_to, points_of, acts_at, acted}
+use Rattle.execution_model.specs.Execution.{Moments, Setting, moment_of, is_due, link_to, acts_at, acted}
 use Rattle.execution_model.specs.declared.feeding.Act.{Act}
 use Rattle.live_executor.specs.Course.{first_points, is_due_in, acts_among, AreActed, AreOpen}
-use Rattle.live_executor.specs.Due.{has_begun, due_in, AreDue, is_any_due}
+use Rattle.live_executor.specs.Due.{has_begun, AreDue, is_any_due}
 
 map_chosen : (f : PointId → Act) (point : PointId) (b : Bool) → map f (cond b (point ∷ []) []) ≡ cond b (f point ∷ []) []
 map_chosen f point true = refl
@@ -90,7 +90,9 @@ same_numbered p q (suc n) same =
     let here : p (number n) ≡ q (number n) = same (number n) (omega arith) in
     let first = filter_of_map_range_with_len_more p number 0 n n (omega arith) in
     let second = filter_of_map_range_with_len_more q number 0 n n (omega arith) in
-    subst (λ m. filter p (first_points m) ≡ filter q (first_points m)) (add-one n) (first ∙ ap (λ points. points ++ cond (p (number n)) (number n ∷ []) []) front ∙ ap (λ b. filter q (first_points n) ++ cond b (number n ∷ []) []) here ∙ sym second)
+    subst (λ m. filter p (first_points m) ≡ filter q (first_points m)) (add-one n)
+    (first ∙ ap (λ points. points ++ cond (p (number n)) (number n ∷ []) []) front
+    ∙ ap (λ b. filter q (first_points n) ++ cond b (number n ∷ []) []) here ∙ sym second)
 
 -- what is due by the list is due by the definition
 pub acts_are : (setting : Setting) (moments : Moments) (due : List (Option ℕ)) (t : ℕ) → AreDue setting moments due → acts_among due t (length setting.dispatch) ≡ acts_at setting moments t
@@ -104,7 +106,7 @@ acted_are setting moments new due t whole are is =
     let after : PointId → Option ℕ = λ point. cond (is_due setting moments t point) (Some t) (moment_of moments point) in
     let number : ℕ → PointId = λ k. record { 0 = k } in
     fill_by_all (λ k. after (number k)) new (length setting.dispatch) None (is.whole ∙ whole) (λ k below.
-        is.each (number k) (omega (arith, whole, below)) ∙ ap (λ b. cond b (Some t) (moment_of moments (number k))) (sym (are (number k) below t)))
+    is.each (number k) (omega (arith, whole, below)) ∙ ap (λ b. cond b (Some t) (moment_of moments (number k))) (sym (are (number k) below t)))
     ∙ sym (map-map after number (range_with_len 0 (length setting.dispatch)))
 
 -- only points that have not come are due
@@ -117,4 +119,3 @@ pub none_due : (setting : Setting) (moments : Moments) (due : List (Option ℕ))
     → is_any_due due t ≡ false → (point : PointId) → point.0 < length setting.dispatch → is_due setting moments t point ≡ false
 none_due setting moments due t whole are none point inside =
     are point inside t ∙ none_at due point.0 t none (omega (arith, whole, inside))
-

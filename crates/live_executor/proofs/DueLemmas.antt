@@ -1,5 +1,5 @@
 -- From when on a point is due, by its lower bounds and waits.
-use Rattle.std.proofs.Common.{◌≡◌, ℕ, max, false, true, Bool, Option, Some, None, leb, cond, arith, refl, List, [], ℤ}
+use Rattle.std.proofs.Common.{◌≡◌, ℕ, max, false, true, Option, Some, None, leb, arith, refl, List, [], ℤ}
 use Rattle.std.specs.Prelude.{is_some, is_none, ◌&&◌}
 use Rattle.std.specs.List.{list_all}
 use Rattle.std.proofs.lemmas.Bool.Decides.{nat_tests}

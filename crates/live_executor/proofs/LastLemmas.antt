@@ -1,10 +1,9 @@
 -- The last act of an execution that came to its end.
-use Rattle.std.proofs.Common.{◌≡◌, ℕ, zero, suc, ◌+◌, ◌-◌, ◌*◌, ◌<◌, ◌≤◌, Bool, true, false, cond, ◌⊎◌, inl, inr, List, [], ◌∷◌, ◌++◌, length, map, filter, get_or, Option, Some, None, refl, ap, sym, subst, ◌∙◌, arith}
-use Rattle.std.specs.Prelude.{is_none, IsSome, IfSome}
+use Rattle.std.proofs.Common.{◌≡◌, ℕ, zero, suc, ◌+◌, ◌-◌, ◌<◌, ◌≤◌, ◌⊎◌, inl, inr, List, [], ◌∷◌, ◌++◌, length, map, filter, Option, Some, None, refl, ap, sym, subst, ◌∙◌, arith}
+use Rattle.std.specs.Prelude.{IsSome, IfSome}
 use Rattle.std.specs.List.{All}
 use Rattle.std.proofs.lemmas.List.Elements.{All-head, All-tail, All-weaker}
-use Rattle.std.proofs.lemmas.List.Sums.{sum_by-cons, fold-append}
-use Rattle.net_model.specs.Limits.{most_size}
+use Rattle.std.proofs.lemmas.List.Sums.{fold-append}
 use Rattle.net_model.specs.declared.ids.PointId.{PointId}
 use Rattle.execution_model.specs.Execution.{Moments, Setting, is_due, points_of, acts_at, acted, time_runs, acts_while}
 use Rattle.execution_model.specs.Feeding.{last_of}
@@ -49,8 +48,8 @@ module _ (setting : Setting) where
   ends_at last moments t zero whole from before = record { early = before; within = omega (arith, from) }
   ends_at last moments t (suc count) whole from before =
       by (last_mapped t last (filter (is_due setting moments t) (points_of setting))) (ends_at last moments (suc t) count whole (omega (arith, from)) before)
-        (ends_at (Some t) (acted setting moments t) (suc t) count (length-acted setting moments t) (omega arith)
-          (acted_before setting (t + 1) t moments (omega arith) (before_more (moment_after last) (t + 1) moments (omega (arith, from)) before)))
+      (ends_at (Some t) (acted setting moments t) (suc t) count (length-acted setting moments t) (omega arith)
+      (acted_before setting (t + 1) t moments (omega arith) (before_more (moment_after last) (t + 1) moments (omega (arith, from)) before)))
     where
       by : (filter (is_due setting moments t) (points_of setting) ≡ []) ⊎ (last_of last (acts_at setting moments t) ≡ Some t) → EndsAt last moments (suc t) count
           → EndsAt (Some t) (acted setting moments t) (suc t) count → EndsAt last moments t (suc count)
@@ -59,7 +58,7 @@ module _ (setting : Setting) where
           let gone : acts_at setting moments t ≡ [] = ap (map act) none in
           let still : acted setting moments t ≡ moments = no_acts_same setting moments t whole gone in
           let acts : acts_at setting moments t ++ acts_while setting (acted setting moments t) (suc t) count ≡ acts_while setting moments (suc t) count =
-              ap (λ (now : List Act). now ++ acts_while setting (acted setting moments t) (suc t) count) gone ∙ ap (λ (m : Moments). acts_while setting m (suc t) count) still in
+          ap (λ (now : List Act). now ++ acts_while setting (acted setting moments t) (suc t) count) gone ∙ ap (λ (m : Moments). acts_while setting m (suc t) count) still in
           let runs : time_runs setting (acted setting moments t) (suc t) count ≡ time_runs setting moments (suc t) count = ap (λ (m : Moments). time_runs setting m (suc t) count) still in
           let last_is = ap (λ (all : List Act). moment_after (last_of last all)) acts in
           record {
@@ -70,7 +69,7 @@ module _ (setting : Setting) where
       by (inr here) same next =
           (let rest = acts_while setting (acted setting moments t) (suc t) count in
           let last_is : moment_after (last_of last (acts_at setting moments t ++ rest)) ≡ moment_after (last_of (Some t) rest) =
-              ap moment_after (fold-append (λ (before : Option ℕ) (act : Act). Some act.moment) last (acts_at setting moments t) rest ∙ ap (λ (l : Option ℕ). last_of l rest) here) in
+          ap moment_after (fold-append (λ (before : Option ℕ) (act : Act). Some act.moment) last (acts_at setting moments t) rest ∙ ap (λ (l : Option ℕ). last_of l rest) here) in
           record {
             early = subst (λ b. AreBefore b (time_runs setting (acted setting moments t) (suc t) count)) (sym last_is) next.early;
             within = (let low = next.within in omega (arith, low, last_is));

@@ -19,9 +19,9 @@ use Rattle.live_executor.specs.Taking.{completed, IsTried}
 
 pub moment_before : (b : ℕ) (moments : Moments) → AreBefore b moments → (point : PointId) → IfSome (moment_of moments point) (λ a. a < b)
 moment_before b moments before point = elim (cases_lt point.0 (length moments)) [
-    | inl inside ↦ before point.0 None inside
-    | inr past ↦ rw (get_or_past moments point.0 None past) tt
-  ]
+  | inl inside ↦ before point.0 None inside
+  | inr past ↦ rw (get_or_past moments point.0 None past) tt
+]
 
 later_before : (t : ℕ) (m : Option ℕ) → IfSome m (λ a. a < t) → IfSome m (λ a. a < suc t)
 later_before t None below = tt
@@ -36,8 +36,8 @@ pub acted_before : (setting : Setting) (b t : ℕ) (moments : Moments) → t < b
 acted_before setting b t moments below before =
     let after : PointId → Option ℕ = λ point. cond (is_due setting moments t point) (Some t) (moment_of moments point) in
     All-map (λ (moment : Option ℕ). IfSome moment (λ a. a < b)) after (points_of setting) (λ k d inside.
-        either_before b t (moment_of moments (get_or (points_of setting) k d)) (is_due setting moments t (get_or (points_of setting) k d)) below
-            (moment_before b moments before (get_or (points_of setting) k d)))
+    either_before b t (moment_of moments (get_or (points_of setting) k d)) (is_due setting moments t (get_or (points_of setting) k d)) below
+    (moment_before b moments before (get_or (points_of setting) k d)))
 
 -- what is completed at a moment is before each later one
 pub completions_before : (setting : Setting) (before : Moments) (moment b : ℕ) (listed : List PointId) (taken : Moments) → moment < b → AreBefore b before
@@ -45,7 +45,7 @@ pub completions_before : (setting : Setting) (before : Moments) (moment b : ℕ)
 completions_before setting before moment b [] taken below early is = (let same : before ≡ taken = cc in subst (AreBefore b) same early)
 completions_before setting before moment b (point ∷ listed) taken below early is =
     by (refusal_of setting before moment point) (completions_taken setting (completed_at before moment point) moment listed) is
-        (completions_before setting (completed_at before moment point) moment b listed taken below (All-set (λ (m : Option ℕ). IfSome m (λ a. a < b)) before point.0 (Some moment) below early))
+    (completions_before setting (completed_at before moment point) moment b listed taken below (All-set (λ (m : Option ℕ). IfSome m (λ a. a < b)) before point.0 (Some moment) below early))
   where
     by : (r : Option Why) (next : Result Moments Why) → option_map_or Err r next ≡ Ok taken → (next ≡ Ok taken → AreBefore b taken) → AreBefore b taken
     by None next is on = on is
@@ -58,14 +58,14 @@ time_before setting moments t (suc count) before =
     let later = All-weaker (λ (m : Option ℕ). IfSome m (λ a. a < t)) (λ (m : Option ℕ). IfSome m (λ a. a < suc t)) (later_before t) moments before in
     let same : suc t + count ≡ t + suc count = omega arith in
     subst (λ b. AreBefore b (time_runs setting (acted setting moments t) (suc t) count)) same
-        (time_before setting (acted setting moments t) (suc t) count (acted_before setting (suc t) t moments (omega arith) later))
+    (time_before setting (acted setting moments t) (suc t) count (acted_before setting (suc t) t moments (omega arith) later))
 
 not_overdue : (m taken : Moments) (o : Option Why) → option_map_or Err o (Ok m) ≡ Ok taken → m ≡ taken
 not_overdue m taken None is = cc
 not_overdue m taken (Some why) is = cc
 
 abbrev overdue_next : Setting → (moment : ℕ) → Result Moments Why → Result Moments Why
-overdue_next setting moment r = elim r [ | Ok moments ↦ none_overdue setting moment moments | Err why ↦ Err why ]
+overdue_next setting moment r = elim r [ Ok moments ↦ none_overdue setting moment moments | Err why ↦ Err why ]
 
 completed_taken : (setting : Setting) (moment : ℕ) (taken : Moments) (r : Result Moments Why) → overdue_next setting moment r ≡ Ok taken → r ≡ Ok taken
 completed_taken setting moment taken (Ok m) is = (let same = not_overdue m taken (first_overdue setting m moment) is in ap Ok same)
@@ -90,7 +90,7 @@ module _ (setting : Setting) (first : Moments) (from moment : ℕ) (listed : Lis
   taken_before : (taken : Moments) → completed setting (time_runs setting first from (moment - from)) moment listed ≡ Ok taken → AreBefore (moment + 1) taken
   taken_before taken is =
       completions_before setting (time_runs setting first from (moment - from)) moment (moment + 1) listed taken (omega arith) run_before
-          (completed_taken setting moment taken (completions_taken setting (time_runs setting first from (moment - from)) moment listed) is)
+      (completed_taken setting moment taken (completions_taken setting (time_runs setting first from (moment - from)) moment listed) is)
 
   by_result : (r : Result Moments Why) → ((taken : Moments) → r ≡ Ok taken → AreBefore (moment + 1) taken) → IsTriedWith setting first from moment (Ok tt) moments acts r
       → AreBefore (moment + 1) moments

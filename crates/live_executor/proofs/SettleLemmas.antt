@@ -1,13 +1,12 @@
 -- Each greatest number of a network that goes by brings an act, or none is left.
-use Rattle.std.proofs.Common.{◌≡◌, ℕ, zero, suc, ◌+◌, ◌-◌, ◌*◌, ◌<◌, ◌≤◌, Bool, true, false, cond, ◌⊎◌, inl, inr, List, [], ◌∷◌, length, get_or, Option, Some, None, refl, ap, sym, subst, ◌∙◌, arith}
+use Rattle.std.proofs.Common.{◌≡◌, ℕ, zero, suc, ◌+◌, ◌-◌, ◌*◌, ◌<◌, ◌≤◌, Bool, true, false, cond, ◌⊎◌, inl, inr, [], ◌∷◌, length, get_or, Option, Some, None, refl, ap, sym, subst, ◌∙◌, arith}
 use Rattle.std.specs.Prelude.{is_none}
-use Rattle.std.specs.List.{All}
 use Rattle.std.proofs.Math.Nat.{mul-suc}
 use Rattle.std.proofs.lemmas.Bool.{cases_lt}
 use Rattle.std.proofs.lemmas.List.Sums.{sum_by-cons}
 use Rattle.net_model.specs.Limits.{most_size}
 use Rattle.net_model.specs.declared.ids.PointId.{PointId}
-use Rattle.execution_model.specs.Execution.{Moments, Setting, moment_of, is_due, acts_at, acted, time_runs}
+use Rattle.execution_model.specs.Execution.{Moments, Setting, is_due, acts_at, acted, time_runs}
 use Rattle.execution_model.proofs.MomentLemmas.{moment_due, acted_keeps, due_parts, none_due_no_acts, no_acts_same, length-acted, length-time_runs, time_runs_keeps, time_runs_on}
 use Rattle.live_executor.specs.Course.{left_of}
 use Rattle.live_executor.specs.Limits.{AreBefore}
@@ -74,15 +73,15 @@ module _ (setting : Setting) where
   left_runs : (moments : Moments) (t count : ℕ) → length moments ≡ length setting.dispatch → left_of (time_runs setting moments t count) ≤ left_of moments
   left_runs moments t count whole =
       fewer moments (time_runs setting moments t count) (whole ∙ sym (length-time_runs setting moments t count whole))
-          (λ k m is. some_is_not_none (get_or (time_runs setting moments t count) k None) m (time_runs_keeps setting moments t count whole (record { 0 = k }) m is))
+      (λ k m is. some_is_not_none (get_or (time_runs setting moments t count) k None) m (time_runs_keeps setting moments t count whole (record { 0 = k }) m is))
 
   left_acted : (moments : Moments) (t : ℕ) (point : PointId) → length moments ≡ length setting.dispatch → point.0 < length setting.dispatch → is_due setting moments t point ≡ true
       → left_of (acted setting moments t) < left_of moments
   left_acted moments t point whole inside is =
       let due = due_parts setting moments t point is in
       less_left moments (acted setting moments t) point.0 (whole ∙ sym (length-acted setting moments t))
-          (λ k m is. some_is_not_none (get_or (acted setting moments t) k None) m (acted_keeps setting moments t whole (record { 0 = k }) m is))
-          (omega (arith, inside, whole)) due.1 (some_is_not_none (get_or (acted setting moments t) point.0 None) t (moment_due setting moments t point inside is))
+      (λ k m is. some_is_not_none (get_or (acted setting moments t) k None) m (acted_keeps setting moments t whole (record { 0 = k }) m is))
+      (omega (arith, inside, whole)) due.1 (some_is_not_none (get_or (acted setting moments t) point.0 None) t (moment_due setting moments t point inside is))
 
   idle_same : (moments : Moments) (t : ℕ) → length moments ≡ length setting.dispatch → IsIdle setting moments t → acted setting moments t ≡ moments
   idle_same moments t whole idle = no_acts_same setting moments t whole (none_due_no_acts setting moments t idle)
@@ -137,14 +136,14 @@ module _ (setting : Setting) where
 
         by : ((u : ℕ) → from ≤ u → u < from + size → IsIdle setting moments u) ⊎ (left_of (time_runs setting moments from size) < left_of moments)
             → (length (time_runs setting moments from size) ≡ length setting.dispatch → AreBefore (from + size) (time_runs setting moments from size)
-              → left_of (time_runs setting moments from size) ≤ left → size * left ≤ count - size
-              → (t : ℕ) → acts_at setting (time_runs setting (time_runs setting moments from size) (from + size) (count - size)) t ≡ [])
+            → left_of (time_runs setting moments from size) ≤ left → size * left ≤ count - size
+            → (t : ℕ) → acts_at setting (time_runs setting (time_runs setting moments from size) (from + size) (count - size)) t ≡ [])
             → (t : ℕ) → acts_at setting (time_runs setting moments from count) t ≡ []
         by (inl idle) next =
             idle_for_ever moments from count whole (quiet moments from (from + size - 1) before (omega (arith, great)) (idle (from + size - 1) (omega (arith, great)) (omega (arith, great))))
         by (inr less) next = λ t.
             (let split : size + (count - size) ≡ count = omega (arith, long, more) in
             let same : time_runs setting (time_runs setting moments from size) (from + size) (count - size) ≡ time_runs setting moments from count =
-                sym (time_runs_on setting moments from size (count - size)) ∙ ap (time_runs setting moments from) split in
+            sym (time_runs_on setting moments from size (count - size)) ∙ ap (time_runs setting moments from) split in
             subst (λ (m : Moments). acts_at setting m t ≡ []) same
-              (next (length-time_runs setting moments from size whole) (time_before setting moments from size before) (omega (arith, less, few)) (omega (arith, long, more)) t))
+            (next (length-time_runs setting moments from size whole) (time_before setting moments from size before) (omega (arith, less, few)) (omega (arith, long, more)) t))

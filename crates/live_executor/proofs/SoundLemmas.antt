@@ -8,14 +8,14 @@ use Rattle.std.proofs.lemmas.List.{length-map, get_or_default}
 use Rattle.std.proofs.lemmas.List.Elements.{All-weaker, All-contains_itself, All-nil, All-head, All-tail}
 use Rattle.std.proofs.lemmas.Option.{slice_get_within}
 use Rattle.net_model.specs.Limits.{most_size}
-use Rattle.net_model.specs.Network.{Plan, IsPlan, IsLink, IsPoint, IsContingent, IsExecutable, activation, greatest}
+use Rattle.net_model.specs.Network.{Plan, IsPlan, IsLink, IsPoint, activation}
 use Rattle.net_model.specs.declared.ids.PointId.{PointId}
 use Rattle.net_model.specs.declared.ids.LinkId.{LinkId}
 use Rattle.net_model.specs.declared.part.Link.{Link}
 use Rattle.net_model.specs.declared.part.Edge.{Edge}
 use Rattle.net_model.proofs.NetworkLemmas.{greatest-le}
-use Rattle.closure_model.specs.Keys.{Shape, key_of, IsLabelAt}
-use Rattle.closure_model.specs.Tables.{Graph, HasEdge, IsFor, IsGraph}
+use Rattle.closure_model.specs.Keys.{Shape}
+use Rattle.closure_model.specs.Tables.{HasEdge}
 use Rattle.dispatch_net.specs.Dispatchable.{no_conditions, dispatchable, conditions_at}
 use Rattle.dispatch_net.specs.Laws.{AreExact}
 use Rattle.dispatch_net.specs.declared.dispatch.Conditions.{Conditions}
@@ -66,8 +66,8 @@ module _ (net : Plan) (plan : IsPlan net) (dispatch : List Conditions) (of : IsD
   conditions_sound point is_point =
       let exact = lists_are_exact net of.table point of.may.for_network of.graph is_point in
       rw of.made (some_or_none (activation net point) _
-          (λ some. rw (exact.1 some) (All-nil (IsLowerBound (length net.points)), All-nil (IsWait (length net.links))))
-          (λ none. (bound_sound point (conditions_at (dispatchable net of.table) point) (exact.0 (is_point, none)), wait_sound point (conditions_at (dispatchable net of.table) point) (exact.0 (is_point, none)))))
+      (λ some. rw (exact.1 some) (All-nil (IsLowerBound (length net.points)), All-nil (IsWait (length net.links))))
+      (λ none. (bound_sound point (conditions_at (dispatchable net of.table) point) (exact.0 (is_point, none)), wait_sound point (conditions_at (dispatchable net of.table) point) (exact.0 (is_point, none)))))
 
   count : length dispatch ≡ length net.points
   count = rw of.made (dispatchable_length net of.table of.may.for_network)
@@ -120,5 +120,5 @@ pub kept_link : (setting : Setting) (ends : List (Option Link)) (k : ℕ) (x : O
 kept_link setting ends k x is inside read =
     let test : Link → Bool = λ link. link.to.0 == k in
     let found : find test setting.links ≡ x =
-        sym (is.ends_are.each k inside) ∙ get_or_default ends k None x (omega (arith, is.ends_are.count, inside)) ∙ sym read in
+    sym (is.ends_are.each k inside) ∙ get_or_default ends k None x (omega (arith, is.ends_are.count, inside)) ∙ sym read in
     subst (λ (o : Option Link). IfSome o (IsLinkOf (length setting.dispatch))) found (found_has (IsLinkOf (length setting.dispatch)) test setting.links is.sound.links)

@@ -1,5 +1,5 @@
 -- The lowest point that should have completed.
-use Rattle.std.proofs.Common.{◌≡◌, ℕ, ◌<◌, ◌≤◌, Bool, true, false, leb, length, Option, Some, None, ap, sym, ◌∙◌}
+use Rattle.std.proofs.Common.{◌≡◌, ℕ, ◌<◌, ◌≤◌, true, false, length, Option, Some, None, ap, ◌∙◌}
 use Rattle.std.specs.Prelude.{nat_le}
 use Rattle.std.specs.Option.{option_map, option_map_or, option_and_then}
 use Rattle.std.proofs.lemmas.Bool.{le-leb}
@@ -7,7 +7,6 @@ use Rattle.net_model.specs.declared.ids.PointId.{PointId}
 use Rattle.closure_model.proofs.OrderLemmas.{found_at, found_nowhere}
 use Rattle.execution_model.specs.Execution.{Moments, Setting}
 use Rattle.execution_model.specs.Feeding.{latest_of, is_overdue, overdue_why, first_overdue}
-use Rattle.execution_model.specs.declared.feeding.Why.{Why}
 use Rattle.execution_model.specs.declared.feeding.Why.TheVariants as why
 
 pub overdue_at : (setting : Setting) (moments : Moments) (moment k latest : ℕ) → k < length setting.dispatch → latest_of setting moments (record { 0 = k }) ≡ Some latest → latest ≤ moment

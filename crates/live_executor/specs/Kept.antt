@@ -1,10 +1,10 @@
 -- What an executor keeps. This project's own choice.
-use Rattle.std.specs.Prelude.{◌≡◌, ℕ, ◌<◌, ◌≤◌, ◌+◌, ◌*◌, length, List, Option, Some, IfSome, Result, Ok, Err}
+use Rattle.std.specs.Prelude.{◌≡◌, ℕ, ◌≤◌, ◌+◌, ◌*◌, length, List, Option, Some, Result, Ok, Err}
 use Rattle.std.specs.Option.{option_map_or}
 use Rattle.net_model.specs.Limits.{most_size}
 use Rattle.net_model.specs.declared.ids.PointId.{PointId}
 use Rattle.execution_model.specs.Execution.{Moments, Setting}
-use Rattle.execution_model.specs.Feeding.{Execution, most_moment, taken, after_feed}
+use Rattle.execution_model.specs.Feeding.{Execution, taken, after_feed}
 use Rattle.execution_model.specs.declared.feeding.Why.{Why}
 use Rattle.live_executor.specs.Course.{IsCourseOf, left_of}
 use Rattle.live_executor.specs.Limits.{AreBefore, end_of_time}

@@ -48,11 +48,7 @@ impl Model for Executor {
 impl Executor {
     /// Starts an execution of a network on a dispatchable network of it. All memory that it ever needs is taken here.
     /// `AllocError` comes only for want of memory.
-    pub fn start(
-        alloc: Global,
-        net: &Network,
-        dispatch: Dispatch,
-    ) -> Result<Executor, AllocError>
+    pub fn start(alloc: Global, net: &Network, dispatch: Dispatch) -> Result<Executor, AllocError>
         requires { IsDispatchOf net.now dispatch }
         ensures { IfOk result (λ executor. executor ≡ started (record { links = net.now.links; dispatch = dispatch })) }
     {
@@ -150,7 +146,9 @@ impl Executor {
         }
         let from = self.next_moment();
         self.trial.follow(&self.course);
-        let tried = self.trial.try_feed(&self.dispatched, from, moment, completions);
+        let tried = self
+            .trial
+            .try_feed(&self.dispatched, from, moment, completions);
         match tried {
             Ok(()) => {
                 mem::swap(&mut self.course, &mut self.trial);

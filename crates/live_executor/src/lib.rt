@@ -8,5 +8,5 @@ mod feed;
 mod met;
 mod taking;
 
-pub use executor::Executor;
 pub use execution_model::{Act, Fed, Finished, MOST_MOMENT, Why};
+pub use executor::Executor;

@@ -11,10 +11,7 @@ ghost use Rattle.live_executor.specs.Sound.{IsLowerBound, IsWait, IsLinkOf};
 use net_model::{Link, LinkId, PointId, Weight};
 
 /// The moment from which on lower bounds are met, or `None` where the point of one has no moment.
-pub(crate) fn bounds_met(
-    moments: &[Option<u64>],
-    bounds: &[(PointId, Weight)],
-) -> Option<u64>
+pub(crate) fn bounds_met(moments: &[Option<u64>], bounds: &[(PointId, Weight)]) -> Option<u64>
     requires bounds { All (IsLowerBound (length moments.now)) bounds.now }
     requires early { AreBefore end_of_time moments.now }
     ensures { PassesFrom (λ t. list_all (meets_bound moments.now t) bounds.now) result }

@@ -1,4 +1,3 @@
-use Rattle.std.proofs.Common.{◌≡◌}
 use Rattle.live_executor.specs.Sound.{AreEnds}
 use Rattle.live_executor.proofs.dispatched.ends_of.Given as goal
 

@@ -1,7 +1,6 @@
 use Rattle.std.proofs.Common.{◌≡◌, ◌∙◌, ap, ◌++◌, List, length, arith}
 use Rattle.execution_model.specs.declared.feeding.Act.{Act}
 use Rattle.live_executor.specs.Course.{acts_among}
-use Rattle.live_executor.proofs.TimeLemmas.{leaps, rests}
 use Rattle.live_executor.proofs.CourseLemmas.{acted_more, acts_pushed, open_next, due_are_open, acts_are, acted_are}
 use Rattle.live_executor.proofs.course.Course.execute_due.Goals as goal
 
@@ -10,7 +9,7 @@ execute_if_due-requires-clause-open c =
     let i = c.loop-point.invariant in
     let old = c.args.self.now in
     open_next old.due.items c.loop-point.self.due.items c.args.t c.loop-point.point old.moments.items c.loop-point.self.moments.items (omega arith)
-        (due_are_open c.args.dispatched.now old.moments.items old.due.items c.requires.count c.requires.known) i.moments i.due
+    (due_are_open c.args.dispatched.now old.moments.items old.due.items c.requires.count c.requires.known) i.moments i.due
 
 pub loop-point-preserved : goal.loop-point-preserved
 loop-point-preserved c =
@@ -35,5 +34,6 @@ returns c =
     record {
       moments = acted_are setting old.moments.items c.loop-point.self.moments.items old.due.items c.args.t c.requires.count c.requires.known
           (rw (← whole) i.moments);
-      acts = i.acts ∙ ap (λ n. old.acts.items ++ acts_among old.due.items c.args.t n) reached ∙ ap (λ (acts : List Act). old.acts.items ++ acts) (acts_are setting old.moments.items old.due.items c.args.t c.requires.known);
+      acts = i.acts ∙ ap (λ n. old.acts.items ++ acts_among old.due.items c.args.t n) reached
+          ∙ ap (λ (acts : List Act). old.acts.items ++ acts) (acts_are setting old.moments.items old.due.items c.args.t c.requires.known);
     }

@@ -15,7 +15,7 @@ loop-moment-preserved c =
     let whole : length now.due.items ≡ length setting.dispatch = now.whole ∙ i.course.count in
     let moment = c.in-Some.moment in
     let leap = leaps setting old.moments.items c.args.from c.loop-moment.next moment now.moments.items i.later first.0 i.course.count i.moments
-        (λ u above below. none_due setting now.moments.items now.due.items u whole i.course.known (first.2 u above below)) in
+    (λ u above below. none_due setting now.moments.items now.due.items u whole i.course.known (first.2 u above below)) in
     record {
       later = (let next = first.0 in omega (arith, i.later, next));
       earlier = (let before = first.1 in omega (arith, before));
@@ -33,7 +33,7 @@ returns-clause-moments c =
     let now = c.loop-moment.self in
     let whole : length now.due.items ≡ length setting.dispatch = now.whole ∙ i.course.count in
     (rests setting c.args.self.now.moments.items c.args.from c.loop-moment.next c.args.until now.moments.items i.later i.earlier i.course.count i.moments
-        (λ u above below. none_due setting now.moments.items now.due.items u whole i.course.known (c.in_default.ensures u above below))).0
+    (λ u above below. none_due setting now.moments.items now.due.items u whole i.course.known (c.in_default.ensures u above below))).0
 
 pub returns-clause-acts : goal.returns-clause-acts
 returns-clause-acts c =
@@ -42,5 +42,5 @@ returns-clause-acts c =
     let now = c.loop-moment.self in
     let whole : length now.due.items ≡ length setting.dispatch = now.whole ∙ i.course.count in
     i.acts ∙ ap (λ (acts : List Act). c.args.self.now.acts.items ++ acts)
-        (rests setting c.args.self.now.moments.items c.args.from c.loop-moment.next c.args.until now.moments.items i.later i.earlier i.course.count i.moments
-            (λ u above below. none_due setting now.moments.items now.due.items u whole i.course.known (c.in_default.ensures u above below))).1
+    (rests setting c.args.self.now.moments.items c.args.from c.loop-moment.next c.args.until now.moments.items i.later i.earlier i.course.count i.moments
+    (λ u above below. none_due setting now.moments.items now.due.items u whole i.course.known (c.in_default.ensures u above below))).1

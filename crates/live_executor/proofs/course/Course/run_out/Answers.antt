@@ -1,8 +1,8 @@
-use Rattle.std.proofs.Common.{◌-◌, sym, subst, length, arith}
+use Rattle.std.proofs.Common.{◌-◌, sym, subst, arith}
 use Rattle.std.specs.Prelude.{IsSome}
 use Rattle.std.specs.List.{All}
 use Rattle.net_model.specs.Limits.{most_size}
-use Rattle.execution_model.specs.Execution.{Moments, time_runs}
+use Rattle.execution_model.specs.Execution.{time_runs}
 use Rattle.execution_model.proofs.MomentLemmas.{length-time_runs}
 use Rattle.live_executor.specs.Course.{left_of}
 use Rattle.live_executor.specs.Limits.{end_of_time}
@@ -18,6 +18,6 @@ returns-clause-come c =
     let count = end_of_time - from in
     let whole = c.requires.course.count in
     subst (All IsSome) (sym c.run.ensures.moments)
-        (c.comes_to_its_end.ensures (time_runs setting old from count) (length-time_runs setting old from count whole)
-            (closed_have_come setting old from count whole c.requires.closed)
-            (settled setting c.points.ensures.sound most_size (omega arith) (omega arith) (left_of old) old from count whole c.requires.early (omega arith) (omega (arith, c.requires.time_left))))
+    (c.comes_to_its_end.ensures (time_runs setting old from count) (length-time_runs setting old from count whole)
+    (closed_have_come setting old from count whole c.requires.closed)
+    (settled setting c.points.ensures.sound most_size (omega arith) (omega arith) (left_of old) old from count whole c.requires.early (omega arith) (omega (arith, c.requires.time_left))))
