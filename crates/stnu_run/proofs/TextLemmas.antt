@@ -24,10 +24,10 @@ use Rattle.stnu_run.proofs.OnceLemmas.{part_one}
 use Rattle.stnu_run.proofs.PathLemmas.{Leads, Last, ended, too_long, too_much, refused, given, path, path_reads}
 use Rattle.stnu_run.proofs.TextFacts.{RefusesThere, IsOnce, ReadsBy}
 
-texts_both : (before rest : List InputLine) → texts (before ++ rest) ≡ texts before ++ texts rest
+pub texts_both : (before rest : List InputLine) → texts (before ++ rest) ≡ texts before ++ texts rest
 texts_both before rest = map-append (λ (line : InputLine). line.text) before rest
 
-texts_many : (lines : List InputLine) → length (texts lines) ≡ length lines
+pub texts_many : (lines : List InputLine) → length (texts lines) ≡ length lines
 texts_many lines = length-map lines (λ (line : InputLine). line.text)
 
 past_more : (used before : List InputLine) (first next : InputLine) → next ≡ first → (more : List InputLine) × (before ≡ used ++ more) → (more : List InputLine) × (next ∷ before ≡ first ∷ used ++ more)
@@ -57,11 +57,11 @@ module _ {S V : Type 0} (reader : Reader S V Fault) (grammar : Grammar V) (start
       (stands_on (lines ++ next ∷ []) leads.0 (number + 1) others to (by.goes lines from leads.0 (number + 1) next stands leads.1) leads.2)
 
   -- where lines lead from the beginning
-  stands_there : (before : List InputLine) (state : S) → Leads reader start 0 (texts before) state → by.stands (texts before) state
+  pub stands_there : (before : List InputLine) (state : S) → Leads reader start 0 (texts before) state → by.stands (texts before) state
   stands_there before state leads = stands_on [] start 0 (texts before) state by.nothing leads
 
   -- ---- what a reading comes to, by the grammars
-  abbrev OutcomeIs : List InputLine → Outcome V Fault → Type 0
+  abbrev pub OutcomeIs : List InputLine → Outcome V Fault → Type 0
   OutcomeIs input (Given value number room rest) = grammar.declares (texts input) value (texts rest)
   OutcomeIs input (Faulty fault) = IsFirstRefusal grammar input fault
 
@@ -100,7 +100,7 @@ module _ {S V : Type 0} (reader : Reader S V Fault) (grammar : Grammar V) (start
       (subst (λ (ls : List (List ℕ)). RefusesThere grammar ls (length (texts before) + 1) fault) (sym (texts_both before (line ∷ others)))
       (by.refused (texts before) state (0 + length before + 1) line.text (texts others) fault at stands reads))
 
-  given_here : (before : List InputLine) (line : InputLine) (others : List InputLine) (state : S) (value : V) → by.stands (texts before) state → reader.reads state (0 + length before + 1) line.text ≡ Gives value → grammar.declares (texts (before ++ line ∷ others)) value (texts others)
+  pub given_here : (before : List InputLine) (line : InputLine) (others : List InputLine) (state : S) (value : V) → by.stands (texts before) state → reader.reads state (0 + length before + 1) line.text ≡ Gives value → grammar.declares (texts (before ++ line ∷ others)) value (texts others)
   given_here before line others state value stands reads =
       subst (λ (ls : List (List ℕ)). grammar.declares ls value (texts others)) (sym (texts_both before (line ∷ others)))
       (by.gives (texts before) state (0 + length before + 1) line.text (texts others) value stands reads)
@@ -117,7 +117,7 @@ module _ {S V : Type 0} (reader : Reader S V Fault) (grammar : Grammar V) (start
       refusal_of before (line ∷ others) state fault come stands (refused_causes before line others fault comes (refused_here before line others state fault stands reads))
   last_is before rest state outcome come stands (given line others value comes reads) = given_here before line others state value stands reads
 
-  outcome_is : (input : List InputLine) → OutcomeIs input (reading reader (begins start) input)
+  pub outcome_is : (input : List InputLine) → OutcomeIs input (reading reader (begins start) input)
   outcome_is input =
       let way = path reader by.longest input (begins start) in
       let out = reading reader (begins start) input in
@@ -223,7 +223,7 @@ module _ {S V : Type 0} (reader : Reader S V Fault) (grammar : Grammar V) (start
       let stands = stands_there before there.0 there.1 in
       once.value_no_fault (texts before) value (texts past.0) (length (texts before) + 1) (by.missing there.0) declared (by.ended (texts before) there.0 stands)
 
-  none_refused : (input used rest : List InputLine) (value : V) (after : List (List ℕ)) (before others : List InputLine) (fault : Fault) → input ≡ used ++ rest → Come most_input used → length rest ≡ length after → grammar.declares (texts input) value after → input ≡ before ++ others → grammar.underway (texts before) → Causes grammar before others fault → ⊥
+  pub none_refused : (input used rest : List InputLine) (value : V) (after : List (List ℕ)) (before others : List InputLine) (fault : Fault) → input ≡ used ++ rest → Come most_input used → length rest ≡ length after → grammar.declares (texts input) value after → input ≡ before ++ others → grammar.underway (texts before) → Causes grammar before others fault → ⊥
   none_refused input used rest value after before [] (LineTooLong number) divided come size is other on causes = causes.1
   none_refused input used rest value after before (line ∷ others) (LineTooLong number) divided come size is other on causes =
       none_stops input used rest value after before line others divided come size is other on (not_stopped _ TooLong causes.1 (λ same. absurd (cc)))
@@ -252,14 +252,17 @@ module _ {S V : Type 0} (reader : Reader S V Fault) (grammar : Grammar V) (start
     declared_by input put end (Faulty fault) used rest value after is answered divided come size declared =
         absurd (none_refused (input_lines input) used rest value after is.before is.rest fault divided come size declared is.divided is.underway is.causes)
 
-    -- a run answers the input
-    pub answers_text : (input put : List ℕ) (end : End) → Runs (asked_machine answers reader refusing) (record { question = question; text = start }) input put end → AnswersText grammar (answers question) input put end
-    answers_text input put end runs =
+    -- what is put for an input by what its reading comes to answers the input
+    pub outcome_answered : (input put : List ℕ) (end : End) → Answered (reading reader (begins start) (input_lines input)) put end → AnswersText grammar (answers question) input put end
+    outcome_answered input put end answered =
         let outcome = reading reader (begins start) (input_lines input) in
-        let answered : Answered outcome put end = runs_are answers reader refusing question start input put end runs in
         let is = outcome_is (input_lines input) in
         record {
           answers = answers_by input put end outcome is answered;
           declared = λ value within. declared_by input put end outcome within.used within.rest value (texts within.rest) is answered within.divided within.come (sym (texts_many within.rest)) within.declared;
           refuses = λ fault first. subst (λ (o : Outcome V Fault). Answered o put end) (refusal_read (input_lines input) fault first) answered;
         }
+
+    -- a run answers the input
+    pub answers_text : (input put : List ℕ) (end : End) → Runs (asked_machine answers reader refusing) (record { question = question; text = start }) input put end → AnswersText grammar (answers question) input put end
+    answers_text input put end runs = outcome_answered input put end (runs_are answers reader refusing question start input put end runs)

@@ -25,7 +25,7 @@ use Rattle.stnu_run.specs.CheckPromise.{PutsVerdict}
 use Rattle.stnu_run.proofs.OrderedLemmas.{order_excludes}
 
 -- where rounds close, every point is placed
-closes_placed : (net : Plan) (start after : Support) (rounds : ℕ) (ending : Ending) (order : List PointId) → ending ≡ closed order → RoundsEnd net start rounds after ending → first_left after.table ≡ None
+pub closes_placed : (net : Plan) (start after : Support) (rounds : ℕ) (ending : Ending) (order : List PointId) → ending ≡ closed order → RoundsEnd net start rounds after ending → first_left after.table ≡ None
 closes_placed net start after rounds ending order is (in_cycle _ first left) = absurd cc
 closes_placed net start after rounds ending order is (in_order _ left none) = left
 closes_placed net start after rounds ending order is (after_one _ _ more _ left some rest) = closes_placed net (after_round net start) after more ending order is rest
@@ -48,7 +48,7 @@ pub record Laws : Type 0 where
   pub exclude : AcceptedExcludes
 
 module _ (laws : Laws) (net : Plan) (plan : IsPlan net) where
-  closing_controls : RoundsClose net → IsControllable net
+  pub closing_controls : RoundsClose net → IsControllable net
   closing_controls closes =
       let base = laws.base net in
       let stands = (laws.stand net (base_support net) closes.after closes.rounds (closed closes.order) plan base closes.ends).0 in
@@ -56,7 +56,7 @@ module _ (laws : Laws) (net : Plan) (plan : IsPlan net) where
       let placed = laws.placed closes.after.table (closes_placed net (base_support net) closes.after closes.rounds (closed closes.order) closes.order refl closes.ends) in
       (laws.decide net closes.after.table plan closure).1 (order_excludes closes.after.table (placed_points closes.after.table) (standing_sound net plan closes.after stands) placed)
 
-  certificate_accepted : (cert : Certificate) → IsCertificateOf net cert → judgement_of net cert ≡ Accepted NotControllable
+  pub certificate_accepted : (cert : Certificate) → IsCertificateOf net cert → judgement_of net cert ≡ Accepted NotControllable
   certificate_accepted cert of =
       let is = of.refutation in
       let base = laws.base net in

@@ -10,3 +10,10 @@ pub mod JudgePromise
 pub mod Checking
 pub mod CheckPromise
 pub mod DefinedRuns
+pub mod Course
+pub mod EventAnswers
+pub mod Executing
+pub mod Running
+pub mod Due
+pub mod Day
+pub mod RunPromise

@@ -8,6 +8,7 @@ ghost use Rattle.stnu_run.specs.declared.status.Status.{Status};
 use crate::checking::Checking;
 use crate::judging::Judging;
 use crate::promising::Promising;
+use crate::running::Running;
 
 /// For given words and a given input at most one pair of bytes and status stands in the defined run.
 pub fn defined_run_is_one()
@@ -24,4 +25,5 @@ fn each_defines_one()
 {
     Judging::defines_one();
     Checking::defines_one();
+    Running::defines_one();
 }

@@ -4,11 +4,14 @@
 mod certificate_text;
 mod checking;
 mod dispatch;
+mod event_answers;
+mod executing;
 mod faults;
 mod judging;
 mod laws;
 mod plan_text;
 mod promising;
+mod running;
 mod status;
 
 pub use dispatch::run;

@@ -1,0 +1,264 @@
+-- A run over lines of events: where it stands after those that list a stream, and the line at which it ends.
+use Rattle.std.proofs.Common.{◌≡◌, ◌⊎◌, ℕ, ◌+◌, ◌-◌, List, [], ◌∷◌, ◌++◌, Option, Some, None, Result, Ok, Err, refl, sym, ap, ◌∙◌, subst, inl, inr, append_assoc}
+use Rattle.texts.specs.Lines.{InputLine, line_size}
+use Rattle.texts.specs.Words.{words}
+use Rattle.net_model.specs.Network.{Plan}
+use Rattle.net_model.specs.declared.ids.PointId.{PointId}
+use Rattle.net_model.specs.declared.format.FormatKind.{FormatKind}
+use Rattle.plan_port.specs.Limits.{most_line}
+use Rattle.plan_port.specs.Lines.{Coming, Comes, TooLong, TooMuch, coming}
+use Rattle.event_stream.specs.EventText.{EventLine, blank, completed, done, IsLine, AreWordsOf, IsFaultOfWords}
+use Rattle.event_stream.specs.Laws.{OneReading}
+use Rattle.execution_model.specs.Execution.{Moments}
+use Rattle.execution_model.specs.Feeding.{Execution, taken, after_feed, first_open, IsDueAnswer}
+use Rattle.execution_model.specs.Streams.{Listing}
+use Rattle.execution_model.specs.Timely.{fed_all}
+use Rattle.execution_model.specs.declared.feeding.Why.{Why}
+use Rattle.commands.specs.Runs.{Run}
+use Rattle.commands.specs.declared.endings.End.{End}
+use Rattle.commands.specs.declared.endings.End.TheVariants as ends
+use Rattle.stnu_run.specs.Day.{ListLines}
+use Rattle.stnu_run.specs.EventAnswers.{acts_text, due_line}
+use Rattle.stnu_run.specs.Executing.{executing_machine}
+use Rattle.stnu_run.specs.Faults.{fault_end}
+use Rattle.stnu_run.specs.ToRead.{Come, texts, room_after}
+use Rattle.stnu_run.specs.declared.faults.Fault.{Fault}
+use Rattle.stnu_run.proofs.EventLemmas.{at, no_line, stopped, one_blank, one_feed, one_refused, one_done, one_unfinished, one_fault}
+
+-- ---- lists of feeds
+-- what comes of the answer to the first feed of a list
+abbrev fed_on : Execution → Listing → List Listing → Result Moments Why → Result Execution Why
+fed_on execution listing others result =
+    elim result [
+      | Ok moments ↦ fed_all (after_feed execution listing.moment moments) others
+      | Err cause ↦ Err cause
+    ]
+
+pub fed_step : (execution : Execution) (listing : Listing) (others : List Listing) (moments : Moments) → taken execution listing.moment listing.points ≡ Ok moments
+    → fed_all execution (listing ∷ others) ≡ fed_all (after_feed execution listing.moment moments) others
+fed_step execution listing others moments is = ap (fed_on execution listing others) is
+
+pub fed_stops : (execution : Execution) (listing : Listing) (others : List Listing) (cause : Why) → taken execution listing.moment listing.points ≡ Err cause
+    → fed_all execution (listing ∷ others) ≡ Err cause
+fed_stops execution listing others cause is = ap (fed_on execution listing others) is
+
+fed_both_by : (execution : Execution) (listing : Listing) (others more : List Listing) (middle : Execution) (result : Result Moments Why)
+    → taken execution listing.moment listing.points ≡ result
+    → fed_all execution (listing ∷ others) ≡ Ok middle → ((next : Execution) → fed_all next others ≡ Ok middle → fed_all next (others ++ more) ≡ fed_all middle more)
+    → fed_all execution (listing ∷ others ++ more) ≡ fed_all middle more
+fed_both_by execution listing others more middle (Ok moments) is fed later =
+    fed_step execution listing (others ++ more) moments is ∙ later (after_feed execution listing.moment moments) (sym (fed_step execution listing others moments is) ∙ fed)
+fed_both_by execution listing others more middle (Err cause) is fed later = absurd (cc (fed_stops execution listing others cause is, fed))
+
+-- two lists of feeds, one after the other
+pub fed_both : (first more : List Listing) (execution middle : Execution) → fed_all execution first ≡ Ok middle → fed_all execution (first ++ more) ≡ fed_all middle more
+fed_both [] more execution middle fed = let same : execution ≡ middle = cc in ap (λ (e : Execution). fed_all e more) same
+fed_both (listing ∷ first) more execution middle fed =
+    fed_both_by execution listing first more middle (taken execution listing.moment listing.points) refl fed (λ next on. fed_both first more next middle on)
+
+-- ---- over lines that list a stream
+-- what an execution puts for listings: for each the acts of its feed, and a due moment
+abbrev pub SaysListings : Plan → Execution → List Listing → List ℕ → Type 0
+SaysListings net execution [] said = said ≡ []
+SaysListings net execution (listing ∷ others) said =
+    (moments : Moments) × (due : Option ℕ) × (more : List ℕ) × (taken execution listing.moment listing.points ≡ Ok moments)
+    × IsDueAnswer (after_feed execution listing.moment moments) due
+    × (said ≡ acts_text net (after_feed execution listing.moment moments).acts ++ (due_line due ++ more))
+    × SaysListings net (after_feed execution listing.moment moments) others more
+
+-- after lines that list a stream, the execution is fed it, and the run goes on over the other lines
+pub record OverEvents (net : Plan) (execution final : Execution) (listings : List Listing) (rest : List InputLine) (room : ℕ) (put : List ℕ) (end : End) : Type 0 where
+  pub said : List ℕ
+  pub more : List ℕ
+  pub listed : List PointId
+  pub number : ℕ
+  pub says : SaysListings net execution listings said
+  pub all : put ≡ said ++ more
+  pub later : Run executing_machine (at net final listed number room) rest more end
+  pub none : final.refused ≡ None
+
+over_none : (net : Plan) (execution final : Execution) (listings : List Listing) (rest : List InputLine) (listed : List PointId) (number room : ℕ) (put : List ℕ) (end : End)
+    → execution.refused ≡ None → listings ≡ [] → fed_all execution listings ≡ Ok final
+    → Run executing_machine (at net execution listed number room) rest put end → OverEvents net execution final listings rest room put end
+over_none net execution final [] rest listed number room put end none nothing fed run =
+    let same : execution ≡ final = cc in
+    record {
+      said = [];
+      more = put;
+      listed = listed;
+      number = number;
+      says = refl;
+      all = refl;
+      later = subst (λ (e : Execution). Run executing_machine (at net e listed number room) rest put end) same run;
+      none = subst (λ (e : Execution). e.refused ≡ None) same none;
+    }
+over_none net execution final (listing ∷ others) rest listed number room put end none nothing fed run = absurd cc
+
+-- the decision of a line that ends a run, by what it tells
+abbrev pub Decides : Execution → EventLine → End → Type 0
+Decides final blank end = ⊥
+Decides final (completed moment points) end = (cause : Why) × (taken final moment points ≡ Err cause) × (end ≡ ends.EventRefused)
+Decides final done end = ((first_open final ≡ None) × (end ≡ ends.Done)) ⊎ ((point : PointId) × (first_open final ≡ Some point) × (end ≡ ends.EventRefused))
+
+-- a run ends at a line of events that is decided so, after lines that list a stream
+pub record EndsAt (net : Plan) (lines : List InputLine) (room : ℕ) (execution : Execution) (end : End) : Type 0 where
+  pub events : List InputLine
+  pub last : InputLine
+  pub rest : List InputLine
+  pub listings : List Listing
+  pub told : EventLine
+  pub final : Execution
+  pub divided : lines ≡ events ++ last ∷ rest
+  pub come : Come room (events ++ last ∷ [])
+  pub lists : ListLines net (texts events) listings
+  pub tells : IsLine net told last.text
+  pub fed : fed_all execution listings ≡ Ok final
+  pub decides : Decides final told end
+
+-- or it ends by a fault
+abbrev pub EndsSo : Plan → List InputLine → ℕ → Execution → End → Type 0
+EndsSo net lines room execution end = EndsAt net lines room execution end ⊎ ((fault : Fault) × (end ≡ fault_end fault))
+
+module _ (reading : (net : Plan) (line : List (List ℕ)) → OneReading net line) (net : Plan) where
+  over_line : (line : InputLine) (events rest : List InputLine) (listings : List Listing) (execution final : Execution) (listed : List PointId) (number room : ℕ) (put : List ℕ) (end : End)
+      → execution.refused ≡ None → coming most_line room line ≡ Comes → ListLines net (texts (line ∷ events)) listings → fed_all execution listings ≡ Ok final
+      → Run executing_machine (at net execution listed number room) (line ∷ events ++ rest) put end
+      → ((others : List Listing) (next : Execution) (points : List PointId)
+      (more : List ℕ) → next.refused ≡ None → ListLines net (texts events) others → fed_all next others ≡ Ok final
+      → Run executing_machine (at net next points (number + 1) (room - line_size line)) (events ++ rest) more end
+      → OverEvents net next final others rest (room_after (room - line_size line) events) more end)
+      → OverEvents net execution final listings rest (room_after (room - line_size line) events) put end
+  over_line line events rest listings execution final listed number room put end none comes (inl (is, lists)) fed run later =
+      later listings execution listed put none lists fed (one_blank reading net execution listed number room none line (events ++ rest) put end comes run is)
+  over_line line events rest listings execution final listed number room put end none comes (inr (moment, points, others, is, same, lists)) fed run later =
+      subst (λ (ls : List Listing). OverEvents net execution final ls rest (room_after (room - line_size line) events) put end) (sym same) (by (taken execution moment points) refl)
+    where
+      first : Listing
+      first = record { moment = moment; points = points }
+
+      all_fed : fed_all execution (first ∷ others) ≡ Ok final
+      all_fed = subst (λ (ls : List Listing). fed_all execution ls ≡ Ok final) same fed
+
+      by : (result : Result Moments Why) → taken execution moment points ≡ result → OverEvents net execution final (first ∷ others) rest (room_after (room - line_size line) events) put end
+      by (Err cause) takes = absurd (cc (fed_stops execution first others cause takes, all_fed))
+      by (Ok moments) takes =
+          let went = one_feed reading net execution listed number room none line (events ++ rest) put end comes run moment points moments is takes in
+          let on = later others (after_feed execution moment moments) points went.1 none lists (sym (fed_step execution first others moments takes) ∙ all_fed) went.4 in
+          let before : List ℕ = acts_text net (after_feed execution moment moments).acts in
+          record {
+            said = before ++ (due_line went.0 ++ on.said);
+            more = on.more;
+            listed = on.listed;
+            number = on.number;
+            says = (moments, went.0, on.said, takes, went.2, refl, on.says);
+            all =
+                went.3 ∙ (ap (λ (s : List ℕ). before ++ (due_line went.0 ++ s)) on.all
+                ∙ (ap (λ (s : List ℕ). before ++ s) (sym (append_assoc (due_line went.0) on.said on.more)) ∙ sym (append_assoc before (due_line went.0 ++ on.said) on.more)));
+            later = on.later;
+            none = on.none;
+          }
+
+  -- a run goes over lines that list a stream whose feeds are all taken
+  pub over_events : (events rest : List InputLine) (listings : List Listing) (execution final : Execution) (listed : List PointId) (number room : ℕ) (put : List ℕ) (end : End)
+      → execution.refused ≡ None → Come room events → ListLines net (texts events) listings → fed_all execution listings ≡ Ok final
+      → Run executing_machine (at net execution listed number room) (events ++ rest) put end → OverEvents net execution final listings rest (room_after room events) put end
+  over_events [] rest listings execution final listed number room put end none come lists fed run =
+      over_none net execution final listings rest listed number room put end none lists fed run
+  over_events (line ∷ events) rest listings execution final listed number room put end none come lists fed run =
+      over_line line events rest listings execution final listed number room put end none come.0 lists fed run
+      (λ others next points more unrefused list goes on. over_events events rest others next final points (number + 1) (room - line_size line) more end unrefused come.1 list goes on)
+
+  -- ---- the line at which a run ends
+  ends_here : (line : InputLine) (lines : List InputLine) (room : ℕ) (execution : Execution) (end : End) (told : EventLine) → coming most_line room line ≡ Comes → IsLine net told line.text
+      → Decides execution told end
+      → EndsAt net (line ∷ lines) room execution end
+  ends_here line lines room execution end told comes is decides = record {
+    events = [];
+    last = line;
+    rest = lines;
+    listings = [];
+    told = told;
+    final = execution;
+    divided = refl;
+    come = (comes, tt);
+    lists = refl;
+    tells = is;
+    fed = refl;
+    decides = decides;
+  }
+
+  after_blank : (line : InputLine) (lines : List InputLine) (room : ℕ) (execution : Execution) (end : End) → coming most_line room line ≡ Comes → IsLine net blank line.text
+      → EndsSo net lines (room - line_size line) execution end → EndsSo net (line ∷ lines) room execution end
+  after_blank line lines room execution end comes is (inr fault) = inr fault
+  after_blank line lines room execution end comes is (inl one) = inl (record {
+    events = line ∷ one.events;
+    last = one.last;
+    rest = one.rest;
+    listings = one.listings;
+    told = one.told;
+    final = one.final;
+    divided = ap (λ (ls : List InputLine). line ∷ ls) one.divided;
+    come = (comes, one.come);
+    lists = inl (is, one.lists);
+    tells = one.tells;
+    fed = one.fed;
+    decides = one.decides;
+  })
+
+  after_one : (line : InputLine) (lines : List InputLine) (room : ℕ) (execution : Execution) (end : End) (moment : ℕ) (points : List PointId) (moments : Moments)
+      → coming most_line room line ≡ Comes
+      → IsLine net (completed moment points) line.text → taken execution moment points ≡ Ok moments
+      → EndsSo net lines (room - line_size line) (after_feed execution moment moments) end → EndsSo net (line ∷ lines) room execution end
+  after_one line lines room execution end moment points moments comes is takes (inr fault) = inr fault
+  after_one line lines room execution end moment points moments comes is takes (inl one) = inl (record {
+    events = line ∷ one.events;
+    last = one.last;
+    rest = one.rest;
+    listings = record { moment = moment; points = points } ∷ one.listings;
+    told = one.told;
+    final = one.final;
+    divided = ap (λ (ls : List InputLine). line ∷ ls) one.divided;
+    come = (comes, one.come);
+    lists = inr (moment, points, one.listings, is, refl, one.lists);
+    tells = one.tells;
+    fed = fed_step execution (record { moment = moment; points = points }) one.listings moments takes ∙ one.fed;
+    decides = one.decides;
+  })
+
+  line_ends : (line : InputLine) (lines : List InputLine) (execution : Execution) (listed : List PointId) (number room : ℕ) (put : List ℕ) (end : End) (how : Coming)
+      → execution.refused ≡ None → coming most_line room line ≡ how
+      → ((told : EventLine) × AreWordsOf net told (words line.text)) ⊎ ((kind : FormatKind) × IsFaultOfWords net (words line.text) kind)
+      → Run executing_machine (at net execution listed number room) (line ∷ lines) put end
+      → ((next : Execution) (points : List PointId) (more : List ℕ) → next.refused ≡ None → Run executing_machine (at net next points (number + 1)
+      (room - line_size line)) lines more end → EndsSo net lines (room - line_size line) next end)
+      → EndsSo net (line ∷ lines) room execution end
+  line_ends line lines execution listed number room put end Comes none comes (inl (blank, is)) run later =
+      after_blank line lines room execution end comes is (later execution listed put none (one_blank reading net execution listed number room none line lines put end comes run is))
+  line_ends line lines execution listed number room put end Comes none comes (inl (completed moment points, is)) run later = by (taken execution moment points) refl
+    where
+      by : (result : Result Moments Why) → taken execution moment points ≡ result → EndsSo net (line ∷ lines) room execution end
+      by (Err cause) refuses =
+          inl (ends_here line lines room execution end (completed moment points) comes is
+          (cause, refuses, one_refused reading net execution listed number room none line lines put end comes run moment points cause is refuses))
+      by (Ok moments) takes =
+          let went = one_feed reading net execution listed number room none line lines put end comes run moment points moments is takes in
+          after_one line lines room execution end moment points moments comes is takes (later (after_feed execution moment moments) points went.1 none went.4)
+  line_ends line lines execution listed number room put end Comes none comes (inl (done, is)) run later = by (first_open execution) refl
+    where
+      by : (first : Option PointId) → first_open execution ≡ first → EndsSo net (line ∷ lines) room execution end
+      by None closed =
+          inl (ends_here line lines room execution end done comes is (inl (closed, (one_done reading net execution listed number room none line lines put end comes run is closed).3)))
+      by (Some point) opens =
+          inl (ends_here line lines room execution end done comes is (inr (point, opens, one_unfinished reading net execution listed number room none line lines put end comes run point is opens)))
+  line_ends line lines execution listed number room put end Comes none comes (inr (kind, fault)) run later =
+      inr (one_fault reading net execution listed number room none line lines put end comes run kind fault)
+  line_ends line lines execution listed number room put end TooLong none comes either run later = inr (stopped net execution listed number room line lines put end (inl comes) run)
+  line_ends line lines execution listed number room put end TooMuch none comes either run later = inr (stopped net execution listed number room line lines put end (inr comes) run)
+
+  -- a run ends at a line of events that is decided, or by a fault
+  pub ends_so : (lines : List InputLine) (execution : Execution) (listed : List PointId) (number room : ℕ) (put : List ℕ) (end : End) → execution.refused ≡ None
+      → Run executing_machine (at net execution listed number room) lines put end → EndsSo net lines room execution end
+  ends_so [] execution listed number room put end none run = inr (no_line net execution listed number room put end run)
+  ends_so (line ∷ lines) execution listed number room put end none run =
+      line_ends line lines execution listed number room put end (coming most_line room line) none refl (reading net (words line.text)).either run
+      (λ next points more unrefused on. ends_so lines next points (number + 1) (room - line_size line) more end unrefused on)

@@ -1,0 +1,22 @@
+use Rattle.stnu_run.proofs.RunLemmas.{run_keeps}
+use Rattle.stnu_run.proofs.running.RunningPromising.keeps_its_promise.Goals as goal
+
+pub returns : goal.returns
+returns c = run_keeps (record {
+  verdict = record {
+    base = c.base_stands.ensures;
+    stand = c.rounds_stand.ensures;
+    close = c.rounds_that_close.ensures;
+    placed = c.placed_points_are_an_order.ensures;
+    met = c.cycles_are_met.ensures;
+    decide = c.closures_decide.ensures;
+    accepted = c.refutations_are_accepted.ensures;
+    exclude = c.accepted_excludes.ensures;
+  };
+  reading = c.lines_have_one_reading.ensures;
+  taken = c.faithful_streams_are_taken.ensures;
+  done = c.done_where_none_is_open.ensures;
+  ends = c.ends_are_earliest.ensures;
+  acts = c.acts_are_earliest.ensures;
+  last = c.last_acts_are_earliest.ensures;
+})

@@ -1,0 +1,29 @@
+-- The next due moment, told by schedules: the first moment at which a point is executed while nothing completes. This project's own choice.
+use Rattle.std.specs.Prelude.{◌≡◌, ◌≢◌, ℕ, suc, ◌-◌, ◌<◌, ◌≤◌, List, [], ◌∷◌, ◌++◌, Option, Some, None}
+use Rattle.std.specs.Option.{option_map_or}
+use Rattle.net_model.specs.Network.{Plan}
+use Rattle.strategy_model.specs.Control.{IsEarliest}
+use Rattle.execution_model.specs.Acts.{scheduled_at, scheduled}
+use Rattle.execution_model.specs.Laws.{going_on}
+use Rattle.execution_model.specs.Streams.{Listing, Shows, last_moment}
+
+-- the first moment after those of a list
+abbrev pub moment_after : List Listing → ℕ
+moment_after listings = option_map_or suc (last_moment (going_on listings)) 0
+
+-- a schedule is the earliest of a situation in which what is listed completes, and then nothing up to a moment
+abbrev pub Waits : Plan → List Listing → (moment : ℕ) → (schedule : List ℕ) → Type 0
+Waits net listings moment schedule =
+    (situation : List ℕ) × IsEarliest net situation schedule × Shows net (going_on (listings ++ record { moment = moment; points = [] } ∷ [])) schedule
+
+-- such a schedule executes no point from the last listing up to the moment
+abbrev pub ExecutesNone : Plan → List Listing → (moment : ℕ) → Type 0
+ExecutesNone net listings moment =
+    (schedule : List ℕ) → Waits net listings moment schedule → scheduled net schedule (moment_after listings) (suc moment - moment_after listings) ≡ []
+
+-- while nothing completes, a point is executed at a moment and none before it; or none is executed at all
+abbrev pub IsDueAfter : Plan → List Listing → Option ℕ → Type 0
+IsDueAfter net listings None = (moment : ℕ) → ExecutesNone net listings moment
+IsDueAfter net listings (Some due) =
+    (moment_after listings ≤ due) × ((moment : ℕ) → moment < due → ExecutesNone net listings moment)
+    × ((schedule : List ℕ) → Waits net listings due schedule → scheduled_at net schedule due ≢ [])
