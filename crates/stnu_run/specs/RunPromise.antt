@@ -28,9 +28,10 @@ OpensExecution net put end =
 
 -- What `run` promises. `opens`: it opens the execution of the network that the input declares, or puts the first refusal of the input.
 -- `underway`: while the stream goes on and is faithful, it puts the acts of the earliest schedule of the situation that the stream fits,
--- whatever comes after. `executes`: for a controllable network and a faithful stream that is done, it puts the acts of the earliest schedule of the situation
--- that the stream fits, which with the completions listed is the whole schedule, and satisfies the network. `completes`: only then does it end so. `refuses` and
--- `refused`: it ends by a refused event exactly where a line tells what no faithful stream does.
+-- whatever comes after. `executes`: for a controllable network and a faithful stream that is done, it puts the acts of the earliest
+-- schedule of the situation that the stream fits, which with the completions listed is the whole schedule, and satisfies the network.
+-- `completes`: only then does it end so. `refuses` and `refused`: it ends by a refused event exactly where a line tells what no faithful
+-- stream does.
 pub record RunPromise (input put : List ℕ) (end : End) : Type 0 where
   pub opens : AnswersText plan_grammar OpensExecution input put end
   pub underway : (net : Plan) (listings : List Listing) (situation : List ℕ) → IsUnderway (input_lines input) net listings
