@@ -190,7 +190,8 @@ module _ (reading : (net : Plan) (line : List (List ℕ)) → OneReading net lin
         decided = subst (λ (n : ℕ). IsDecided net execution n room lines end) same decided;
       }
 
-  after_line : (line : InputLine) (lines : List InputLine) (number room : ℕ) (execution next : Execution) (listings : List Listing → List Listing) (end : End) → coming most_line room line ≡ Comes
+  after_line : (line : InputLine) (lines : List InputLine) (number room : ℕ) (execution next : Execution) (listings : List Listing → List Listing) (end : End)
+      → coming most_line room line ≡ Comes
       → ((lines : List (List ℕ)) (others : List Listing) → ListLines net lines others → ListLines net (line.text ∷ lines) (listings others))
       → ((others : List Listing) (final : Execution) → fed_all next others ≡ Ok final → fed_all execution (listings others) ≡ Ok final)
       → EndsAt net lines (number + 1) (room - line_size line) next end → EndsAt net (line ∷ lines) number room execution end
@@ -208,7 +209,8 @@ module _ (reading : (net : Plan) (line : List (List ℕ)) → OneReading net lin
         decided = subst (λ (n : ℕ). IsDecided net one.final n (room_after (room - line_size line) one.events) one.rest end) same one.decided;
       }
 
-  told_here : (line : InputLine) (lines : List InputLine) (number room : ℕ) (execution : Execution) (end : End) (told : EventLine) → coming most_line room line ≡ Comes → IsLine net told line.text
+  told_here : (line : InputLine) (lines : List InputLine) (number room : ℕ) (execution : Execution) (end : End) (told : EventLine) → coming most_line room line ≡ Comes
+      → IsLine net told line.text
       → Decides execution told end → EndsAt net (line ∷ lines) number room execution end
   told_here line lines number room execution end told comes is decides = ends_here (line ∷ lines) number room execution end (inl (line, lines, told, refl, comes, is, decides))
 

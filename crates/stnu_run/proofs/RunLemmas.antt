@@ -232,7 +232,7 @@ module _ (laws : RunLaws) where
           let front : List ℕ = due_line opened.due ++ all.over.said in (
             controllable_line ++ front,
             opened.all ∙ (ap (λ (m : List ℕ). controllable_line ++ (due_line opened.due ++ m)) (all.over.all ∙ ap (λ (m : List ℕ). all.over.said ++ m) is)
-            ∙ (ap (λ (m : List ℕ). controllable_line ++ m) (sym (append_assoc (due_line opened.due) all.over.said line)) ∙ sym (append_assoc controllable_line front line))),
+                ∙ (ap (λ (m : List ℕ). controllable_line ++ m) (sym (append_assoc (due_line opened.due) all.over.said line)) ∙ sym (append_assoc controllable_line front line))),
           )
 
       put_refused : (all : FedAll) → RefusesSo (length (day.plan ++ day.events) + 1) all.over.more end → EndsRefused (length (day.plan ++ day.events) + 1) put end
@@ -272,13 +272,15 @@ module _ (laws : RunLaws) where
           where
             by : (result : Result Moments Why) → taken all.final moment points ≡ result → EndsRefused (length (day.plan ++ day.events) + 1) put end
             by (Err cause) refuses =
-                put_refused all (one_refused laws.reading net all.final all.over.listed (length (day.plan ++ day.events)) _ all.over.none last others all.over.more end comes (later_run all) moment points cause is refuses)
+                put_refused all
+                (one_refused laws.reading net all.final all.over.listed (length (day.plan ++ day.events)) _ all.over.none last others all.over.more end comes (later_run all) moment points cause is refuses)
             by (Ok moments) takes = absurd (unfaithful (taken_faithful laws net _ _ by_closure listings all.final moment points moments within is.within all.fed takes))
         refused_there all done is unfaithful = by (first_open all.final) refl
           where
             by : (open_point : Option PointId) → first_open all.final ≡ open_point → EndsRefused (length (day.plan ++ day.events) + 1) put end
             by (Some point) opens =
-                put_refused all (one_unfinished laws.reading net all.final all.over.listed (length (day.plan ++ day.events)) _ all.over.none last others all.over.more end comes (later_run all) point is opens)
+                put_refused all
+                (one_unfinished laws.reading net all.final all.over.listed (length (day.plan ++ day.events)) _ all.over.none last others all.over.more end comes (later_run all) point is opens)
             by None shut = absurd (unfaithful (closed_faithful laws net _ _ by_closure listings all.final all.fed shut))
 
         -- the end of a faithful stream makes the execution whole
@@ -342,7 +344,8 @@ module _ (laws : RunLaws) where
     how_ended : Ending
     how_ended = by (outcome_of (input_lines input)) refl follows (outcome_is plan_reader plan_grammar plan_begun plan_by plan_once (input_lines input))
       where
-        opens : (net : Plan) (number room : ℕ) (rest : List InputLine) → IsGivenAt (input_lines input) net number room rest → Opened net number room rest put end ⊎ RefutedSo net put end → Ending
+        opens : (net : Plan) (number room : ℕ) (rest : List InputLine) → IsGivenAt (input_lines input) net number room rest → Opened net number room rest put end ⊎ RefutedSo net put end
+            → Ending
         opens net number room rest given (inl opening) =
             lasted (record {
               net = net;
@@ -355,7 +358,8 @@ module _ (laws : RunLaws) where
             })
         opens net number room rest given (inr refuted) = refuted_network refuted.puts.1
 
-        by : (outcome : Outcome Plan Fault) → outcome_of (input_lines input) ≡ outcome → Follows outcome put end → OutcomeIs plan_reader plan_grammar plan_begun plan_by plan_once (input_lines input) outcome → Ending
+        by : (outcome : Outcome Plan Fault) → outcome_of (input_lines input) ≡ outcome → Follows outcome put end
+            → OutcomeIs plan_reader plan_grammar plan_begun plan_by plan_once (input_lines input) outcome → Ending
         by (Given net number room rest) comes on is = opens net number room rest (is_given (input_lines input) net number room rest comes) (opened_or net number room rest put end on)
         by (Faulty fault) comes on is = refused_text fault is on.1
 
@@ -417,7 +421,8 @@ module _ (laws : RunLaws) where
       }
       refused_so refused (inr (fault, next, is)) = absurd (fault_not fault end is (inl refused))
 
-      fault_so : (end ≡ ends.Fault) ⊎ (end ≡ ends.Limit) → IsDecided one.net one.ending.final (one.number + length one.ending.events) (room_after one.room one.ending.events) one.ending.rest end
+      fault_so : (end ≡ ends.Fault) ⊎ (end ≡ ends.Limit)
+          → IsDecided one.net one.ending.final (one.number + length one.ending.events) (room_after one.room one.ending.events) one.ending.rest end
           → (fault : Fault) × HasEventFault (input_lines input) fault
       fault_so so (inl (last, others, told, next, comes, is, decides)) = absurd (not_decided one.ending.final told end decides so)
       fault_so so (inr (fault, next, is)) = (
