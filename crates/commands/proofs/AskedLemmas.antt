@@ -1,7 +1,9 @@
 -- A run of a command that reads a text puts the answer to what the reading came to.
-use Rattle.std.proofs.Common.{◌≡◌, ℕ, ◌+◌, List, [], ◌∷◌, ◌++◌, refl, sym, ap, subst, ◌∙◌}
+use Rattle.std.proofs.Common.{◌≡◌, inl, inr, ℕ, ◌+◌, List, [], ◌∷◌, ◌++◌, refl, sym, ap, subst, ◌∙◌}
 use Rattle.texts.specs.Lines.{InputLine, input_lines}
 use Rattle.plan_port.specs.Lines.{Coming, Comes, TooLong, TooMuch, coming}
+use Rattle.plan_port.specs.Talk.{Piece}
+use Rattle.commands.specs.Breaks.{BreaksForMemory}
 use Rattle.commands.specs.Machine.{Machine}
 use Rattle.commands.specs.Runs.{Here, begins, after_line, Stops, RepliesTo, Replies, Answers, Run, Runs}
 use Rattle.commands.specs.Reading.{Reader, Refusing, Outcome, Faulty, outcome_by, reading}
@@ -89,6 +91,20 @@ module _ {Q S V F : Type 0} (answers : Q → V → List ℕ → End → Type 0) 
 
   pub runs_are : (question : Q) (text : S) (input put : List ℕ) (end : End) → Runs machine (record { question = question; text = text }) input put end → AnswersOutcome answers reader refusing question (reading reader (begins text) (input_lines input)) put end
   runs_are question text input put end one = run_is question (begins text) (input_lines input) put end one
+
+  -- nothing is said before the answer
+  quiet : (question : Q) (here : Here S) (first : List InputLine) (said : List ℕ) (there : Here (Asked Q S)) → Answers machine (at question here) first said there → said ≡ []
+  quiet question here [] said there so_far = so_far.0
+  quiet question here (line ∷ first) said there so_far =
+      let goes = goes_by (coming (reader.longest here.state) here.room line) question here line so_far.0 so_far.2 refl so_far.3 in
+      let next = after_line here line goes.text in
+      let later : Answers machine (at question next) first so_far.1 there = subst (λ (s : Asked Q S). Answers machine (after_line (at question here) line s) first so_far.1 there) goes.so so_far.5 in
+      so_far.4 ∙ (ap (λ (s : List ℕ). s ++ so_far.1) goes.nothing ∙ quiet question next first so_far.1 there later)
+
+  -- a run that breaks off for want of memory has put nothing
+  pub wants_before_answer : (question : Q) (text : S) (input untaken put : List ℕ) (pieces : List Piece) → BreaksForMemory machine (record { question = question; text = text }) input untaken put pieces → put ≡ []
+  wants_before_answer question text input untaken put pieces (inl wants) = quiet question (begins text) wants.first put wants.there wants.answers
+  wants_before_answer question text input untaken put pieces (inr nothing) = nothing.1
 
   -- a command that asks has at most one reply where its question has at most one answer
   takes_same : (question : Q) (step : Step S V F) (a b : List ℕ) (x y : Onward (Asked Q S)) → ((value : V) (a b : List ℕ) (x y : End) → answers question value a x → answers question value b y → (a ≡ b) × (x ≡ y)) → RepliesToStep answers reader refusing question step a x → RepliesToStep answers reader refusing question step b y → (a ≡ b) × (x ≡ y)

@@ -58,6 +58,13 @@ pub fn pair_reads<A: Text, B: Text<Fault = A::Fault>>()
         ≡ then_reading A.reader B.reader second (reading A.reader (begins first) lines) }
 {}
 
+/// A run of a command that asks, which breaks off for want of memory, has put nothing.
+pub fn asked_wants<T: Text, Q: Question<T::Value>>()
+    ensures { (question : Q) (text : T) (input untaken put : List ℕ) (pieces : List Piece)
+        → BreaksForMemory (asked_machine Q.answers T.reader T.Fault.refusing) (record { question = question; text = text }) input untaken put pieces
+        → put ≡ [] }
+{}
+
 /// A run of a command that reads a text and then serves a phase is the reading of the text, and then a run of the phase over
 /// the lines that are left.
 pub fn planned_runs<T: Text, B: Begin<T::Value>>()

@@ -1,6 +1,6 @@
 //! A command as a machine that takes the lines of its input one by one.
 
-ghost use Rattle.std.specs.Prelude.{◌≡◌, ℕ, ◌≤◌, List, [], IfOk, OnErr};
+ghost use Rattle.std.specs.Prelude.{◌≡◌, ℕ, ◌≤◌, List, [], length, IfOk, OnErr};
 ghost use Rattle.plan_port.specs.Limits.{most_line};
 ghost use Rattle.commands.specs.Machine.{Machine, HasRoom};
 
@@ -40,8 +40,9 @@ pub trait Command: Drop {
         ensures value { result ≡ machine.longest self.now }
         ensures held { result ≤ most_line };
 
-    /// Answers a line, by its number, from 1, and its bytes: the answer is put into the buffer, which is empty and has the
-    /// room that this state needs. `AllocError` comes only for want of memory, and only from a state that may want it.
+    /// Answers a line, by its number, from 1, and its bytes, which are no more than `longest` says: the answer is put into the
+    /// buffer, which is empty and has the room that this state needs. `AllocError` comes only for want of memory, and only from
+    /// a state that may want it.
     fn take_line(
         self,
         alloc: Global,
@@ -51,6 +52,7 @@ pub trait Command: Drop {
     ) -> Result<Onward<Self>, AllocError>
         requires fresh { answer.old.text ≡ [] }
         requires room { machine.room self ≤ answer.old.capacity }
+        requires line { length line.now ≤ machine.longest self }
         ensures takes { IfOk result (λ onward. machine.takes self number line.now answer.new.text onward) }
         ensures room { IfOk result (λ onward. HasRoom machine onward answer.new.capacity) }
         ensures wants { OnErr result (machine.may_want self) };

@@ -1,6 +1,6 @@
 //! The run of a command over a port.
 
-ghost use Rattle.std.specs.Prelude.{◌≡◌, ◌≢◌, ◌<◌, ◌≤◌, [], None, IfOk, OnErr};
+ghost use Rattle.std.specs.Prelude.{◌≡◌, ◌≢◌, ◌<◌, ◌≤◌, [], None, length, IfOk, OnErr};
 ghost use Rattle.plan_port.specs.Writing.{Writes};
 ghost use Rattle.plan_port.specs.Reader.{IsReader};
 ghost use Rattle.commands.specs.Limits.{most_input, least_room};
@@ -80,6 +80,7 @@ fn reply_to<C: Command>(
     requires fresh { answer.old.text ≡ [] }
     requires room { C.machine.room command ≤ answer.old.capacity }
     requires line { line ≢ Line.OutOfMemory }
+    requires text { line ≡ Line.Text → length reader.now.text ≤ C.machine.longest command }
     requires number { reader.now.number < 4294967295 }
     ensures replies { IfOk result (λ turn. ReplyTo C.machine command line reader.now answer.new.text turn) }
     ensures room { IfOk result (λ turn. TurnHasRoom C.machine turn answer.new.capacity) }

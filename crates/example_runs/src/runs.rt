@@ -29,7 +29,26 @@ stnu judge => stnu 1|end|certificate 1|refutation|walk|end| => error format 5 wo
 stnu judge => stnu 1|point A|point B|bound b1 A B 1000000001|bound b2 B A -2|end| => error limit 4 number| => 4
 stnu chek => stnu 1|end| => error words| => 2
 stnu judge judge => stnu 1|end| => error words| => 2
-stnu => stnu 1|end| => error words| => 2";
+stnu => stnu 1|end| => error words| => 2
+stnu run => stnu 1|point A|point B|bound b1 A B 5|bound b2 B A -2|end|at 0|at 2|done| => controllable|due 0|act 0 A|due 2|act 2 B|due none|complete| => 0
+stnu run => stnu 1|end|done| => controllable|due none|complete| => 0
+stnu run => stnu 1|point A|point B|bound b1 A B 3|bound b2 B A -5|end|at 0|done| => not controllable|certificate 1|refutation|bound b1 A B 3|bound b2 B A -5|no 1 2 A A -2|walk 3|end| => 1
+stnu run => stnu 1|point A|point C|point D|bound e1 C D 0|bound e2 D C 0|link A 3 8 C|end|at 0|at 5 C|done| => controllable|due 0|act 0 A|due 8|act 5 D|due none|complete| => 0
+stnu run => stnu 1|point A|point C|point D|bound b1 D C 4|link A 3 8 C|end|at 0|at 3 C|done| => controllable|due 0|act 0 A|due 4|act 3 D|due none|complete| => 0
+stnu run => stnu 1|point A|point C|point D|bound b1 D C 4|link A 3 8 C|end|at 0|at 4|at 8 C|done| => controllable|due 0|act 0 A|due 4|act 4 D|due none|due none|complete| => 0
+stnu run => stnu 1|point A|point C|point D|bound b1 D C 4|link A 3 8 C|end|# a remark||at 0|at 9 C| => controllable|due 0|act 0 A|due 4|error event 11 overdue C 8| => 7
+stnu run => stnu 1|point A|point C|point D|bound b1 D C 1|bound b2 C D -1|link A 5 5 C|end|at 0|at 4|at 5 C|done| => controllable|due 0|act 0 A|due 4|act 4 D|due none|due none|complete| => 0
+stnu run => stnu 1|point A|point C|point D|bound b1 D C 4|link A 3 8 C|end|at 0|at 2 C| => controllable|due 0|act 0 A|due 4|error event 9 too-soon C 3| => 7
+stnu run => stnu 1|point A|point C|point D|bound b1 D C 4|link A 3 8 C|end|at 0|at 9| => controllable|due 0|act 0 A|due 4|error event 9 overdue C 8| => 7
+stnu run => stnu 1|point A|point C|point D|bound b1 D C 4|link A 3 8 C|end|at 0|at 8| => controllable|due 0|act 0 A|due 4|error event 9 overdue C 8| => 7
+stnu run => stnu 1|point A|point C|point D|bound b1 D C 4|link A 3 8 C|end|at 0|at 4|at 8 C|at 8| => controllable|due 0|act 0 A|due 4|act 4 D|due none|due none|error event 11 not-later 8| => 7
+stnu run => stnu 1|point A|point C|point D|bound b1 D C 4|link A 3 8 C|end|at 0|at 4 C C| => controllable|due 0|act 0 A|due 4|error event 9 twice C 4| => 7
+stnu run => stnu 1|point A|point C|point D|bound b1 D C 4|link A 3 8 C|end|at 0 C| => controllable|due 0|error event 8 not-active C| => 7
+stnu run => stnu 1|point A|point C|point D|bound b1 D C 4|link A 3 8 C|end|at 0 D| => controllable|due 0|error event 8 not-contingent D| => 7
+stnu run => stnu 1|point A|point C|point D|bound b1 D C 4|link A 3 8 C|end|done| => controllable|due 0|error event 8 unfinished C| => 7
+stnu run => stnu 1|point A|point C|point D|bound b1 D C 4|link A 3 8 C|end|at 0 Q| => controllable|due 0|error format 8 unknown-name| => 3
+stnu run => stnu 1|point A|point C|point D|bound b1 D C 4|link A 3 8 C|end|at 4000000000001| => controllable|due 0|error limit 8 moment| => 4
+stnu run => stnu 1|point A|point C|point D|bound b1 D C 4|link A 3 8 C|end|at 0| => controllable|due 0|act 0 A|due 4|error format 9 no-end| => 3";
 
 /// Rows: how many bytes a take gives at most, where that is above 0, which take and which put fails; and then as above.
 const FAILING_CALLS: &str = "0 2 0 => stnu judge => stnu 1|point A| => error read| => 5
@@ -38,7 +57,10 @@ const FAILING_CALLS: &str = "0 2 0 => stnu judge => stnu 1|point A| => error rea
 0 0 1 => stnu judge => stnu 1|end|certificate 1|refutation|end| =>  => 6
 1 0 1 => stnu judge => point A|end| =>  => 6
 1 4 1 => stnu judge => stnu 1|end| =>  => 6
-0 1 1 => stnu chek => stnu 1|end| =>  => 6";
+0 1 1 => stnu chek => stnu 1|end| =>  => 6
+1 4 0 => stnu run => stnu 1|point A|point C|point D|bound b1 D C 4|link A 3 8 C|end|at 0|at 3 C|done| => error read| => 5
+0 0 2 => stnu run => stnu 1|point A|point C|point D|bound b1 D C 4|link A 3 8 C|end|at 0|at 3 C|done| => controllable|due 0| => 6
+1 0 2 => stnu run => stnu 1|point A|point C|point D|bound b1 D C 4|link A 3 8 C|end|at 0|at 3 C|done| => controllable|due 0| => 6";
 
 /// Rows: the room of a port of fixed room, how much of it is left after the run, whether all bytes put are kept; and then as above.
 /// The room is ample, just enough, or too little: the status is the same.
@@ -47,7 +69,10 @@ const ROOMS: &str =
 26 0 true => stnu judge => stnu 1|point A|point B|bound b1 A B 3|bound b2 B A -5|end|certificate 1|refutation|bound b1 A B 3|bound b2 B A -5|no 1 2 A A -2|walk 3|end| => accepted not controllable| => 0
 25 25 false => stnu judge => stnu 1|point A|point B|bound b1 A B 3|bound b2 B A -5|end|certificate 1|refutation|bound b1 A B 3|bound b2 B A -5|no 1 2 A A -2|walk 3|end| =>  => 0
 0 0 false => stnu judge => stnu 1|end|certificate 1|refutation|end| =>  => 1
-1000 842 true => stnu check => stnu 1|point A|point C|point D|bound b1 D C 1|bound b2 C D -1|link A 3 8 C|end| => not controllable|certificate 1|refutation|bound b1 D C 1|bound b2 C D -1|link C C A -8|up 1 3 D A C -7|low C 2 A D 2|up 5 4 A A C -5|drop 6 A A -3|walk 7|end| => 1";
+1000 842 true => stnu check => stnu 1|point A|point C|point D|bound b1 D C 1|bound b2 C D -1|link A 3 8 C|end| => not controllable|certificate 1|refutation|bound b1 D C 1|bound b2 C D -1|link C C A -8|up 1 3 D A C -7|low C 2 A D 2|up 5 4 A A C -5|drop 6 A A -3|walk 7|end| => 1
+1000 941 true => stnu run => stnu 1|point A|point C|point D|bound b1 D C 4|link A 3 8 C|end|at 0|at 3 C|done| => controllable|due 0|act 0 A|due 4|act 3 D|due none|complete| => 0
+1000 932 true => stnu run => stnu 1|point A|point C|point D|bound b1 D C 4|link A 3 8 C|end|at 0|at 4|at 8 C|done| => controllable|due 0|act 0 A|due 4|act 4 D|due none|due none|complete| => 0
+19 0 false => stnu run => stnu 1|point A|point C|point D|bound b1 D C 4|link A 3 8 C|end|at 0|at 3 C|done| => controllable|due 0| => 0";
 
 /// How a port gives its bytes: so many of a take at most, where that is above 0, and which take and which put fails.
 #[derive(Clone, Copy)]

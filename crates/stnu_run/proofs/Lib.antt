@@ -10,11 +10,15 @@ pub mod JudgeLemmas
 pub mod PlanLemmas
 pub mod OrderedLemmas
 pub mod VerdictLemmas
+pub mod CauseLemmas
+pub mod FeedingLemmas
 pub mod CheckLemmas
 pub mod AnswerLemmas
 pub mod ProgramLemmas
 pub mod KeptLemmas
 pub mod RefutationLemmas
+pub mod RunOnceLemmas
+pub mod ExaminedLemmas
 pub mod ReplyLemmas
 pub mod GivenLemmas
 pub mod EventLemmas

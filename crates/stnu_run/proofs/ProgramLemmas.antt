@@ -3,11 +3,15 @@ use Rattle.std.proofs.Common.{ℕ, List, [], ◌∷◌, Bool, true, false, sym, 
 use Rattle.commands.specs.Asked.{asked_machine}
 use Rattle.commands.specs.Endings.{end_number}
 use Rattle.commands.specs.Machine.{Machine}
+use Rattle.commands.specs.Phases.{planned_machine}
 use Rattle.commands.specs.Reading.{Reader, Refusing}
 use Rattle.commands.specs.Single.{IsSingle, IsSingleAnswer}
 use Rattle.commands.specs.declared.asking.Asked.{Asked}
 use Rattle.commands.specs.declared.endings.End.{End}
+use Rattle.commands.specs.declared.machines.Onward.{Onward}
+use Rattle.commands.specs.declared.phases.Planned.{Planned}
 use Rattle.commands.proofs.AskedLemmas.{asked_single}
+use Rattle.commands.proofs.PhaseLemmas.{planned_single}
 use Rattle.commands.proofs.SingleLemmas.{runs_same}
 use Rattle.stnu_run.specs.DefinedRuns.{program_named, program_of, when◌run◌else◌}
 use Rattle.stnu_run.specs.Programs.{Program, Promise, serves, says, DefinesOne}
@@ -25,6 +29,12 @@ single_defines_one machine start promise single = record {
 pub asked_defines_one : {Q S V F : Type 0} (answers : Q → V → List ℕ → End → Type 0) (reader : Reader S V F) (refusing : Refusing F) (start : Asked Q S) (promise : Promise) → IsSingleAnswer answers → DefinesOne (serves (asked_machine answers reader refusing) start promise)
 asked_defines_one answers reader refusing start promise single =
     single_defines_one (asked_machine answers reader refusing) start promise (asked_single answers reader refusing single)
+
+-- a command of a text and a phase defines one where the phase begins in one way and has at most one reply
+pub planned_defines_one : {B S V F P : Type 0} (begin : B → V → List ℕ → Onward P → Type 0) (reader : Reader S V F) (refusing : Refusing F) (phase : Machine P) (start : Planned B S P) (promise : Promise)
+    → IsSingleAnswer begin → IsSingle phase → DefinesOne (serves (planned_machine begin reader refusing phase) start promise)
+planned_defines_one begin reader refusing phase start promise begins single =
+    single_defines_one (planned_machine begin reader refusing phase) start promise (planned_single begin reader refusing phase begins single)
 
 pub said_defines_one : (line : List ℕ) (number : ℕ) → DefinesOne (says line number)
 said_defines_one line number = record {

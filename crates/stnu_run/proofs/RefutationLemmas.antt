@@ -89,7 +89,7 @@ cycle_in : Ending → List PointId
 cycle_in (closed order) = []
 cycle_in (looped cycle) = cycle
 
-certificate_one : (net : Plan) (cert other : Certificate) → IsCertificateOf net cert → IsCertificateOf net other → cert ≡ other
+pub certificate_one : (net : Plan) (cert other : Certificate) → IsCertificateOf net cert → IsCertificateOf net other → cert ≡ other
 unfolding cycle_in
 certificate_one net cert other one two =
     let a = one.refutation in
@@ -100,7 +100,7 @@ certificate_one net cert other one two =
     let moved : IsRefutationBy two.nodes b.cycle one.lines one.walk = subst (λ (c : List PointId). IsRefutationBy two.nodes c one.lines one.walk) cycle (subst (λ (ns : List Node). IsRefutationBy ns a.cycle one.lines one.walk) nodes a.by_cycle) in
     one.is ∙ (ap (λ (ns : List Node). certificate_by net ns one.lines one.walk) nodes ∙ (refutation_one net two.nodes b.cycle one.lines two.lines one.walk two.walk moved b.by_cycle ∙ sym two.is))
 
-never_both : (net : Plan) (cert : Certificate) → RoundsClose net → IsCertificateOf net cert → ⊥
+pub never_both : (net : Plan) (cert : Certificate) → RoundsClose net → IsCertificateOf net cert → ⊥
 never_both net cert closes of =
     let is = of.refutation in
     let same : closed closes.order ≡ looped is.cycle = (rounds_end_in_one_way net (base_support net) closes.after is.after closes.rounds is.rounds (closed closes.order) (looped is.cycle) closes.ends is.ends).2 in

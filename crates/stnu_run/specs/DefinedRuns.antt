@@ -5,6 +5,7 @@ use Rattle.std.specs.Str.{bytes_eq}
 use Rattle.texts.specs.Printing.{printed_line}
 use Rattle.stnu_run.specs.CheckPromise.{check_program}
 use Rattle.stnu_run.specs.JudgePromise.{judge_program}
+use Rattle.stnu_run.specs.RunPromise.{run_program}
 use Rattle.stnu_run.specs.Programs.{Program, says, Defines}
 use Rattle.stnu_run.specs.declared.status.Status.{Status}
 
@@ -23,6 +24,7 @@ abbrev pub program_named : List ℕ → Program
 program_named command =
     when bytes_eq command (codes "judge") run judge_program
     else when bytes_eq command (codes "check") run check_program
+    else when bytes_eq command (codes "run") run run_program
     else refuses_words
 
 -- the program of the words, of which the first is the program's name and the second the word of a command

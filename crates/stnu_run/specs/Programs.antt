@@ -57,6 +57,10 @@ KeepsPromise (serves machine start promise) status before after =
     → WhereBothTold before after (λ was is input untaken. (put : List ℕ) → is.put ≡ was.put ++ put → promise input put end)
 KeepsPromise (says line number) status before after = Unit {0}
 
+-- over a port that tells its bytes, nothing was put where a run ended for want of memory
+abbrev pub PutsNothingAtNoMemory : Status → (before after : Seen) → Type 0
+PutsNothingAtNoMemory status before after = status.0 ≡ 8 → WhereBothTold before after (λ was is input untaken. is.put ≡ was.put)
+
 -- the exit statuses of a program that are not for failed calls or want of memory
 abbrev pub MayEndWith : Program → ℕ → Type 0
 MayEndWith (serves machine start promise) number = (end : End) × (number ≡ end_number end)

@@ -18,6 +18,8 @@ use Rattle.stnu_run.specs.Due.{IsDueAfter}
 use Rattle.stnu_run.specs.EventAnswers.{due_line, event_line}
 use Rattle.stnu_run.specs.EventFaults.{HasEventFault, event_refusal}
 use Rattle.stnu_run.specs.Faults.{fault_end}
+use Rattle.stnu_run.specs.Programs.{Program, serves}
+use Rattle.stnu_run.specs.Running.{run_machine, run_start}
 use Rattle.stnu_run.specs.ToCheck.{plan_grammar}
 use Rattle.stnu_run.specs.ToRead.{AnswersText, IsFirstRefusal}
 use Rattle.stnu_run.specs.declared.faults.Fault.{Fault}
@@ -56,3 +58,7 @@ pub record RunPromise (input put : List ℕ) (end : End) : Type 0 where
   pub faulty : (fault : Fault) → HasEventFault (input_lines input) fault → PutsLast (event_refusal fault) put × (end ≡ fault_end fault)
   pub faults : (end ≡ ends.Fault) ⊎ (end ≡ ends.Limit)
       → (fault : Fault) × (IsFirstRefusal plan_grammar (input_lines input) fault ⊎ HasEventFault (input_lines input) fault)
+
+-- the program of `run`
+abbrev pub run_program : Program
+run_program = serves run_machine run_start RunPromise

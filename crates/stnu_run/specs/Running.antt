@@ -1,10 +1,13 @@
 -- The command `run`: a plan, and after it lines of events, over which its network is executed. This project's own choice.
-use Rattle.std.specs.Prelude.{◌≡◌, ◌⊎◌, ℕ, List, [], ◌++◌, Option}
+use Rattle.std.specs.Prelude.{◌≡◌, ◌⊎◌, ℕ, List, [], ◌++◌, length, Option}
 use Rattle.net_model.specs.Network.{Plan}
-use Rattle.cert_format.specs.CertificateWords.{printed_certificate}
+use Rattle.cert_format.specs.CertificateWords.{printed_certificate, HasWeights}
 use Rattle.cert_format.specs.declared.certificate.Certificate.{Certificate}
-use Rattle.execution_model.specs.Feeding.{started, IsDueAnswer}
+use Rattle.dispatch_net.specs.declared.dispatch.Conditions.{Conditions}
+use Rattle.dispatch_net.specs.Dispatchable.{dispatchable}
+use Rattle.execution_model.specs.Feeding.{Execution, started, IsDueAnswer}
 use Rattle.execution_model.specs.Laws.{setting_of}
+use Rattle.live_executor.specs.Sound.{IsDispatchOf}
 use Rattle.commands.specs.Machine.{Machine}
 use Rattle.commands.specs.Phases.{planned_machine}
 use Rattle.commands.specs.declared.endings.End.TheVariants.{Refused}
@@ -19,6 +22,8 @@ use Rattle.stnu_run.specs.Executing.{executing_machine}
 use Rattle.stnu_run.specs.Faults.{refusing}
 use Rattle.stnu_run.specs.PlanText.{plan_begun, plan_reader}
 use Rattle.stnu_run.specs.declared.running.Run.{Run}
+use Rattle.stnu_run.specs.declared.running.Examined.{Examined}
+use Rattle.stnu_run.specs.declared.running.Examined.TheVariants.{Controllable, Refuted}
 use Rattle.stnu_run.specs.declared.plan_text.PlanText.{PlanText}
 
 -- the beginning of an execution: it is put that the network is controllable, and the first due moment, where the reference rounds close;
@@ -36,6 +41,23 @@ pub record BeginsRefuted (net : Plan) (answer : List ℕ) (onward : Onward Cours
   pub refutation : IsCertificateOf net certificate
   pub put : answer ≡ refuted_line ++ printed_certificate certificate
   pub ends : onward ≡ Ends Refused
+
+-- It is put that a network is controllable, and the first due moment of its execution.
+abbrev pub PutsBegun : Execution → List ℕ → Type 0
+PutsBegun execution put = (due : Option ℕ) × IsDueAnswer execution due × (put ≡ controllable_line ++ due_line due)
+
+-- that is put, and the run goes on by the execution of a network on a dispatchable network of it
+abbrev pub GoesOnFrom : Plan → List Conditions → List ℕ → Onward Course → Type 0
+GoesOnFrom net dispatch put onward =
+    PutsBegun (started (record { links = net.links; dispatch = dispatch })) put
+    × (onward ≡ Goes (record { net = net; execution = started (record { links = net.links; dispatch = dispatch }); listed = [] }))
+
+-- what the rounds show of a network: they close, and this is the dispatchable network of the closed table; or this is its refutation, of weights
+-- that can be printed
+abbrev pub IsExamined : Plan → Examined → Type 0
+IsExamined net (Controllable dispatch) =
+    ((closing : RoundsClose net) × (dispatch ≡ dispatchable net closing.after.table)) × IsDispatchOf net dispatch × (length dispatch ≡ length net.points)
+IsExamined net (Refuted certificate) = IsCertificateOf net certificate × HasWeights certificate
 
 abbrev pub run_begins : Run → Plan → List ℕ → Onward Course → Type 0
 run_begins start net answer onward = BeginsExecution net answer onward ⊎ BeginsRefuted net answer onward

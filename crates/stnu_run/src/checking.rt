@@ -3,6 +3,7 @@
 ghost use Rattle.std.specs.Prelude.{◌≡◌, ◌++◌, ◌∷◌, ℕ, [], List, IfOk, OnOk};
 ghost use Rattle.closure_model.specs.Derivations.{StandsOn};
 ghost use Rattle.closure_model.specs.Orders.{IsCycle};
+ghost use Rattle.cert_format.specs.CertificateWords.{HasWeights};
 ghost use Rattle.cert_format.specs.declared.certificate.Certificate.{Certificate};
 ghost use Rattle.refutations.specs.Certifying.{IsCertificateBy};
 ghost use Rattle.stnu_run.specs.CheckPromise.{CheckPromise};
@@ -11,7 +12,7 @@ ghost use Rattle.stnu_run.specs.Checking.{check_answers, check_start, PutsContro
 use crate::plan_text::PlanText;
 use crate::promising::Promising;
 use cert_checker::laws::accepted_excludes;
-use cert_format::print_certificate;
+use cert_format::{Certificate, print_certificate};
 use closure_model::laws::base_stands;
 use closure_model::{order_laws, round_laws};
 use commands::{Answer, Asked, End, Question, Word};
@@ -62,6 +63,8 @@ impl Promising for Checking {
         order_laws::cycles_are_met();
     }
 
+    fn puts_nothing_without_memory() {}
+
     fn defines_one() {}
 }
 
@@ -101,7 +104,20 @@ fn put_refutation(
     ensures { IfOk result (λ end. (cert : Certificate) × IsCertificateBy net.now store.now.nodes cycle.now cert × PutsRefuted cert answer.new.text end) }
 {
     let certificate = refutation(alloc, net, store, store.dag(), cycle)?;
-    let text = print_certificate(alloc, &certificate)?;
+    put_refuted(alloc, answer, &certificate)
+}
+
+/// Puts that a network is not controllable, and the certificate of it, into the buffer, which is empty.
+pub(crate) fn put_refuted(
+    alloc: Global,
+    answer: &mut Answer,
+    certificate: &Certificate,
+) -> Result<End, AllocError>
+    requires empty { answer.old.text ≡ [] }
+    requires weights { HasWeights certificate.now }
+    ensures { IfOk result (λ end. PutsRefuted certificate.now answer.new.text end) }
+{
+    let text = print_certificate(alloc, certificate)?;
     answer.push_line(&[Word::Text("not controllable")])?;
     push_text(answer, text.as_slice())?;
     Ok(End::Refused)

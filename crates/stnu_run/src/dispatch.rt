@@ -2,11 +2,12 @@
 
 ghost use Rattle.std.specs.Prelude.{map, string_bytes};
 ghost use Rattle.stnu_run.specs.DefinedRuns.{program_of, program_named, refuses_words};
-ghost use Rattle.stnu_run.specs.Programs.{ServesProgram, KeepsPromise, HasCauses};
+ghost use Rattle.stnu_run.specs.Programs.{ServesProgram, KeepsPromise, HasCauses, PutsNothingAtNoMemory};
 
 use crate::checking::Checking;
 use crate::judging::Judging;
 use crate::promising::serve_command;
+use crate::running::Running;
 use crate::status::Status;
 use plan_port::{Port, Written, write_all};
 use std::alloc::Global;
@@ -17,8 +18,8 @@ use std::alloc::Global;
 ///
 /// The run ends at its first refusal, with one line and a status that say which: `error words` (2), `error format` and
 /// `error plan` (3), `error limit` (4). It ends with 5 where a read failed, after the line `error read`, with 6 where a
-/// write failed, and with 8 for want of memory. Else the command ends it: with 0 (accepted, or controllable), or with 1 (refused,
-/// or not controllable). The words, the answers and the statuses are this project's own choice.
+/// write failed, and with 8 for want of memory, before anything was put. Else the command ends it: with 0 (accepted, controllable, or
+/// an execution that is complete), with 1 (refused, or not controllable), or with 7 (an event refused). The words, the answers and the statuses are this project's own choice.
 pub fn run<P: Port>(alloc: Global, words: &Vec<String>, port: &mut P) -> Status
     // What was taken and put, and when, is what the program of the words defines.
     ensures served { ServesProgram (program_of (map string_bytes words.now.items)) result (P.seen port.old) (P.seen port.new) }
@@ -26,6 +27,8 @@ pub fn run<P: Port>(alloc: Global, words: &Vec<String>, port: &mut P) -> Status
     ensures kept { KeepsPromise (program_of (map string_bytes words.now.items)) result (P.seen port.old) (P.seen port.new) }
     // Each status has its cause, over every port.
     ensures causes { HasCauses (program_of (map string_bytes words.now.items)) result (P.seen port.old) (P.seen port.new) }
+    // For want of memory a run ends only before it has put anything.
+    ensures memory { PutsNothingAtNoMemory result (P.seen port.old) (P.seen port.new) }
 {
     match words.as_slice() {
         [_, command] => run_command(alloc, command.as_str(), port),
@@ -38,10 +41,12 @@ fn run_command<P: Port>(alloc: Global, command: &str, port: &mut P) -> Status
     ensures served { ServesProgram (program_named command.now) result (P.seen port.old) (P.seen port.new) }
     ensures kept { KeepsPromise (program_named command.now) result (P.seen port.old) (P.seen port.new) }
     ensures causes { HasCauses (program_named command.now) result (P.seen port.old) (P.seen port.new) }
+    ensures memory { PutsNothingAtNoMemory result (P.seen port.old) (P.seen port.new) }
 {
     match command {
         "judge" => serve_command::<Judging, P>(alloc, port),
         "check" => serve_command::<Checking, P>(alloc, port),
+        "run" => serve_command::<Running, P>(alloc, port),
         _ => refuse_words(port),
     }
 }
@@ -51,6 +56,7 @@ fn refuse_words<P: Port>(port: &mut P) -> Status
     ensures served { ServesProgram refuses_words result (P.seen port.old) (P.seen port.new) }
     ensures kept { KeepsPromise refuses_words result (P.seen port.old) (P.seen port.new) }
     ensures causes { HasCauses refuses_words result (P.seen port.old) (P.seen port.new) }
+    ensures memory { PutsNothingAtNoMemory result (P.seen port.old) (P.seen port.new) }
 {
     match write_all(port, b"error words\n".as_slice()) {
         Written::All => Status(2),

@@ -1,14 +1,13 @@
 //! The answers to events: acts, due moments, and why an event is refused.
 
-ghost use Rattle.std.specs.Prelude.{◌≡◌, ◌≤◌, ◌++◌, ◌∷◌, ◌*◌, ◌+◌, [], length, codes};
+ghost use Rattle.std.specs.Prelude.{◌≡◌, ◌≤◌, ◌++◌, ◌∷◌, ◌*◌, ◌+◌, [], length};
 ghost use Rattle.std.specs.Fmt.{decimal};
 ghost use Rattle.std.specs.List.{All};
-ghost use Rattle.texts.specs.Printing.{printed_line};
 ghost use Rattle.net_model.specs.Network.{IsPoint};
 ghost use Rattle.commands.specs.Limits.{least_room};
 ghost use Rattle.commands.specs.Words.{most_word, word_text};
 ghost use Rattle.commands.specs.declared.endings.End.TheVariants.{EventRefused};
-ghost use Rattle.stnu_run.specs.EventAnswers.{name_in, acts_text, act_line, due_line, most_act, NamesPoints, why_words, unfinished_words, event_line, event_fault_line};
+ghost use Rattle.stnu_run.specs.EventAnswers.{name_in, acts_text, act_line, due_line, complete_line, most_act, NamesPoints, why_words, unfinished_words, event_line, event_fault_line};
 ghost use Rattle.stnu_run.specs.Faults.{fault_end};
 ghost use Rattle.stnu_run.specs.declared.faults.Fault.TheVariants.{Format};
 
@@ -16,6 +15,9 @@ use crate::faults::Fault;
 use commands::{Answer, End, Refusal, Word};
 use execution_model::{Act, MOST_MOMENT, Why};
 use net_model::{FormatKind, Network, PointId};
+
+/// How many bytes the line of an act takes at most.
+pub(crate) const MOST_ACT: usize = 64;
 
 /// Puts a line for each of these acts.
 pub(crate) fn put_acts(answer: &mut Answer, net: &Network, acts: &[Act])
@@ -37,12 +39,16 @@ fn put_act(answer: &mut Answer, net: &Network, act: &Act)
     ensures size { length answer.new.text ≤ length answer.old.text + most_act }
     ensures capacity { answer.old.capacity ≤ answer.new.capacity }
 {
-    answer.put_line(&[Word::Text("act"), Word::Number(act.moment), Word::Name(name_of(net, act.point))]);
+    answer.put_line(&[
+        Word::Text("act"),
+        Word::Number(act.moment),
+        Word::Name(name_of(net, act.point)),
+    ]);
 }
 
 /// Puts the next due moment.
 pub(crate) fn put_due(answer: &mut Answer, due: Option<u64>)
-    requires { length answer.old.text + least_room ≤ answer.old.capacity }
+    requires { length answer.old.text + most_act ≤ answer.old.capacity }
     ensures text { answer.new.text ≡ answer.old.text ++ due_line due }
     ensures capacity { answer.old.capacity ≤ answer.new.capacity }
 {
@@ -52,6 +58,15 @@ pub(crate) fn put_due(answer: &mut Answer, due: Option<u64>)
     }
 }
 
+/// Puts that the execution is complete.
+pub(crate) fn put_complete(answer: &mut Answer)
+    requires { length answer.old.text + least_room ≤ answer.old.capacity }
+    ensures text { answer.new.text ≡ answer.old.text ++ complete_line }
+    ensures capacity { answer.old.capacity ≤ answer.new.capacity }
+{
+    answer.put_line(&[Word::Text("complete")]);
+}
+
 /// Refuses a line that is no line of events.
 pub(crate) fn refuse_line(answer: &mut Answer, number: u32, kind: FormatKind) -> End
     ensures put { answer.new.text ≡ event_fault_line number kind }
@@ -59,7 +74,12 @@ pub(crate) fn refuse_line(answer: &mut Answer, number: u32, kind: FormatKind) ->
     ensures capacity { answer.old.capacity ≤ answer.new.capacity }
 {
     if kind == FormatKind::NumberLimit {
-        answer.refuse(&[Word::Text("error"), Word::Text("limit"), Word::Number(u64::from(number)), Word::Text("moment")]);
+        answer.refuse(&[
+            Word::Text("error"),
+            Word::Text("limit"),
+            Word::Number(u64::from(number)),
+            Word::Text("moment"),
+        ]);
         return End::Limit;
     }
     let fault = Fault::Format(number, kind);
@@ -74,21 +94,48 @@ pub(crate) fn refuse_event(answer: &mut Answer, net: &Network, number: u32, why:
     ensures end { result ≡ EventRefused }
     ensures capacity { answer.old.capacity ≤ answer.new.capacity }
 {
-    let line = Word::Number(u64::from(number));
     match why {
-        Why::NotLater(last) => refuse(answer, line, "not-later", Word::Number(last)),
-        Why::NotContingent(point) => refuse(answer, line, "not-contingent", Word::Name(name_of(net, point))),
+        Why::NotLater(last) => refuse(answer, number, "not-later", Word::Number(last)),
+        Why::NotContingent(point) => refuse(
+            answer,
+            number,
+            "not-contingent",
+            Word::Name(name_of(net, point)),
+        ),
         Why::Twice(point, moment) => {
-            refuse_at(answer, line, "twice", Word::Name(name_of(net, point)), moment)
+            refuse_at(
+                answer,
+                number,
+                "twice",
+                Word::Name(name_of(net, point)),
+                moment,
+            )
         }
-        Why::NotActive(point) => refuse(answer, line, "not-active", Word::Name(name_of(net, point))),
+        Why::NotActive(point) => refuse(
+            answer,
+            number,
+            "not-active",
+            Word::Name(name_of(net, point)),
+        ),
         Why::TooSoon(point, earliest) => {
-            refuse_at(answer, line, "too-soon", Word::Name(name_of(net, point)), earliest)
+            refuse_at(
+                answer,
+                number,
+                "too-soon",
+                Word::Name(name_of(net, point)),
+                earliest,
+            )
         }
         Why::Overdue(point, latest) => {
-            refuse_at(answer, line, "overdue", Word::Name(name_of(net, point)), latest)
+            refuse_at(
+                answer,
+                number,
+                "overdue",
+                Word::Name(name_of(net, point)),
+                latest,
+            )
         }
-        Why::MomentLimit => refuse(answer, line, "moment", Word::Number(MOST_MOMENT)),
+        Why::MomentLimit => refuse(answer, number, "moment", Word::Number(MOST_MOMENT)),
     }
     End::EventRefused
 }
@@ -98,36 +145,43 @@ pub(crate) fn refuse_end(answer: &mut Answer, net: &Network, number: u32, point:
     requires { IsPoint net.now point }
     ensures put { answer.new.text ≡ event_line number (unfinished_words net.now point) }
     ensures end { result ≡ EventRefused }
+    ensures capacity { answer.old.capacity ≤ answer.new.capacity }
 {
-    refuse(answer, Word::Number(u64::from(number)), "unfinished", Word::Name(name_of(net, point)));
+    refuse(
+        answer,
+        number,
+        "unfinished",
+        Word::Name(name_of(net, point)),
+    );
     End::EventRefused
 }
 
 /// Puts the line of an event that is refused: a word, and what it speaks of.
-fn refuse<'a>(answer: &mut Answer, line: Word<'a>, word: &'a str, of: Word<'a>)
-    requires { (most_word line ≤ 32) × (length word.now ≤ 32) × (most_word of ≤ 32) }
-    ensures put { answer.new.text ≡ printed_line (codes "error" ∷ codes "event" ∷ word_text line.entry ∷ word.now ∷ word_text of.entry ∷ []) }
+fn refuse<'a>(answer: &mut Answer, number: u32, word: &'a str, of: Word<'a>)
+    requires { (length word.now ≤ 32) × (most_word of ≤ 32) }
+    ensures put { answer.new.text ≡ event_line number (word.now ∷ word_text of.entry ∷ []) }
     ensures capacity { answer.old.capacity ≤ answer.new.capacity }
 {
-    answer.refuse(&[Word::Text("error"), Word::Text("event"), line, Word::Text(word), of]);
+    let line = Word::Number(u64::from(number));
+    answer.refuse(&[
+        Word::Text("error"),
+        Word::Text("event"),
+        line,
+        Word::Text(word),
+        of,
+    ]);
 }
 
 /// Puts the line of an event that is refused: a word, a point, and a moment.
-fn refuse_at<'a>(
-    answer: &mut Answer,
-    line: Word<'a>,
-    word: &'a str,
-    point: Word<'a>,
-    moment: u64,
-)
-    requires { (most_word line ≤ 32) × (length word.now ≤ 32) × (most_word point ≤ 32) }
-    ensures put { answer.new.text ≡ printed_line (codes "error" ∷ codes "event" ∷ word_text line.entry ∷ word.now ∷ word_text point.entry ∷ decimal moment ∷ []) }
+fn refuse_at<'a>(answer: &mut Answer, number: u32, word: &'a str, point: Word<'a>, moment: u64)
+    requires { (length word.now ≤ 32) × (most_word point ≤ 32) }
+    ensures put { answer.new.text ≡ event_line number (word.now ∷ word_text point.entry ∷ decimal moment ∷ []) }
     ensures capacity { answer.old.capacity ≤ answer.new.capacity }
 {
     answer.refuse(&[
         Word::Text("error"),
         Word::Text("event"),
-        line,
+        Word::Number(u64::from(number)),
         Word::Text(word),
         point,
         Word::Number(moment),

@@ -54,6 +54,8 @@ impl Promising for Judging {
         accepted_excludes();
     }
 
+    fn puts_nothing_without_memory() {}
+
     fn defines_one() {}
 }
 

@@ -1,8 +1,10 @@
 //! A command of the program: where it begins, what it promises, and how it is served.
 
-ghost use Rattle.std.specs.Prelude.{◌≡◌, ◌≤◌};
+ghost use Rattle.std.specs.Prelude.{◌≡◌, ◌≤◌, ℕ, List, []};
+ghost use Rattle.plan_port.specs.Talk.{Piece};
+ghost use Rattle.commands.specs.Breaks.{BreaksForMemory};
 ghost use Rattle.commands.specs.Limits.{least_room};
-ghost use Rattle.stnu_run.specs.Programs.{Promise, PromiseHolds, DefinesOne, ServesProgram, KeepsPromise, HasCauses, serves};
+ghost use Rattle.stnu_run.specs.Programs.{Promise, PromiseHolds, DefinesOne, ServesProgram, KeepsPromise, HasCauses, PutsNothingAtNoMemory, serves};
 
 use crate::status::Status;
 use commands::{Command, serve};
@@ -26,6 +28,10 @@ pub trait Promising: Command {
     fn keeps_its_promise()
         ensures { PromiseHolds (serves Self.machine start promise) };
 
+    /// The law that a run has put nothing where it breaks off for want of memory.
+    fn puts_nothing_without_memory()
+        ensures { (input untaken put : List ℕ) (pieces : List Piece) → BreaksForMemory Self.machine start input untaken put pieces → put ≡ [] };
+
     /// The law that an input has at most one run: one pair of bytes and exit status.
     fn defines_one()
         ensures { DefinesOne (serves Self.machine start promise) };
@@ -36,7 +42,9 @@ pub fn serve_command<C: Promising, P: Port>(alloc: Global, port: &mut P) -> Stat
     ensures served { ServesProgram (serves C.machine C.start C.promise) result (P.seen port.old) (P.seen port.new) }
     ensures kept { KeepsPromise (serves C.machine C.start C.promise) result (P.seen port.old) (P.seen port.new) }
     ensures causes { HasCauses (serves C.machine C.start C.promise) result (P.seen port.old) (P.seen port.new) }
+    ensures memory { PutsNothingAtNoMemory result (P.seen port.old) (P.seen port.new) }
 {
     C::keeps_its_promise();
+    C::puts_nothing_without_memory();
     Status(serve(alloc, C::begun(alloc), port).number())
 }

@@ -1,9 +1,152 @@
 //! The command `run`: a plan, and then the execution of its network over lines of events.
 
+ghost use Rattle.std.specs.Prelude.{◌≡◌, ◌≤◌, [], length, IfOk, OnOk};
+ghost use Rattle.commands.specs.Machine.{HasRoom};
+ghost use Rattle.execution_model.specs.Feeding.{IsDueAnswer};
+ghost use Rattle.live_executor.specs.Sound.{IsDispatchOf};
+ghost use Rattle.stnu_run.specs.Executing.{executing_machine, answer_room};
+ghost use Rattle.stnu_run.specs.RunPromise.{RunPromise};
+ghost use Rattle.stnu_run.specs.Running.{run_begins, run_start, IsExamined, PutsBegun, GoesOnFrom};
+
+use crate::checking::put_refuted;
+use crate::event_answers::put_due;
 use crate::executing::Executing;
 use crate::plan_text::PlanText;
-use commands::Planned;
+use crate::promising::Promising;
+use cert_checker::laws::accepted_excludes;
+use cert_format::Certificate;
+use closure_model::laws::base_stands;
+use closure_model::{order_laws, round_laws};
+use commands::{Answer, Begin, Onward, Planned, Word};
+use controllability::laws::closures_decide;
+use derivation_dag::{Plain, Supports};
+use dispatch_net::Dispatch;
+use event_stream::laws::lines_have_one_reading;
+use execution_model::laws as execution_laws;
+use net_model::Network;
+use parallel_rounds::{NoGate, Outcome, propagate};
+use refutations::laws::refutations_are_accepted;
+use refutations::refutation;
+use std::alloc::{AllocError, Global};
 
-/// The execution of a network: the command `run` reads a plan, and then lines of events.
+/// The execution of a network: the command `run` reads a plan, and puts `controllable` and the first due moment where a strategy controls
+/// its network, else `not controllable` and a certificate which `judge` accepts, and then it ends with 1. Over the lines of events that
+/// follow it puts the acts of each feed and the next due moment, and at the end the acts that remain, and `complete`, and it ends with 0.
+/// An event that no execution of the network shows ends it with 7, after the line `error event` and the cause.
 #[derive(Clone, Copy)]
 pub struct Run;
+
+/// The command: how far its input was read.
+pub type Running = Planned<Run, PlanText, Executing>;
+
+/// What the propagation through a network shows.
+#[derive(Drop)]
+pub(crate) enum Examined {
+    /// The network is controllable, and this is its dispatchable network.
+    Controllable(Dispatch),
+    /// The network is not controllable, and this refutes it.
+    Refuted(Certificate),
+}
+
+impl Begin<Network> for Run {
+    type Phase = Executing;
+
+    ghost begins = { run_begins };
+
+    fn begin(
+        self,
+        alloc: Global,
+        answer: &mut Answer,
+        value: Network,
+    ) -> Result<Onward<Executing>, AllocError> {
+        match examine(alloc, &value)? {
+            Examined::Controllable(dispatch) => begin_execution(alloc, answer, value, dispatch),
+            Examined::Refuted(certificate) => {
+                Ok(Onward::Ends(put_refuted(alloc, answer, &certificate)?))
+            }
+        }
+    }
+}
+
+impl Promising for Running {
+    ghost start = { run_start };
+
+    ghost promise = { RunPromise };
+
+    fn begun(alloc: Global) -> Running {
+        Planned::Reading(Run, PlanText::new(alloc))
+    }
+
+    fn keeps_its_promise() {
+        base_stands();
+        round_laws::rounds_that_close();
+        round_laws::rounds_stand();
+        order_laws::placed_points_are_an_order();
+        order_laws::cycles_are_met();
+        closures_decide();
+        refutations_are_accepted();
+        accepted_excludes();
+        lines_have_one_reading();
+        execution_laws::faithful_streams_are_taken();
+        execution_laws::done_where_none_is_open();
+        execution_laws::ends_are_earliest();
+        execution_laws::acts_are_earliest();
+        execution_laws::last_acts_are_earliest();
+    }
+
+    fn puts_nothing_without_memory() {}
+
+    fn defines_one() {
+        lines_have_one_reading();
+    }
+}
+
+/// Makes rounds until the table of a network is closed, and gives the dispatchable network of it, or ends in a cycle, and gives the
+/// refutation by it. `AllocError` comes only for want of memory.
+fn examine(alloc: Global, net: &Network) -> Result<Examined, AllocError>
+    ensures { IfOk result (IsExamined net.now) }
+{
+    // The proof reads here that the network is sound.
+    let _ = net.points();
+    let mut store = Plain::of(alloc, net)?;
+    match propagate(alloc, net, &mut store, 1, &NoGate)? {
+        Outcome::Closed { order, .. } => {
+            let dispatch = Dispatch::of(alloc, net, store.table(), order.as_slice())?;
+            Ok(Examined::Controllable(dispatch))
+        }
+        Outcome::Looped { cycle, .. } => {
+            let certificate = refutation(alloc, net, &store, store.dag(), cycle.as_slice())?;
+            Ok(Examined::Refuted(certificate))
+        }
+    }
+}
+
+/// Begins the execution of a network on a dispatchable network of it, and puts that the network is controllable, and the first due moment.
+fn begin_execution(
+    alloc: Global,
+    answer: &mut Answer,
+    net: Network,
+    dispatch: Dispatch,
+) -> Result<Onward<Executing>, AllocError>
+    requires empty { answer.old.text ≡ [] }
+    requires dispatch { IsDispatchOf net dispatch }
+    requires points { length dispatch ≡ length net.points }
+    ensures begins { IfOk result (GoesOnFrom net dispatch answer.new.text) }
+    ensures room { IfOk result (λ onward. HasRoom executing_machine onward answer.new.capacity) }
+{
+    let state = Executing::start(alloc, net, dispatch)?;
+    put_begun(answer, &state)?;
+    Ok(Onward::Goes(state))
+}
+
+/// Puts that a network is controllable, and the first due moment of its execution, and reserves the room that the answers to events need.
+fn put_begun(answer: &mut Answer, state: &Executing) -> Result<(), AllocError>
+    requires { answer.old.text ≡ [] }
+    ensures put { OnOk result (PutsBegun state.now.execution answer.new.text) }
+    ensures room { OnOk result (answer_room state.now.net ≤ answer.new.capacity) }
+{
+    state.reserve(answer)?;
+    answer.put_line(&[Word::Text("controllable")]);
+    put_due(answer, state.next_due());
+    Ok(())
+}

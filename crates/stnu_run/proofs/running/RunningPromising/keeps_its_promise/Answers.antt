@@ -1,5 +1,5 @@
 use Rattle.stnu_run.proofs.RunLemmas.{run_keeps}
-use Rattle.stnu_run.proofs.laws.run_keeps_its_promise.Goals as goal
+use Rattle.stnu_run.proofs.running.RunningPromising.keeps_its_promise.Goals as goal
 
 pub returns : goal.returns
 returns c = run_keeps (record {
