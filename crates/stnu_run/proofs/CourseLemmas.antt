@@ -1,10 +1,11 @@
 -- A run over lines of events: where it stands after those that list a stream, and the line at which it ends.
-use Rattle.std.proofs.Common.{◌≡◌, ◌⊎◌, ℕ, ◌+◌, ◌-◌, List, [], ◌∷◌, ◌++◌, Option, Some, None, Result, Ok, Err, refl, sym, ap, ◌∙◌, subst, inl, inr, append_assoc}
+use Rattle.std.proofs.Common.{◌≡◌, ◌⊎◌, ℕ, ◌+◌, ◌-◌, List, [], ◌∷◌, ◌++◌, length, Option, Some, None, Result, Ok, Err, refl, sym, ap, ◌∙◌, subst, arith, inl, inr, append_assoc}
 use Rattle.texts.specs.Lines.{InputLine, line_size}
 use Rattle.texts.specs.Words.{words}
 use Rattle.net_model.specs.Network.{Plan}
 use Rattle.net_model.specs.declared.ids.PointId.{PointId}
 use Rattle.net_model.specs.declared.format.FormatKind.{FormatKind}
+use Rattle.net_model.specs.declared.format.FormatKind.TheVariants.{NoEnd}
 use Rattle.plan_port.specs.Limits.{most_line}
 use Rattle.plan_port.specs.Lines.{Coming, Comes, TooLong, TooMuch, coming}
 use Rattle.event_stream.specs.EventText.{EventLine, blank, completed, done, IsLine, AreWordsOf, IsFaultOfWords}
@@ -19,11 +20,13 @@ use Rattle.commands.specs.declared.endings.End.{End}
 use Rattle.commands.specs.declared.endings.End.TheVariants as ends
 use Rattle.stnu_run.specs.Day.{ListLines}
 use Rattle.stnu_run.specs.EventAnswers.{acts_text, due_line}
+use Rattle.stnu_run.specs.EventFaults.{IsNextFault}
 use Rattle.stnu_run.specs.Executing.{executing_machine}
 use Rattle.stnu_run.specs.Faults.{fault_end}
 use Rattle.stnu_run.specs.ToRead.{Come, texts, room_after}
 use Rattle.stnu_run.specs.declared.faults.Fault.{Fault}
-use Rattle.stnu_run.proofs.EventLemmas.{at, no_line, stopped, one_blank, one_feed, one_refused, one_done, one_unfinished, one_fault}
+use Rattle.stnu_run.specs.declared.faults.Fault.TheVariants.{Format, LineTooLong as LongLine, InputTooMuch as MuchInput}
+use Rattle.stnu_run.proofs.EventLemmas.{at, EndsBy, no_line, too_long, too_much, one_blank, one_feed, one_refused, one_done, one_unfinished, one_fault}
 
 -- ---- lists of feeds
 -- what comes of the answer to the first feed of a list
@@ -67,11 +70,10 @@ SaysListings net execution (listing ∷ others) said =
     × SaysListings net (after_feed execution listing.moment moments) others more
 
 -- after lines that list a stream, the execution is fed it, and the run goes on over the other lines
-pub record OverEvents (net : Plan) (execution final : Execution) (listings : List Listing) (rest : List InputLine) (room : ℕ) (put : List ℕ) (end : End) : Type 0 where
+pub record OverEvents (net : Plan) (execution final : Execution) (listings : List Listing) (rest : List InputLine) (number room : ℕ) (put : List ℕ) (end : End) : Type 0 where
   pub said : List ℕ
   pub more : List ℕ
   pub listed : List PointId
-  pub number : ℕ
   pub says : SaysListings net execution listings said
   pub all : put ≡ said ++ more
   pub later : Run executing_machine (at net final listed number room) rest more end
@@ -79,14 +81,13 @@ pub record OverEvents (net : Plan) (execution final : Execution) (listings : Lis
 
 over_none : (net : Plan) (execution final : Execution) (listings : List Listing) (rest : List InputLine) (listed : List PointId) (number room : ℕ) (put : List ℕ) (end : End)
     → execution.refused ≡ None → listings ≡ [] → fed_all execution listings ≡ Ok final
-    → Run executing_machine (at net execution listed number room) rest put end → OverEvents net execution final listings rest room put end
+    → Run executing_machine (at net execution listed number room) rest put end → OverEvents net execution final listings rest number room put end
 over_none net execution final [] rest listed number room put end none nothing fed run =
     let same : execution ≡ final = cc in
     record {
       said = [];
       more = put;
       listed = listed;
-      number = number;
       says = refl;
       all = refl;
       later = subst (λ (e : Execution). Run executing_machine (at net e listed number room) rest put end) same run;
@@ -100,24 +101,23 @@ Decides final blank end = ⊥
 Decides final (completed moment points) end = (cause : Why) × (taken final moment points ≡ Err cause) × (end ≡ ends.EventRefused)
 Decides final done end = ((first_open final ≡ None) × (end ≡ ends.Done)) ⊎ ((point : PointId) × (first_open final ≡ Some point) × (end ≡ ends.EventRefused))
 
--- a run ends at a line of events that is decided so, after lines that list a stream
-pub record EndsAt (net : Plan) (lines : List InputLine) (room : ℕ) (execution : Execution) (end : End) : Type 0 where
+-- what comes next ends a run so: a line tells what is decided so, or there is a fault
+abbrev pub IsDecided : Plan → Execution → (number room : ℕ) → List InputLine → End → Type 0
+IsDecided net final number room rest end =
+    ((last : InputLine) × (others : List InputLine) × (told : EventLine) × (rest ≡ last ∷ others) × (coming most_line room last ≡ Comes) × IsLine net told last.text × Decides final told end)
+    ⊎ ((fault : Fault) × IsNextFault net (number + 1) room rest fault × (end ≡ fault_end fault))
+
+-- a run ends after lines that list a stream
+pub record EndsAt (net : Plan) (lines : List InputLine) (number room : ℕ) (execution : Execution) (end : End) : Type 0 where
   pub events : List InputLine
-  pub last : InputLine
   pub rest : List InputLine
   pub listings : List Listing
-  pub told : EventLine
   pub final : Execution
-  pub divided : lines ≡ events ++ last ∷ rest
-  pub come : Come room (events ++ last ∷ [])
+  pub divided : lines ≡ events ++ rest
+  pub come : Come room events
   pub lists : ListLines net (texts events) listings
-  pub tells : IsLine net told last.text
   pub fed : fed_all execution listings ≡ Ok final
-  pub decides : Decides final told end
-
--- or it ends by a fault
-abbrev pub EndsSo : Plan → List InputLine → ℕ → Execution → End → Type 0
-EndsSo net lines room execution end = EndsAt net lines room execution end ⊎ ((fault : Fault) × (end ≡ fault_end fault))
+  pub decided : IsDecided net final (number + length events) (room_after room events) rest end
 
 module _ (reading : (net : Plan) (line : List (List ℕ)) → OneReading net line) (net : Plan) where
   over_line : (line : InputLine) (events rest : List InputLine) (listings : List Listing) (execution final : Execution) (listed : List PointId) (number room : ℕ) (put : List ℕ) (end : End)
@@ -126,12 +126,13 @@ module _ (reading : (net : Plan) (line : List (List ℕ)) → OneReading net lin
       → ((others : List Listing) (next : Execution) (points : List PointId)
       (more : List ℕ) → next.refused ≡ None → ListLines net (texts events) others → fed_all next others ≡ Ok final
       → Run executing_machine (at net next points (number + 1) (room - line_size line)) (events ++ rest) more end
-      → OverEvents net next final others rest (room_after (room - line_size line) events) more end)
-      → OverEvents net execution final listings rest (room_after (room - line_size line) events) put end
+      → OverEvents net next final others rest (number + 1 + length events) (room_after (room - line_size line) events) more end)
+      → OverEvents net execution final listings rest (number + 1 + length events) (room_after (room - line_size line) events) put end
   over_line line events rest listings execution final listed number room put end none comes (inl (is, lists)) fed run later =
       later listings execution listed put none lists fed (one_blank reading net execution listed number room none line (events ++ rest) put end comes run is)
   over_line line events rest listings execution final listed number room put end none comes (inr (moment, points, others, is, same, lists)) fed run later =
-      subst (λ (ls : List Listing). OverEvents net execution final ls rest (room_after (room - line_size line) events) put end) (sym same) (by (taken execution moment points) refl)
+      subst (λ (ls : List Listing). OverEvents net execution final ls rest (number + 1 + length events) (room_after (room - line_size line) events) put end) (sym same)
+      (by (taken execution moment points) refl)
     where
       first : Listing
       first = record { moment = moment; points = points }
@@ -139,7 +140,8 @@ module _ (reading : (net : Plan) (line : List (List ℕ)) → OneReading net lin
       all_fed : fed_all execution (first ∷ others) ≡ Ok final
       all_fed = subst (λ (ls : List Listing). fed_all execution ls ≡ Ok final) same fed
 
-      by : (result : Result Moments Why) → taken execution moment points ≡ result → OverEvents net execution final (first ∷ others) rest (room_after (room - line_size line) events) put end
+      by : (result : Result Moments Why) → taken execution moment points ≡ result
+          → OverEvents net execution final (first ∷ others) rest (number + 1 + length events) (room_after (room - line_size line) events) put end
       by (Err cause) takes = absurd (cc (fed_stops execution first others cause takes, all_fed))
       by (Ok moments) takes =
           let went = one_feed reading net execution listed number room none line (events ++ rest) put end comes run moment points moments is takes in
@@ -149,7 +151,6 @@ module _ (reading : (net : Plan) (line : List (List ℕ)) → OneReading net lin
             said = before ++ (due_line went.0 ++ on.said);
             more = on.more;
             listed = on.listed;
-            number = on.number;
             says = (moments, went.0, on.said, takes, went.2, refl, on.says);
             all =
                 went.3 ∙ (ap (λ (s : List ℕ). before ++ (due_line went.0 ++ s)) on.all
@@ -161,104 +162,114 @@ module _ (reading : (net : Plan) (line : List (List ℕ)) → OneReading net lin
   -- a run goes over lines that list a stream whose feeds are all taken
   pub over_events : (events rest : List InputLine) (listings : List Listing) (execution final : Execution) (listed : List PointId) (number room : ℕ) (put : List ℕ) (end : End)
       → execution.refused ≡ None → Come room events → ListLines net (texts events) listings → fed_all execution listings ≡ Ok final
-      → Run executing_machine (at net execution listed number room) (events ++ rest) put end → OverEvents net execution final listings rest (room_after room events) put end
+      → Run executing_machine (at net execution listed number room) (events ++ rest) put end
+      → OverEvents net execution final listings rest (number + length events) (room_after room events) put end
   over_events [] rest listings execution final listed number room put end none come lists fed run =
-      over_none net execution final listings rest listed number room put end none lists fed run
+      let same : number ≡ number + 0 = omega arith in
+      subst (λ (n : ℕ). OverEvents net execution final listings rest n room put end) same
+      (over_none net execution final listings rest listed number room put end none lists fed run)
   over_events (line ∷ events) rest listings execution final listed number room put end none come lists fed run =
-      over_line line events rest listings execution final listed number room put end none come.0 lists fed run
-      (λ others next points more unrefused list goes on. over_events events rest others next final points (number + 1) (room - line_size line) more end unrefused come.1 list goes on)
+      let same : number + 1 + length events ≡ number + length (line ∷ events) = omega arith in
+      subst (λ (n : ℕ). OverEvents net execution final listings rest n (room_after (room - line_size line) events) put end) same
+      (over_line line events rest listings execution final listed number room put end none come.0 lists fed run
+      (λ others next points more unrefused list goes on. over_events events rest others next final points (number + 1) (room - line_size line) more end unrefused come.1 list goes on))
 
-  -- ---- the line at which a run ends
-  ends_here : (line : InputLine) (lines : List InputLine) (room : ℕ) (execution : Execution) (end : End) (told : EventLine) → coming most_line room line ≡ Comes → IsLine net told line.text
-      → Decides execution told end
-      → EndsAt net (line ∷ lines) room execution end
-  ends_here line lines room execution end told comes is decides = record {
-    events = [];
-    last = line;
-    rest = lines;
-    listings = [];
-    told = told;
-    final = execution;
-    divided = refl;
-    come = (comes, tt);
-    lists = refl;
-    tells = is;
-    fed = refl;
-    decides = decides;
-  }
+  -- ---- how a run ends
+  ends_here : (lines : List InputLine) (number room : ℕ) (execution : Execution) (end : End) → IsDecided net execution number room lines end → EndsAt net lines number room execution end
+  ends_here lines number room execution end decided =
+      let same : number ≡ number + 0 = omega arith in
+      record {
+        events = [];
+        rest = lines;
+        listings = [];
+        final = execution;
+        divided = refl;
+        come = tt;
+        lists = refl;
+        fed = refl;
+        decided = subst (λ (n : ℕ). IsDecided net execution n room lines end) same decided;
+      }
 
-  after_blank : (line : InputLine) (lines : List InputLine) (room : ℕ) (execution : Execution) (end : End) → coming most_line room line ≡ Comes → IsLine net blank line.text
-      → EndsSo net lines (room - line_size line) execution end → EndsSo net (line ∷ lines) room execution end
-  after_blank line lines room execution end comes is (inr fault) = inr fault
-  after_blank line lines room execution end comes is (inl one) = inl (record {
-    events = line ∷ one.events;
-    last = one.last;
-    rest = one.rest;
-    listings = one.listings;
-    told = one.told;
-    final = one.final;
-    divided = ap (λ (ls : List InputLine). line ∷ ls) one.divided;
-    come = (comes, one.come);
-    lists = inl (is, one.lists);
-    tells = one.tells;
-    fed = one.fed;
-    decides = one.decides;
-  })
-
-  after_one : (line : InputLine) (lines : List InputLine) (room : ℕ) (execution : Execution) (end : End) (moment : ℕ) (points : List PointId) (moments : Moments)
+  after_line : (line : InputLine) (lines : List InputLine) (number room : ℕ) (execution next : Execution) (listings : List Listing → List Listing) (end : End)
       → coming most_line room line ≡ Comes
-      → IsLine net (completed moment points) line.text → taken execution moment points ≡ Ok moments
-      → EndsSo net lines (room - line_size line) (after_feed execution moment moments) end → EndsSo net (line ∷ lines) room execution end
-  after_one line lines room execution end moment points moments comes is takes (inr fault) = inr fault
-  after_one line lines room execution end moment points moments comes is takes (inl one) = inl (record {
-    events = line ∷ one.events;
-    last = one.last;
-    rest = one.rest;
-    listings = record { moment = moment; points = points } ∷ one.listings;
-    told = one.told;
-    final = one.final;
-    divided = ap (λ (ls : List InputLine). line ∷ ls) one.divided;
-    come = (comes, one.come);
-    lists = inr (moment, points, one.listings, is, refl, one.lists);
-    tells = one.tells;
-    fed = fed_step execution (record { moment = moment; points = points }) one.listings moments takes ∙ one.fed;
-    decides = one.decides;
-  })
+      → ((lines : List (List ℕ)) (others : List Listing) → ListLines net lines others → ListLines net (line.text ∷ lines) (listings others))
+      → ((others : List Listing) (final : Execution) → fed_all next others ≡ Ok final → fed_all execution (listings others) ≡ Ok final)
+      → EndsAt net lines (number + 1) (room - line_size line) next end → EndsAt net (line ∷ lines) number room execution end
+  after_line line lines number room execution next listings end comes lists fed one =
+      let same : number + 1 + length one.events ≡ number + length (line ∷ one.events) = omega arith in
+      record {
+        events = line ∷ one.events;
+        rest = one.rest;
+        listings = listings one.listings;
+        final = one.final;
+        divided = ap (λ (ls : List InputLine). line ∷ ls) one.divided;
+        come = (comes, one.come);
+        lists = lists (texts one.events) one.listings one.lists;
+        fed = fed one.listings one.final one.fed;
+        decided = subst (λ (n : ℕ). IsDecided net one.final n (room_after (room - line_size line) one.events) one.rest end) same one.decided;
+      }
+
+  told_here : (line : InputLine) (lines : List InputLine) (number room : ℕ) (execution : Execution) (end : End) (told : EventLine) → coming most_line room line ≡ Comes
+      → IsLine net told line.text
+      → Decides execution told end → EndsAt net (line ∷ lines) number room execution end
+  told_here line lines number room execution end told comes is decides = ends_here (line ∷ lines) number room execution end (inl (line, lines, told, refl, comes, is, decides))
 
   line_ends : (line : InputLine) (lines : List InputLine) (execution : Execution) (listed : List PointId) (number room : ℕ) (put : List ℕ) (end : End) (how : Coming)
       → execution.refused ≡ None → coming most_line room line ≡ how
       → ((told : EventLine) × AreWordsOf net told (words line.text)) ⊎ ((kind : FormatKind) × IsFaultOfWords net (words line.text) kind)
       → Run executing_machine (at net execution listed number room) (line ∷ lines) put end
-      → ((next : Execution) (points : List PointId) (more : List ℕ) → next.refused ≡ None → Run executing_machine (at net next points (number + 1)
-      (room - line_size line)) lines more end → EndsSo net lines (room - line_size line) next end)
-      → EndsSo net (line ∷ lines) room execution end
+      → ((next : Execution) (points : List PointId) (more : List ℕ) → next.refused ≡ None
+      → Run executing_machine (at net next points (number + 1) (room - line_size line)) lines more end → EndsAt net lines (number + 1) (room - line_size line) next end)
+      → EndsAt net (line ∷ lines) number room execution end
   line_ends line lines execution listed number room put end Comes none comes (inl (blank, is)) run later =
-      after_blank line lines room execution end comes is (later execution listed put none (one_blank reading net execution listed number room none line lines put end comes run is))
+      after_line line lines number room execution execution (λ others. others) end comes (λ lines others lists. inl (is, lists)) (λ others final fed. fed)
+      (later execution listed put none (one_blank reading net execution listed number room none line lines put end comes run is))
   line_ends line lines execution listed number room put end Comes none comes (inl (completed moment points, is)) run later = by (taken execution moment points) refl
     where
-      by : (result : Result Moments Why) → taken execution moment points ≡ result → EndsSo net (line ∷ lines) room execution end
+      listing : Listing
+      listing = record { moment = moment; points = points }
+
+      by : (result : Result Moments Why) → taken execution moment points ≡ result → EndsAt net (line ∷ lines) number room execution end
       by (Err cause) refuses =
-          inl (ends_here line lines room execution end (completed moment points) comes is
-          (cause, refuses, one_refused reading net execution listed number room none line lines put end comes run moment points cause is refuses))
+          told_here line lines number room execution end (completed moment points) comes is
+          (cause, refuses, (one_refused reading net execution listed number room none line lines put end comes run moment points cause is refuses).2)
       by (Ok moments) takes =
           let went = one_feed reading net execution listed number room none line lines put end comes run moment points moments is takes in
-          after_one line lines room execution end moment points moments comes is takes (later (after_feed execution moment moments) points went.1 none went.4)
+          after_line line lines number room execution (after_feed execution moment moments) (λ others. listing ∷ others) end comes
+          (λ lines others lists. inr (moment, points, others, is, refl, lists)) (λ others final fed. fed_step execution listing others moments takes ∙ fed)
+          (later (after_feed execution moment moments) points went.1 none went.4)
   line_ends line lines execution listed number room put end Comes none comes (inl (done, is)) run later = by (first_open execution) refl
     where
-      by : (first : Option PointId) → first_open execution ≡ first → EndsSo net (line ∷ lines) room execution end
+      by : (first : Option PointId) → first_open execution ≡ first → EndsAt net (line ∷ lines) number room execution end
       by None closed =
-          inl (ends_here line lines room execution end done comes is (inl (closed, (one_done reading net execution listed number room none line lines put end comes run is closed).3)))
+          told_here line lines number room execution end done comes is (inl (closed, (one_done reading net execution listed number room none line lines put end comes run is closed).3))
       by (Some point) opens =
-          inl (ends_here line lines room execution end done comes is (inr (point, opens, one_unfinished reading net execution listed number room none line lines put end comes run point is opens)))
+          told_here line lines number room execution end done comes is
+          (inr (point, opens, (one_unfinished reading net execution listed number room none line lines put end comes run point is opens).2))
   line_ends line lines execution listed number room put end Comes none comes (inr (kind, fault)) run later =
-      inr (one_fault reading net execution listed number room none line lines put end comes run kind fault)
-  line_ends line lines execution listed number room put end TooLong none comes either run later = inr (stopped net execution listed number room line lines put end (inl comes) run)
-  line_ends line lines execution listed number room put end TooMuch none comes either run later = inr (stopped net execution listed number room line lines put end (inr comes) run)
+      ends_here (line ∷ lines) number room execution end
+      (inr (Format (number + 1) kind, inr (inr (kind, comes, fault, refl)), (one_fault reading net execution listed number room none line lines put end comes run kind fault).1))
+  line_ends line lines execution listed number room put end TooLong none comes either run later =
+      ends_here (line ∷ lines) number room execution end (inr (LongLine (number + 1), inl (comes, refl), (too_long net execution listed number room line lines put end comes run).1))
+  line_ends line lines execution listed number room put end TooMuch none comes either run later =
+      ends_here (line ∷ lines) number room execution end (inr (MuchInput (number + 1), inr (inl (comes, refl)), (too_much net execution listed number room line lines put end comes run).1))
 
   -- a run ends at a line of events that is decided, or by a fault
   pub ends_so : (lines : List InputLine) (execution : Execution) (listed : List PointId) (number room : ℕ) (put : List ℕ) (end : End) → execution.refused ≡ None
-      → Run executing_machine (at net execution listed number room) lines put end → EndsSo net lines room execution end
-  ends_so [] execution listed number room put end none run = inr (no_line net execution listed number room put end run)
+      → Run executing_machine (at net execution listed number room) lines put end → EndsAt net lines number room execution end
+  ends_so [] execution listed number room put end none run =
+      ends_here [] number room execution end (inr (Format (number + 1) NoEnd, refl, (no_line net execution listed number room put end run).1))
   ends_so (line ∷ lines) execution listed number room put end none run =
       line_ends line lines execution listed number room put end (coming most_line room line) none refl (reading net (words line.text)).either run
       (λ next points more unrefused on. ends_so lines next points (number + 1) (room - line_size line) more end unrefused on)
+
+  -- and where what comes next has a fault, it ends by that
+  pub fault_there : (rest : List InputLine) (execution : Execution) (listed : List PointId) (number room : ℕ) (put : List ℕ) (end : End) (fault : Fault) → execution.refused ≡ None
+      → IsNextFault net (number + 1) room rest fault → Run executing_machine (at net execution listed number room) rest put end → EndsBy fault put end
+  fault_there [] execution listed number room put end fault none is run = subst (λ (f : Fault). EndsBy f put end) (sym is) (no_line net execution listed number room put end run)
+  fault_there (line ∷ rest) execution listed number room put end fault none (inl (long, is)) run =
+      subst (λ (f : Fault). EndsBy f put end) (sym is) (too_long net execution listed number room line rest put end long run)
+  fault_there (line ∷ rest) execution listed number room put end fault none (inr (inl (much, is))) run =
+      subst (λ (f : Fault). EndsBy f put end) (sym is) (too_much net execution listed number room line rest put end much run)
+  fault_there (line ∷ rest) execution listed number room put end fault none (inr (inr (kind, comes, faulty, is))) run =
+      subst (λ (f : Fault). EndsBy f put end) (sym is) (one_fault reading net execution listed number room none line rest put end comes run kind faulty)

@@ -23,8 +23,9 @@ use Rattle.commands.specs.declared.endings.End.TheVariants as ends
 use Rattle.commands.specs.declared.machines.Onward.{Onward}
 use Rattle.commands.specs.declared.machines.Onward.TheVariants.{Goes, Ends}
 use Rattle.stnu_run.specs.Course.{Course}
-use Rattle.stnu_run.specs.EventAnswers.{acts_text, due_line, complete_line}
-use Rattle.stnu_run.specs.Executing.{AnswersFeed, AnswersEnd, AnswersEvent, TakesEvent, executing_machine}
+use Rattle.stnu_run.specs.EventAnswers.{acts_text, due_line, complete_line, why_words, unfinished_words, event_line, event_fault_line}
+use Rattle.stnu_run.specs.EventFaults.{event_refusal}
+use Rattle.stnu_run.specs.Executing.{RefusesEvent, AnswersFeed, AnswersEnd, AnswersEvent, TakesEvent, executing_machine}
 use Rattle.stnu_run.specs.Faults.{fault_end}
 use Rattle.stnu_run.specs.declared.faults.Fault.{Fault}
 use Rattle.stnu_run.specs.declared.faults.Fault.TheVariants.{Format, LineTooLong as LongLine, InputTooMuch as MuchInput}
@@ -85,10 +86,10 @@ module _ (state : Course) (number : ℕ) (none : state.execution.refused ≡ Non
 
   -- one that is refused ends the run so
   refused_ends : (moment : ℕ) (points : List PointId) (cause : Why) → taken state.execution moment points ≡ Err cause → AnswersEvent state number (completed moment points) answer onward
-      → onward ≡ Ends ends.EventRefused
+      → RefusesEvent number (why_words state.net cause) answer onward
   refused_ends moment points cause is (answered, after, so, answers) =
       let by = fed_so state.execution moment points answered after (Err cause) none is so in
-      (subst (λ (f : Fed). AnswersFeed state number f (record state { execution = after; listed = points }) answer onward) by.0 answers).1
+      subst (λ (f : Fed). AnswersFeed state number f (record state { execution = after; listed = points }) answer onward) by.0 answers
 
   -- an end with no open point: the acts that remain
   done_whole : first_open state.execution ≡ None → AnswersEvent state number done answer onward
@@ -99,10 +100,11 @@ module _ (state : Course) (number : ℕ) (none : state.execution.refused ≡ Non
       (after, by.1, now.0, now.1)
 
   -- one with an open point ends the run as refused
-  done_unfinished : (point : PointId) → first_open state.execution ≡ Some point → AnswersEvent state number done answer onward → onward ≡ Ends ends.EventRefused
+  done_unfinished : (point : PointId) → first_open state.execution ≡ Some point → AnswersEvent state number done answer onward
+      → RefusesEvent number (unfinished_words state.net point) answer onward
   done_unfinished point is (answered, after, so, answers) =
       let by = finished_so state.execution answered after (Some point) none is so in
-      (subst (λ (f : Finished). AnswersEnd state number f after answer onward) by.0 answers).1
+      subst (λ (f : Finished). AnswersEnd state number f after answer onward) by.0 answers
 
 -- ---- a run over a line, and others
 -- how a run goes on after the answer to a line
@@ -128,27 +130,37 @@ replied here line lines put end how comes run = by (first_reply executing_machin
     by (inl replies) = record { answer = put; onward = Ends end; replies = so put (Ends end) replies; on = (refl, refl) }
     by (inr goes) = record { answer = goes.answer; onward = Goes goes.state; replies = so goes.answer (Goes goes.state) goes.replies; on = (goes.more, goes.all, goes.later) }
 
+-- a run ends by a fault, with its line
+abbrev pub EndsBy : Fault → List ℕ → End → Type 0
+EndsBy fault put end = (put ≡ event_refusal fault) × (end ≡ fault_end fault)
+
+-- a run ends by a refused event, with its line
+abbrev pub EndsRefused : ℕ → List ℕ → End → Type 0
+EndsRefused number put end = (words : List (List ℕ)) × (put ≡ event_line number words) × (end ≡ ends.EventRefused)
+
 -- where no line comes, the run ends by a fault
 pub no_line : (net : Plan) (execution : Execution) (listed : List PointId) (number room : ℕ) (put : List ℕ) (end : End)
-    → Run executing_machine (at net execution listed number room) [] put end → (fault : Fault) × (end ≡ fault_end fault)
+    → Run executing_machine (at net execution listed number room) [] put end → EndsBy (Format (number + 1) NoEnd) put end
 no_line net execution listed number room put end run =
     let last = last_reply executing_machine (at net execution listed number room) put end run in
     let same : end ≡ last.0 = cc (last.1) in
-    (Format (number + 1) NoEnd, same ∙ last.2.1)
+    (last.2.0, same ∙ last.2.1)
 
-pub stopped : (net : Plan) (execution : Execution) (listed : List PointId) (number room : ℕ) (line : InputLine) (lines : List InputLine) (put : List ℕ) (end : End)
-    → (coming most_line room line ≡ TooLong) ⊎ (coming most_line room line ≡ TooMuch) → Run executing_machine (at net execution listed number room) (line ∷ lines) put end
-    → (fault : Fault) × (end ≡ fault_end fault)
-stopped net execution listed number room line lines put end (inl long) run =
+pub too_long : (net : Plan) (execution : Execution) (listed : List PointId) (number room : ℕ) (line : InputLine) (lines : List InputLine) (put : List ℕ) (end : End)
+    → coming most_line room line ≡ TooLong → Run executing_machine (at net execution listed number room) (line ∷ lines) put end → EndsBy (LongLine (number + 1)) put end
+too_long net execution listed number room line lines put end long run =
     let here = at net execution listed number room in
     let one = replied here line lines put end TooLong long run in
     let on = subst (λ (o : Onward Course). Continues here line lines put end o one.answer) one.replies.1 one.on in
-    (LongLine (number + 1), on.1 ∙ one.replies.2.1)
-stopped net execution listed number room line lines put end (inr much) run =
+    (on.0 ∙ one.replies.2.0, on.1 ∙ one.replies.2.1)
+
+pub too_much : (net : Plan) (execution : Execution) (listed : List PointId) (number room : ℕ) (line : InputLine) (lines : List InputLine) (put : List ℕ) (end : End)
+    → coming most_line room line ≡ TooMuch → Run executing_machine (at net execution listed number room) (line ∷ lines) put end → EndsBy (MuchInput (number + 1)) put end
+too_much net execution listed number room line lines put end much run =
     let here = at net execution listed number room in
     let one = replied here line lines put end TooMuch much run in
     let on = subst (λ (o : Onward Course). Continues here line lines put end o one.answer) one.replies.1 one.on in
-    (MuchInput (number + 1), on.1 ∙ one.replies.2.1)
+    (on.0 ∙ one.replies.2.0, on.1 ∙ one.replies.2.1)
 
 module _ (reading : (net : Plan) (line : List (List ℕ)) → OneReading net line) where
   -- what a line tells decides the answer
@@ -158,10 +170,12 @@ module _ (reading : (net : Plan) (line : List (List ℕ)) → OneReading net lin
       subst (λ (t : EventLine). AnswersEvent state number t answer onward) ((reading state.net (words line)).one_telling other told also is) answers
   told_answers state number told line answer onward is (inr (kind, fault, puts, so)) = absurd ((reading state.net (words line)).not_both told kind is fault)
 
-  fault_ends : (state : Course) (number : ℕ) (kind : FormatKind) (line answer : List ℕ) (onward : Onward Course) → IsFaultOf state.net line kind
-      → TakesEvent state number line answer onward → (fault : Fault) × (onward ≡ Ends (fault_end fault))
-  fault_ends state number kind line answer onward is (inl (told, also, answers)) = absurd ((reading state.net (words line)).not_both told kind also is)
-  fault_ends state number kind line answer onward is (inr (other, fault, puts, so)) = (Format number other, so)
+  fault_answers : (state : Course) (number : ℕ) (kind : FormatKind) (line answer : List ℕ) (onward : Onward Course) → IsFaultOf state.net line kind
+      → TakesEvent state number line answer onward → (answer ≡ event_fault_line number kind) × (onward ≡ Ends (fault_end (Format number kind)))
+  fault_answers state number kind line answer onward is (inl (told, also, answers)) = absurd ((reading state.net (words line)).not_both told kind also is)
+  fault_answers state number kind line answer onward is (inr (other, fault, puts, so)) =
+      let same = (reading state.net (words line)).one_fault other kind fault is in
+      (puts ∙ ap (event_fault_line number) same, so ∙ ap (λ (k : FormatKind). Ends (fault_end (Format number k))) same)
 
   module _ (net : Plan) (execution : Execution) (listed : List PointId) (number room : ℕ) (none : execution.refused ≡ None) (line : InputLine) (lines : List InputLine) (put : List ℕ) (end : End)
       (comes : coming most_line room line ≡ Comes) (run : Run executing_machine (at net execution listed number room) (line ∷ lines) put end) where
@@ -193,9 +207,11 @@ module _ (reading : (net : Plan) (line : List (List ℕ)) → OneReading net lin
         (goes.0, on.0, goes.1, on.1 ∙ (ap (λ (a : List ℕ). a ++ on.0) goes.2 ∙ append_assoc (acts_text net (after_feed execution moment moments).acts) (due_line goes.0) on.0), on.2)
 
     pub one_refused : (moment : ℕ) (points : List PointId) (cause : Why) → IsLine net (completed moment points) line.text → taken execution moment points ≡ Err cause
-        → end ≡ ends.EventRefused
+        → EndsRefused (number + 1) put end
     one_refused moment points cause is refuses =
-        (on_as (Ends ends.EventRefused) (refused_ends here.state (number + 1) none one.answer one.onward moment points cause refuses (tells (completed moment points) is))).1
+        let answers = refused_ends here.state (number + 1) none one.answer one.onward moment points cause refuses (tells (completed moment points) is) in
+        let on = on_as (Ends ends.EventRefused) answers.1 in
+        (why_words net cause, on.0 ∙ answers.0, on.1)
 
     pub one_done : IsLine net done line.text → first_open execution ≡ None
         → (after : Execution) × IsWhole execution after × (put ≡ acts_text net after.acts ++ complete_line) × (end ≡ ends.Done)
@@ -204,11 +220,14 @@ module _ (reading : (net : Plan) (line : List (List ℕ)) → OneReading net lin
         let on = on_as (Ends ends.Done) whole.3 in
         (whole.0, whole.1, on.0 ∙ whole.2, on.1)
 
-    pub one_unfinished : (point : PointId) → IsLine net done line.text → first_open execution ≡ Some point → end ≡ ends.EventRefused
+    pub one_unfinished : (point : PointId) → IsLine net done line.text → first_open execution ≡ Some point → EndsRefused (number + 1) put end
     one_unfinished point is opens =
-        (on_as (Ends ends.EventRefused) (done_unfinished here.state (number + 1) none one.answer one.onward point opens (tells done is))).1
+        let answers = done_unfinished here.state (number + 1) none one.answer one.onward point opens (tells done is) in
+        let on = on_as (Ends ends.EventRefused) answers.1 in
+        (unfinished_words net point, on.0 ∙ answers.0, on.1)
 
-    pub one_fault : (kind : FormatKind) → IsFaultOf net line.text kind → (fault : Fault) × (end ≡ fault_end fault)
+    pub one_fault : (kind : FormatKind) → IsFaultOf net line.text kind → EndsBy (Format (number + 1) kind) put end
     one_fault kind is =
-        let fault = fault_ends here.state (number + 1) kind line.text one.answer one.onward is one.replies.1 in
-        (fault.0, (on_as (Ends (fault_end fault.0)) fault.1).1)
+        let answers = fault_answers here.state (number + 1) kind line.text one.answer one.onward is one.replies.1 in
+        let on = on_as (Ends (fault_end (Format (number + 1) kind))) answers.1 in
+        (on.0 ∙ answers.0, on.1)

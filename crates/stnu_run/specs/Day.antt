@@ -1,6 +1,6 @@
 -- The input of `run`: a plan, and after it lines of events that list a stream; and what is put for it by a schedule. This project's own
 -- choice.
-use Rattle.std.specs.Prelude.{◌≡◌, ◌⊎◌, ℕ, suc, ◌+◌, ◌-◌, ◌<◌, List, [], ◌∷◌, ◌++◌, Option}
+use Rattle.std.specs.Prelude.{◌≡◌, ◌⊎◌, ℕ, suc, ◌+◌, ◌-◌, ◌<◌, List, [], ◌∷◌, ◌++◌, length, Option}
 use Rattle.std.specs.List.{All}
 use Rattle.texts.specs.Lines.{InputLine}
 use Rattle.net_model.specs.Network.{Plan}
@@ -64,6 +64,10 @@ pub record IsRefusedDay (input : List InputLine) : Type 0 where
   pub controllable : IsControllable net
   pub faithful : IsFaithful net (going_on listings)
   pub unfaithful : IsUnfaithfulWith net listings told
+
+-- the number of the line that is refused
+abbrev pub number_of : {input : List InputLine} → IsRefusedDay input → ℕ
+number_of refused = length (refused.day.underway.plan ++ refused.day.underway.events) + 1
 
 -- the input declares a controllable network, and a faithful stream that is done
 pub record IsWholeDay (input : List InputLine) (net : Plan) (listings : List Listing) : Type 0 where

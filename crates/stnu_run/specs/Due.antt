@@ -2,6 +2,7 @@
 use Rattle.std.specs.Prelude.{◌≡◌, ◌≢◌, ℕ, suc, ◌-◌, ◌<◌, ◌≤◌, List, [], ◌∷◌, ◌++◌, Option, Some, None}
 use Rattle.std.specs.Option.{option_map_or}
 use Rattle.net_model.specs.Network.{Plan}
+use Rattle.net_model.specs.declared.ids.PointId.{PointId}
 use Rattle.strategy_model.specs.Control.{IsEarliest}
 use Rattle.execution_model.specs.Acts.{scheduled_at, scheduled}
 use Rattle.execution_model.specs.Laws.{going_on}
@@ -11,19 +12,22 @@ use Rattle.execution_model.specs.Streams.{Listing, Shows, last_moment}
 abbrev pub moment_after : List Listing → ℕ
 moment_after listings = option_map_or suc (last_moment (going_on listings)) 0
 
--- a schedule is the earliest of a situation in which what is listed completes, and then nothing up to a moment
-abbrev pub Waits : Plan → List Listing → (moment : ℕ) → (schedule : List ℕ) → Type 0
-Waits net listings moment schedule =
-    (situation : List ℕ) × IsEarliest net situation schedule × Shows net (going_on (listings ++ record { moment = moment; points = [] } ∷ [])) schedule
+-- a schedule is the earliest of a situation in which what is listed completes, and then nothing before a moment, and these points at it
+abbrev pub ListsNext : Plan → List Listing → (moment : ℕ) → List PointId → (schedule : List ℕ) → Type 0
+ListsNext net listings moment points schedule =
+    (situation : List ℕ) × IsEarliest net situation schedule × Shows net (going_on (listings ++ record { moment = moment; points = points } ∷ [])) schedule
 
--- such a schedule executes no point from the last listing up to the moment
+-- where nothing completes up to a moment either, no point is executed from the last listing up to it
 abbrev pub ExecutesNone : Plan → List Listing → (moment : ℕ) → Type 0
 ExecutesNone net listings moment =
-    (schedule : List ℕ) → Waits net listings moment schedule → scheduled net schedule (moment_after listings) (suc moment - moment_after listings) ≡ []
+    (schedule : List ℕ) → ListsNext net listings moment [] schedule → scheduled net schedule (moment_after listings) (suc moment - moment_after listings) ≡ []
+
+-- where nothing completes before a moment, a point is executed at it
+abbrev pub ExecutesAt : Plan → List Listing → (moment : ℕ) → Type 0
+ExecutesAt net listings moment = (points : List PointId) (schedule : List ℕ) → ListsNext net listings moment points schedule → scheduled_at net schedule moment ≢ []
 
 -- while nothing completes, a point is executed at a moment and none before it; or none is executed at all
 abbrev pub IsDueAfter : Plan → List Listing → Option ℕ → Type 0
 IsDueAfter net listings None = (moment : ℕ) → ExecutesNone net listings moment
 IsDueAfter net listings (Some due) =
-    (moment_after listings ≤ due) × ((moment : ℕ) → moment < due → ExecutesNone net listings moment)
-    × ((schedule : List ℕ) → Waits net listings due schedule → scheduled_at net schedule due ≢ [])
+    (moment_after listings ≤ due) × ((moment : ℕ) → moment < due → ExecutesNone net listings moment) × ExecutesAt net listings due

@@ -16,4 +16,5 @@ pub mod Executing
 pub mod Running
 pub mod Due
 pub mod Day
+pub mod EventFaults
 pub mod RunPromise

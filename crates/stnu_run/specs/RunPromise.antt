@@ -13,13 +13,16 @@ use Rattle.execution_model.specs.Streams.{Listing, Fits}
 use Rattle.commands.specs.declared.endings.End.{End}
 use Rattle.commands.specs.declared.endings.End.TheVariants as ends
 use Rattle.stnu_run.specs.Checking.{controllable_line, PutsRefuted}
-use Rattle.stnu_run.specs.Day.{IsUnderway, IsWholeDay, IsRefusedDay, PutsSoFar, PutsDay}
+use Rattle.stnu_run.specs.Day.{IsUnderway, IsWholeDay, IsRefusedDay, number_of, PutsSoFar, PutsDay}
 use Rattle.stnu_run.specs.Due.{IsDueAfter}
-use Rattle.stnu_run.specs.EventAnswers.{due_line}
+use Rattle.stnu_run.specs.EventAnswers.{due_line, event_line}
+use Rattle.stnu_run.specs.EventFaults.{HasEventFault, event_refusal}
+use Rattle.stnu_run.specs.Faults.{fault_end}
 use Rattle.stnu_run.specs.Programs.{Program, serves}
 use Rattle.stnu_run.specs.Running.{run_machine, run_start}
 use Rattle.stnu_run.specs.ToCheck.{plan_grammar}
-use Rattle.stnu_run.specs.ToRead.{AnswersText}
+use Rattle.stnu_run.specs.ToRead.{AnswersText, IsFirstRefusal}
+use Rattle.stnu_run.specs.declared.faults.Fault.{Fault}
 
 -- An execution is opened: it is put that the network is controllable, and it is, with the first due moment, before all else; or that it is
 -- not, and it is not, and a certificate that the judge accepts.
@@ -28,11 +31,21 @@ OpensExecution net put end =
     (IsControllable net × ((due : Option ℕ) × (more : List ℕ) × IsDueAfter net [] due × put ≡ controllable_line ++ (due_line due ++ more)))
     ⊎ ((¬ IsControllable net) × ((cert : Certificate) × (judgement_of net cert ≡ Accepted NotControllable) × PutsRefuted cert put end))
 
+-- this line is put last
+abbrev pub PutsLast : (line put : List ℕ) → Type 0
+PutsLast line put = (before : List ℕ) × (put ≡ before ++ line)
+
+-- the run ends by a refused event, and the line that refuses the line of events of this number is put last
+abbrev pub EndsRefused : ℕ → List ℕ → End → Type 0
+EndsRefused number put end = (end ≡ ends.EventRefused) × ((words : List (List ℕ)) × PutsLast (event_line number words) put)
+
 -- What `run` promises. `opens`: it opens the execution of the network that the input declares, or puts the first refusal of the input.
 -- `underway`: while the stream goes on and is faithful, it puts the acts of the earliest schedule of the situation that the stream fits,
--- whatever comes after. `executes`: for a controllable network and a faithful stream that is done, it puts the acts of the earliest schedule of the situation
--- that the stream fits, which with the completions listed is the whole schedule, and satisfies the network. `completes`: only then does it end so. `refuses` and
--- `refused`: it ends by a refused event exactly where a line tells what no faithful stream does.
+-- whatever comes after. `executes`: for a controllable network and a faithful stream that is done, it puts the acts of the earliest
+-- schedule of the situation that the stream fits, which with the completions listed is the whole schedule, and satisfies the network.
+-- `completes`: only then does it end so. `refuses` and `refused`: it ends by a refused event, with the number of its line, exactly where
+-- a line tells what no faithful stream does. `faulty` and `faults`: it ends by a fault, with its line, exactly where the input has a first
+-- refusal, or its lines of events a fault.
 pub record RunPromise (input put : List ℕ) (end : End) : Type 0 where
   pub opens : AnswersText plan_grammar OpensExecution input put end
   pub underway : (net : Plan) (listings : List Listing) (situation : List ℕ) → IsUnderway (input_lines input) net listings
@@ -40,8 +53,11 @@ pub record RunPromise (input put : List ℕ) (end : End) : Type 0 where
   pub executes : (net : Plan) (listings : List Listing) (situation : List ℕ) → IsWholeDay (input_lines input) net listings
       → (fits : Fits net (ended listings) situation) → Satisfies net fits.schedule × PutsDay net fits.schedule listings put end
   pub completes : end ≡ ends.Done → (net : Plan) × (listings : List Listing) × IsWholeDay (input_lines input) net listings
-  pub refuses : IsRefusedDay (input_lines input) → end ≡ ends.EventRefused
+  pub refuses : (refused : IsRefusedDay (input_lines input)) → EndsRefused (number_of refused) put end
   pub refused : end ≡ ends.EventRefused → IsRefusedDay (input_lines input)
+  pub faulty : (fault : Fault) → HasEventFault (input_lines input) fault → PutsLast (event_refusal fault) put × (end ≡ fault_end fault)
+  pub faults : (end ≡ ends.Fault) ⊎ (end ≡ ends.Limit)
+      → (fault : Fault) × (IsFirstRefusal plan_grammar (input_lines input) fault ⊎ HasEventFault (input_lines input) fault)
 
 -- the program of `run`
 abbrev pub run_program : Program
