@@ -1,23 +1,183 @@
-use dispatch_net::Dispatch;
-use execution_model::{Act, Why};
-use net_model::Link;
-use std::marker::Model;
+//! The executor.
 
-/// An execution.
-#[derive(Debug, Drop)]
+ghost use Rattle.std.specs.Prelude.{◌≡◌, ◌+◌, ◌<◌, Ok, Err, Some, None, length, IfOk, OnOk, OnErr};
+ghost use Rattle.std.specs.List.{All};
+ghost use Rattle.std.specs.Option.{option_map_or};
+ghost use Rattle.execution_model.specs.Execution.{moment_of};
+ghost use Rattle.execution_model.specs.Feeding.{started, next_moment, IsFed, IsFinished, IsDueAnswer, refusal_of_moment, first_open, IsWhole};
+ghost use Rattle.live_executor.specs.Kept.{IsTaken};
+ghost use Rattle.live_executor.specs.Sound.{IsDispatchOf};
+
+use crate::course::Course;
+use crate::dispatched::Dispatched;
+use dispatch_net::Dispatch;
+use execution_model::{Act, Fed, Finished, MOST_MOMENT, Why};
+use net_model::{Network, PointId};
+use std::alloc::{AllocError, Global};
+use std::marker::Model;
+use std::mem;
+
+/// An execution of a dispatchable network, fed with completions moment by moment. Contracts see it as an execution: by what the
+/// network is executed, the moments so far, the last moment fed, the last acts, and why a feed was refused.
+#[derive(Drop)]
 pub struct Executor {
-    dispatch: Dispatch,
-    links: Vec<Link>,
-    moments: Vec<Option<u64>>,
+    dispatched: Dispatched,
+    course: Course,
+    trial: Course,
     last: Option<u64>,
-    acts: Vec<Act>,
     refused: Option<Why>,
 }
 
 impl Model for Executor {
     ghost use Rattle.execution_model.specs.Feeding.{Execution};
+    ghost use Rattle.live_executor.specs.Kept.{IsKeptExecution};
 
     ghost Value = { Execution };
 
-    ghost view = { λ e. record { setting = record { links = e.links.items; dispatch = e.dispatch }; moments = e.moments.items; last = e.last; acts = e.acts.items; refused = e.refused } };
+    ghost view = { λ kept. record {
+      setting = kept.dispatched;
+      moments = kept.course.moments.items;
+      last = kept.last;
+      acts = kept.course.acts.items;
+      refused = kept.refused;
+    } };
+
+    ghost invariant = { λ kept. IsKeptExecution kept.dispatched kept.course.moments.items kept.course.due.items kept.trial.moments.items kept.last };
+}
+
+impl Executor {
+    /// Starts an execution of a network on a dispatchable network of it. All memory that it ever needs is taken here.
+    /// `AllocError` comes only for want of memory.
+    pub fn start(alloc: Global, net: &Network, dispatch: Dispatch) -> Result<Executor, AllocError>
+        requires { IsDispatchOf net.now dispatch }
+        ensures { IfOk result (λ executor. executor ≡ started (record { links = net.now.links; dispatch = dispatch })) }
+    {
+        let dispatched = Dispatched::new(alloc, net, dispatch)?;
+        let course = Course::fresh(alloc, &dispatched)?;
+        let trial = Course::fresh(alloc, &dispatched)?;
+        Ok(Executor {
+            dispatched,
+            course,
+            trial,
+            last: None,
+            refused: None,
+        })
+    }
+
+    /// The acts of the last feed that was answered `Acts`, or of the end, by moment and then by number of the point.
+    pub fn acts(&self) -> &[Act]
+        ensures { result.now ≡ self.now.acts }
+    {
+        self.course.acts.as_slice()
+    }
+
+    /// The moment at which a point was executed or has completed, or `None` where it has not.
+    pub fn moment_of(&self, point: PointId) -> Option<u64>
+        requires { point.0 < length self.now.setting.dispatch }
+        ensures { result ≡ moment_of self.now.moments point }
+    {
+        self.course.moments[point.0 as usize]
+    }
+
+    /// The next moment at which a point will be executed if nothing completes before, or `None` where there is none, and after a
+    /// refusal.
+    pub fn next_due(&self) -> Option<u64>
+        ensures { IsDueAnswer self.now result }
+    {
+        match self.refused {
+            Some(_) => None,
+            None => self.course.next_due(self.next_moment()),
+        }
+    }
+
+    /// Feeds a moment, in whole moments from 0, with the points that complete at it. Time runs to the moment before, then the completions
+    /// are taken, then the acts of the moment are made. `Refused` comes, with the first cause, for `NotLater`, then `MomentLimit`, then for
+    /// each listed point in order `NotContingent`, `Twice`, `NotActive`, `TooSoon` or `Overdue`, then `Overdue` for the lowest point that
+    /// should have completed; no act is made then, and each later call answers `Ended` with that cause.
+    pub fn feed(&mut self, moment: u64, completions: &[PointId]) -> Fed
+        requires { All (λ point. point.0 < length self.old.setting.dispatch) completions.now }
+        ensures { IsFed self.old moment completions.now result self.new }
+    {
+        if let Some(why) = self.refused {
+            return Fed::Ended(why);
+        }
+        match self.take(moment, completions) {
+            Ok(()) => Fed::Acts,
+            Err(why) => Fed::Refused(why),
+        }
+    }
+
+    /// Ends the execution, where each contingent point has completed: makes all acts that are left. Else it answers `Unfinished` with the
+    /// lowest contingent point that has not, and nothing changes; after a refusal it answers `Ended` with its cause.
+    pub fn finish(&mut self) -> Finished
+        ensures { IsFinished self.old result self.new }
+    {
+        if let Some(why) = self.refused {
+            return Finished::Ended(why);
+        }
+        if let Some(point) = self.course.first_open(&self.dispatched) {
+            return Finished::Unfinished(point);
+        }
+        self.run_out();
+        Finished::Complete
+    }
+
+    /// Makes all acts that are left, where no contingent point is open.
+    fn run_out(&mut self)
+        requires { first_open self.old ≡ None }
+        ensures { IsWhole self.old self.new }
+    {
+        let from = self.next_moment();
+        self.course.run_out(&self.dispatched, from);
+        self.last = self.course.last_act(self.last);
+    }
+
+    /// Takes a feed, or keeps why it is refused.
+    fn take(&mut self, moment: u64, completions: &[PointId]) -> Result<(), Why>
+        requires { All (λ point. point.0 < length self.old.setting.dispatch) completions.now }
+        ensures { IsTaken self.old moment completions.now result self.new }
+    {
+        if let Some(why) = self.refusal_of_moment(moment) {
+            self.refused = Some(why);
+            return Err(why);
+        }
+        let from = self.next_moment();
+        self.trial.follow(&self.course);
+        let tried = self
+            .trial
+            .try_feed(&self.dispatched, from, moment, completions);
+        match tried {
+            Ok(()) => {
+                mem::swap(&mut self.course, &mut self.trial);
+                self.last = Some(moment);
+            }
+            Err(why) => self.refused = Some(why),
+        }
+        tried
+    }
+
+    /// Why a moment can't be fed, whatever completes.
+    fn refusal_of_moment(&self, moment: u64) -> Option<Why>
+        ensures { result ≡ refusal_of_moment self.now moment }
+    {
+        if let Some(last) = self.last {
+            if moment <= last {
+                return Some(Why::NotLater(last));
+            }
+        }
+        if MOST_MOMENT < moment {
+            return Some(Why::MomentLimit);
+        }
+        None
+    }
+
+    /// The first moment that has not gone by.
+    fn next_moment(&self) -> u64
+        ensures { result ≡ next_moment self.now }
+    {
+        match self.last {
+            Some(last) => last + 1,
+            None => 0,
+        }
+    }
 }

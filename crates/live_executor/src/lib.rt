@@ -1,7 +1,12 @@
-//! The execution of a network over a stream of completions.
+//! Executes a dispatchable network over a stream of completions, moment by moment. After the start nothing takes memory.
 #![tactic(auto)]
 
+mod course;
+mod dispatched;
 mod executor;
+mod feed;
+mod met;
+mod taking;
 
 pub use execution_model::{Act, Fed, Finished, MOST_MOMENT, Why};
 pub use executor::Executor;

@@ -1,0 +1,124 @@
+-- What a network is executed by is of its points and links, and not too great.
+use Rattle.std.proofs.Common.{◌≡◌, ℕ, ℤ, pos, ◌-ℤ◌, ◌<◌, ◌≤◌, ◌≤ℤ◌, Bool, true, false, List, [], ◌∷◌, cond, length, map, get_or, Option, Some, None, refl, ap, sym, subst, ◌∙◌, arith}
+use Rattle.std.specs.Prelude.{slice_get, unsigned_abs, is_some, find, IfSome, ◌==◌}
+use Rattle.std.specs.List.{All, Contains}
+use Rattle.std.proofs.lemmas.Int.{ints}
+use Rattle.std.proofs.lemmas.Bool.{leb-true}
+use Rattle.std.proofs.lemmas.List.{length-map, get_or_default}
+use Rattle.std.proofs.lemmas.List.Elements.{All-weaker, All-contains_itself, All-nil, All-head, All-tail}
+use Rattle.std.proofs.lemmas.Option.{slice_get_within}
+use Rattle.net_model.specs.Limits.{most_size}
+use Rattle.net_model.specs.Network.{Plan, IsPlan, IsLink, IsPoint, activation}
+use Rattle.net_model.specs.declared.ids.PointId.{PointId}
+use Rattle.net_model.specs.declared.ids.LinkId.{LinkId}
+use Rattle.net_model.specs.declared.part.Link.{Link}
+use Rattle.net_model.specs.declared.part.Edge.{Edge}
+use Rattle.net_model.proofs.NetworkLemmas.{greatest-le}
+use Rattle.closure_model.specs.Keys.{Shape}
+use Rattle.closure_model.specs.Tables.{HasEdge}
+use Rattle.dispatch_net.specs.Dispatchable.{no_conditions, dispatchable, conditions_at}
+use Rattle.dispatch_net.specs.Laws.{AreExact}
+use Rattle.dispatch_net.specs.declared.dispatch.Conditions.{Conditions}
+use Rattle.dispatch_net.proofs.ExecutionLemmas.{dispatchable_length, point_count}
+use Rattle.dispatch_net.proofs.ExactLemmas.{lists_are_exact}
+use Rattle.execution_model.specs.Execution.{Setting}
+use Rattle.live_executor.specs.Sound.{IsLowerBound, IsWait, IsLinkOf, IsSound, IsDispatchOf, AreEnds, IsKept}
+
+each_contained : {X : Type 0} (P : X → Type 0) (xs : List X) → ((x : X) → Contains xs x → P x) → All P xs
+each_contained P xs each = All-weaker (Contains xs) P each xs (All-contains_itself xs)
+
+some_or_none : {X : Type 0} (o : Option X) (A : Type 0) → (is_some o ≡ true → A) → (is_some o ≡ false → A) → A
+some_or_none (Some x) A some none = some refl
+some_or_none None A some none = none refl
+
+module _ (net : Plan) (plan : IsPlan net) (dispatch : List Conditions) (of : IsDispatchOf net dispatch) where
+  within : (edge : Edge) → HasEdge of.table edge → unsigned_abs edge.weight ≤ most_size
+  within edge has = let small = greatest-le net plan in let low = of.may.within edge has in omega (arith, low, small)
+
+  size_of_negated : (n : ℤ) → unsigned_abs (pos 0 -ℤ n) ≤ most_size → unsigned_abs n ≤ most_size
+  size_of_negated n h = omega (arith, ints, h)
+
+  bound_sound : (point : PointId) (conditions : Conditions) → AreExact of.table point conditions → All (IsLowerBound (length net.points)) conditions.lower_bounds
+  bound_sound point conditions exact =
+      each_contained (IsLowerBound (length net.points)) conditions.lower_bounds (λ bound inside.
+      let has = (exact.bounds bound.0 bound.1).0 inside in
+      let edge : Edge = record { from = point; to = bound.0; label = None; weight = pos 0 -ℤ bound.1 } in
+      let key = of.graph.keys edge has.1 in
+      record { within = (let same = point_count net of.table of.may.for_network in let low = key.to_point in omega (arith, same, low)); small = size_of_negated bound.1 (within edge has.1) })
+
+  wait_sound : (point : PointId) (conditions : Conditions) → AreExact of.table point conditions → All (IsWait (length net.links)) conditions.waits
+  wait_sound point conditions exact =
+      each_contained (IsWait (length net.links)) conditions.waits (λ wait inside.
+      let has = (exact.waits wait.0 wait.1).0 inside in
+      let edge : Edge = record { from = point; to = has.1.0; label = Some wait.0; weight = pos 0 -ℤ wait.1 } in
+      let key = of.graph.keys edge has.1.1 in
+      record { within = among wait.0 has.1.0 key.labelled; small = size_of_negated wait.1 (within edge has.1.1) })
+    where
+      among : (link : LinkId) (to : PointId) → slice_get of.table.shape.activations link.0 ≡ Some to → link.0 < length net.links
+      among link to has =
+          let inside : link.0 < length of.table.shape.activations = slice_get_within of.table.shape.activations link.0 to has in
+          let same : of.table.shape.activations ≡ map (λ (link : Link). link.from) net.links = ap (λ (s : Shape). s.activations) of.may.for_network in
+          let long = length-map net.links (λ (link : Link). link.from) in
+          omega (arith, inside, ap (length {A = PointId}) same, long)
+
+  conditions_sound : (point : PointId) → IsPoint net point
+      → All (IsLowerBound (length net.points)) (conditions_at dispatch point).lower_bounds × All (IsWait (length net.links)) (conditions_at dispatch point).waits
+  conditions_sound point is_point =
+      let exact = lists_are_exact net of.table point of.may.for_network of.graph is_point in
+      rw of.made (some_or_none (activation net point) _
+      (λ some. rw (exact.1 some) (All-nil (IsLowerBound (length net.points)), All-nil (IsWait (length net.links))))
+      (λ none. (bound_sound point (conditions_at (dispatchable net of.table) point) (exact.0 (is_point, none)), wait_sound point (conditions_at (dispatchable net of.table) point) (exact.0 (is_point, none)))))
+
+  count : length dispatch ≡ length net.points
+  count = rw of.made (dispatchable_length net of.table of.may.for_network)
+
+  at_index : (k : ℕ) (d : Conditions) → k < length dispatch → get_or dispatch k d ≡ conditions_at dispatch (record { 0 = k })
+  at_index k d inside = get_or_default dispatch k d no_conditions inside
+
+  low_size : (low high : ℤ) → pos 1 ≤ℤ low → low ≤ℤ high → unsigned_abs high ≤ most_size → unsigned_abs low ≤ most_size
+  low_size low high first second third = omega (arith, ints, first, second, third)
+
+  link_sound : (link : Link) → IsLink net link → IsLinkOf (length dispatch) link
+  link_sound link is = record {
+    from_point = (let low = is.from_point in omega (arith, count, low));
+    to_point = (let low = is.to_point in omega (arith, count, low));
+    low = low_size link.low link.high is.positive is.interval (leb-true (unsigned_abs link.high) most_size is.within);
+    high = leb-true (unsigned_abs link.high) most_size is.within;
+  }
+
+  pub dispatch_sound : IsSound (record { links = net.links; dispatch = dispatch })
+  dispatch_sound = record {
+    bounds = λ k d inside. rw (at_index k d inside, count) ((conditions_sound (record { 0 = k }) (omega (arith, inside, count))).0);
+    waits = λ k d inside. rw (at_index k d inside) ((conditions_sound (record { 0 = k }) (omega (arith, inside, count))).1);
+    links = All-weaker (IsLink net) (IsLinkOf (length dispatch)) link_sound net.links plan.links_sound;
+    few = (let few = plan.few_points in omega (arith, few, count));
+  }
+
+  pub kept : (links : List Link) (points : ℕ) (ends : List (Option Link)) → links ≡ net.links → points ≡ length net.points → AreEnds links points ends
+      → IsKept (record { links = links; dispatch = dispatch }) ends
+  kept links points ends same same_points are = record {
+    net = net;
+    is_net = plan;
+    links = same;
+    dispatched = of;
+    sound = rw same dispatch_sound;
+    ends_are = subst (λ n. AreEnds links n ends) (same_points ∙ sym count) are;
+  }
+
+-- what holds of each item holds of the first that passes a test
+pub found_has : {X : Type 0} (P : X → Type 0) (p : X → Bool) (xs : List X) → All P xs → IfSome (find p xs) P
+found_has P p [] all = tt
+found_has P p (x ∷ xs) all = either P x (find p xs) (p x) (All-head P x xs all) (found_has P p xs (All-tail P x xs all))
+  where
+    either : {X : Type 0} (P : X → Type 0) (x : X) (later : Option X) (b : Bool) → P x → IfSome later P → IfSome (cond b (Some x) later) P
+    either P x later true here there = here
+    either P x later false here there = there
+
+-- the link that is kept of a point is sound
+pub kept_link : (setting : Setting) (ends : List (Option Link)) (k : ℕ) (x : Option Link) → IsKept setting ends → k < length setting.dispatch → x ≡ get_or ends k x
+    → IfSome x (IsLinkOf (length setting.dispatch))
+kept_link setting ends k x is inside read =
+    let test : Link → Bool = λ link. link.to.0 == k in
+    let found : find test setting.links ≡ x =
+    sym (is.ends_are.each k inside) ∙ get_or_default ends k None x (omega (arith, is.ends_are.count, inside)) ∙ sym read in
+    subst (λ (o : Option Link). IfSome o (IsLinkOf (length setting.dispatch))) found (found_has (IsLinkOf (length setting.dispatch)) test setting.links is.sound.links)

@@ -1,0 +1,65 @@
+-- By what a network is executed, as an executor keeps it.
+use Rattle.std.specs.Prelude.{◌≡◌, ◌==◌, ℕ, ℤ, ◌<◌, ◌≤◌, List, length, find, unsigned_abs, Option, None, IsSome, is_some, true, []}
+use Rattle.std.specs.List.{All, slice_index_or}
+use Rattle.net_model.specs.Network.{Plan, IsPlan}
+use Rattle.closure_model.specs.Tables.{Graph, IsGraph}
+use Rattle.dispatch_net.specs.Dispatchable.{MayDispatch, dispatchable}
+use Rattle.net_model.specs.Limits.{most_points, most_size}
+use Rattle.net_model.specs.declared.ids.PointId.{PointId}
+use Rattle.net_model.specs.declared.ids.LinkId.{LinkId}
+use Rattle.net_model.specs.declared.part.Link.{Link}
+use Rattle.dispatch_net.specs.declared.dispatch.Conditions.{Conditions}
+use Rattle.execution_model.specs.Execution.{Moments, Setting, moment_of, link_to, acts_at}
+
+-- a lower bound is after one of so many points, by a number that a network may have
+pub record IsLowerBound (points : ℕ) (bound : PointId × ℤ) : Type 0 where
+  pub within : bound.0.0 < points
+  pub small : unsigned_abs bound.1 ≤ most_size
+
+-- a wait is for one of so many links, by a number that a network may have
+pub record IsWait (links : ℕ) (wait : LinkId × ℤ) : Type 0 where
+  pub within : wait.0.0 < links
+  pub small : unsigned_abs wait.1 ≤ most_size
+
+-- the ends of a link are among so many points, and its durations are numbers that a network may have
+pub record IsLinkOf (points : ℕ) (link : Link) : Type 0 where
+  pub from_point : link.from.0 < points
+  pub to_point : link.to.0 < points
+  pub low : unsigned_abs link.low ≤ most_size
+  pub high : unsigned_abs link.high ≤ most_size
+
+-- whatever a network is executed by is of its points and links, and not too great
+pub record IsSound (setting : Setting) : Type 0 where
+  pub bounds : All (λ (conditions : Conditions). All (IsLowerBound (length setting.dispatch)) conditions.lower_bounds) setting.dispatch
+  pub waits : All (λ (conditions : Conditions). All (IsWait (length setting.links)) conditions.waits) setting.dispatch
+  pub links : All (IsLinkOf (length setting.dispatch)) setting.links
+  pub few : length setting.dispatch ≤ most_points
+
+-- a dispatchable network is one of a network: that of a table by which the network may be dispatched in some order
+pub record IsDispatchOf (net : Plan) (dispatch : List Conditions) : Type 0 where
+  pub table : Graph
+  pub order : List PointId
+  pub graph : IsGraph table
+  pub may : MayDispatch net table order
+  pub made : dispatch ≡ dispatchable net table
+
+-- for each of so many points the link that ends in it
+pub record AreEnds (links : List Link) (points : ℕ) (ends : List (Option Link)) : Type 0 where
+  pub count : length ends ≡ points
+  pub each : (point : ℕ) → point < points → slice_index_or ends point None ≡ find (λ (link : Link). link.to.0 == point) links
+
+-- what is kept of a network and its dispatchable network: the links, the conditions, and for each point the link that ends in it
+pub record IsKept (setting : Setting) (ends : List (Option Link)) : Type 0 where
+  pub net : Plan
+  pub is_net : IsPlan net
+  pub links : setting.links ≡ net.links
+  pub dispatched : IsDispatchOf net setting.dispatch
+  pub sound : IsSound setting
+  pub ends_are : AreEnds setting.links (length setting.dispatch) ends
+
+-- where each contingent point has come, and no moment brings an act, every point has come
+abbrev pub ComesToItsEnd : Setting → Type 0
+ComesToItsEnd setting =
+    (moments : Moments) → length moments ≡ length setting.dispatch
+    → ((point : PointId) → point.0 < length setting.dispatch → is_some (link_to setting point) ≡ true → is_some (moment_of moments point) ≡ true)
+    → ((t : ℕ) → acts_at setting moments t ≡ []) → All IsSome moments
