@@ -7,6 +7,10 @@ mod completing;
 #[cfg(test)]
 mod lists;
 #[cfg(test)]
+mod live;
+#[cfg(test)]
+mod plans;
+#[cfg(test)]
 mod slow;
 #[cfg(test)]
 mod stepping;
