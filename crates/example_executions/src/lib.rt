@@ -14,3 +14,7 @@ mod plans;
 mod slow;
 #[cfg(test)]
 mod stepping;
+#[cfg(test)]
+mod streams;
+#[cfg(test)]
+mod told;
