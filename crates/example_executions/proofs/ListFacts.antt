@@ -4,7 +4,6 @@ use Rattle.std.specs.List.{range_with_len}
 use Rattle.std.proofs.lemmas.List.{get_or_past, map-append, take_more}
 use Rattle.std.proofs.lemmas.List.FromFn.{map-range_with_len_more}
 use Rattle.net_model.specs.declared.ids.PointId.{PointId}
-use Rattle.dispatch_net.specs.declared.dispatch.Conditions.{Conditions}
 use Rattle.dispatch_net.specs.Dispatchable.{conditions_at, no_conditions}
 use Rattle.execution_model.specs.Execution.{Setting, points_of}
 use Rattle.execution_model.proofs.MomentLemmas.{length-points}

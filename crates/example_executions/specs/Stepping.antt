@@ -1,5 +1,5 @@
 -- Parts of an execution that is stepped through moment by moment. This project's own choice.
-use Rattle.std.specs.Prelude.{◌≡◌, ◌≢◌, ℕ, ◌+◌, ◌<◌, ◌≤◌, List, [], Option, Some, None, Result, Ok, Err}
+use Rattle.std.specs.Prelude.{◌≡◌, ℕ, ◌+◌, ◌<◌, ◌≤◌, List, [], Option, Some, None, Result, Ok, Err}
 use Rattle.net_model.specs.declared.ids.PointId.{PointId}
 use Rattle.execution_model.specs.Execution.{Moments, Setting, acts_at}
 use Rattle.execution_model.specs.Feeding.{Execution, next_moment, completions_taken, none_overdue, taken, after_feed, IsNextDue}
@@ -20,6 +20,10 @@ IsTaken execution moment listed refused after =
       | Some why ↦ (taken execution moment listed ≡ Err why) × (after ≡ execution)
       | None ↦ (moments : Moments) × (taken execution moment listed ≡ Ok moments) × (after ≡ after_feed execution moment moments)
     ]
+
+-- among how many moments the next due one is sought
+abbrev pub many_moments : ℕ
+many_moments = 150
 
 -- the next due moment, sought among so many moments
 abbrev pub IsNextDueWithin : (count : ℕ) → Execution → Option ℕ → Type 0

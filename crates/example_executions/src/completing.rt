@@ -15,9 +15,11 @@ use std::test::Fail;
 fn after(moment: u64, n: Weight) -> Result<u64, Fail>
     ensures { IfOk result (λ sum. sum ≡ moment + unsigned_abs n) }
 {
-    Ok(moment
-        .checked_add(n.unsigned_abs())
-        .ok_or("too late a moment")?)
+    Ok(
+        moment
+            .checked_add(n.unsigned_abs())
+            .ok_or("too late a moment")?,
+    )
 }
 
 fn refusal_of_duration(
@@ -135,12 +137,7 @@ impl Lists {
     }
 
     /// Whether a point should have completed.
-    fn is_overdue(
-        &self,
-        moments: &[Option<u64>],
-        moment: u64,
-        point: PointId,
-    ) -> Result<bool, Fail>
+    fn is_overdue(&self, moments: &[Option<u64>], moment: u64, point: PointId) -> Result<bool, Fail>
         ensures { IfOk result (λ overdue. overdue ≡ is_overdue self.now moments.now moment point) }
     {
         match self.latest_of(moments, point)? {
@@ -150,11 +147,7 @@ impl Lists {
     }
 
     /// The lowest point that should have completed.
-    fn lowest_overdue(
-        &self,
-        moments: &[Option<u64>],
-        moment: u64,
-    ) -> Result<Option<PointId>, Fail>
+    fn lowest_overdue(&self, moments: &[Option<u64>], moment: u64) -> Result<Option<PointId>, Fail>
         ensures { IfOk result (λ point. point ≡ find (is_overdue self.now moments.now moment) (points_of self.now)) }
     {
         for point in self.points() {

@@ -168,5 +168,7 @@ fn has_gone_by(moments: &[Option<u64>], t: u64, point: PointId, n: Weight) -> bo
 fn meets_bounds(moments: &[Option<u64>], t: u64, bounds: &[(PointId, Weight)]) -> bool
     ensures { result ≡ list_all (meets_bound moments.now t) bounds.now }
 {
-    bounds.iter().all(|bound| has_gone_by(moments, t, bound.0, bound.1))
+    bounds
+        .iter()
+        .all(|bound| has_gone_by(moments, t, bound.0, bound.1))
 }

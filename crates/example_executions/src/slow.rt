@@ -3,7 +3,7 @@
 ghost use Rattle.std.specs.Prelude.{◌≡◌, ◌++◌, ◌-◌, IfOk, OnOk, Some, length, true, false};
 ghost use Rattle.execution_model.specs.Execution.{Moments, moment_of, acts_at, acted, acts_while};
 ghost use Rattle.execution_model.specs.Feeding.{started, next_moment, moments_to, moments_before, refusal_of_moment, IsFed, IsWhole, IsFinished};
-ghost use Rattle.example_executions.specs.Stepping.{IsTaken, IsDueAnswerWithin, IsNextDueWithin};
+ghost use Rattle.example_executions.specs.Stepping.{IsTaken, IsDueAnswerWithin, IsNextDueWithin, many_moments};
 
 use crate::lists::{Lists, moment_of};
 use crate::stepping::{all_have_come, last_of};
@@ -15,7 +15,7 @@ use std::marker::Model;
 use std::test::Fail;
 
 /// Among how many moments the end and the next due moment are sought.
-const MOMENTS: u64 = 500;
+const MOMENTS: u64 = 150;
 
 /// An execution, by lists. Contracts see it as an execution.
 #[derive(Drop)]
@@ -113,7 +113,7 @@ impl SlowExecutor {
 
     /// The next moment at which a point is executed if nothing completes before.
     pub(crate) fn next_due(&self, alloc: Global) -> Result<Option<u64>, Fail>
-        ensures { IfOk result (IsDueAnswerWithin 500 self.now) }
+        ensures { IfOk result (IsDueAnswerWithin many_moments self.now) }
     {
         match self.refused {
             Some(_) => Ok(None),
@@ -122,7 +122,7 @@ impl SlowExecutor {
     }
 
     fn first_acts(&self, alloc: Global) -> Result<Option<u64>, Fail>
-        ensures { IfOk result (IsNextDueWithin 500 self.now) }
+        ensures { IfOk result (IsNextDueWithin many_moments self.now) }
     {
         let from = self.next_moment()?;
         let until = from.checked_add(MOMENTS).ok_or("too late a moment")?;
@@ -175,12 +175,7 @@ impl SlowExecutor {
     }
 
     /// Takes a feed, or gives why it is refused.
-    fn take(
-        &mut self,
-        alloc: Global,
-        moment: u64,
-        listed: &[PointId],
-    ) -> Result<Option<Why>, Fail>
+    fn take(&mut self, alloc: Global, moment: u64, listed: &[PointId]) -> Result<Option<Why>, Fail>
         ensures { IfOk result (λ refused. IsTaken self.old moment listed.now refused self.new) }
     {
         if let Some(why) = self.refusal_of_moment(moment) {

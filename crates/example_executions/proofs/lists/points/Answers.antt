@@ -1,4 +1,4 @@
-use Rattle.std.proofs.Common.{◌≡◌, ◌++◌, ◌∷◌, [], List, ap, sym, ◌∙◌}
+use Rattle.std.proofs.Common.{◌++◌, ◌∷◌, [], List, ap, sym, ◌∙◌}
 use Rattle.net_model.specs.declared.ids.PointId.{PointId}
 use Rattle.example_executions.proofs.ListFacts.{points_more}
 use Rattle.example_executions.proofs.lists.points.Goals as goal

@@ -1,4 +1,4 @@
-use Rattle.std.proofs.Common.{◌≡◌, ℕ, ◌<◌, Option, get_or}
+use Rattle.std.proofs.Common.{ℕ, ◌<◌, Option, get_or}
 use Rattle.std.specs.Prelude.{IsSome}
 use Rattle.example_executions.proofs.stepping.all_have_come.Given as goal
 

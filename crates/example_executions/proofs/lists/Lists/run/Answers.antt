@@ -1,5 +1,5 @@
 -- Each turn makes the acts of one moment.
-use Rattle.std.proofs.Common.{◌≡◌, ◌++◌, ap, sym, ◌∙◌}
+use Rattle.std.proofs.Common.{◌≡◌, ◌++◌, ap, ◌∙◌}
 use Rattle.execution_model.specs.Execution.{Moments, acts_at, acted}
 use Rattle.example_executions.proofs.TimeFacts.{run_on, acts_on}
 use Rattle.example_executions.proofs.lists.Lists.run.Goals as goal
