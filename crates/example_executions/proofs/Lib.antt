@@ -1,0 +1,3 @@
+pub mod DispatchFacts
+pub mod ListFacts
+pub mod TimeFacts

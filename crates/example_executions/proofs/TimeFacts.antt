@@ -1,0 +1,44 @@
+-- A moment more of time that runs.
+use Rattle.std.proofs.Common.{◌≡◌, ℕ, suc, ◌+◌, ◌-◌, ◌<◌, List, ◌++◌, Option, ap, sym, subst, ◌∙◌, append_assoc, arith}
+use Rattle.std.specs.Prelude.{IsSome}
+use Rattle.std.specs.List.{All}
+use Rattle.execution_model.specs.Execution.{Moments, Setting, acts_at, acted, time_runs, acts_while}
+use Rattle.execution_model.specs.Feeding.{Execution, next_moment, last_of, IsWhole}
+use Rattle.execution_model.specs.declared.feeding.Act.{Act}
+use Rattle.execution_model.specs.declared.feeding.Why.{Why}
+
+one_less : (t until : ℕ) → t < until → until - t ≡ suc (until - (t + 1))
+one_less t until less = omega arith
+
+plus_one : (t : ℕ) → suc t ≡ t + 1
+plus_one t = omega arith
+
+module _ (setting : Setting) (t until : ℕ) (less : t < until) where
+  pub run_on : (moments after : Moments) → after ≡ acted setting moments t → time_runs setting moments t (until - t) ≡ time_runs setting after (t + 1) (until - (t + 1))
+  run_on moments after are =
+      ap (time_runs setting moments t) (one_less t until less) ∙ ap (λ u. time_runs setting (acted setting moments t) u (until - (t + 1))) (plus_one t)
+      ∙ ap (λ (m : Moments). time_runs setting m (t + 1) (until - (t + 1))) (sym are)
+
+  pub acts_on : (moments after : Moments) (acts more : List Act) → after ≡ acted setting moments t → more ≡ acts ++ acts_at setting moments t
+      → acts ++ acts_while setting moments t (until - t) ≡ more ++ acts_while setting after (t + 1) (until - (t + 1))
+  acts_on moments after acts more are pushed =
+      let rest : List Act = acts_while setting (acted setting moments t) (suc t) (until - (t + 1)) in
+      ap (λ n. acts ++ acts_while setting moments t n) (one_less t until less) ∙ sym (append_assoc acts (acts_at setting moments t) rest)
+      ∙ ap (λ (list : List Act). list ++ rest) (sym pushed)
+      ∙ ap (λ u. more ++ acts_while setting (acted setting moments t) u (until - (t + 1))) (plus_one t)
+      ∙ ap (λ (m : Moments). more ++ acts_while setting m (t + 1) (until - (t + 1))) (sym are)
+
+-- time that runs until each point has come makes an execution whole
+pub whole_by : (setting : Setting) (before moments : Moments) (last latest : Option ℕ) (old acts : List Act) (refused : Option Why) (from count : ℕ)
+    → from ≡ next_moment (record { setting = setting; moments = before; last = last; acts = old; refused = refused })
+    → moments ≡ time_runs setting before from count → acts ≡ acts_while setting before from count → latest ≡ last_of last acts → All IsSome moments
+    → IsWhole (record { setting = setting; moments = before; last = last; acts = old; refused = refused }) (record { setting = setting; moments = moments; last = latest; acts = acts; refused = refused })
+whole_by setting before moments last latest old acts refused from count begins runs makes is come =
+    let execution : Execution = record { setting = setting; moments = before; last = last; acts = old; refused = refused } in
+    let now : moments ≡ time_runs setting before (next_moment execution) count = runs ∙ ap (λ t. time_runs setting before t count) begins in
+    let made : acts ≡ acts_while setting before (next_moment execution) count = makes ∙ ap (λ t. acts_while setting before t count) begins in
+    record {
+      count = count;
+      come = subst (All IsSome) now come;
+      after_it = λ i. record { setting = setting; moments = now i; last = (is ∙ ap (last_of last) made) i; acts = made i; refused = refused };
+    }
