@@ -1,7 +1,8 @@
 """`check` once more, by the definitions of rows and rounds in docs/DEFINITIONS.md, without a line of the program.
 
 `check(text)` takes a plan without faults, and returns what `check` prints of it, how many rounds were made and how many nodes the
-derivation list has in the end. It is slow: every row looks through all its keys for the least.
+derivation list has in the end; `rounds_of(text)` gives the rounds themselves, of which reference_run.py takes the closed table. It is
+slow: every row looks through all its keys for the least.
 """
 
 
@@ -138,13 +139,20 @@ class Rounds:
         return ["not controllable", "certificate 1", "refutation", *lines, *walk, "end"]
 
 
-def check(text):
+def rounds_of(text):
+    """The rounds of a plan as they end, the cycle in which they end or None where the table is closed, and how many were made."""
     rounds = Rounds(Plan(text))
     made = 0
     while True:
         cycle = rounds.cycle()
         if cycle is not None:
-            return "\n".join(rounds.refutation(cycle)) + "\n", made, len(rounds.nodes)
+            return rounds, cycle, made
         made += 1
         if not rounds.round():
-            return "controllable\n", made, len(rounds.nodes)
+            return rounds, None, made
+
+
+def check(text):
+    rounds, cycle, made = rounds_of(text)
+    lines = ["controllable"] if cycle is None else rounds.refutation(cycle)
+    return "\n".join(lines) + "\n", made, len(rounds.nodes)

@@ -1,0 +1,252 @@
+#!/usr/bin/env python3
+"""`run` once more, by the rules of docs/FORMAT.md and docs/DEFINITIONS.md and without a line of the program.
+
+    cat PLAN EVENTS | tools/reference_run.py
+
+Answers each line before it reads the next, and ends with the status that docs/ANSWERS.md gives. It is slow and nothing of it is
+proved: it serves to compare the program with the pages that describe it, as compare-run does. Time runs as it is defined, moment by
+moment; only where more than STEPPED moments lie ahead are those passed over at which nothing is due.
+"""
+
+import sys
+
+from reference_check import rounds_of
+from reference_judge import LONGEST_LINE, MOST_INPUT, NAME, NUMBER, Answer, Fault, Lines, read_plan
+
+MOST_MOMENT = 4_000_000_000_000
+STEPPED = 10_000
+
+
+class StreamLines(Lines):
+    """The lines of a stream that are not passed over, each taken when it is asked for."""
+
+    def __init__(self, stream):
+        super().__init__(b"")
+        self.stream, self.taken, self.kept = stream, 0, []
+
+    def next(self):
+        while True:
+            line = self.stream.readline(LONGEST_LINE + 1)
+            if not line:
+                return None
+            self.number += 1
+            if len(line) > LONGEST_LINE and line[-1:] != b"\n" and self.taken + LONGEST_LINE <= MOST_INPUT:
+                raise Answer(4, "error limit", self.number, "line")
+            self.taken += len(line)
+            if self.taken > MOST_INPUT:
+                raise Answer(4, "error limit", self.number, "total")
+            words = line.replace(b"\t", b" ").replace(b"\r", b" ").rstrip(b"\n").split(b" ")
+            words = [word for word in words if word]
+            if words and not words[0].startswith(b"#"):
+                self.kept.append(words)
+                return words
+
+
+class Refused(Exception):
+    """Why an event is refused, in words."""
+
+    def __init__(self, *words):
+        super().__init__(" ".join(str(word) for word in words))
+
+
+class Execution:
+    """The execution of a network by its lower bounds and waits. Points and links go by their numbers."""
+
+    def __init__(self, rounds):
+        plan = rounds.plan
+        self.points, self.links, self.link_to = plan.points, plan.links, rounds.link_to
+        self.numbers = {name: number for number, name in enumerate(plan.points)}
+        self.moments = [None] * len(plan.points)
+        self.last = None
+        self.lower_bounds = [[] for _ in plan.points]
+        self.waits = [[] for _ in plan.points]
+        for target, source, label in rounds.newest:
+            weight = rounds.weight((target, source, label))
+            if weight < 0 and source not in self.link_to:
+                conditions, other = (self.lower_bounds, target) if label < 0 else (self.waits, label)
+                conditions[source].append((other, -weight))
+
+    def next_moment(self):
+        return 0 if self.last is None else self.last + 1
+
+    def has_gone_by(self, moments, point, at):
+        return self.moments[point] is not None and self.moments[point] + moments <= at
+
+    def is_met(self, wait, at):
+        link, moments = wait
+        activation, _, _, contingent = self.links[link]
+        if self.moments[activation] is None:
+            return False
+        return self.moments[contingent] is not None or self.has_gone_by(moments, activation, at)
+
+    def is_due(self, point, at):
+        if point in self.link_to or self.moments[point] is not None:
+            return False
+        bounds, waits = self.lower_bounds[point], self.waits[point]
+        return all(self.has_gone_by(n, other, at) for other, n in bounds) and all(self.is_met(wait, at) for wait in waits)
+
+    def act(self, at):
+        """The acts of a moment, by the number of the point."""
+        due = [point for point in range(len(self.points)) if self.is_due(point, at)]
+        for point in due:
+            self.moments[point] = at
+        return [(at, point) for point in due]
+
+    def asked(self, point):
+        """The first moment that meets what a point waits for if nothing completes before, or None where none is known yet."""
+        moments = [0]
+        for other, n in self.lower_bounds[point]:
+            if self.moments[other] is None:
+                return None
+            moments.append(self.moments[other] + n)
+        for link, n in self.waits[point]:
+            activation, _, _, contingent = self.links[link]
+            if self.moments[activation] is None:
+                return None
+            over = self.moments[activation] + n
+            moments.append(over if self.moments[contingent] is None else min(over, self.moments[contingent]))
+        return max(moments)
+
+    def next_due(self):
+        open_points = [p for p in range(len(self.points)) if p not in self.link_to and self.moments[p] is None]
+        return min((self.asked(p) for p in open_points if self.asked(p) is not None), default=None)
+
+    def run_until(self, moment):
+        """The acts from the next moment to the one before this, while nothing completes."""
+        acts, at = [], self.next_moment()
+        while at < moment:
+            if moment - at > STEPPED:
+                due = self.next_due()
+                at = moment if due is None else min(max(at, due), moment)
+            if at < moment:
+                acts += self.act(at)
+                at += 1
+        return acts
+
+    def take(self, point, moment):
+        """One completion of a moment, or why it is refused."""
+        name = self.points[point]
+        if point not in self.link_to:
+            raise Refused("not-contingent", name)
+        if self.moments[point] is not None:
+            raise Refused("twice", name, self.moments[point])
+        activation, low, high, _ = self.links[self.link_to[point]]
+        began = self.moments[activation]
+        if began is None or began >= moment:
+            raise Refused("not-active", name)
+        if moment < began + low:
+            raise Refused("too-soon", name, began + low)
+        if moment > began + high:
+            raise Refused("overdue", name, began + high)
+        self.moments[point] = moment
+
+    def feed(self, moment, listed):
+        """The acts up to a moment with its completions, or why the feed is refused."""
+        if self.last is not None and moment <= self.last:
+            raise Refused("not-later", self.last)
+        acts = self.run_until(moment)
+        for point in listed:
+            self.take(point, moment)
+        for point in sorted(self.link_to):
+            activation, _, high, _ = self.links[self.link_to[point]]
+            began = self.moments[activation]
+            if self.moments[point] is None and began is not None and began + high <= moment:
+                raise Refused("overdue", self.points[point], began + high)
+        acts += self.act(moment)
+        self.last = moment
+        return acts
+
+    def finish(self):
+        """All acts that remain, or why it is not the end yet."""
+        for point in sorted(self.link_to):
+            if self.moments[point] is None:
+                raise Refused("unfinished", self.points[point])
+        acts = []
+        while None in self.moments:
+            acts += self.run_until(self.next_due() + 1)
+            self.last = acts[-1][0]
+        return acts
+
+
+def moment_of(word):
+    if not NUMBER.match(word) or word.startswith(b"-"):
+        raise Fault("bad-number")
+    if int(word) > MOST_MOMENT:
+        raise Fault("moment")
+    return int(word)
+
+
+def point_of(word, numbers):
+    if not NAME.match(word):
+        raise Fault("bad-name")
+    if word.decode() not in numbers:
+        raise Fault("unknown-name")
+    return numbers[word.decode()]
+
+
+def read_event(words, numbers):
+    """A moment and the points completed at it; no moment for `done`."""
+    if words[0] not in (b"at", b"done"):
+        raise Fault("unknown-word")
+    if (words[0] == b"at") == (len(words) == 1):
+        raise Fault("word-count")
+    if words[0] == b"done":
+        return None, []
+    return moment_of(words[1]), [point_of(word, numbers) for word in words[2:]]
+
+
+def answer_to(execution, words, line):
+    """The lines of the answer to an event in a line, the last of which ends the run where it is `complete`."""
+    try:
+        moment, listed = read_event(words, execution.numbers)
+        acts = execution.finish() if moment is None else execution.feed(moment, listed)
+    except Fault as fault:
+        if str(fault) == "moment":
+            raise Answer(4, "error limit", line, "moment") from None
+        raise Answer(3, "error format", line, fault) from None
+    except Refused as why:
+        raise Answer(7, "error event", line, why) from None
+    told = [f"act {at} {execution.points[point]}" for at, point in acts]
+    return [*told, "complete" if moment is None else due(execution)]
+
+
+def due(execution):
+    moment = execution.next_due()
+    return "due none" if moment is None else f"due {moment}"
+
+
+def run(stream, put):
+    """Puts the answer of each line of a stream before it takes the next, and returns the status."""
+    lines = StreamLines(stream)
+    try:
+        read_plan(lines)
+        text = b"\n".join(b" ".join(words) for words in lines.kept).decode()
+        rounds, cycle, _ = rounds_of(text)
+        if cycle is not None:
+            put(rounds.refutation(cycle))
+            return 1
+        execution = Execution(rounds)
+        put(["controllable", due(execution)])
+        while True:
+            words = lines.next()
+            if words is None:
+                raise lines.missing("no-end")
+            answer = answer_to(execution, words, lines.number)
+            put(answer)
+            if answer[-1] == "complete":
+                return 0
+    except Answer as answer:
+        put([str(answer)])
+        return answer.status
+
+
+def main():
+    def put(lines):
+        sys.stdout.write("".join(f"{line}\n" for line in lines))
+        sys.stdout.flush()
+
+    sys.exit(run(sys.stdin.buffer, put))
+
+
+if __name__ == "__main__":
+    main()
