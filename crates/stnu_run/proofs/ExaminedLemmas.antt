@@ -61,7 +61,8 @@ module _ (net : Plan) (before after : Support) (outcome : Outcome) (propagated :
       )
 
 -- the beginning, by what was shown
-pub execution_begins : (net : Plan) (dispatch : List Conditions) (put : List ℕ) (onward : Onward Course) → IsExamined net (Controllable dispatch) → GoesOnFrom net dispatch put onward → run_begins (record {}) net put onward
+pub execution_begins : (net : Plan) (dispatch : List Conditions) (put : List ℕ) (onward : Onward Course) → IsExamined net (Controllable dispatch) → GoesOnFrom net dispatch put onward
+    → run_begins (record {}) net put onward
 execution_begins net dispatch put onward ((closing, made), of, count) ((due, is, puts), goes) =
     let from : List Conditions → Execution = λ d. started (record { links = net.links; dispatch = d }) in
     let on : List Conditions → Onward Course = λ d. Goes (record { net = net; execution = from d; listed = [] }) in

@@ -68,10 +68,13 @@ kept (serves {C} machine start promise) status before after holds (ending, numbe
 kept (says line number) status before after holds ran = tt
 
 -- where a run ended for want of memory nothing was put, where it breaks off so only before it has put anything
-pub starved : {C : Type 0} (machine : Machine C) (start at : C) (ending : Ending) (status : Status) (before after : Seen) → status ≡ record { 0 = status_number ending } → at ≡ start
-    → ((input untaken put : List ℕ) (pieces : List Piece) → BreaksForMemory machine start input untaken put pieces → put ≡ []) → Serves machine at ending before after → PutsNothingAtNoMemory status before after
+pub starved : {C : Type 0} (machine : Machine C) (start at : C) (ending : Ending) (status : Status) (before after : Seen)
+    → status ≡ record { 0 = status_number ending } → at ≡ start
+    → ((input untaken put : List ℕ) (pieces : List Piece) → BreaksForMemory machine start input untaken put pieces → put ≡ [])
+    → Serves machine at ending before after → PutsNothingAtNoMemory status before after
 starved {C} machine start at ending status before after number same nothing ran = λ is.
     let so : ending ≡ NoMemory = ending_one ending NoMemory (ap (λ (s : Status). s.0) (sym number) ∙ is) in
     let served : Serves machine start NoMemory before after = subst (λ (e : Ending). Serves machine start e before after) so (subst (λ (s : C). Serves machine s ending before after) same ran) in
     told before.talk after.talk _ _ (λ was is inner.
-    told before.left after.left _ _ (λ input untaken puts. puts.all ∙ (ap (λ (p : List ℕ). was.put ++ p) (nothing input untaken puts.put puts.pieces puts.puts) ∙ append-nil was.put)) inner) served.puts
+    told before.left after.left _ _ (λ input untaken puts.
+    puts.all ∙ (ap (λ (p : List ℕ). was.put ++ p) (nothing input untaken puts.put puts.pieces puts.puts) ∙ append-nil was.put)) inner) served.puts

@@ -31,7 +31,8 @@ asked_defines_one answers reader refusing start promise single =
     single_defines_one (asked_machine answers reader refusing) start promise (asked_single answers reader refusing single)
 
 -- a command of a text and a phase defines one where the phase begins in one way and has at most one reply
-pub planned_defines_one : {B S V F P : Type 0} (begin : B → V → List ℕ → Onward P → Type 0) (reader : Reader S V F) (refusing : Refusing F) (phase : Machine P) (start : Planned B S P) (promise : Promise)
+pub planned_defines_one : {B S V F P : Type 0} (begin : B → V → List ℕ → Onward P → Type 0) (reader : Reader S V F) (refusing : Refusing F) (phase : Machine P)
+    (start : Planned B S P) (promise : Promise)
     → IsSingleAnswer begin → IsSingle phase → DefinesOne (serves (planned_machine begin reader refusing phase) start promise)
 planned_defines_one begin reader refusing phase start promise begins single =
     single_defines_one (planned_machine begin reader refusing phase) start promise (planned_single begin reader refusing phase begins single)
