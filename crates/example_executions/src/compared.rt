@@ -84,7 +84,16 @@ fn try_network(
     try_streams(rt, alloc, &net, count, draws)
 }
 
-/// As many streams, of which each third is faithful.
+/// How many feeds of a hundred have a fault: a third of the streams is faithful.
+fn faults_of(number: u32) -> u64 {
+    match number % 3 {
+        0 => 0,
+        1 => 12,
+        _ => 40,
+    }
+}
+
+/// As many streams.
 fn try_streams(
     rt: &impl Abort,
     alloc: Global,
@@ -93,8 +102,7 @@ fn try_streams(
     draws: &mut Draws,
 ) -> Result<(), Fail> {
     for number in 0..count {
-        let faults = if number % 3 == 0 { 0 } else { 8 };
-        try_stream(rt, alloc, net, faults, draws)?;
+        try_stream(rt, alloc, net, faults_of(number), draws)?;
     }
     Ok(())
 }
@@ -327,7 +335,7 @@ fn feed_both(
 /// Up to which moment a stream is fed: some moments after the last completion.
 fn end_of(completions: &[Completion]) -> u64 {
     match completions.last() {
-        Some(last) => last.moment.saturating_add(4),
+        Some(last) => last.moment.saturating_add(10),
         None => 8,
     }
 }
