@@ -21,7 +21,7 @@ feed-requires c = subst (λ (n : ℕ). All (λ (p : PointId). p.0 < n) c.complet
 
 pub put_acts-requires-clause-points : goal.put_acts-requires-clause-points
 put_acts-requires-clause-points c =
-    let are = fed_acts c.state.inside.executor c.args.moment c.completions.result.now c.feed.result c.feed.new.self c.state.invariant.goes_on c.feed.ensures c.in-Acts.is in
+    let are = fed_acts c.state.inside.executor c.args.moment c.completions.result.now c.feed.result c.feed.new.self c.state.invariant.goes_on c.feed.ensures.fed c.in-Acts.is in
     subst (All (λ (a : Act). IsPoint c.state.inside.net a.point)) (sym c.acts.ensures.value)
     (subst (λ (n : ℕ). All (λ (a : Act). a.point.0 < n) c.feed.new.self.acts) c.state.invariant.dispatch are.acts)
 
@@ -29,12 +29,12 @@ pub refuse_event-requires : goal.refuse_event-requires
 refuse_event-requires c =
     fed_cause c.state.inside.executor c.args.moment c.completions.result.now c.feed.result c.feed.new.self c.state.invariant.goes_on c.state.inside.net c.in-Refused.why c.state.invariant.dispatch
     (subst (All (IsPoint c.state.inside.net)) (sym c.completions.ensures) (subst (λ (s : Course). All (IsPoint s.net) s.listed) (sym c.state.view_is) c.requires.points))
-    c.feed.ensures c.in-Refused.is
+    c.feed.ensures.fed c.in-Refused.is
 
 pub returns-in-Refused-clause-answers : goal.returns-in-Refused-clause-answers
 returns-in-Refused-clause-answers c =
     let fed : IsFed c.state.inside.executor c.args.moment c.state.inside.events c.feed.result c.feed.new.self =
-    subst (λ (l : List PointId). IsFed c.state.inside.executor c.args.moment l c.feed.result c.feed.new.self) c.completions.ensures c.feed.ensures in
+    subst (λ (l : List PointId). IsFed c.state.inside.executor c.args.moment l c.feed.result c.feed.new.self) c.completions.ensures c.feed.ensures.fed in
     let inside : Course = record { net = c.state.inside.net; execution = c.state.inside.executor; listed = c.state.inside.events } in
     subst (λ (s : Course). AnswersEvent s c.args.number (completed c.args.moment s.listed) c.refuse_event.new.answer.text (Ends c.refuse_event.result)) c.state.view_is
     (refused_answers inside c.args.number c.args.moment c.feed.result c.feed.new.self c.in-Refused.why c.refuse_event.new.answer.text c.refuse_event.result fed c.in-Refused.is c.refuse_event.ensures.put c.refuse_event.ensures.end)
