@@ -2,7 +2,7 @@
 
 ghost use Rattle.std.specs.Prelude.{◌≡◌, ◌+◌, ◌-◌, ◌<◌, ◌≤◌, ◌++◌, [], length, OnOk};
 ghost use Rattle.std.specs.List.{All};
-ghost use Rattle.execution_model.specs.Feeding.{most_moment};
+ghost use Rattle.execution_model.specs.Feeding.{most_moment, completions_taken};
 ghost use Rattle.live_executor.specs.Course.{IsCourseOf};
 ghost use Rattle.live_executor.specs.Limits.{AreBefore, end_of_time};
 ghost use Rattle.live_executor.specs.Taking.{given_or, completed, IsTried};
@@ -13,6 +13,30 @@ use execution_model::Why;
 use net_model::PointId;
 
 impl Course {
+    /// Completes the listed points, or gives the first refusal, and finds what is due afterwards; where none is listed nothing changes.
+    fn take_listed(
+        &mut self,
+        dispatched: &Dispatched,
+        moment: u64,
+        listed: &[PointId],
+    ) -> Result<(), Why>
+        requires listed { All (λ point. point.0 < length dispatched.now.dispatch) listed.now }
+        requires course { IsCourseOf dispatched.now self.old.moments.items self.old.due.items }
+        requires moment { moment < end_of_time }
+        ensures taken { completions_taken dispatched.now self.old.moments.items moment listed.now ≡ given_or self.new.moments.items result }
+        ensures count { length self.new.moments.items ≡ length self.old.moments.items }
+        ensures early { AreBefore end_of_time self.new.moments.items }
+        ensures acts { self.new.acts.items ≡ self.old.acts.items }
+        ensures course { OnOk result (IsCourseOf dispatched.now self.new.moments.items self.new.due.items) }
+    {
+        if listed.is_empty() {
+            return Ok(());
+        }
+        self.complete(dispatched, moment, listed)?;
+        self.find_due(dispatched);
+        Ok(())
+    }
+
     /// Takes the completions of a moment, or gives the first refusal; then the lowest point that should have completed.
     fn settle(
         &mut self,
@@ -25,10 +49,10 @@ impl Course {
         requires moment { moment < end_of_time }
         ensures taken { completed dispatched.now self.old.moments.items moment listed.now ≡ given_or self.new.moments.items result }
         ensures count { length self.new.moments.items ≡ length self.old.moments.items }
-        ensures early { AreBefore end_of_time self.new.moments.items }
         ensures acts { self.new.acts.items ≡ self.old.acts.items }
+        ensures course { OnOk result (IsCourseOf dispatched.now self.new.moments.items self.new.due.items) }
     {
-        self.complete(dispatched, moment, listed)?;
+        self.take_listed(dispatched, moment, listed)?;
         match self.first_overdue(dispatched, moment) {
             Some(why) => Err(why),
             None => Ok(()),
@@ -55,8 +79,7 @@ impl Course {
     {
         self.run(dispatched, from, moment);
         self.settle(dispatched, moment, listed)?;
-        self.find_due(dispatched);
-        self.act(dispatched, moment);
+        self.run(dispatched, moment, moment + 1);
         Ok(())
     }
 }
