@@ -1,0 +1,4 @@
+pub mod Totals
+pub mod StepLemmas
+pub mod RuleLemmas
+pub mod TableLemmas

@@ -1,0 +1,7 @@
+pub mod Limits
+pub mod Views
+pub mod BoardHistory
+pub mod BoardRule
+pub mod Steps
+pub mod Boards
+pub mod Seats

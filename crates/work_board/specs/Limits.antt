@@ -1,0 +1,6 @@
+-- How many seats a board may have. This project's own choice.
+use Rattle.std.specs.Prelude.{ℕ}
+
+-- the most seats of a board, and so the most workers of a round
+abbrev pub most_seats : ℕ
+most_seats = 64

@@ -1,0 +1,134 @@
+ghost use Rattle.std.specs.Prelude.{◌≡◌, ◌≤◌, ◌<◌, IfOk};
+ghost use Rattle.work_board.specs.Boards.{IsSeatOf, Draws, EachOnce};
+ghost use Rattle.work_board.specs.Limits.{most_seats};
+ghost use Rattle.work_board.specs.Views.{first_view, split_from, split_off, joined_with};
+
+use crate::rule::{Drawing, Histories, Joining, Splitting};
+use crate::seat::Seat;
+use crate::view::{Size, Standing};
+use atomic_table::Table;
+use std::alloc::{AllocError, Global};
+use std::marker::Model;
+use std::snapshot::Snapshot;
+
+/// A board of numbered targets. Each number below the count of targets is drawn once.
+#[derive(Drop)]
+pub struct Board {
+    table: Table<(), Standing, Size, Histories, Global>,
+    targets: u32,
+}
+
+impl Model for Board {
+    ghost use Rattle.std.specs.Prelude.{◌≡◌};
+    ghost use Rattle.work_board.specs.Boards.{BoardSeen};
+    ghost use Rattle.work_board.specs.Seats.{board_code};
+
+    ghost Value = { BoardSeen };
+
+    ghost coded = { board_code };
+
+    ghost view = { λ board. record { id = board.table.shared.table_id; size = board.table.shared.key } };
+
+    ghost invariant = { λ board. (board.table.shared.table_id.words ≡ 1) × (board.table.shared.table_id.slots ≡ 0) × (board.targets ≡ board.table.shared.key.targets) };
+}
+
+/// What the seats of a board drew: each number below the count of targets once, with the number of the seat that drew it. It has no
+/// bytes: contracts alone read it.
+#[derive(Drop)]
+pub struct Drawn {
+    place: Snapshot<Seat>,
+}
+
+impl Model for Drawn {
+    ghost use Rattle.std.specs.Prelude.{List};
+    ghost use Rattle.work_board.specs.declared.view.Draw.{Draw};
+
+    ghost Value = { List Draw };
+
+    ghost view = { λ drawn. drawn.place.value.view.held };
+}
+
+impl Board {
+    /// A board of so many targets, of which nothing is drawn, and the first of its seats. There are 1 to 64 seats. `AllocError`
+    /// comes only for want of memory; then nothing was made.
+    pub fn new(alloc: Global, targets: u32, seats: u32) -> Result<(Board, Seat), AllocError>
+        requires { (1 ≤ seats) × (seats ≤ most_seats) }
+        ensures { IfOk result (λ made. (made.0.size ≡ record { targets = targets; seats = seats }) × (made.1 ≡ record { board = made.0.id; view = first_view (record { targets = targets; seats = seats }) })) }
+    {
+        let (table, place) = Table::of_words(alloc, &[0], &Size { targets, seats })?;
+        let seat = Seat {
+            place,
+            to_split: seats - 1,
+            out: 0,
+            told: false,
+        };
+        Ok((Board { table, targets }, seat))
+    }
+
+    /// Splits a seat from the first one.
+    pub fn split(&self, seat: &mut Seat) -> Seat
+        requires seat { IsSeatOf self.now seat.old }
+        requires may { 0 < seat.old.view.to_split }
+        ensures from { seat.new ≡ record { board = seat.old.board; view = split_from seat.old.view } }
+        ensures off { result ≡ record { board = seat.old.board; view = split_off seat.old.view } }
+    {
+        let place = self.table.shared.split_seat::<Splitting>(&mut seat.place);
+        seat.to_split -= 1;
+        seat.out += 1;
+        Seat {
+            place,
+            to_split: 0,
+            out: 0,
+            told: false,
+        }
+    }
+
+    /// Draws the next number: one atomic step. `None` where that number is not one of a target; then the seat is told that there is
+    /// nothing left, and draws no more.
+    pub fn draw(&self, seat: &mut Seat) -> Option<u32>
+        requires seat { IsSeatOf self.now seat.old }
+        requires untold { seat.old.view.nones ≡ 0 }
+        ensures { Draws seat.old seat.new result }
+    {
+        let number = self
+            .table
+            .shared
+            .fetch_add::<Drawing>(&mut seat.place, 0, 1);
+        if number < u64::from(self.targets) {
+            return Some(number as u32);
+        }
+        seat.told = true;
+        None
+    }
+
+    /// Joins a seat into the first one, which takes over what the other holds and what it was told.
+    pub fn join(&self, into: &mut Seat, from: Seat)
+        requires seats { IsSeatOf self.now into.old × IsSeatOf self.now from }
+        requires out { 0 < into.old.view.out }
+        ensures { into.new ≡ record { board = into.old.board; view = joined_with into.old.view from.view } }
+    {
+        let Seat { place, told, .. } = from;
+        self.table
+            .shared
+            .join_seat::<Joining>(&mut into.place, place);
+        into.out -= 1;
+        into.told |= told;
+    }
+
+    /// Ends a board, when all seats are joined into the first one and it was told that there is nothing left: what it holds is what was
+    /// drawn, each number of a target once.
+    pub fn close(self, seat: Seat) -> Drawn
+        requires seat { IsSeatOf self seat }
+        requires first { seat.view.drawer ≡ 0 }
+        requires out { seat.view.out ≡ 0 }
+        requires told { 0 < seat.view.nones }
+        ensures drawn { result ≡ seat.view.held }
+        ensures once { EachOnce self.size.targets result }
+    {
+        let place = Snapshot::of(&seat);
+        let Board { table, .. } = self;
+        let Seat { place: at, .. } = seat;
+        table.close_with(at).free();
+        Drawn { place }
+    }
+}

@@ -1,0 +1,49 @@
+ghost use Rattle.std.specs.Prelude.{◌≡◌, ◌==◌, not};
+
+use crate::view::Standing;
+use std::marker::Model;
+
+/// A seat at a board, with which one worker draws.
+#[derive(Drop)]
+pub struct Seat {
+    pub(crate) place: atomic_table::Seat<(), Standing>,
+    pub(crate) to_split: u32,
+    pub(crate) out: u32,
+    pub(crate) told: bool,
+}
+
+impl Model for Seat {
+    ghost use Rattle.work_board.specs.Boards.{SeatSeen};
+    ghost use Rattle.work_board.specs.Seats.{seat_code, seen_at, IsSeated};
+
+    ghost Value = { SeatSeen };
+
+    ghost coded = { seat_code };
+
+    ghost view = { λ seat. seen_at seat.place };
+
+    ghost invariant = { λ seat. IsSeated seat.place seat.to_split seat.out seat.told };
+}
+
+impl Seat {
+    /// How many seats may still be split from it.
+    pub fn to_split(&self) -> u32
+        ensures { result ≡ self.now.view.to_split }
+    {
+        self.to_split
+    }
+
+    /// How many seats were split from it and are not joined yet.
+    pub fn out(&self) -> u32
+        ensures { result ≡ self.now.view.out }
+    {
+        self.out
+    }
+
+    /// Whether it, or a seat that was joined into it, was told that there is nothing left.
+    pub fn told(&self) -> bool
+        ensures { result ≡ not (self.now.view.nones == 0) }
+    {
+        self.told
+    }
+}
