@@ -1,0 +1,5 @@
+pub mod ReadEdges
+pub mod Histories
+pub mod RoundHistories
+pub mod StaleReads
+pub mod Settling

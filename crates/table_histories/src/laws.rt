@@ -1,0 +1,30 @@
+//! Laws about the histories of a table that several workers share, each the contract of a function without parameters.
+
+ghost use Rattle.table_histories.specs.TableHistory.{HistoriesAreDerivable, SettledHistoriesGiveTheClosure, RoundsAreHistories, RoundsThatCloseSettle, StaleReadsMayBeUsed};
+
+/// Where the first table holds derivable edges only, so does the table of every history, and what was read is derivable.
+pub fn histories_are_derivable()
+    ensures { HistoriesAreDerivable }
+{}
+
+/// Where the first table is for the network too, the final table of every settled history is the closure, whatever was read early or
+/// late.
+pub fn settled_histories_give_the_closure()
+    ensures { SettledHistoriesGiveTheClosure }
+{}
+
+/// Rounds are a history of the table from which they start, with a worker for each row: the edges of the new nodes are offered in the
+/// order of the list, each follows from what the worker of its row read, and each lowers its key.
+pub fn rounds_are_histories()
+    ensures { RoundsAreHistories }
+{}
+
+/// Rounds that close are a settled history of the table from which they start.
+pub fn rounds_that_close_settle()
+    ensures { RoundsThatCloseSettle }
+{}
+
+/// A worker may use a weight that its key no longer has: what follows from it is offered when the key has a lesser one.
+pub fn stale_reads_may_be_used()
+    ensures { StaleReadsMayBeUsed }
+{}
