@@ -1,6 +1,7 @@
 //! Commands that read a text and answer once what it says.
 
 ghost use Rattle.std.specs.Prelude.{◌≡◌, ℕ, ◌≤◌, List, [], IfOk};
+ghost use Rattle.std.specs.Thread.{IsSync};
 ghost use Rattle.commands.specs.Asked.{Refuses, RepliesToStep, asked_machine};
 ghost use Rattle.commands.specs.declared.endings.End.{End};
 
@@ -10,6 +11,7 @@ use crate::machines::{Command, Onward, Stop};
 use crate::reading::{Step, Text};
 use crate::refusals::Refusal;
 use std::alloc::{AllocError, Global};
+use std::thread::Threads;
 
 /// A question that is answered once, to a value of a type.
 pub trait Question<V>: Drop {
@@ -17,8 +19,16 @@ pub trait Question<V>: Drop {
     ghost answers: { Self → V → List ℕ → End → Type 0 };
 
     /// Puts the answer to a value into the buffer, which is empty. `AllocError` comes only for want of memory.
-    fn answer(self, alloc: Global, answer: &mut Answer, value: V) -> Result<End, AllocError>
-        requires { answer.old.text ≡ [] }
+    fn answer<R: Threads + Sync>(
+        self,
+        rt: &R,
+        alloc: Global,
+        answer: &mut Answer,
+        value: V,
+    ) -> Result<End, AllocError>
+        // An implementation does not learn this from the bound `Sync`.
+        requires shared { IsSync R.row }
+        requires fresh { answer.old.text ≡ [] }
         ensures { IfOk result (λ end. answers self value answer.new.text end) };
 }
 
@@ -37,8 +47,9 @@ impl<Q: Question<T::Value>, T: Text> Command for Asked<Q, T> {
         self.text.longest()
     }
 
-    fn take_line(
+    fn take_line<R: Threads + Sync>(
         self,
+        rt: &R,
         alloc: Global,
         answer: &mut Answer,
         number: u32,
@@ -47,7 +58,7 @@ impl<Q: Question<T::Value>, T: Text> Command for Asked<Q, T> {
         let Asked { question, text } = self;
         match text.read_line(alloc, number, line)? {
             Step::Goes(text) => Ok(Onward::Goes(Asked { question, text })),
-            Step::Gives(value) => Ok(Onward::Ends(question.answer(alloc, answer, value)?)),
+            Step::Gives(value) => Ok(Onward::Ends(question.answer(rt, alloc, answer, value)?)),
             Step::Refused(fault) => Ok(refuse(answer, fault)),
         }
     }

@@ -1,12 +1,14 @@
 //! A command as a machine that takes the lines of its input one by one.
 
 ghost use Rattle.std.specs.Prelude.{◌≡◌, ℕ, ◌≤◌, List, [], length, IfOk, OnErr};
+ghost use Rattle.std.specs.Thread.{IsSync};
 ghost use Rattle.plan_port.specs.Limits.{most_line};
 ghost use Rattle.commands.specs.Machine.{Machine, HasRoom};
 
 use crate::answers::Answer;
 use crate::endings::End;
 use std::alloc::{AllocError, Global};
+use std::thread::Threads;
 
 /// Why no more lines come.
 #[derive(Clone, Copy, Debug, PartialEq, Eq)]
@@ -42,14 +44,17 @@ pub trait Command: Drop {
 
     /// Answers a line, by its number, from 1, and its bytes, which are no more than `longest` says: the answer is put into the
     /// buffer, which is empty and has the room that this state needs. `AllocError` comes only for want of memory, and only from
-    /// a state that may want it.
-    fn take_line(
+    /// a state that may want it. The runtime is there for commands that start threads.
+    fn take_line<R: Threads + Sync>(
         self,
+        rt: &R,
         alloc: Global,
         answer: &mut Answer,
         number: u32,
         line: &[u8],
     ) -> Result<Onward<Self>, AllocError>
+        // An implementation does not learn this from the bound `Sync`.
+        requires shared { IsSync R.row }
         requires fresh { answer.old.text ≡ [] }
         requires room { machine.room self ≤ answer.old.capacity }
         requires line { length line.now ≤ machine.longest self }

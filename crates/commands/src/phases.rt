@@ -1,6 +1,7 @@
 //! Commands that read a text and then answer line by line, by a phase that begins from what the text says.
 
 ghost use Rattle.std.specs.Prelude.{◌≡◌, ℕ, ◌≤◌, List, [], IfOk};
+ghost use Rattle.std.specs.Thread.{IsSync};
 ghost use Rattle.commands.specs.Machine.{HasRoom};
 ghost use Rattle.commands.specs.Phases.{planned_machine, wrapped};
 ghost use Rattle.commands.specs.declared.machines.Onward.{Onward};
@@ -12,6 +13,7 @@ use crate::machines::{Command, Onward, Stop};
 use crate::reading::{Step, Text};
 use crate::refusals::Refusal;
 use std::alloc::{AllocError, Global};
+use std::thread::Threads;
 
 /// How a phase begins from a value of a type.
 pub trait Begin<V>: Drop {
@@ -23,13 +25,16 @@ pub trait Begin<V>: Drop {
 
     /// Begins the phase: puts its first answer into the buffer, which is empty, and reserves the room there that its state
     /// needs. `AllocError` comes only for want of memory.
-    fn begin(
+    fn begin<R: Threads + Sync>(
         self,
+        rt: &R,
         alloc: Global,
         answer: &mut Answer,
         value: V,
     ) -> Result<Onward<Self::Phase>, AllocError>
-        requires { answer.old.text ≡ [] }
+        // An implementation does not learn this from the bound `Sync`.
+        requires shared { IsSync R.row }
+        requires fresh { answer.old.text ≡ [] }
         ensures begins { IfOk result (λ onward. begins self value answer.new.text onward) }
         ensures room { IfOk result (λ onward. HasRoom Self.Phase.machine onward answer.new.capacity) };
 }
@@ -53,8 +58,9 @@ impl<T: Text, B: Begin<T::Value>> Command for Planned<B, T, B::Phase> {
         }
     }
 
-    fn take_line(
+    fn take_line<R: Threads + Sync>(
         self,
+        rt: &R,
         alloc: Global,
         answer: &mut Answer,
         number: u32,
@@ -62,11 +68,11 @@ impl<T: Text, B: Begin<T::Value>> Command for Planned<B, T, B::Phase> {
     ) -> Result<Onward<Planned<B, T, B::Phase>>, AllocError> {
         match self {
             Planned::Serving(state) => {
-                Ok(serving(state.take_line(alloc, answer, number, line)?))
+                Ok(serving(state.take_line(rt, alloc, answer, number, line)?))
             }
             Planned::Reading(start, text) => match text.read_line(alloc, number, line)? {
                 Step::Goes(text) => Ok(Onward::Goes(Planned::Reading(start, text))),
-                Step::Gives(value) => Ok(serving(start.begin(alloc, answer, value)?)),
+                Step::Gives(value) => Ok(serving(start.begin(rt, alloc, answer, value)?)),
                 Step::Refused(fault) => Ok(refuse(answer, fault)),
             },
         }

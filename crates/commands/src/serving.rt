@@ -16,6 +16,7 @@ use crate::machines::{Command, Onward, Stop};
 use crate::words::Word;
 use plan_port::{Line, LineReader, Port, Written, write_all};
 use std::alloc::{AllocError, Global};
+use std::thread::Threads;
 
 // How a run goes on after a turn.
 #[derive(Drop)]
@@ -27,7 +28,12 @@ pub(crate) enum Turn<C> {
 /// Runs a command over the input of a port: each line is answered, by one writing, before more is taken. The run ends where
 /// the command ends it, at the first failed call, or for want of memory, which only a state that may want it meets, and the
 /// beginning of the run.
-pub fn serve<C: Command, P: Port>(alloc: Global, command: C, port: &mut P) -> Status
+pub fn serve<R: Threads + Sync, C: Command, P: Port>(
+    rt: &R,
+    alloc: Global,
+    command: C,
+    port: &mut P,
+) -> Status
     requires { C.machine.room command ≤ least_room }
     ensures { Serves C.machine command result (P.seen port.old) (P.seen port.new) }
 {
@@ -39,7 +45,7 @@ pub fn serve<C: Command, P: Port>(alloc: Global, command: C, port: &mut P) -> St
     };
     let mut command = command;
     'lines: loop {
-        match take_turn(alloc, command, &mut reader, &mut answer, port) {
+        match take_turn(rt, alloc, command, &mut reader, &mut answer, port) {
             Turn::Goes(next) => command = next,
             Turn::Ends(status) => return status,
         }
@@ -47,7 +53,8 @@ pub fn serve<C: Command, P: Port>(alloc: Global, command: C, port: &mut P) -> St
 }
 
 /// One turn of a run: the next line is read, and its answer put, before more is read.
-fn take_turn<C: Command, P: Port>(
+fn take_turn<R: Threads + Sync, C: Command, P: Port>(
+    rt: &R,
     alloc: Global,
     command: C,
     reader: &mut LineReader,
@@ -63,14 +70,15 @@ fn take_turn<C: Command, P: Port>(
 {
     let line = reader.next_line(port, command.longest());
     answer.clear();
-    match reply_to(alloc, command, line, reader, answer) {
+    match reply_to(rt, alloc, command, line, reader, answer) {
         Ok(turn) => put(port, answer, turn),
         Err(AllocError) => Turn::Ends(Status::NoMemory),
     }
 }
 
 /// The reply of a command to what the reader answered, in the buffer, which is empty.
-fn reply_to<C: Command>(
+fn reply_to<R: Threads + Sync, C: Command>(
+    rt: &R,
     alloc: Global,
     command: C,
     line: Line,
@@ -88,7 +96,7 @@ fn reply_to<C: Command>(
 {
     let number = reader.number();
     match line {
-        Line::Text => Ok(turn_of(command.take_line(alloc, answer, number, reader.text())?)),
+        Line::Text => Ok(turn_of(command.take_line(rt, alloc, answer, number, reader.text())?)),
         Line::End => Ok(stop(command, answer, number + 1, Stop::InputEnded)),
         Line::TooLong(_) => Ok(stop(command, answer, number, Stop::LineTooLong)),
         Line::TooMuch(_) => Ok(stop(command, answer, number, Stop::InputTooMuch)),

@@ -6,6 +6,7 @@ ghost use Rattle.example_commands.specs.Counting.{counting, refusing, AnswersHow
 use commands::{Answer, End, Question, Refusal, Step, Stop, Text, Word};
 use plan_port::MOST_LINE;
 use std::alloc::{AllocError, Global};
+use std::thread::Threads;
 
 /// How far the text was read.
 #[derive(Clone, Copy, Debug, PartialEq, Eq)]
@@ -89,7 +90,13 @@ pub struct HowMany;
 impl Question<u32> for HowMany {
     ghost answers = { AnswersHowMany };
 
-    fn answer(self, _alloc: Global, answer: &mut Answer, lines: u32) -> Result<End, AllocError> {
+    fn answer<R: Threads + Sync>(
+        self,
+        _rt: &R,
+        _alloc: Global,
+        answer: &mut Answer,
+        lines: u32,
+    ) -> Result<End, AllocError> {
         answer.push_line(&[Word::Text("lines"), Word::Number(u64::from(lines))])?;
         Ok(End::Done)
     }
@@ -102,8 +109,9 @@ pub struct HowManyEach;
 impl Question<(u32, u32)> for HowManyEach {
     ghost answers = { AnswersHowManyEach };
 
-    fn answer(
+    fn answer<R: Threads + Sync>(
         self,
+        _rt: &R,
         _alloc: Global,
         answer: &mut Answer,
         lines: (u32, u32),

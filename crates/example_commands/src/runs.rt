@@ -7,6 +7,7 @@ use plan_port::MemoryPort;
 use std::alloc::{AllocError, Global};
 use std::process::Abort;
 use std::test::Fail;
+use std::thread::Threads;
 
 // Each row: the command, the input, how many bytes each take gives at most (0: no bound), the take and the put that fail (0:
 // none), what is put, and the exit status. `/` stands for a line end.
@@ -74,9 +75,10 @@ fn port_for(alloc: Global, row: &Row<'_>) -> Result<MemoryPort, AllocError> {
     Ok(MemoryPort::new(alloc, input, cuts, failing_takes, failing_puts))
 }
 
-fn run(alloc: Global, row: &Row<'_>, port: &mut MemoryPort) -> Status {
+fn run(rt: &(impl Threads + Sync), alloc: Global, row: &Row<'_>, port: &mut MemoryPort) -> Status {
     match row.command {
         "ask" => serve(
+            rt,
             alloc,
             Asked {
                 question: HowMany,
@@ -85,6 +87,7 @@ fn run(alloc: Global, row: &Row<'_>, port: &mut MemoryPort) -> Status {
             port,
         ),
         "each" => serve(
+            rt,
             alloc,
             Asked {
                 question: HowManyEach,
@@ -97,16 +100,16 @@ fn run(alloc: Global, row: &Row<'_>, port: &mut MemoryPort) -> Status {
                 FromCount,
                 Counting::BeforeTitle,
             );
-            serve(alloc, tally, port)
+            serve(rt, alloc, tally, port)
         }
     }
 }
 
 /// A row is answered as it says.
-fn check(rt: &impl Abort, alloc: Global, line: &str) -> Result<(), Fail> {
+fn check(rt: &(impl Abort + Threads + Sync), alloc: Global, line: &str) -> Result<(), Fail> {
     let row = row_of(line).ok_or("not a row")?;
     let mut port = port_for(alloc, &row)?;
-    let status = run(alloc, &row, &mut port);
+    let status = run(rt, alloc, &row, &mut port);
     let output = bytes_of(alloc, row.output)?;
     assert_eq!(rt; port.written(), output.as_slice(), "{line}");
     assert_eq!(rt; status.number(), row.status, "{line}");

@@ -7,6 +7,7 @@ ghost use Rattle.example_commands.specs.Tally.{tally_machine, Begins};
 use commands::{Answer, Begin, Command, End, Onward, Stop, Word};
 use plan_port::MOST_LINE;
 use std::alloc::{AllocError, Global};
+use std::thread::Threads;
 
 /// How many bytes a line of the phase has at most.
 const MOST_TALLY: usize = 64;
@@ -24,8 +25,9 @@ impl Command for Tally {
         MOST_LINE
     }
 
-    fn take_line(
+    fn take_line<R: Threads + Sync>(
         self,
+        _rt: &R,
         _alloc: Global,
         answer: &mut Answer,
         number: u32,
@@ -55,8 +57,9 @@ impl Begin<u32> for FromCount {
 
     ghost begins = { Begins };
 
-    fn begin(
+    fn begin<R: Threads + Sync>(
         self,
+        _rt: &R,
         _alloc: Global,
         answer: &mut Answer,
         lines: u32,

@@ -8,6 +8,7 @@ use net_model::{Link, Network, PointId};
 use std::alloc::Global;
 use std::process::Abort;
 use std::test::Fail;
+use std::thread::Threads;
 
 /// Pseudo-random numbers, the same in each run.
 #[derive(Drop)]
@@ -74,7 +75,7 @@ fn streams_are_as_slow(rt: HostRuntime) -> Result<(), Fail> {
 }
 
 fn try_network(
-    rt: &impl Abort,
+    rt: &(impl Abort + Threads + Sync),
     alloc: Global,
     parts: &str,
     count: u32,
@@ -95,7 +96,7 @@ fn faults_of(number: u32) -> u64 {
 
 /// As many streams.
 fn try_streams(
-    rt: &impl Abort,
+    rt: &(impl Abort + Threads + Sync),
     alloc: Global,
     net: &Network,
     count: u32,
@@ -109,7 +110,7 @@ fn try_streams(
 
 /// One stream, with some faults in a hundred.
 fn try_stream(
-    rt: &impl Abort,
+    rt: &(impl Abort + Threads + Sync),
     alloc: Global,
     net: &Network,
     faults: u64,
@@ -137,12 +138,12 @@ fn duration(link: &Link, draws: &mut Draws) -> u64 {
 
 /// The completions of an execution in which the links have these durations, fed moment by moment.
 fn completions(
-    rt: &impl Abort,
+    rt: &(impl Abort + Threads + Sync),
     alloc: Global,
     net: &Network,
     durations: &[u64],
 ) -> Result<Vec<Completion>, Fail> {
-    let mut executor = slow(alloc, net)?;
+    let mut executor = slow(rt, alloc, net)?;
     let mut all = Vec::new(alloc);
     for moment in 0..250 {
         let listed = completed(alloc, net, &executor, durations, moment)?;
@@ -262,9 +263,9 @@ struct Both {
 }
 
 impl Both {
-    fn start(alloc: Global, net: &Network) -> Result<Both, Fail> {
-        let live = Live::start(alloc, net)?;
-        let slow = slow(alloc, net)?;
+    fn start(rt: &(impl Threads + Sync), alloc: Global, net: &Network) -> Result<Both, Fail> {
+        let live = Live::start(rt, alloc, net)?;
+        let slow = slow(rt, alloc, net)?;
         Ok(Both { live, slow })
     }
 
@@ -304,14 +305,14 @@ impl Both {
 
 /// Feeds both executors a stream, and compares them after each feed.
 fn feed_both(
-    rt: &impl Abort,
+    rt: &(impl Abort + Threads + Sync),
     alloc: Global,
     net: &Network,
     completions: &[Completion],
     faults: u64,
     draws: &mut Draws,
 ) -> Result<(), Fail> {
-    let mut both = Both::start(alloc, net)?;
+    let mut both = Both::start(rt, alloc, net)?;
     for moment in 0..end_of(completions) {
         let mut listed = listed_at(alloc, completions, moment)?;
         let fault = draw_fault(faults, draws);

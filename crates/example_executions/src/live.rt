@@ -13,15 +13,17 @@ use net_model::{Network, PointId};
 use parallel_rounds::{NoGate, Outcome, propagate};
 use std::alloc::Global;
 use std::test::Fail;
+use std::thread::Threads;
 
 /// The dispatchable network of the closure of a network.
-fn dispatch(alloc: Global, net: &Network) -> Result<Dispatch, Fail>
+fn dispatch(rt: &(impl Threads + Sync), alloc: Global, net: &Network) -> Result<Dispatch, Fail>
     ensures dispatched { IfOk result (IsDispatchOf net.now) }
     ensures whole { IfOk result (λ dispatch. length dispatch ≡ length net.now.points) }
 {
     let mut store = Plain::of(alloc, net)?;
     let _points = net.points();
-    let Outcome::Closed { rounds: _, order } = propagate(alloc, net, &mut store, 1, &NoGate)? else {
+    let Outcome::Closed { rounds: _, order } = propagate(rt, alloc, net, &mut store, 1, &NoGate)?
+    else {
         return Err(Fail::from("not controllable"));
     };
     let dispatch = Dispatch::of(alloc, net, store.table(), order.as_slice())?;
@@ -29,8 +31,12 @@ fn dispatch(alloc: Global, net: &Network) -> Result<Dispatch, Fail>
 }
 
 /// The slow executor of a network.
-pub(crate) fn slow(alloc: Global, net: &Network) -> Result<SlowExecutor, Fail> {
-    let dispatch = dispatch(alloc, net)?;
+pub(crate) fn slow(
+    rt: &(impl Threads + Sync),
+    alloc: Global,
+    net: &Network,
+) -> Result<SlowExecutor, Fail> {
+    let dispatch = dispatch(rt, alloc, net)?;
     SlowExecutor::start(alloc, net, dispatch)
 }
 
@@ -43,8 +49,12 @@ pub(crate) struct Live {
 }
 
 impl Live {
-    pub(crate) fn start(alloc: Global, net: &Network) -> Result<Live, Fail> {
-        let dispatch = dispatch(alloc, net)?;
+    pub(crate) fn start(
+        rt: &(impl Threads + Sync),
+        alloc: Global,
+        net: &Network,
+    ) -> Result<Live, Fail> {
+        let dispatch = dispatch(rt, alloc, net)?;
         let points = net.points().len() as u32;
         let executor = Executor::start(alloc, net, dispatch)?;
         Ok(Live { executor, points })

@@ -8,6 +8,7 @@ use std::alloc::Global;
 use std::process::Abort;
 use std::str::SplitWhitespace;
 use std::test::Fail;
+use std::thread::Threads;
 
 /// Plans, each with its streams. A stream is a list of feeds, each a moment with the points that complete, or `done`; and what it is
 /// answered: with the last acts, the next due moment, and the moments so far of the points, in order of number.
@@ -177,20 +178,35 @@ fn streams_are_answered(rt: HostRuntime) -> Result<(), Fail> {
     Ok(())
 }
 
-fn check_streams(rt: &impl Abort, alloc: Global, parts: &str, streams: &str) -> Result<(), Fail> {
+fn check_streams(
+    rt: &(impl Abort + Threads + Sync),
+    alloc: Global,
+    parts: &str,
+    streams: &str,
+) -> Result<(), Fail> {
     let net = network(alloc, parts)?;
     check_each(rt, alloc, &net, streams)
 }
 
-fn check_each(rt: &impl Abort, alloc: Global, net: &Network, streams: &str) -> Result<(), Fail> {
+fn check_each(
+    rt: &(impl Abort + Threads + Sync),
+    alloc: Global,
+    net: &Network,
+    streams: &str,
+) -> Result<(), Fail> {
     for stream in streams.split('/') {
         check_stream(rt, alloc, net, stream)?;
     }
     Ok(())
 }
 
-fn check_stream(rt: &impl Abort, alloc: Global, net: &Network, stream: &str) -> Result<(), Fail> {
-    let mut live = Live::start(alloc, net)?;
+fn check_stream(
+    rt: &(impl Abort + Threads + Sync),
+    alloc: Global,
+    net: &Network,
+    stream: &str,
+) -> Result<(), Fail> {
+    let mut live = Live::start(rt, alloc, net)?;
     check_lines(rt, alloc, net, &mut live, stream.trim())
 }
 

@@ -10,14 +10,20 @@ use parallel_rounds::{NoGate, Outcome, propagate};
 use std::alloc::Global;
 use std::process::Abort;
 use std::test::Fail;
+use std::thread::Threads;
 
 /// The dispatchable network of the closure of a network, if its table has an order.
-fn dispatch(alloc: Global, net: &Network) -> Result<Option<Dispatch>, Fail>
+fn dispatch<R: Threads + Sync>(
+    rt: &R,
+    alloc: Global,
+    net: &Network,
+) -> Result<Option<Dispatch>, Fail>
     ensures { IfOk result (λ found. IfSome found (λ dispatch. length dispatch ≡ length net.now.points)) }
 {
     let mut store = Plain::of(alloc, net)?;
     let _points = net.points();
-    let Outcome::Closed { rounds: _, order } = propagate(alloc, net, &mut store, 1, &NoGate)? else {
+    let Outcome::Closed { rounds: _, order } = propagate(rt, alloc, net, &mut store, 1, &NoGate)?
+    else {
         return Ok(None);
     };
     let dispatch = Dispatch::of(alloc, net, store.table(), order.as_slice())?;
@@ -43,11 +49,11 @@ fn push_point(
 }
 
 /// Those of all points.
-fn shown(alloc: Global, parts: &str) -> Result<String, Fail> {
+fn shown<R: Threads + Sync>(rt: &R, alloc: Global, parts: &str) -> Result<String, Fail> {
     let net = network(alloc, parts)?;
     let mut text = String::new(alloc);
     let points = net.points().len() as u32;
-    let Some(dispatch) = dispatch(alloc, &net)? else {
+    let Some(dispatch) = dispatch(rt, alloc, &net)? else {
         return Ok(text);
     };
     for point in 0..points {
@@ -56,8 +62,13 @@ fn shown(alloc: Global, parts: &str) -> Result<String, Fail> {
     Ok(text)
 }
 
-fn check(rt: &impl Abort, alloc: Global, parts: &str, expected: &str) -> Result<(), Fail> {
-    let text = shown(alloc, parts)?;
+fn check<R: Threads + Sync + Abort>(
+    rt: &R,
+    alloc: Global,
+    parts: &str,
+    expected: &str,
+) -> Result<(), Fail> {
+    let text = shown(rt, alloc, parts)?;
     assert_eq!(rt; text.as_str(), expected, "{parts}");
     Ok(())
 }

@@ -1,6 +1,8 @@
-//! Reductions, derivation lists, tables and orders of small networks: examples, tried as tests.
+//! Reductions, derivation lists, tables, orders and rounds of small networks, and boards: examples, tried as tests.
 #![tactic(auto)]
 
+#[cfg(test)]
+mod boards;
 #[cfg(test)]
 mod derivations;
 #[cfg(test)]
@@ -13,3 +15,5 @@ mod reductions;
 mod rounds;
 #[cfg(test)]
 mod tables;
+#[cfg(test)]
+mod workers;

@@ -1,6 +1,6 @@
 //! Rounds of small networks, node by node, and the refutations in which they end.
 
-ghost use Rattle.std.specs.Prelude.{◌<◌, length, IfSome, IfOk};
+ghost use Rattle.std.specs.Prelude.{◌<◌, ◌≤◌, length, IfSome, IfOk};
 ghost use Rattle.std.specs.List.{All};
 
 use crate::networks::network;
@@ -10,6 +10,7 @@ use parallel_rounds::{NoGate, Outcome, propagate};
 use std::alloc::Global;
 use std::process::Abort;
 use std::test::Fail;
+use std::thread::Threads;
 
 /// The name of a point.
 fn point_name(alloc: Global, net: &Network, point: PointId) -> Result<String, Fail> {
@@ -148,17 +149,33 @@ fn node_of(store: &Plain, from: PointId, to: PointId) -> Option<NodeId>
 }
 
 /// All nodes, the count of rounds, and the refutation if they end in a cycle.
-fn shown(alloc: Global, parts: &str) -> Result<(String, String), Fail> {
+fn shown<R: Threads + Sync>(
+    rt: &R,
+    alloc: Global,
+    parts: &str,
+    workers: u32,
+) -> Result<(String, String), Fail>
+    requires { (1 ≤ workers) × (workers ≤ 64) }
+{
     let net = network(alloc, parts)?;
     let mut nodes = String::new(alloc);
     let mut end = String::new(alloc);
-    show(alloc, &net, &mut nodes, &mut end)?;
+    show(rt, alloc, &net, workers, &mut nodes, &mut end)?;
     Ok((nodes, end))
 }
 
-fn show(alloc: Global, net: &Network, nodes: &mut String, end: &mut String) -> Result<(), Fail> {
+fn show<R: Threads + Sync>(
+    rt: &R,
+    alloc: Global,
+    net: &Network,
+    workers: u32,
+    nodes: &mut String,
+    end: &mut String,
+) -> Result<(), Fail>
+    requires { (1 ≤ workers) × (workers ≤ 64) }
+{
     let mut store = Plain::of(alloc, net)?;
-    let outcome = propagate(alloc, net, &mut store, 1, &NoGate)?;
+    let outcome = propagate(rt, alloc, net, &mut store, workers, &NoGate)?;
     let ids = all_ids(alloc, store.dag())?;
     push_lines(alloc, net, store.dag(), ids.as_slice(), nodes)?;
     show_end(alloc, net, &store, &outcome, end)
@@ -222,9 +239,23 @@ fn push_walk(
     Ok(())
 }
 
-fn check(rt: &impl Abort, alloc: Global, parts: &str, end: &str) -> Result<(), Fail> {
-    let shown = shown(alloc, parts)?;
-    assert_eq!(rt; shown.1.as_str(), end, "{parts}");
+/// How the rounds of each plan end, with so many workers.
+fn try_ends<R: Threads + Sync + Abort>(rt: &R, alloc: Global, workers: u32) -> Result<(), Fail>
+    requires { (1 ≤ workers) × (workers ≤ 64) }
+{
+    for (parts, end) in ENDS {
+        let shown = shown(rt, alloc, parts, workers)?;
+        assert_eq!(rt; shown.1.as_str(), end, "{parts} by {workers}");
+    }
+    Ok(())
+}
+
+/// The nodes of the rounds that are told one by one, with so many workers.
+fn try_nodes<R: Threads + Sync + Abort>(rt: &R, alloc: Global, workers: u32) -> Result<(), Fail>
+    requires { (1 ≤ workers) × (workers ≤ 64) }
+{
+    let shown = shown(rt, alloc, ONE_LINK, workers)?;
+    assert_eq!(rt; shown.0.as_str(), ONE_LINK_NODES, "by {workers}");
     Ok(())
 }
 
@@ -266,15 +297,16 @@ const ENDS: [(&str, &str); 7] = [
 
 #[test]
 fn nodes_of_rounds(rt: HostRuntime) -> Result<(), Fail> {
-    let shown = shown(rt.alloc(), ONE_LINK)?;
-    assert_eq!(rt; shown.0.as_str(), ONE_LINK_NODES);
-    Ok(())
+    try_nodes(&rt, rt.alloc(), 1)?;
+    try_nodes(&rt, rt.alloc(), 2)?;
+    try_nodes(&rt, rt.alloc(), 7)?;
+    try_nodes(&rt, rt.alloc(), 64)
 }
 
 #[test]
 fn ends_of_rounds(rt: HostRuntime) -> Result<(), Fail> {
-    for (parts, end) in ENDS {
-        check(&rt, rt.alloc(), parts, end)?;
-    }
-    Ok(())
+    try_ends(&rt, rt.alloc(), 1)?;
+    try_ends(&rt, rt.alloc(), 2)?;
+    try_ends(&rt, rt.alloc(), 7)?;
+    try_ends(&rt, rt.alloc(), 64)
 }

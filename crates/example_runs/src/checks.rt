@@ -3,6 +3,7 @@ use plan_port::MemoryPort;
 use std::alloc::{AllocError, Global};
 use std::process::Abort;
 use std::test::Fail;
+use std::thread::Threads;
 use stnu_run::run;
 
 /// Rows: the exit status, a plan, and what `check` prints of it; `|` stands for a line end. In order: no point at all; two bounds that
@@ -83,7 +84,7 @@ fn port_over(alloc: Global, text: &str) -> Result<MemoryPort, AllocError> {
 }
 
 /// `check` answers a plan so.
-fn expect_check<R: Abort + AllocGlobal>(
+fn expect_check<R: Abort + AllocGlobal + Threads + Sync>(
     rt: &R,
     words: &Vec<String>,
     plan: &str,
@@ -91,23 +92,26 @@ fn expect_check<R: Abort + AllocGlobal>(
     status: u8,
 ) -> Result<(), AllocError> {
     let mut port = port_over(rt.alloc(), plan)?;
-    let ended = run(rt.alloc(), words, &mut port);
+    let ended = run(rt, rt.alloc(), words, &mut port);
     let wanted = with_line_ends(rt.alloc(), answer)?;
     assert_eq!(rt; port.written(), wanted.as_slice(), "{plan}");
     assert_eq!(rt; ended.0, status, "{plan}");
     Ok(())
 }
 
-/// The words of the command.
-fn check_words(alloc: Global) -> Result<Vec<String>, AllocError> {
+/// The words of the command, of which these stand after its name.
+fn check_words(alloc: Global, options: &str) -> Result<Vec<String>, AllocError> {
     let mut words = Vec::new(alloc);
     for word in ["stnu", "check"] {
+        words.push(String::from_str(alloc, word)?)?;
+    }
+    for word in options.split_whitespace() {
         words.push(String::from_str(alloc, word)?)?;
     }
     Ok(words)
 }
 
-fn try_row<R: Abort + AllocGlobal>(
+fn try_row<R: Abort + AllocGlobal + Threads + Sync>(
     rt: &R,
     words: &Vec<String>,
     row: &str,
@@ -120,7 +124,10 @@ fn try_row<R: Abort + AllocGlobal>(
     Ok(())
 }
 
-fn try_rows<R: Abort + AllocGlobal>(rt: &R, words: &Vec<String>) -> Result<(), AllocError> {
+fn try_rows<R: Abort + AllocGlobal + Threads + Sync>(
+    rt: &R,
+    words: &Vec<String>,
+) -> Result<(), AllocError> {
     for row in ROWS.split('\n') {
         try_row(rt, words, row)?;
     }
@@ -129,7 +136,42 @@ fn try_rows<R: Abort + AllocGlobal>(rt: &R, words: &Vec<String>) -> Result<(), A
 
 #[test]
 fn plans_are_checked(rt: HostRuntime) -> Result<(), Fail> {
-    let words = check_words(rt.alloc())?;
+    let words = check_words(rt.alloc(), "")?;
     try_rows(&rt, &words)?;
+    Ok(())
+}
+
+/// Some numbers of workers, in both spellings.
+const WORKERS: [&str; 8] = [
+    "--workers 1",
+    "--workers=1",
+    "--workers 2",
+    "--workers=2",
+    "--workers 7",
+    "--workers=7",
+    "--workers 64",
+    "--workers=64",
+];
+
+/// The places of the rows that are tried with each number of workers: a plan without foresight, and two waits that cross.
+const WITH_WORKERS: [usize; 2] = [4, 9];
+
+fn try_with_workers<R: Abort + AllocGlobal + Threads + Sync>(
+    rt: &R,
+    words: &Vec<String>,
+) -> Result<(), AllocError> {
+    for place in WITH_WORKERS {
+        let row = ROWS.split('\n').nth(place).unwrap_or("");
+        try_row(rt, words, row)?;
+    }
+    Ok(())
+}
+
+#[test]
+fn workers_change_no_byte(rt: HostRuntime) -> Result<(), Fail> {
+    for options in WORKERS {
+        let words = check_words(rt.alloc(), options)?;
+        try_with_workers(&rt, &words)?;
+    }
     Ok(())
 }

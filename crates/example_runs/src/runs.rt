@@ -4,6 +4,7 @@ use plan_port::{MemoryPort, Port, SteadyPort};
 use std::alloc::{AllocError, Global};
 use std::process::Abort;
 use std::test::Fail;
+use std::thread::Threads;
 use stnu_run::run;
 
 /// Rows: the words, the input, what is put, and the exit status; `|` stands for a line end.
@@ -30,6 +31,19 @@ stnu judge => stnu 1|point A|point B|bound b1 A B 1000000001|bound b2 B A -2|end
 stnu chek => stnu 1|end| => error words| => 2
 stnu judge judge => stnu 1|end| => error words| => 2
 stnu => stnu 1|end| => error words| => 2
+stnu check --workers 0 => stnu 1|end| => error words| => 2
+stnu check --workers 2 --workers 2 => stnu 1|end| => error words| => 2
+stnu check --workers 2 --workers=2 => stnu 1|end| => error words| => 2
+stnu check --workers= => stnu 1|end| => error words| => 2
+stnu check --workers => stnu 1|end| => error words| => 2
+stnu check --workers 65 => stnu 1|end| => error words| => 2
+stnu check --workers 064 => stnu 1|end| => error words| => 2
+stnu check --workers +2 => stnu 1|end| => error words| => 2
+stnu check --work 2 => stnu 1|end| => error words| => 2
+stnu check -- --workers 2 => stnu 1|end| => error words| => 2
+stnu check --workers --workers=2 => stnu 1|end| => error words| => 2
+stnu judge --workers 2 => stnu 1|end| => error words| => 2
+stnu run --workers=2 => stnu 1|point A|point B|bound b1 A B 5|bound b2 B A -2|end|at 0|at 2|done| => controllable|due 0|act 0 A|due 2|act 2 B|due none|complete| => 0
 stnu run => stnu 1|point A|point B|bound b1 A B 5|bound b2 B A -2|end|at 0|at 2|done| => controllable|due 0|act 0 A|due 2|act 2 B|due none|complete| => 0
 stnu run => stnu 1|end|done| => controllable|due none|complete| => 0
 stnu run => stnu 1|point A|point B|bound b1 A B 3|bound b2 B A -5|end|at 0|done| => not controllable|certificate 1|refutation|bound b1 A B 3|bound b2 B A -5|no 1 2 A A -2|walk 3|end| => 1
@@ -155,14 +169,14 @@ fn port_over(alloc: Global, input: &str, calls: Calls) -> Result<MemoryPort, All
 }
 
 /// A run over the port ends with the status of the row.
-fn expect_status<R: Abort, P: Port>(
+fn expect_status<R: Abort + Threads + Sync, P: Port>(
     rt: &R,
     alloc: Global,
     row: Row<'_>,
     port: &mut P,
 ) -> Result<(), AllocError> {
     let words = words_of(alloc, row.words)?;
-    let status = run(alloc, &words, port);
+    let status = run(rt, alloc, &words, port);
     assert_eq!(rt; status.0, row.status);
     Ok(())
 }
@@ -179,7 +193,7 @@ fn expect_put<R: Abort>(
     Ok(())
 }
 
-fn expect_run<R: Abort>(
+fn expect_run<R: Abort + Threads + Sync>(
     rt: &R,
     alloc: Global,
     row: Row<'_>,
@@ -190,7 +204,7 @@ fn expect_run<R: Abort>(
 }
 
 /// The same over a port of fixed room, of which this much is then left.
-fn expect_steady_run<R: Abort>(
+fn expect_steady_run<R: Abort + Threads + Sync>(
     rt: &R,
     alloc: Global,
     row: Row<'_>,
@@ -203,7 +217,7 @@ fn expect_steady_run<R: Abort>(
     expect_put(rt, alloc, row, port.written())
 }
 
-fn try_row<R: Abort>(
+fn try_row<R: Abort + Threads + Sync>(
     rt: &R,
     alloc: Global,
     text: &str,
@@ -218,7 +232,7 @@ fn try_row<R: Abort>(
     }
 }
 
-fn try_room<R: Abort>(
+fn try_room<R: Abort + Threads + Sync>(
     rt: &R,
     alloc: Global,
     text: &str,

@@ -1,2 +1,5 @@
 pub mod AddingSteps
+pub mod GatherSteps
+pub mod InOrder
 pub mod RoundsSteps
+pub mod WorkSteps

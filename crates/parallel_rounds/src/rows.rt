@@ -1,34 +1,86 @@
 ghost use Rattle.std.specs.Prelude.{◌≡◌, ◌≤◌, ◌<◌, map, length, IfOk};
-ghost use Rattle.closure_model.specs.Keys.{all_points};
+ghost use Rattle.std.specs.List.{All};
+ghost use Rattle.std.specs.List.Sorted.{IsPermutation, IsNonDecreasingBy};
+ghost use Rattle.net_model.specs.Network.{IsPoint};
+ghost use Rattle.closure_model.specs.Keys.{all_points, shape_of};
 ghost use Rattle.closure_model.specs.ReferenceRow.{HasWeightsWithin};
 ghost use Rattle.closure_model.specs.Tables.{IsFor};
+ghost use Rattle.work_board.specs.Boards.{IsSeatOf, EachOnce};
+ghost use Rattle.work_board.specs.Limits.{most_seats};
+ghost use Rattle.parallel_rounds.specs.Gathering.{CanMakeRows, IsFresh, IsFirst, IsPart, HasRows};
 ghost use Rattle.parallel_rounds.specs.Rows.{new_row};
 
 use crate::gate::Gate;
-use back_propagation::{NewRow, row};
+use crate::parts::{Part, Task, all_parts, all_seats, gather};
+use back_propagation::NewRow;
 use labelled_graph::Table;
 use net_model::{Network, PointId};
 use std::alloc::{AllocError, Global};
+use std::thread::Threads;
+use work_board::{Board, Seat};
 
-/// The rows of all targets against a table of the network whose weights are from -M to M, in the order of the targets. For now
-/// `workers` is 1. The gate is called before each row. `AllocError` comes only for want of memory.
-pub fn round<G: Gate>(
+/// The rows of all targets against a table of the network whose weights are from -M to M, in the order of the targets. 1 to 64 workers
+/// make them at once; each takes the next target that none has taken yet, until there is none left. The gate is called before each
+/// row. `AllocError` comes only for want of memory.
+pub fn round<R: Threads + Sync, G: Gate>(
+    rt: &R,
     alloc: Global,
     table: &Table,
     net: &Network,
     workers: u32,
     gate: &G,
 ) -> Result<Vec<NewRow>, AllocError>
-    requires workers { workers ≡ 1 }
+    requires workers { (1 ≤ workers) × (workers ≤ most_seats) }
     requires fits { IsFor net.now table.now }
     requires within { HasWeightsWithin net.now table.now }
     ensures { IfOk result (λ rows. rows.items ≡ map (new_row net.now table.now) (all_points table.now.shape)) }
 {
-    let _ = workers;
-    let mut rows = Vec::new(alloc);
-    for target in 0..net.points().len() as u32 {
-        gate.before(target);
-        rows.push(row(alloc, table, net, PointId(target))?)?;
-    }
+    let targets = all_targets(alloc, net)?;
+    let (board, first) = Board::new(alloc, net.points().len() as u32, workers)?;
+    let task = Task {
+        targets: targets.as_slice(),
+        table,
+        net,
+        gate,
+    };
+    let Part { seat, mut rows } = make_rows(rt, alloc, &board, first, &task)?;
+    board.close(seat);
+    put_in_order(&mut rows);
     Ok(rows)
+}
+
+/// All points of a network, in order.
+fn all_targets(alloc: Global, net: &Network) -> Result<Vec<PointId>, AllocError>
+    ensures { IfOk result (λ targets. targets.items ≡ all_points (shape_of net.now)) }
+{
+    (0..net.points().len() as u32)
+        .map(|point| PointId(point))
+        .collect(alloc)
+}
+
+/// The rows of all targets in any order, with the first seat, into which all others are joined.
+fn make_rows<R: Threads + Sync, G: Gate>(
+    rt: &R,
+    alloc: Global,
+    board: &Board,
+    first: Seat,
+    task: &Task<G>,
+) -> Result<Part, AllocError>
+    requires can { CanMakeRows task.now.net.now task.now.table.now task.now.targets.now board.now }
+    requires fresh { IsFresh board.now first }
+    requires first { IsFirst 0 first }
+    ensures seat { IfOk result (λ all. IsPart board.now all × IsFirst 0 all.seat) }
+    ensures rows { IfOk result (HasRows task.now.net.now task.now.table.now task.now.targets.now) }
+{
+    let seats = all_seats(alloc, board, first)?;
+    let parts = all_parts(rt, alloc, board, seats, task)?;
+    gather(board, parts)
+}
+
+/// Puts rows in the order of their targets.
+fn put_in_order(rows: &mut Vec<NewRow>)
+    ensures same { IsPermutation rows.old.items rows.new.items }
+    ensures order { IsNonDecreasingBy (λ row. row.target.0) rows.new.items }
+{
+    rows.sort_unstable_by_key(|row| row.target.0);
 }

@@ -27,6 +27,6 @@ fn main(rt: HostRuntime) -> ExitCode {
         return ExitCode::from(NO_MEMORY);
     };
     let mut port = StdPort::new(&rt);
-    let status = run(rt.alloc(), &words, &mut port);
+    let status = run(&rt, rt.alloc(), &words, &mut port);
     ExitCode::from(status.0)
 }

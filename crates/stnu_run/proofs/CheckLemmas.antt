@@ -47,13 +47,13 @@ refutes_by input put end (inl (other, after, is, inr (never, (cert, accepted, pu
 refutes_by input put end (inr (fault, first, puts)) more same net rest network controls = no_refusal_is_refuted fault more (sym puts.0 ∙ same)
 
 module _ (laws : Laws) (input put : List ℕ) (end : End) where
-  answers_by : AnswersOrRefuses plan_grammar (check_answers (record {})) input put end → AnswersOrRefuses plan_grammar PutsVerdict input put end
+  answers_by : AnswersOrRefuses plan_grammar (check_answers tt) input put end → AnswersOrRefuses plan_grammar PutsVerdict input put end
   answers_by (inl (net, after, is, answered)) = inl (net, after, is, verdict_put laws net (declared_sound (lines input) net after is) put end answered)
   answers_by (inr refused) = inr refused
 
   pub check_keeps : Runs check_machine check_start input put end → CheckPromise input put end
   check_keeps runs =
-      let text = answers_text plan_reader plan_grammar plan_begun plan_by plan_once check_answers (record {}) input put end runs in
+      let text = answers_text plan_reader plan_grammar plan_begun plan_by plan_once check_answers tt input put end runs in
       let answers = answers_by text.answers in
       record {
         checks = record {

@@ -96,7 +96,7 @@ module _ (state : Course) (number : ℕ) (none : state.execution.refused ≡ Non
       → (after : Execution) × IsWhole state.execution after × (answer ≡ acts_text state.net after.acts ++ complete_line) × (onward ≡ Ends ends.Done)
   done_whole is (answered, after, so, answers) =
       let by = finished_so state.execution answered after None none is so in
-      let now = subst (λ (f : Finished). AnswersEnd state number f after answer onward) by.0 answers in
+      let now = subst (λ (f : Finished). AnswersEnd state.net number f after answer onward) by.0 answers in
       (after, by.1, now.0, now.1)
 
   -- one with an open point ends the run as refused
@@ -104,7 +104,7 @@ module _ (state : Course) (number : ℕ) (none : state.execution.refused ≡ Non
       → RefusesEvent number (unfinished_words state.net point) answer onward
   done_unfinished point is (answered, after, so, answers) =
       let by = finished_so state.execution answered after (Some point) none is so in
-      subst (λ (f : Finished). AnswersEnd state number f after answer onward) by.0 answers
+      subst (λ (f : Finished). AnswersEnd state.net number f after answer onward) by.0 answers
 
 -- ---- a run over a line, and others
 -- how a run goes on after the answer to a line

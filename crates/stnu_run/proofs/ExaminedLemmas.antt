@@ -62,12 +62,12 @@ module _ (net : Plan) (before after : Support) (outcome : Outcome) (propagated :
 
 -- the beginning, by what was shown
 pub execution_begins : (net : Plan) (dispatch : List Conditions) (put : List ℕ) (onward : Onward Course) → IsExamined net (Controllable dispatch) → GoesOnFrom net dispatch put onward
-    → run_begins (record {}) net put onward
+    → run_begins tt net put onward
 execution_begins net dispatch put onward ((closing, made), of, count) ((due, is, puts), goes) =
     let from : List Conditions → Execution = λ d. started (record { links = net.links; dispatch = d }) in
     let on : List Conditions → Onward Course = λ d. Goes (record { net = net; execution = from d; listed = [] }) in
     inl (record { closing = closing; due = due; first = subst (λ (d : List Conditions). IsDueAnswer (from d) due) made is; put = puts; goes = goes ∙ ap on made })
 
-pub refutation_begins : (net : Plan) (cert : Certificate) (put : List ℕ) (end : End) → IsExamined net (Refuted cert) → PutsRefuted cert put end → run_begins (record {}) net put (Ends end)
+pub refutation_begins : (net : Plan) (cert : Certificate) (put : List ℕ) (end : End) → IsExamined net (Refuted cert) → PutsRefuted cert put end → run_begins tt net put (Ends end)
 refutation_begins net cert put end examined puts =
     inr (record { certificate = cert; refutation = examined.0; put = puts.0; ends = ap (λ (e : End). let onward : Onward Course = Ends e in onward) puts.1 })

@@ -5,11 +5,12 @@ use Rattle.std.specs.Option.{IfSome}
 use Rattle.net_model.specs.Network.{Plan, IsPoint}
 use Rattle.net_model.specs.declared.ids.PointId.{PointId}
 use Rattle.net_model.specs.declared.format.FormatKind.{FormatKind}
-use Rattle.event_stream.specs.EventText.{completed, done, said, kept, IsLine, IsFaultOf}
+use Rattle.event_stream.specs.EventText.{completed, said, kept, IsLine, IsFaultOf}
 use Rattle.event_stream.specs.declared.event.Event.{Event}
 use Rattle.event_stream.specs.declared.event.Event.TheVariants.{Blank, At, Done}
-use Rattle.execution_model.specs.Execution.{Moments}
+use Rattle.execution_model.specs.Execution.{Moments, Setting}
 use Rattle.execution_model.specs.Feeding.{Execution, next_moment, taken, after_feed, IsFed, first_open, IsWhole, IsFinished}
+use Rattle.execution_model.specs.declared.feeding.Act.{Act}
 use Rattle.execution_model.specs.declared.feeding.Why.{Why}
 use Rattle.execution_model.specs.declared.feeding.Fed.{Fed}
 use Rattle.execution_model.specs.declared.feeding.Fed.TheVariants as fed
@@ -20,8 +21,8 @@ use Rattle.commands.specs.declared.endings.End.TheVariants as ends
 use Rattle.commands.specs.declared.machines.Onward.{Onward}
 use Rattle.commands.specs.declared.machines.Onward.TheVariants.{Ends}
 use Rattle.stnu_run.specs.Course.{Course}
-use Rattle.stnu_run.specs.EventAnswers.{why_words, unfinished_words, event_line, event_fault_line, NamesPoints}
-use Rattle.stnu_run.specs.Executing.{AnswersEvent, TakesEvent}
+use Rattle.stnu_run.specs.EventAnswers.{why_words, event_line, event_fault_line, NamesPoints}
+use Rattle.stnu_run.specs.Executing.{AnswersEvent, EndsAmong, TakesEvent}
 use Rattle.stnu_run.specs.Faults.{fault_end}
 use Rattle.stnu_run.specs.declared.faults.Fault.TheVariants.{Format}
 use Rattle.stnu_run.proofs.CauseLemmas.{IsActOf, acts_while_of_points, fed_acts_of_points, open_point, cause_names}
@@ -89,7 +90,7 @@ module _ (execution : Execution) (answer : Finished) (after : Execution) (going 
   finished_by : IsFinished execution answer after → FinishedBy (first_open execution)
   finished_by is = subst FinishedWhere going is
 
-  pub finished_acts : IsFinished execution answer after → answer ≡ finished.Complete → All (IsActOf execution.setting) after.acts × (after.setting ≡ execution.setting)
+  finished_acts : IsFinished execution answer after → answer ≡ finished.Complete → All (IsActOf execution.setting) after.acts × (after.setting ≡ execution.setting)
   finished_acts is complete = by (first_open execution) (finished_by is)
     where
       by : (o : Option PointId) → FinishedBy o → All (IsActOf execution.setting) after.acts × (after.setting ≡ execution.setting)
@@ -99,7 +100,7 @@ module _ (execution : Execution) (answer : Finished) (after : Execution) (going 
         ap (λ (e : Execution). e.setting) whole.after_it,
       )
 
-  pub unfinished_point : (point : PointId) → IsFinished execution answer after → answer ≡ finished.Unfinished point → point.0 < length execution.setting.dispatch
+  unfinished_point : (point : PointId) → IsFinished execution answer after → answer ≡ finished.Unfinished point → point.0 < length execution.setting.dispatch
   unfinished_point point is so = by (first_open execution) (open_point execution.setting execution.moments) (finished_by is)
     where
       by : (o : Option PointId) → IfSome o (λ p. p.0 < length execution.setting.dispatch) → FinishedBy o → point.0 < length execution.setting.dispatch
@@ -108,9 +109,21 @@ module _ (execution : Execution) (answer : Finished) (after : Execution) (going 
           let one : first ≡ point = cc in
           subst (λ (p : PointId). p.0 < length execution.setting.dispatch) one stands
 
-pub unfinished_answers : (state : Course) (number : ℕ) (after : Execution) (point : PointId) (put : List ℕ) (end : End) → IsFinished state.execution (finished.Unfinished point) after
-    → put ≡ event_line number (unfinished_words state.net point) → end ≡ ends.EventRefused → AnswersEvent state number done put (Ends end)
-unfinished_answers state number after point put end is puts ended = (finished.Unfinished point, after, is, (puts, ap (λ (e : End). Ends e) ended))
+-- what the end of an execution of a network speaks of are points of the network
+pub ends_among : (net : Plan) (execution : Execution) (answer : Finished) (after : Execution) → execution.refused ≡ None → length execution.setting.dispatch ≡ length net.points
+    → IsFinished execution answer after → (length after.setting.dispatch ≡ length net.points) × EndsAmong net answer after
+ends_among net execution answer after going same is = by (first_open execution) answer refl (finished_by execution answer after going is)
+  where
+    by : (o : Option PointId) (a : Finished) → a ≡ answer → FinishedBy execution answer after going o → (length after.setting.dispatch ≡ length net.points) × EndsAmong net a after
+    by None finished.Complete so finished_so =
+        let (acts, setting) = finished_acts execution answer after going is (sym so) in
+        (ap (λ (s : Setting). length s.dispatch) setting ∙ same, subst (λ (n : ℕ). All (λ (act : Act). act.point.0 < n) after.acts) same acts)
+    by (Some first) (finished.Unfinished point) so (unfinished, kept) =
+        (ap (λ (e : Execution). length e.setting.dispatch) kept ∙ same, subst (λ (n : ℕ). point.0 < n) same (unfinished_point execution answer after going point is (sym so)))
+    by None (finished.Unfinished point) so (complete, whole) = absurd (cc)
+    by None (finished.Ended cause) so (complete, whole) = absurd (cc)
+    by (Some first) finished.Complete so (unfinished, kept) = absurd (cc)
+    by (Some first) (finished.Ended cause) so (unfinished, kept) = absurd (cc)
 
 -- ---- lines of events
 -- what a line tells is answered by the state in which its points are listed

@@ -26,3 +26,5 @@ pub mod CourseLemmas
 pub mod DueLemmas
 pub mod DayLemmas
 pub mod RunLemmas
+pub mod OptionLemmas
+pub mod WorkersLemmas

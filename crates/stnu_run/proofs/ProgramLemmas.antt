@@ -1,5 +1,5 @@
 -- A program defines at most one pair of bytes and exit status for an input, where its command has at most one reply.
-use Rattle.std.proofs.Common.{ℕ, List, [], ◌∷◌, Bool, true, false, sym, ap, ◌∙◌}
+use Rattle.std.proofs.Common.{ℕ, List, Bool, true, false, Option, Some, None, sym, ap, ◌∙◌}
 use Rattle.commands.specs.Asked.{asked_machine}
 use Rattle.commands.specs.Endings.{end_number}
 use Rattle.commands.specs.Machine.{Machine}
@@ -13,7 +13,8 @@ use Rattle.commands.specs.declared.phases.Planned.{Planned}
 use Rattle.commands.proofs.AskedLemmas.{asked_single}
 use Rattle.commands.proofs.PhaseLemmas.{planned_single}
 use Rattle.commands.proofs.SingleLemmas.{runs_same}
-use Rattle.stnu_run.specs.DefinedRuns.{program_named, program_of, when◌run◌else◌}
+use Rattle.stnu_run.specs.DefinedRuns.{program_named, program_for, program_of, request_of, when◌run◌else◌}
+use Rattle.stnu_run.specs.Options.{Options}
 use Rattle.stnu_run.specs.Programs.{Program, Promise, serves, says, DefinesOne}
 use Rattle.stnu_run.specs.declared.status.Status.{Status}
 
@@ -46,9 +47,11 @@ pub chosen_defines_one : (so : Bool) (one other : Program) → DefinesOne one �
 chosen_defines_one true one other first second = first
 chosen_defines_one false one other first second = second
 
+-- whatever the words name
+request_defines_one : ((command : List ℕ) (options : Options) → DefinesOne (program_named command options)) → (request : Option (List ℕ × Options)) → DefinesOne (program_for request)
+request_defines_one each (Some (command, options)) = each command options
+request_defines_one each None = said_defines_one _ _
+
 -- whatever the words are
-pub words_define_one : ((command : List ℕ) → DefinesOne (program_named command)) → (words : List (List ℕ)) → DefinesOne (program_of words)
-words_define_one each (program ∷ command ∷ []) = each command
-words_define_one each [] = said_defines_one _ _
-words_define_one each (program ∷ []) = said_defines_one _ _
-words_define_one each (program ∷ command ∷ other ∷ others) = said_defines_one _ _
+pub words_define_one : ((command : List ℕ) (options : Options) → DefinesOne (program_named command options)) → (words : List (List ℕ)) → DefinesOne (program_of words)
+words_define_one each words = request_defines_one each (request_of words)

@@ -17,7 +17,6 @@ use Rattle.cert_format.specs.declared.certificate.Certificate.{Certificate}
 use Rattle.refutations.specs.Certifying.{certificate_by}
 use Rattle.commands.specs.declared.endings.End.{End}
 use Rattle.stnu_run.specs.Checking.{check_answers, refuted_line, RoundsClose, IsCertificateOf}
-use Rattle.stnu_run.specs.declared.checking.Check.{Check}
 
 -- ---- lists in order with the same elements are one
 abbrev IsOrdered : List NodeId → Type 0
@@ -106,7 +105,7 @@ never_both net cert closes of =
     let same : closed closes.order ≡ looped is.cycle = (rounds_end_in_one_way net (base_support net) closes.after is.after closes.rounds is.rounds (closed closes.order) (looped is.cycle) closes.ends is.ends).2 in
     absurd cc
 
-pub check_answers_once : (question : Check) (net : Plan) (a b : List ℕ) (x y : End) → check_answers question net a x → check_answers question net b y → (a ≡ b) × (x ≡ y)
+pub check_answers_once : (question : Unit {0}) (net : Plan) (a b : List ℕ) (x y : End) → check_answers question net a x → check_answers question net b y → (a ≡ b) × (x ≡ y)
 check_answers_once question net a b x y (inl (closes, one)) (inl (also, other)) = (one.0 ∙ sym other.0, one.1 ∙ sym other.1)
 check_answers_once question net a b x y (inl (closes, one)) (inr (cert, of, other)) = absurd (never_both net cert closes of)
 check_answers_once question net a b x y (inr (cert, of, one)) (inl (closes, other)) = absurd (never_both net cert closes of)

@@ -64,7 +64,7 @@ use Rattle.stnu_run.proofs.VerdictLemmas.{closes_placed, closing_controls, certi
 -- ---- what follows on the reading of a plan
 -- how a run follows on what the reading of its plan came to
 abbrev Follows : Outcome Plan Fault → List ℕ → End → Type 0
-Follows outcome put end = FollowsOutcome run_begins plan_reader refusing executing_machine (record {}) outcome put end
+Follows outcome put end = FollowsOutcome run_begins plan_reader refusing executing_machine tt outcome put end
 
 -- an execution is opened, and goes on over lines of events
 record Opened (net : Plan) (number room : ℕ) (rest : List InputLine) (put : List ℕ) (end : End) : Type 0 where
@@ -81,7 +81,7 @@ record RefutedSo (net : Plan) (put : List ℕ) (end : End) : Type 0 where
   pub of : IsCertificateOf net cert
   pub puts : PutsRefuted cert put end
 
-begun : (net : Plan) (number room : ℕ) (rest : List InputLine) (put answer more : List ℕ) (onward : Onward Course) (end : End) → run_begins (record {}) net answer onward
+begun : (net : Plan) (number room : ℕ) (rest : List InputLine) (put answer more : List ℕ) (onward : Onward Course) (end : End) → run_begins tt net answer onward
     → put ≡ answer ++ more
     → GoesOn run_begins plan_reader refusing executing_machine onward number room rest more end → Opened net number room rest put end ⊎ RefutedSo net put end
 begun net number room rest put answer more onward end (inl begins) all on = inl (record {
@@ -470,7 +470,7 @@ module _ (laws : RunLaws) where
   -- each run keeps the promise
   pub run_keeps : (input put : List ℕ) (end : End) → Runs run_machine run_start input put end → RunPromise input put end
   run_keeps input put end runs =
-      let follows = run_is run_begins plan_reader refusing executing_machine (record {}) (begins plan_begun) (input_lines input) put end runs in
+      let follows = run_is run_begins plan_reader refusing executing_machine tt (begins plan_begun) (input_lines input) put end runs in
       let text = outcome_answered plan_reader plan_grammar plan_begun plan_by plan_once begins_answers tt input put end (follows_answered (outcome_of (input_lines input)) put end follows) in
       record {
         opens = record {

@@ -155,7 +155,7 @@ feed_once state number (fed.Refused cause) after a b x y one other = (one.0 ∙ 
 feed_once state number (fed.Ended cause) after a b x y one other = (one.0 ∙ sym other.0, one.1 ∙ sym other.1)
 
 end_once : (state : Course) (number : ℕ) (answered : Finished) (after : Execution) (a b : List ℕ) (x y : Onward Course)
-    → AnswersEnd state number answered after a x → AnswersEnd state number answered after b y → (a ≡ b) × (x ≡ y)
+    → AnswersEnd state.net number answered after a x → AnswersEnd state.net number answered after b y → (a ≡ b) × (x ≡ y)
 end_once state number finished.Complete after a b x y one other = (one.0 ∙ sym other.0, one.1 ∙ sym other.1)
 end_once state number (finished.Unfinished point) after a b x y one other = (one.0 ∙ sym other.0, one.1 ∙ sym other.1)
 end_once state number (finished.Ended cause) after a b x y one other = (one.0 ∙ sym other.0, one.1 ∙ sym other.1)
@@ -171,8 +171,8 @@ event_once state number (completed moment points) a b x y course (answered, afte
     feed_once state number other (of also) a b x y moved others
 event_once state number done a b x y course (answered, after, is, answers) (other, also, it, others) =
     let same = finished_one state.execution (course.moments ∙ sym course.dispatch) answered other after also is it in
-    let moved : AnswersEnd state number other also a x =
-    subst (λ (e : Execution). AnswersEnd state number other e a x) same.1 (subst (λ (f : Finished). AnswersEnd state number f after a x) same.0 answers) in
+    let moved : AnswersEnd state.net number other also a x =
+    subst (λ (e : Execution). AnswersEnd state.net number other e a x) same.1 (subst (λ (f : Finished). AnswersEnd state.net number f after a x) same.0 answers) in
     end_once state number other also a b x y moved others
 
 -- ---- each line is answered in one way

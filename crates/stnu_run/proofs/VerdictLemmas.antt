@@ -67,7 +67,7 @@ module _ (laws : Laws) (net : Plan) (plan : IsPlan net) where
       ap (judgement_of net) same ∙ laws.accepted net is.after is.cycle of.lines of.walk plan stands cycle by
 
   -- the answer to a network is its verdict
-  pub verdict_put : (answer : List ℕ) (end : End) → check_answers (record {}) net answer end → PutsVerdict net answer end
+  pub verdict_put : (answer : List ℕ) (end : End) → check_answers tt net answer end → PutsVerdict net answer end
   verdict_put answer end (inl (closes, puts)) = inl (closing_controls closes, puts)
   verdict_put answer end (inr (cert, of, puts)) =
       let accepted = certificate_accepted cert of in

@@ -17,7 +17,6 @@ use Rattle.commands.specs.declared.endings.End.{End}
 use Rattle.commands.specs.declared.endings.End.TheVariants.{Done, Refused}
 use Rattle.stnu_run.specs.Faults.{refusing}
 use Rattle.stnu_run.specs.PlanText.{plan_begun, plan_reader}
-use Rattle.stnu_run.specs.declared.checking.Check.{Check}
 use Rattle.stnu_run.specs.declared.plan_text.PlanText.{PlanText}
 
 -- the line `controllable`
@@ -52,17 +51,17 @@ pub record IsCertificateOf (net : Plan) (cert : Certificate) : Type 0 where
   pub is : cert ≡ certificate_by net nodes lines walk
 
 -- the answer to a network: that it is controllable where the reference rounds close, else its refutation
-abbrev pub check_answers : Check → Plan → List ℕ → End → Type 0
+abbrev pub check_answers : Unit {0} → Plan → List ℕ → End → Type 0
 check_answers question net answer end =
     (RoundsClose net × PutsControllable answer end) ⊎ ((cert : Certificate) × IsCertificateOf net cert × PutsRefuted cert answer end)
 
--- how far the input of `check` was read
+-- how far the input of `check` was read; nothing is seen of the question, in which the number of workers stands
 abbrev pub Checking : Type 0
-Checking = Asked Check PlanText
+Checking = Asked (Unit {0}) PlanText
 
 -- before the first line
 abbrev pub check_start : Checking
-check_start = record { question = record {}; text = plan_begun }
+check_start = record { question = tt; text = plan_begun }
 
 -- what `check` means
 abbrev pub check_machine : Machine Checking

@@ -1,12 +1,14 @@
 -- The phase of `run` that executes a network over lines of events: each feed is answered by its acts and the next due moment. This
 -- project's own choice.
 use Rattle.std.specs.Prelude.{◌≡◌, ◌⊎◌, ℕ, ◌+◌, ◌*◌, List, [], ◌++◌, length, Option}
-use Rattle.net_model.specs.Network.{Plan}
+use Rattle.std.specs.List.{All}
+use Rattle.net_model.specs.Network.{Plan, IsPoint}
 use Rattle.net_model.specs.declared.format.FormatKind.{FormatKind}
 use Rattle.net_model.specs.declared.format.FormatKind.TheVariants.{NoEnd}
 use Rattle.plan_port.specs.Limits.{most_line}
 use Rattle.event_stream.specs.EventText.{EventLine, blank, completed, done, IsLine, IsFaultOf}
 use Rattle.execution_model.specs.Feeding.{Execution, IsFed, IsFinished, IsDueAnswer}
+use Rattle.execution_model.specs.declared.feeding.Act.{Act}
 use Rattle.execution_model.specs.declared.feeding.Fed.{Fed}
 use Rattle.execution_model.specs.declared.feeding.Fed.TheVariants as fed
 use Rattle.execution_model.specs.declared.feeding.Finished.{Finished}
@@ -17,7 +19,7 @@ use Rattle.commands.specs.declared.endings.End.TheVariants as ends
 use Rattle.commands.specs.declared.machines.Onward.{Onward}
 use Rattle.commands.specs.declared.machines.Onward.TheVariants.{Goes, Ends}
 use Rattle.stnu_run.specs.Course.{Course, IsCourse}
-use Rattle.stnu_run.specs.EventAnswers.{acts_text, due_line, complete_line, why_words, unfinished_words, event_line, event_fault_line, most_act}
+use Rattle.stnu_run.specs.EventAnswers.{acts_text, due_line, complete_line, NamesPoints, why_words, unfinished_words, event_line, event_fault_line, most_act}
 use Rattle.stnu_run.specs.Faults.{fault_line, fault_end, stop_fault}
 use Rattle.stnu_run.specs.declared.faults.Fault.TheVariants.{Format}
 
@@ -34,10 +36,16 @@ AnswersFeed state number (fed.Refused cause) after answer onward = RefusesEvent 
 AnswersFeed state number (fed.Ended cause) after answer onward = RefusesEvent number (why_words state.net cause) answer onward
 
 -- the answer to the end: the acts that remain, or the contingent point that has not completed
-abbrev pub AnswersEnd : Course → ℕ → Finished → Execution → List ℕ → Onward Course → Type 0
-AnswersEnd state number finished.Complete after answer onward = (answer ≡ acts_text state.net after.acts ++ complete_line) × (onward ≡ Ends ends.Done)
-AnswersEnd state number (finished.Unfinished point) after answer onward = RefusesEvent number (unfinished_words state.net point) answer onward
-AnswersEnd state number (finished.Ended cause) after answer onward = RefusesEvent number (why_words state.net cause) answer onward
+abbrev pub AnswersEnd : Plan → ℕ → Finished → Execution → List ℕ → Onward Course → Type 0
+AnswersEnd net number finished.Complete after answer onward = (answer ≡ acts_text net after.acts ++ complete_line) × (onward ≡ Ends ends.Done)
+AnswersEnd net number (finished.Unfinished point) after answer onward = RefusesEvent number (unfinished_words net point) answer onward
+AnswersEnd net number (finished.Ended cause) after answer onward = RefusesEvent number (why_words net cause) answer onward
+
+-- what an end speaks of are points of a network: those of its acts, the one that has not completed, and those of the cause
+abbrev pub EndsAmong : Plan → Finished → Execution → Type 0
+EndsAmong net finished.Complete after = All (λ (act : Act). IsPoint net act.point) after.acts
+EndsAmong net (finished.Unfinished point) after = IsPoint net point
+EndsAmong net (finished.Ended cause) after = NamesPoints net cause
 
 -- the answer to what a line of events tells
 abbrev pub AnswersEvent : Course → ℕ → EventLine → List ℕ → Onward Course → Type 0
@@ -46,7 +54,7 @@ AnswersEvent state number (completed moment points) answer onward =
     (answered : Fed) × (after : Execution) × IsFed state.execution moment points answered after
     × AnswersFeed state number answered (record state { execution = after; listed = points }) answer onward
 AnswersEvent state number done answer onward =
-    (answered : Finished) × (after : Execution) × IsFinished state.execution answered after × AnswersEnd state number answered after answer onward
+    (answered : Finished) × (after : Execution) × IsFinished state.execution answered after × AnswersEnd state.net number answered after answer onward
 
 -- where the run goes on, it does for the same network
 abbrev pub GoesWith : Plan → Onward Course → Type 0

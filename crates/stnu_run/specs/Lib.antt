@@ -18,3 +18,5 @@ pub mod Due
 pub mod Day
 pub mod EventFaults
 pub mod RunPromise
+pub mod Options
+pub mod OptionLaws

@@ -21,7 +21,6 @@ use Rattle.stnu_run.specs.EventAnswers.{due_line}
 use Rattle.stnu_run.specs.Executing.{executing_machine}
 use Rattle.stnu_run.specs.Faults.{refusing}
 use Rattle.stnu_run.specs.PlanText.{plan_begun, plan_reader}
-use Rattle.stnu_run.specs.declared.running.Run.{Run}
 use Rattle.stnu_run.specs.declared.running.Examined.{Examined}
 use Rattle.stnu_run.specs.declared.running.Examined.TheVariants.{Controllable, Refuted}
 use Rattle.stnu_run.specs.declared.plan_text.PlanText.{PlanText}
@@ -59,16 +58,16 @@ IsExamined net (Controllable dispatch) =
     ((closing : RoundsClose net) × (dispatch ≡ dispatchable net closing.after.table)) × IsDispatchOf net dispatch × (length dispatch ≡ length net.points)
 IsExamined net (Refuted certificate) = IsCertificateOf net certificate × HasWeights certificate
 
-abbrev pub run_begins : Run → Plan → List ℕ → Onward Course → Type 0
+abbrev pub run_begins : Unit {0} → Plan → List ℕ → Onward Course → Type 0
 run_begins start net answer onward = BeginsExecution net answer onward ⊎ BeginsRefuted net answer onward
 
--- how far the input of `run` was read
+-- how far the input of `run` was read; nothing is seen of how it begins, in which the number of workers stands
 abbrev pub Running : Type 0
-Running = Planned Run PlanText Course
+Running = Planned (Unit {0}) PlanText Course
 
 -- before the first line
 abbrev pub run_start : Running
-run_start = Reading (record {}) plan_begun
+run_start = Reading tt plan_begun
 
 -- what `run` means
 abbrev pub run_machine : Machine Running

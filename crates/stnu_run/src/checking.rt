@@ -1,16 +1,19 @@
 //! The command `check`: a plan, and then whether the network that it declares is controllable.
 
-ghost use Rattle.std.specs.Prelude.{◌≡◌, ◌++◌, ◌∷◌, ℕ, [], List, IfOk, OnOk};
-ghost use Rattle.closure_model.specs.Derivations.{StandsOn};
+ghost use Rattle.std.specs.Prelude.{◌≡◌, ◌≤◌, ◌++◌, ◌∷◌, ℕ, [], List, IfOk, OnOk};
+ghost use Rattle.commands.specs.Limits.{least_room};
+ghost use Rattle.closure_model.specs.Derivations.{StandsOn, base_support};
 ghost use Rattle.closure_model.specs.Orders.{IsCycle};
 ghost use Rattle.cert_format.specs.CertificateWords.{HasWeights};
 ghost use Rattle.cert_format.specs.declared.certificate.Certificate.{Certificate};
 ghost use Rattle.refutations.specs.Certifying.{IsCertificateBy};
+ghost use Rattle.parallel_rounds.specs.Propagated.{IsPropagated};
 ghost use Rattle.stnu_run.specs.CheckPromise.{CheckPromise};
-ghost use Rattle.stnu_run.specs.Checking.{check_answers, check_start, PutsControllable, PutsRefuted};
+ghost use Rattle.stnu_run.specs.Checking.{check_answers, check_machine, check_start, PutsControllable, PutsRefuted};
 
 use crate::plan_text::PlanText;
 use crate::promising::Promising;
+use crate::workers::Workers;
 use cert_checker::laws::accepted_excludes;
 use cert_format::{Certificate, print_certificate};
 use closure_model::laws::base_stands;
@@ -19,38 +22,60 @@ use commands::{Answer, Asked, End, Question, Word};
 use controllability::laws::closures_decide;
 use derivation_dag::Plain;
 use net_model::{Network, PointId};
-use parallel_rounds::{NoGate, Outcome, propagate};
+use parallel_rounds::Outcome;
 use refutations::laws::refutations_are_accepted;
 use refutations::refutation;
 use std::alloc::{AllocError, Global};
+use std::marker::Model;
+use std::thread::Threads;
 
 /// Whether a network is controllable: the command `check` reads a plan, and puts `controllable` where a strategy controls its network,
 /// else `not controllable` and a certificate which `judge` accepts. It ends with 0 in the first case, and with 1 in the second.
-#[derive(Clone, Copy)]
-pub struct Check;
+#[derive(Drop)]
+pub struct Check {
+    workers: Workers,
+}
+
+impl Model for Check {
+    ghost Value = { Unit {0} };
+
+    ghost view = { λ check. tt };
+}
 
 impl Question<Network> for Check {
     ghost answers = { check_answers };
 
-    fn answer(self, alloc: Global, answer: &mut Answer, value: Network) -> Result<End, AllocError> {
-        put_verdict(alloc, answer, &value)
+    fn answer<R: Threads + Sync>(
+        self,
+        rt: &R,
+        alloc: Global,
+        answer: &mut Answer,
+        value: Network,
+    ) -> Result<End, AllocError> {
+        put_verdict(rt, alloc, answer, &value, &self.workers)
     }
 }
 
 /// The command: how far its input was read.
 pub type Checking = Asked<Check, PlanText>;
 
+impl Check {
+    /// The command before the first line.
+    pub(crate) fn begun(alloc: Global, workers: Workers) -> Checking
+        ensures start { result ≡ check_start }
+        ensures room { check_machine.room result ≤ least_room }
+    {
+        Asked {
+            question: Check { workers },
+            text: PlanText::new(alloc),
+        }
+    }
+}
+
 impl Promising for Checking {
     ghost start = { check_start };
 
     ghost promise = { CheckPromise };
-
-    fn begun(alloc: Global) -> Checking {
-        Asked {
-            question: Check,
-            text: PlanText::new(alloc),
-        }
-    }
 
     fn keeps_its_promise() {
         accepted_excludes();
@@ -69,15 +94,37 @@ impl Promising for Checking {
 }
 
 /// Puts whether a network is controllable into the buffer, which is empty.
-fn put_verdict(alloc: Global, answer: &mut Answer, net: &Network) -> Result<End, AllocError>
+fn put_verdict<R: Threads + Sync>(
+    rt: &R,
+    alloc: Global,
+    answer: &mut Answer,
+    net: &Network,
+    workers: &Workers,
+) -> Result<End, AllocError>
     requires { answer.old.text ≡ [] }
-    ensures { IfOk result (λ end. check_answers (record {}) net.now answer.new.text end) }
+    ensures { IfOk result (λ end. check_answers tt net.now answer.new.text end) }
 {
     let mut store = Plain::of(alloc, net)?;
-    match propagate(alloc, net, &mut store, 1, &NoGate)? {
+    let outcome = workers.propagate(rt, alloc, net, &mut store)?;
+    put_outcome(alloc, answer, net, &store, &outcome)
+}
+
+/// Puts what the propagation from the base table of a network shows, by its outcome and the store that it left.
+fn put_outcome(
+    alloc: Global,
+    answer: &mut Answer,
+    net: &Network,
+    store: &Plain,
+    outcome: &Outcome,
+) -> Result<End, AllocError>
+    requires empty { answer.old.text ≡ [] }
+    requires propagated { IsPropagated net.now (base_support net.now) store.now outcome.now }
+    ensures { IfOk result (λ end. check_answers tt net.now answer.new.text end) }
+{
+    match outcome {
         Outcome::Closed { .. } => put_controllable(answer),
         Outcome::Looped { cycle, .. } => {
-            put_refutation(alloc, answer, net, &store, cycle.as_slice())
+            put_refutation(alloc, answer, net, store, cycle.as_slice())
         }
     }
 }

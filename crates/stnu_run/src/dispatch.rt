@@ -1,26 +1,36 @@
 //! The commands of the program, and the run of the one that the words name.
 
-ghost use Rattle.std.specs.Prelude.{map, string_bytes};
-ghost use Rattle.stnu_run.specs.DefinedRuns.{program_of, program_named, refuses_words};
+ghost use Rattle.std.specs.Prelude.{◌≡◌, map, None, Some, string_bytes, MatchOption};
+ghost use Rattle.stnu_run.specs.DefinedRuns.{program_of, program_named, refuses_words, request_of};
 ghost use Rattle.stnu_run.specs.Programs.{ServesProgram, KeepsPromise, HasCauses, PutsNothingAtNoMemory};
 
-use crate::checking::Checking;
-use crate::judging::Judging;
+use crate::checking::Check;
+use crate::judging::Judge;
+use crate::options::Options;
 use crate::promising::serve_command;
-use crate::running::Running;
+use crate::running::Run;
 use crate::status::Status;
+use crate::workers::Workers;
 use plan_port::{Port, Written, write_all};
 use std::alloc::Global;
+use std::thread::Threads;
 
 /// Does all that the program does: reads the input of the command that the words name over a port, and puts its answers.
-/// The first word is the program's name; the second is the word of a command. Each line is answered before more of the input is
+/// The first word is the program's name; the second is the word of a command. Its options stand after it, in any order and each at most
+/// once: `check` and `run` take `--workers N`, or `--workers=N`, with N from 1 to 64. So many workers, by default 1, make the rows of each
+/// round; how many decides nothing of what is put. Each line is answered before more of the input is
 /// taken, and nothing after the line that ends the command's input is looked at. What a command reads and puts is told beside it.
 ///
 /// The run ends at its first refusal, with one line and a status that say which: `error words` (2), `error format` and
 /// `error plan` (3), `error limit` (4). It ends with 5 where a read failed, after the line `error read`, with 6 where a
 /// write failed, and with 8 for want of memory, before anything was put. Else the command ends it: with 0 (accepted, controllable, or
 /// an execution that is complete), with 1 (refused, or not controllable), or with 7 (an event refused). The words, the answers and the statuses are this project's own choice.
-pub fn run<P: Port>(alloc: Global, words: &Vec<String>, port: &mut P) -> Status
+pub fn run<R: Threads + Sync, P: Port>(
+    rt: &R,
+    alloc: Global,
+    words: &Vec<String>,
+    port: &mut P,
+) -> Status
     // What was taken and put, and when, is what the program of the words defines.
     ensures served { ServesProgram (program_of (map string_bytes words.now.items)) result (P.seen port.old) (P.seen port.new) }
     // What the command of the words promises is kept.
@@ -30,23 +40,42 @@ pub fn run<P: Port>(alloc: Global, words: &Vec<String>, port: &mut P) -> Status
     // For want of memory a run ends only before it has put anything.
     ensures memory { PutsNothingAtNoMemory result (P.seen port.old) (P.seen port.new) }
 {
-    match words.as_slice() {
-        [_, command] => run_command(alloc, command.as_str(), port),
-        _ => refuse_words(port),
+    match request_of(words.as_slice()) {
+        Some((command, options)) => run_command(rt, alloc, command, &options, port),
+        None => refuse_words(port),
     }
 }
 
+/// The command and the options that the words name, or `None` where no command is named, or the words after it are no options.
+fn request_of(words: &[String]) -> Option<(&str, Options)>
+    ensures { MatchOption result
+        (request_of (map string_bytes words.now) ≡ None)
+        (λ request. request_of (map string_bytes words.now) ≡ Some (request.0.now, request.1)) }
+{
+    let (_, words) = words.split_first()?;
+    let (command, words) = words.split_first()?;
+    let options = Options::of(words)?;
+    Some((command.as_str(), options))
+}
+
 /// Runs the command of this word: one line for each command of the program.
-fn run_command<P: Port>(alloc: Global, command: &str, port: &mut P) -> Status
-    ensures served { ServesProgram (program_named command.now) result (P.seen port.old) (P.seen port.new) }
-    ensures kept { KeepsPromise (program_named command.now) result (P.seen port.old) (P.seen port.new) }
-    ensures causes { HasCauses (program_named command.now) result (P.seen port.old) (P.seen port.new) }
+fn run_command<R: Threads + Sync, P: Port>(
+    rt: &R,
+    alloc: Global,
+    command: &str,
+    options: &Options,
+    port: &mut P,
+) -> Status
+    ensures served { ServesProgram (program_named command.now options.now) result (P.seen port.old) (P.seen port.new) }
+    ensures kept { KeepsPromise (program_named command.now options.now) result (P.seen port.old) (P.seen port.new) }
+    ensures causes { HasCauses (program_named command.now options.now) result (P.seen port.old) (P.seen port.new) }
     ensures memory { PutsNothingAtNoMemory result (P.seen port.old) (P.seen port.new) }
 {
+    let workers = Workers::new(options.workers());
     match command {
-        "judge" => serve_command::<Judging, P>(alloc, port),
-        "check" => serve_command::<Checking, P>(alloc, port),
-        "run" => serve_command::<Running, P>(alloc, port),
+        "judge" if options.are_none() => serve_command(rt, alloc, Judge::begun(alloc), port),
+        "check" => serve_command(rt, alloc, Check::begun(alloc, workers), port),
+        "run" => serve_command(rt, alloc, Run::begun(alloc, workers), port),
         _ => refuse_words(port),
     }
 }

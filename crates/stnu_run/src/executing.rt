@@ -7,7 +7,7 @@ ghost use Rattle.execution_model.specs.Feeding.{started, IsDueAnswer};
 ghost use Rattle.live_executor.specs.Sound.{IsDispatchOf};
 ghost use Rattle.event_stream.specs.EventText.{completed, done, said, HasPoints};
 ghost use Rattle.commands.specs.declared.machines.Onward.TheVariants.{Ends};
-ghost use Rattle.stnu_run.specs.Executing.{executing_machine, answer_room, AnswersEvent, GoesWith};
+ghost use Rattle.stnu_run.specs.Executing.{executing_machine, answer_room, AnswersEnd, AnswersEvent, EndsAmong, GoesWith};
 
 use crate::event_answers::{
     MOST_ACT, put_acts, put_complete, put_due, refuse_end, refuse_event, refuse_line,
@@ -22,6 +22,7 @@ use net_model::{FormatKind, Network};
 use plan_port::MOST_LINE;
 use std::alloc::{AllocError, Global};
 use std::marker::Model;
+use std::thread::Threads;
 
 /// The execution of a network over lines of events, as it stands.
 #[derive(Drop)]
@@ -86,8 +87,9 @@ impl Command for Executing {
         MOST_LINE
     }
 
-    fn take_line(
+    fn take_line<R: Threads + Sync>(
         self,
+        _rt: &R,
         _alloc: Global,
         answer: &mut Answer,
         number: u32,
@@ -180,13 +182,31 @@ fn finish(state: Executing, answer: &mut Answer, number: u32) -> End
         mut executor,
         ..
     } = state;
-    match executor.finish() {
+    let finished = executor.finish();
+    put_end(answer, &net, &executor, number, finished)
+}
+
+/// Puts the answer to the end of an execution.
+fn put_end(
+    answer: &mut Answer,
+    net: &Network,
+    executor: &Executor,
+    number: u32,
+    finished: Finished,
+) -> End
+    requires empty { answer.old.text ≡ [] }
+    requires room { answer_room net.now ≤ answer.old.capacity }
+    requires points { (length executor.now.setting.dispatch ≡ length net.now.points) × EndsAmong net.now finished executor.now }
+    ensures answers { AnswersEnd net.now number finished executor.now answer.new.text (Ends result) }
+    ensures capacity { answer.old.capacity ≤ answer.new.capacity }
+{
+    match finished {
         Finished::Complete => {
-            put_acts(answer, &net, executor.acts());
+            put_acts(answer, net, executor.acts());
             put_complete(answer);
             End::Done
         }
-        Finished::Unfinished(point) => refuse_end(answer, &net, number, point),
-        Finished::Ended(why) => refuse_event(answer, &net, number, why),
+        Finished::Unfinished(point) => refuse_end(answer, net, number, point),
+        Finished::Ended(why) => refuse_event(answer, net, number, why),
     }
 }

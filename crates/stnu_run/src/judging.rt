@@ -1,9 +1,10 @@
 //! The command `judge`: a plan, and after it a certificate, which is judged.
 
-ghost use Rattle.std.specs.Prelude.{◌≡◌, OnOk, ◌++◌};
+ghost use Rattle.std.specs.Prelude.{◌≡◌, ◌≤◌, OnOk, ◌++◌};
+ghost use Rattle.commands.specs.Limits.{least_room};
 ghost use Rattle.cert_checker.specs.Judgement.{judgement_of};
 ghost use Rattle.stnu_run.specs.JudgePromise.{JudgePromise};
-ghost use Rattle.stnu_run.specs.Judging.{judge_answers, judgement_line, judgement_end, judge_start};
+ghost use Rattle.stnu_run.specs.Judging.{judge_answers, judgement_line, judgement_end, judge_machine, judge_start};
 
 use crate::certificate_text::CertificateText;
 use crate::plan_text::PlanText;
@@ -14,6 +15,7 @@ use cert_format::Certificate;
 use commands::{Answer, Asked, End, Question, Then, Word};
 use net_model::Network;
 use std::alloc::{AllocError, Global};
+use std::thread::Threads;
 
 /// What the judgement of a certificate of a network is: the command `judge` reads a plan and a certificate, and puts the judgement of
 /// the certificate. It ends with 0 where that is accepted, and with 1 where it is refused.
@@ -23,8 +25,9 @@ pub struct Judge;
 impl Question<(Network, Certificate)> for Judge {
     ghost answers = { judge_answers };
 
-    fn answer(
+    fn answer<R: Threads + Sync>(
         self,
+        _rt: &R,
         alloc: Global,
         answer: &mut Answer,
         value: (Network, Certificate),
@@ -38,17 +41,23 @@ impl Question<(Network, Certificate)> for Judge {
 /// The command: how far its input was read.
 pub type Judging = Asked<Judge, Then<PlanText, Network, CertificateText>>;
 
-impl Promising for Judging {
-    ghost start = { judge_start };
-
-    ghost promise = { JudgePromise };
-
-    fn begun(alloc: Global) -> Judging {
+impl Judge {
+    /// The command before the first line.
+    pub(crate) fn begun(alloc: Global) -> Judging
+        ensures start { result ≡ judge_start }
+        ensures room { judge_machine.room result ≤ least_room }
+    {
         Asked {
             question: Judge,
             text: Then::First(PlanText::new(alloc), CertificateText::new(alloc)),
         }
     }
+}
+
+impl Promising for Judging {
+    ghost start = { judge_start };
+
+    ghost promise = { JudgePromise };
 
     fn keeps_its_promise() {
         accepted_excludes();

@@ -9,11 +9,13 @@ mod executing;
 mod faults;
 mod judging;
 mod laws;
+mod options;
 mod plan_text;
 mod promising;
 mod running;
 mod status;
+mod workers;
 
 pub use dispatch::run;
-pub use laws::defined_run_is_one;
+pub use laws::{defined_run_is_one, options_are_those_spelled, workers_change_nothing};
 pub use status::Status;

@@ -10,6 +10,7 @@ use crate::status::Status;
 use commands::{Command, serve};
 use plan_port::Port;
 use std::alloc::Global;
+use std::thread::Threads;
 
 /// A command of the program, with what it promises of what it puts for an input.
 pub trait Promising: Command {
@@ -18,11 +19,6 @@ pub trait Promising: Command {
 
     /// What is promised of an input, the bytes put for it, and how the run ends.
     ghost promise: { Promise };
-
-    /// The command before the first line.
-    fn begun(alloc: Global) -> Self
-        ensures start { result ≡ start }
-        ensures room { Self.machine.room result ≤ least_room };
 
     /// The law that each run keeps the promise.
     fn keeps_its_promise()
@@ -38,7 +34,14 @@ pub trait Promising: Command {
 }
 
 /// Serves a command over a port, from its first line on.
-pub fn serve_command<C: Promising, P: Port>(alloc: Global, port: &mut P) -> Status
+pub fn serve_command<R: Threads + Sync, C: Promising, P: Port>(
+    rt: &R,
+    alloc: Global,
+    command: C,
+    port: &mut P,
+) -> Status
+    requires start { command ≡ C.start }
+    requires room { C.machine.room command ≤ least_room }
     ensures served { ServesProgram (serves C.machine C.start C.promise) result (P.seen port.old) (P.seen port.new) }
     ensures kept { KeepsPromise (serves C.machine C.start C.promise) result (P.seen port.old) (P.seen port.new) }
     ensures causes { HasCauses (serves C.machine C.start C.promise) result (P.seen port.old) (P.seen port.new) }
@@ -46,5 +49,5 @@ pub fn serve_command<C: Promising, P: Port>(alloc: Global, port: &mut P) -> Stat
 {
     C::keeps_its_promise();
     C::puts_nothing_without_memory();
-    Status(serve(alloc, C::begun(alloc), port).number())
+    Status(serve(rt, alloc, command, port).number())
 }

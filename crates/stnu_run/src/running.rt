@@ -1,18 +1,22 @@
 //! The command `run`: a plan, and then the execution of its network over lines of events.
 
 ghost use Rattle.std.specs.Prelude.{◌≡◌, ◌≤◌, [], length, IfOk, OnOk};
+ghost use Rattle.closure_model.specs.Derivations.{base_support};
+ghost use Rattle.parallel_rounds.specs.Propagated.{IsPropagated};
+ghost use Rattle.commands.specs.Limits.{least_room};
 ghost use Rattle.commands.specs.Machine.{HasRoom};
 ghost use Rattle.execution_model.specs.Feeding.{IsDueAnswer};
 ghost use Rattle.live_executor.specs.Sound.{IsDispatchOf};
 ghost use Rattle.stnu_run.specs.Executing.{executing_machine, answer_room};
 ghost use Rattle.stnu_run.specs.RunPromise.{RunPromise};
-ghost use Rattle.stnu_run.specs.Running.{run_begins, run_start, IsExamined, PutsBegun, GoesOnFrom};
+ghost use Rattle.stnu_run.specs.Running.{run_begins, run_machine, run_start, IsExamined, PutsBegun, GoesOnFrom};
 
 use crate::checking::put_refuted;
 use crate::event_answers::put_due;
 use crate::executing::Executing;
 use crate::plan_text::PlanText;
 use crate::promising::Promising;
+use crate::workers::Workers;
 use cert_checker::laws::accepted_excludes;
 use cert_format::Certificate;
 use closure_model::laws::base_stands;
@@ -24,20 +28,40 @@ use dispatch_net::Dispatch;
 use event_stream::laws::lines_have_one_reading;
 use execution_model::laws as execution_laws;
 use net_model::Network;
-use parallel_rounds::{NoGate, Outcome, propagate};
+use parallel_rounds::Outcome;
 use refutations::laws::refutations_are_accepted;
 use refutations::refutation;
 use std::alloc::{AllocError, Global};
+use std::marker::Model;
+use std::thread::Threads;
 
 /// The execution of a network: the command `run` reads a plan, and puts `controllable` and the first due moment where a strategy controls
 /// its network, else `not controllable` and a certificate which `judge` accepts, and then it ends with 1. Over the lines of events that
 /// follow it puts the acts of each feed and the next due moment, and at the end the acts that remain, and `complete`, and it ends with 0.
 /// An event that no execution of the network shows ends it with 7, after the line `error event` and the cause.
-#[derive(Clone, Copy)]
-pub struct Run;
+#[derive(Drop)]
+pub struct Run {
+    workers: Workers,
+}
+
+impl Model for Run {
+    ghost Value = { Unit {0} };
+
+    ghost view = { λ run. tt };
+}
 
 /// The command: how far its input was read.
 pub type Running = Planned<Run, PlanText, Executing>;
+
+impl Run {
+    /// The command before the first line.
+    pub(crate) fn begun(alloc: Global, workers: Workers) -> Running
+        ensures start { result ≡ run_start }
+        ensures room { run_machine.room result ≤ least_room }
+    {
+        Planned::Reading(Run { workers }, PlanText::new(alloc))
+    }
+}
 
 /// What the propagation through a network shows.
 #[derive(Drop)]
@@ -53,13 +77,14 @@ impl Begin<Network> for Run {
 
     ghost begins = { run_begins };
 
-    fn begin(
+    fn begin<R: Threads + Sync>(
         self,
+        rt: &R,
         alloc: Global,
         answer: &mut Answer,
         value: Network,
     ) -> Result<Onward<Executing>, AllocError> {
-        match examine(alloc, &value)? {
+        match examine(rt, alloc, &value, &self.workers)? {
             Examined::Controllable(dispatch) => begin_execution(alloc, answer, value, dispatch),
             Examined::Refuted(certificate) => {
                 Ok(Onward::Ends(put_refuted(alloc, answer, &certificate)?))
@@ -72,10 +97,6 @@ impl Promising for Running {
     ghost start = { run_start };
 
     ghost promise = { RunPromise };
-
-    fn begun(alloc: Global) -> Running {
-        Planned::Reading(Run, PlanText::new(alloc))
-    }
 
     fn keeps_its_promise() {
         base_stands();
@@ -103,19 +124,39 @@ impl Promising for Running {
 
 /// Makes rounds until the table of a network is closed, and gives the dispatchable network of it, or ends in a cycle, and gives the
 /// refutation by it. `AllocError` comes only for want of memory.
-fn examine(alloc: Global, net: &Network) -> Result<Examined, AllocError>
+fn examine<R: Threads + Sync>(
+    rt: &R,
+    alloc: Global,
+    net: &Network,
+    workers: &Workers,
+) -> Result<Examined, AllocError>
+    ensures { IfOk result (IsExamined net.now) }
+{
+    let mut store = Plain::of(alloc, net)?;
+    let outcome = workers.propagate(rt, alloc, net, &mut store)?;
+    shown_by(alloc, net, &store, &outcome)
+}
+
+/// What the propagation from the base table of a network shows, by its outcome and the store that it left. `AllocError` comes only for
+/// want of memory.
+fn shown_by(
+    alloc: Global,
+    net: &Network,
+    store: &Plain,
+    outcome: &Outcome,
+) -> Result<Examined, AllocError>
+    requires { IsPropagated net.now (base_support net.now) store.now outcome.now }
     ensures { IfOk result (IsExamined net.now) }
 {
     // The proof reads here that the network is sound.
     let _ = net.points();
-    let mut store = Plain::of(alloc, net)?;
-    match propagate(alloc, net, &mut store, 1, &NoGate)? {
+    match outcome {
         Outcome::Closed { order, .. } => {
             let dispatch = Dispatch::of(alloc, net, store.table(), order.as_slice())?;
             Ok(Examined::Controllable(dispatch))
         }
         Outcome::Looped { cycle, .. } => {
-            let certificate = refutation(alloc, net, &store, store.dag(), cycle.as_slice())?;
+            let certificate = refutation(alloc, net, store, store.dag(), cycle.as_slice())?;
             Ok(Examined::Refuted(certificate))
         }
     }

@@ -3,12 +3,12 @@ use Rattle.example_executions.proofs.DispatchFacts.{may_be, sound_graph}
 use Rattle.example_executions.proofs.live.dispatch.Goals as goal
 
 pub of-requires-2 : goal.of-requires-2
-of-requires-2 c =
+of-requires-2 g c =
     may_be c.args.net.now c.propagate.new.store _ c.in-Closed.rounds c.in-Closed.order c.as_slice.result.now c.table.result.now c.points-points.ensures.sound
     c.in_ok-order.ensures.says c.in-Closed.is c.table.ensures c.as_slice.ensures
 
 pub returns-clause-dispatched : goal.returns-clause-dispatched
-returns-clause-dispatched c =
+returns-clause-dispatched g c =
     let plan = c.points-points.ensures.sound in
     record {
       table = c.table.result.now;

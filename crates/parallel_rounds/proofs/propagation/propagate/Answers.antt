@@ -1,12 +1,11 @@
 -- Each turn makes one round of the definition, and they end as what is found or what fell says.
-use Rattle.std.proofs.Common.{◌≡◌, ℕ, length, arith, ap, sym, subst, ◌∙◌}
-use Rattle.closure_model.specs.Derivations.{Support}
+use Rattle.std.proofs.Common.{length, arith, ap, sym, subst, ◌∙◌}
 use Rattle.closure_model.specs.Keys.{Shape}
 use Rattle.closure_model.specs.Tables.{Graph}
 use Rattle.closure_model.proofs.RoundClosing.{standing_fits}
 use Rattle.loop_finder.specs.Found.{found_in, IsWhatItSays}
 use Rattle.loop_finder.specs.declared.found.Found.{Found}
-use Rattle.parallel_rounds.proofs.RoundsSteps.{IsUnderWay, way_at_first, way_on, way_smaller, way_closed, way_looped, rounds_fit}
+use Rattle.parallel_rounds.proofs.RoundsSteps.{way_at_first, way_on, way_smaller, way_closed, way_looped, rounds_fit}
 use Rattle.parallel_rounds.proofs.propagation.propagate.Goals as goal
 
 pub order-requires : goal.order-requires

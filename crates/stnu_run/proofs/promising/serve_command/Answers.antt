@@ -7,7 +7,7 @@ use Rattle.stnu_run.proofs.promising.serve_command.Goals as goal
 pub returns-clause-served : goal.returns-clause-served
 returns-clause-served g c =
     let number : ℕ → Status = λ n. record { 0 = n } in
-    served_from g.C.Command.machine g.C.Promising.start c.begun.result g.C.Promising.promise c.serve.result (number c.number.result) (g.P.Port.seen c.args.port.now) (g.P.Port.seen c.serve.new.port) (ap number c.number.ensures) c.begun.ensures.start c.serve.ensures
+    served_from g.C.Command.machine g.C.Promising.start c.args.command g.C.Promising.promise c.serve.result (number c.number.result) (g.P.Port.seen c.args.port.now) (g.P.Port.seen c.serve.new.port) (ap number c.number.ensures) c.requires.start c.serve.ensures
 
 pub returns-clause-kept : goal.returns-clause-kept
 returns-clause-kept g c =
@@ -17,4 +17,4 @@ returns-clause-kept g c =
 pub returns-clause-memory : goal.returns-clause-memory
 returns-clause-memory g c =
     let number : ℕ → Status = λ n. record { 0 = n } in
-    starved g.C.Command.machine g.C.Promising.start c.begun.result c.serve.result (number c.number.result) (g.P.Port.seen c.args.port.now) (g.P.Port.seen c.serve.new.port) (ap number c.number.ensures) c.begun.ensures.start c.puts_nothing_without_memory.ensures c.serve.ensures
+    starved g.C.Command.machine g.C.Promising.start c.args.command c.serve.result (number c.number.result) (g.P.Port.seen c.args.port.now) (g.P.Port.seen c.serve.new.port) (ap number c.number.ensures) c.requires.start c.puts_nothing_without_memory.ensures c.serve.ensures

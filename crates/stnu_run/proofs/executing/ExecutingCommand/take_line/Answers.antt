@@ -7,7 +7,7 @@ use Rattle.stnu_run.proofs.FeedingLemmas.{told_answers, fault_answers}
 use Rattle.stnu_run.proofs.executing.ExecutingCommand.take_line.Goals as goal
 
 pub returns-in-Ok-clause-takes : goal.returns-in-Ok-clause-takes
-returns-in-Ok-clause-takes c =
+returns-in-Ok-clause-takes g c =
     let inside : Course = record { net = c.self.inside.net; execution = c.self.inside.executor; listed = c.self.inside.events } in
     let listed = c.read-told.new.self in (
       subst IsCourse c.self.view_is c.self.invariant,
@@ -17,7 +17,7 @@ returns-in-Ok-clause-takes c =
     )
 
 pub returns-in-Err-clause-takes : goal.returns-in-Err-clause-takes
-returns-in-Err-clause-takes c =
+returns-in-Err-clause-takes g c =
     let inside : Course = record { net = c.self.inside.net; execution = c.self.inside.executor; listed = c.self.inside.events } in (
       subst IsCourse c.self.view_is c.self.invariant,
       subst (λ (s : Course). TakesEvent s c.args.number c.args.line.now c.refuse_line.new.answer.text (Ends c.refuse_line.result)) c.self.view_is

@@ -6,4 +6,4 @@ use Rattle.stnu_run.specs.Running.{run_begins}
 use Rattle.stnu_run.proofs.running.RunningPromising.puts_nothing_without_memory.Goals as goal
 
 pub returns : goal.returns
-returns c = wants_while_reading run_begins plan_reader refusing executing_machine (λ state wants. wants) (record {}) plan_begun
+returns c = wants_while_reading run_begins plan_reader refusing executing_machine (λ state wants. wants) tt plan_begun

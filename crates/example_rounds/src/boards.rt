@@ -1,0 +1,74 @@
+//! Draws at a board by one seat and by several, and how seats are split and joined.
+
+ghost use Rattle.std.specs.Prelude.{◌≡◌, ◌≤◌, ◌<◌};
+ghost use Rattle.work_board.specs.Boards.{IsSeatOf};
+ghost use Rattle.example_rounds.specs.Seats.{SameSeat};
+
+use std::alloc::Global;
+use std::process::Abort;
+use std::test::Fail;
+use work_board::{Board, Seat};
+
+/// The next number, unless the seat was told that there is nothing left.
+fn next(board: &Board, seat: &mut Seat) -> Option<u32>
+    requires { IsSeatOf board.now seat.old }
+    ensures { SameSeat seat.old seat.new }
+{
+    if seat.told() {
+        return None;
+    }
+    board.draw(seat)
+}
+
+/// One seat draws every number once, in order, and is then told that there is nothing left.
+fn try_alone<R: Abort>(rt: &R, alloc: Global) -> Result<(), Fail> {
+    let (board, mut seat) = Board::new(alloc, 3, 1)?;
+    for number in 0..3 {
+        assert_eq!(rt; next(&board, &mut seat), Some(number));
+        assert!(rt; !seat.told());
+    }
+    assert_eq!(rt; next(&board, &mut seat), None);
+    assert!(rt; seat.told());
+    if seat.told() {
+        board.close(seat);
+    }
+    Ok(())
+}
+
+/// Two seats draw in turn; each number is drawn once.
+fn try_in_turn<R: Abort>(rt: &R, board: &Board, first: &mut Seat, second: &mut Seat)
+    requires first { IsSeatOf board.now first.old }
+    requires second { IsSeatOf board.now second.old }
+    ensures first { SameSeat first.old first.new }
+    ensures second { SameSeat second.old second.new }
+{
+    assert_eq!(rt; next(board, first), Some(0));
+    assert_eq!(rt; next(board, second), Some(1));
+    assert_eq!(rt; next(board, first), Some(2));
+    assert_eq!(rt; next(board, second), None);
+    assert!(rt; second.told() && !first.told());
+}
+
+/// A second seat is split from the first, and joined into it again.
+fn try_together<R: Abort>(rt: &R, alloc: Global) -> Result<(), Fail> {
+    let (board, mut first) = Board::new(alloc, 3, 2)?;
+    let mut second = board.split(&mut first);
+    assert!(rt; first.out() == 1 && first.to_split() == 0);
+    try_in_turn(rt, &board, &mut first, &mut second);
+    board.join(&mut first, second);
+    assert!(rt; first.out() == 0 && first.told());
+    if first.told() {
+        board.close(first);
+    }
+    Ok(())
+}
+
+#[test]
+fn one_seat_draws(rt: HostRuntime) -> Result<(), Fail> {
+    try_alone(&rt, rt.alloc())
+}
+
+#[test]
+fn two_seats_draw(rt: HostRuntime) -> Result<(), Fail> {
+    try_together(&rt, rt.alloc())
+}

@@ -1,0 +1,150 @@
+//! The rows of a round by several workers: what each makes, and that others are made while one is held.
+
+ghost use Rattle.std.specs.Prelude.{◌≡◌, length, IfOk};
+ghost use Rattle.closure_model.specs.ReferenceRow.{HasWeightsWithin};
+ghost use Rattle.closure_model.specs.Tables.{IsFor};
+
+use crate::networks::network;
+use back_propagation::NewRow;
+use labelled_graph::Table;
+use net_model::{Network, PointId};
+use parallel_rounds::{Gate, NoGate, round, work};
+use std::alloc::Global;
+use std::process::Abort;
+use std::sync::atomic::{AtomicBool, AtomicU64, Ordering};
+use std::test::Fail;
+use std::thread::Threads;
+use work_board::Board;
+
+/// The points A, C and D have the numbers 0, 1 and 2.
+const PLAN: &str = "point A|point C|point D|bound b1 D C 1|bound b2 C D -1|link A 3 8 C";
+
+/// The targets of the rows of its base table, and how many edges fall in each.
+const ROWS: [(u32, usize); 3] = [(0, 4), (1, 0), (2, 2)];
+
+/// How often a gate looks, at most, whether the other rows have begun.
+const TURNS: u64 = 500_000_000;
+
+/// Whether rows are those of the plan, in order.
+fn are_rows(rows: &[NewRow]) -> bool {
+    rows.len() == ROWS.len()
+        && rows
+            .iter()
+            .zip(ROWS.as_slice())
+            .all(|(row, wanted)| is_row(row, wanted))
+}
+
+fn is_row(row: &NewRow, wanted: &(u32, usize)) -> bool {
+    row.target.0 == wanted.0 && row.made.as_slice().len() == wanted.1
+}
+
+/// The rows that one worker makes alone.
+fn worked(alloc: Global, net: &Network, table: &Table) -> Result<Vec<NewRow>, Fail>
+    requires fits { IsFor net.now table.now }
+    requires within { HasWeightsWithin net.now table.now }
+    requires three { length net.now.points ≡ 3 }
+{
+    let targets = [PointId(0), PointId(1), PointId(2)];
+    let (board, mut seat) = Board::new(alloc, 3, 1)?;
+    Ok(work(
+        alloc,
+        &board,
+        &mut seat,
+        targets.as_slice(),
+        table,
+        net,
+        &NoGate,
+    )?)
+}
+
+/// Counts the rows that have begun, and holds that of one target until all three have.
+#[derive(Drop)]
+struct Holding {
+    target: u32,
+    begun: AtomicU64,
+    failed: AtomicBool,
+}
+
+impl Holding {
+    fn of(target: u32) -> Holding {
+        Holding {
+            target,
+            begun: AtomicU64::new(0),
+            failed: AtomicBool::new(false),
+        }
+    }
+
+    /// Looks until all rows have begun, for so many turns at most, and says whether they have.
+    fn all_begin(&self) -> bool {
+        for _ in 0..TURNS {
+            if self.begun.load(Ordering::SeqCst) == 3 {
+                return true;
+            }
+        }
+        false
+    }
+
+    /// Whether the row was let go because all rows had begun, and as many have begun as there are.
+    fn was_met(&self) -> bool {
+        !self.failed.load(Ordering::SeqCst) && self.begun.load(Ordering::SeqCst) == 3
+    }
+}
+
+impl Gate for Holding {
+    fn before(&self, target: u32) {
+        self.begun.fetch_add(1, Ordering::SeqCst);
+        if target == self.target && !self.all_begin() {
+            self.failed.store(true, Ordering::SeqCst);
+        }
+    }
+}
+
+/// A round by two workers, of which one holds the row of a target until the other rows have begun.
+fn try_held<R: Threads + Sync + Abort>(
+    rt: &R,
+    alloc: Global,
+    net: &Network,
+    table: &Table,
+    target: u32,
+) -> Result<(), Fail>
+    requires fits { IsFor net.now table.now }
+    requires within { HasWeightsWithin net.now table.now }
+{
+    let gate = Holding::of(target);
+    let rows = round(rt, alloc, table, net, 2, &gate)?;
+    assert!(rt; are_rows(rows.as_slice()), "rows with {target} held");
+    assert!(rt; gate.was_met(), "the row of {target} is held");
+    Ok(())
+}
+
+/// The base table of a network.
+fn base(alloc: Global, net: &Network) -> Result<Table, Fail>
+    ensures fits { IfOk result (λ table. IsFor net.now table) }
+    ensures within { IfOk result (λ table. HasWeightsWithin net.now table) }
+{
+    // The proof reads here that the network is sound.
+    let _ = net.points();
+    Ok(Table::of(alloc, net)?)
+}
+
+#[test]
+fn one_worker_makes_all_rows(rt: HostRuntime) -> Result<(), Fail> {
+    let net = network(rt.alloc(), PLAN)?;
+    let table = base(rt.alloc(), &net)?;
+    if net.points().len() != 3 {
+        return Err("the network has other points".into());
+    }
+    let rows = worked(rt.alloc(), &net, &table)?;
+    assert!(rt; are_rows(rows.as_slice()));
+    Ok(())
+}
+
+#[test]
+fn rows_begin_while_one_is_held(rt: HostRuntime) -> Result<(), Fail> {
+    let net = network(rt.alloc(), PLAN)?;
+    let table = base(rt.alloc(), &net)?;
+    for target in 0..3 {
+        try_held(&rt, rt.alloc(), &net, &table, target)?;
+    }
+    Ok(())
+}

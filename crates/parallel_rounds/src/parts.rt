@@ -1,0 +1,131 @@
+//! The parts of the workers of a round, and how they are put together.
+
+ghost use Rattle.std.specs.Prelude.{◌≡◌, ◌<◌, ◌+◌, ◌++◌, length, vec_len, List, IfOk, OnOk};
+ghost use Rattle.std.specs.List.{All};
+ghost use Rattle.net_model.specs.Network.{IsPoint, Plan};
+ghost use Rattle.net_model.specs.declared.ids.PointId.{PointId};
+ghost use Rattle.closure_model.specs.ReferenceRow.{HasWeightsWithin};
+ghost use Rattle.closure_model.specs.Tables.{IsFor, Graph};
+ghost use Rattle.work_board.specs.Boards.{IsSeatOf};
+ghost use Rattle.parallel_rounds.specs.Gathering.{CanMakeRows, IsFresh, IsFirst, AreSeats, IsPart, IsPartOf, HasRows, AreParts, AllHaveRows};
+ghost use Rattle.work_board.specs.Views.{joined_with};
+
+use crate::gate::Gate;
+use crate::working::work;
+use back_propagation::NewRow;
+use labelled_graph::Table;
+use net_model::{Network, PointId};
+use std::alloc::{AllocError, Global};
+use std::thread::{Threads, map_vec};
+use work_board::{Board, Seat};
+
+/// What the workers of a round share: the targets whose rows they make, the table against which and the network for which they make
+/// them, and the gate before each row.
+#[derive(Drop)]
+pub(crate) struct Task<'a, G> {
+    pub(crate) targets: &'a [PointId],
+    pub(crate) table: &'a Table,
+    pub(crate) net: &'a Network,
+    pub(crate) gate: &'a G,
+}
+
+/// The rows that a worker made, with its seat.
+#[derive(Drop)]
+pub(crate) struct Part {
+    pub(crate) seat: Seat,
+    pub(crate) rows: Vec<NewRow>,
+}
+
+/// All seats of a board, split from the first one, which stands at the end.
+pub(crate) fn all_seats(
+    alloc: Global,
+    board: &Board,
+    mut first: Seat,
+) -> Result<Vec<Seat>, AllocError>
+    requires fresh { IsFresh board.now first }
+    requires first { IsFirst 0 first }
+    ensures seats { IfOk result (λ seats. AreSeats board.now seats.items) }
+    ensures len { IfOk result (λ seats. vec_len seats ≡ first.view.to_split + 1) }
+{
+    let mut seats = Vec::new(alloc);
+    while first.to_split() > 0 {
+        seats.push(board.split(&mut first))?;
+    }
+    seats.push(first)?;
+    Ok(seats)
+}
+
+/// Makes the part of the worker with a seat.
+fn make_part<G: Gate>(
+    alloc: Global,
+    board: &Board,
+    mut seat: Seat,
+    task: &Task<G>,
+) -> Result<Part, AllocError>
+    requires can { CanMakeRows task.now.net.now task.now.table.now task.now.targets.now board.now }
+    requires fresh { IsFresh board.now seat }
+    ensures { IfOk result (IsPartOf task.now.net.now task.now.table.now task.now.targets.now board.now seat) }
+{
+    let rows = work(
+        alloc,
+        board,
+        &mut seat,
+        task.targets,
+        task.table,
+        task.net,
+        task.gate,
+    )?;
+    Ok(Part { seat, rows })
+}
+
+/// The parts of all workers, one for each seat, which they make at once. That of the first seat stands at the end.
+pub(crate) fn all_parts<R: Threads + Sync, G: Gate>(
+    rt: &R,
+    alloc: Global,
+    board: &Board,
+    seats: Vec<Seat>,
+    task: &Task<G>,
+) -> Result<Vec<Result<Part, AllocError>>, AllocError>
+    requires can { CanMakeRows task.now.net.now task.now.table.now task.now.targets.now board.now }
+    requires seats { AreSeats board.now seats.items }
+    ensures parts { IfOk result (λ parts. AreParts board.now parts.items) }
+    ensures rows { IfOk result (λ parts. AllHaveRows task.now.net.now task.now.table.now task.now.targets.now parts.items) }
+{
+    map_vec(
+        rt,
+        seats,
+        &|seat| -> Result<Part, AllocError>
+            requires { CanMakeRows task.now.net.now task.now.table.now task.now.targets.now board.now × IsFresh board.now seat }
+            ensures { IfOk result (IsPartOf task.entry.now.net.now task.entry.now.table.now task.entry.now.targets.now board.entry.now seat) }
+        { make_part(alloc, board, seat, task) },
+    )
+}
+
+/// The first worker's part, with those of the others joined into it. `AllocError` comes where a worker had no memory, or there is none
+/// for all rows.
+pub(crate) fn gather(
+    board: &Board,
+    mut parts: Vec<Result<Part, AllocError>>,
+) -> Result<Part, AllocError>
+    requires { AreParts board.now parts.items }
+    ensures seat { IfOk result (λ all. IsPart board.now all × IsFirst 0 all.seat) }
+    ensures rows { IfOk result (λ all. (net : Plan) (table : Graph) (targets : List PointId) → AllHaveRows net table targets parts.items → HasRows net table targets all) }
+{
+    let mut all = parts.pop().unwrap()?;
+    while let Some(part) = parts.pop() {
+        join_part(board, &mut all, part?)?;
+    }
+    Ok(all)
+}
+
+/// Joins another worker's part into that of the first.
+fn join_part(board: &Board, all: &mut Part, part: Part) -> Result<(), AllocError>
+    requires seats { IsSeatOf board.now all.old.seat × IsSeatOf board.now part.seat }
+    requires out { 0 < all.old.seat.view.out }
+    ensures seat { OnOk result (all.new.seat ≡ record { board = all.old.seat.board; view = joined_with all.old.seat.view part.seat.view }) }
+    ensures rows { OnOk result (all.new.rows.items ≡ all.old.rows.items ++ part.rows.items) }
+{
+    let Part { seat, mut rows } = part;
+    board.join(&mut all.seat, seat);
+    all.rows.append(&mut rows)
+}
