@@ -1,0 +1,98 @@
+//! Plain programs of the same definitions as the workbench's engine, to measure it with. No promise of theirs is proved.
+//!
+//!     plain WAY [--nodes] < PLAN
+//!
+//! WAY is how the verdict is sought: `told` makes rounds whose rows are told which ordinary edges fell in the last round; `stale` makes,
+//! after the first round, the rows whose targets are stale, each from the start; `letter` makes every row of every round, and looks
+//! through all keys for the least; `closing` closes one table without rounds. Prints what `check` prints of a plan without faults. On
+//! standard error stand the rounds and the nodes; with --nodes a line for each node, in order of making, comes first.
+
+mod closing;
+mod plan;
+mod refuting;
+mod rounds;
+mod rows;
+mod table;
+
+use plan::Plan;
+use rounds::{Outcome, Rounds};
+use std::io::{self, Read, Write};
+use std::process::ExitCode;
+
+/// How the verdict is sought.
+#[derive(Clone, Copy, PartialEq, Eq)]
+enum Way {
+    Rounds(rounds::Way),
+    Closing,
+}
+
+fn way_of(word: &str) -> Option<Way> {
+    match word {
+        "told" => Some(Way::Rounds(rounds::Way::Told)),
+        "stale" => Some(Way::Rounds(rounds::Way::Stale)),
+        "letter" => Some(Way::Rounds(rounds::Way::Letter)),
+        "closing" => Some(Way::Closing),
+        _ => None,
+    }
+}
+
+fn by_rounds(plan: &Plan, way: rounds::Way, shows_nodes: bool) -> io::Result<()> {
+    let mut out = io::BufWriter::new(io::stdout().lock());
+    let mut rounds = Rounds::new(plan);
+    let outcome = rounds.propagate(way);
+    if shows_nodes {
+        for node in rounds.nodes() {
+            writeln!(out, "{}", refuting::told(plan, node))?;
+        }
+    }
+    let (made, lines) = match outcome {
+        Outcome::Closed { rounds: made, .. } => (made, vec!["controllable".to_string()]),
+        Outcome::Looped { rounds: made, cycle } => (made, refuting::refutation(plan, &rounds, &cycle)),
+    };
+    for line in lines {
+        writeln!(out, "{line}")?;
+    }
+    out.flush()?;
+    eprintln!("rounds {made} nodes {}", rounds.nodes().len());
+    Ok(())
+}
+
+fn by_closing(plan: &Plan) -> io::Result<()> {
+    let mut out = io::stdout().lock();
+    match closing::close(plan) {
+        Some(_) => writeln!(out, "controllable")?,
+        None => writeln!(out, "not controllable")?,
+    }
+    Ok(())
+}
+
+fn main() -> ExitCode {
+    let words: Vec<String> = std::env::args().skip(1).collect();
+    let way = words.first().and_then(|word| way_of(word));
+    let (Some(way), Some(shows_nodes)) = (way, shows_nodes(&words)) else {
+        eprintln!("usage: plain told|stale|letter|closing [--nodes] < PLAN");
+        return ExitCode::from(2);
+    };
+    let mut text = String::new();
+    if let Err(fault) = io::stdin().read_to_string(&mut text) {
+        eprintln!("plain: {fault}");
+        return ExitCode::from(5);
+    }
+    let plan = Plan::read(&text);
+    let done = match way {
+        Way::Rounds(way) => by_rounds(&plan, way, shows_nodes),
+        Way::Closing => by_closing(&plan),
+    };
+    match done {
+        Ok(()) => ExitCode::SUCCESS,
+        Err(_) => ExitCode::from(6),
+    }
+}
+
+fn shows_nodes(words: &[String]) -> Option<bool> {
+    match words.get(1..)? {
+        [] => Some(false),
+        [word] if word == "--nodes" => Some(true),
+        _ => None,
+    }
+}

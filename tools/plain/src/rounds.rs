@@ -1,0 +1,274 @@
+//! Rounds, until the table is closed or has a cycle of negative ordinary edges.
+
+use crate::plan::Plan;
+use crate::rows::{row, row_by_letter, Fresh, Made, Why};
+use crate::table::{Entry, Key, Table};
+use std::cmp::Reverse;
+use std::collections::BinaryHeap;
+
+/// How a node was made; its premises are nodes before it.
+#[derive(Clone, Copy, Debug)]
+pub enum Rule {
+    Bound(u32),
+    Link(u32),
+    No(u32, u32),
+    Up(u32, u32),
+    Low(u32, u32),
+    Cross(u32, u32),
+    Drop(u32),
+}
+
+/// A node of the derivation list.
+#[derive(Clone, Copy, Debug)]
+pub struct Node {
+    pub rule: Rule,
+    pub from: u16,
+    pub to: u16,
+    /// The number of the label's link, or 65,535 for none.
+    label: u16,
+    pub weight: i32,
+}
+
+impl Node {
+    fn new(rule: Rule, target: u32, key: Key, weight: i32) -> Node {
+        let label = key.label.map_or(u16::MAX, |label| label as u16);
+        Node {
+            rule,
+            from: key.from as u16,
+            to: target as u16,
+            label,
+            weight,
+        }
+    }
+
+    pub fn label(&self) -> Option<u32> {
+        (self.label != u16::MAX).then_some(self.label.into())
+    }
+}
+
+#[derive(Clone, Copy, PartialEq, Eq)]
+pub enum Way {
+    Told,
+    Stale,
+    Letter,
+}
+
+pub enum Outcome {
+    Closed {
+        rounds: usize,
+        #[allow(dead_code)]
+        order: Vec<u32>,
+    },
+    Looped {
+        rounds: usize,
+        cycle: Vec<u32>,
+    },
+}
+
+/// The last order of the points, by their places.
+struct Order {
+    points: Vec<u32>,
+    places: Vec<u32>,
+}
+
+pub struct Rounds<'a> {
+    plan: &'a Plan,
+    table: Table,
+    nodes: Vec<Node>,
+}
+
+impl<'a> Rounds<'a> {
+    /// The base nodes and their table.
+    pub fn new(plan: &'a Plan) -> Rounds<'a> {
+        let mut rounds = Rounds {
+            plan,
+            table: Table::new(plan),
+            nodes: vec![],
+        };
+        for (number, bound) in plan.bounds.iter().enumerate() {
+            rounds.add(
+                bound.to,
+                Key {
+                    from: bound.from,
+                    label: None,
+                },
+                bound.most as i32,
+                Rule::Bound(number as u32),
+            );
+        }
+        for (number, link) in plan.links.iter().enumerate() {
+            let key = Key {
+                from: link.point,
+                label: Some(number as u32),
+            };
+            rounds.add(link.activation, key, -link.high as i32, Rule::Link(number as u32));
+        }
+        rounds
+    }
+
+    pub fn nodes(&self) -> &[Node] {
+        &self.nodes
+    }
+
+    /// The node of an ordinary edge of the table.
+    pub fn node_of(&self, from: u32, to: u32) -> u32 {
+        self.table.entry(to, Key { from, label: None }).expect("an edge of the table").node
+    }
+
+    fn add(&mut self, target: u32, key: Key, weight: i32, rule: Rule) {
+        let number = self.nodes.len() as u32;
+        self.nodes.push(Node::new(rule, target, key, weight));
+        self.table.lower(target, key, weight, number);
+    }
+
+    pub fn propagate(&mut self, way: Way) -> Outcome {
+        let mut rounds = 0;
+        let mut fell: Option<Vec<Vec<Entry>>> = None;
+        let mut order = match self.order() {
+            Ok(order) => order,
+            Err(cycle) => return Outcome::Looped { rounds, cycle },
+        };
+        loop {
+            let targets = self.targets(way, fell.as_deref());
+            let rows: Vec<(u32, Vec<Made>)> = targets
+                .iter()
+                .map(|&target| (target, self.row(way, target, fell.as_deref())))
+                .collect();
+            rounds += 1;
+            if rows.iter().all(|(_, made)| made.is_empty()) {
+                // The order of the closed table, and not an older one that fits it too.
+                if let Ok(last) = self.order() {
+                    order = last;
+                }
+                return Outcome::Closed {
+                    rounds,
+                    order: order.points,
+                };
+            }
+            fell = Some(self.take(rows));
+            if !self.keeps(&order, fell.as_deref().unwrap_or_default()) || way == Way::Letter {
+                match self.order() {
+                    Ok(found) => order = found,
+                    Err(cycle) => return Outcome::Looped { rounds, cycle },
+                }
+            }
+        }
+    }
+
+    fn row(&self, way: Way, target: u32, fell: Option<&[Vec<Entry>]>) -> Vec<Made> {
+        match (way, fell) {
+            (Way::Letter, _) => row_by_letter(self.plan, &self.table, target),
+            (Way::Told, Some(fell)) => row(self.plan, &self.table, target, &Fresh::Fell(fell)),
+            _ => row(self.plan, &self.table, target, &Fresh::All),
+        }
+    }
+
+    /// The targets of the next round, in order: all, or those that are stale.
+    fn targets(&self, way: Way, fell: Option<&[Vec<Entry>]>) -> Vec<u32> {
+        let all = 0..self.plan.points.len() as u32;
+        match (way, fell) {
+            (Way::Letter, _) | (_, None) => all.collect(),
+            (_, Some(fell)) => {
+                let mut are_stale = vec![false; self.plan.points.len()];
+                for point in all.clone().filter(|&point| !fell[point as usize].is_empty()) {
+                    for &target in self.table.targets_of(point) {
+                        are_stale[target as usize] = true;
+                    }
+                }
+                all.filter(|&target| are_stale[target as usize]).collect()
+            }
+        }
+    }
+
+    /// Takes the rows of a round into the list and the table, and gives for each point the ordinary edges into it that fell.
+    fn take(&mut self, rows: Vec<(u32, Vec<Made>)>) -> Vec<Vec<Entry>> {
+        let mut fell = vec![vec![]; self.plan.points.len()];
+        for (target, row) in rows {
+            for made in &row {
+                let rule = self.rule(target, made.why);
+                self.add(target, made.key, made.weight, rule);
+            }
+            let mut keys: Vec<Key> = row.iter().map(|made| made.key).filter(|key| key.label.is_none()).collect();
+            keys.sort_unstable();
+            let into: &mut Vec<Entry> = &mut fell[target as usize];
+            into.extend(keys.iter().filter_map(|key| self.table.entry(target, *key).copied()));
+        }
+        fell
+    }
+
+    fn rule(&self, target: u32, why: Why) -> Rule {
+        let last = |key: Key| self.table.entry(target, key).expect("a premise of the row").node;
+        match why {
+            Why::No(first, key) => Rule::No(first, last(key)),
+            Why::Up(first, key) => Rule::Up(first, last(key)),
+            Why::Low(link, key) => Rule::Low(link, last(key)),
+            Why::Cross(link, key) => Rule::Cross(link, last(key)),
+            Why::Drop(key) => Rule::Drop(last(key)),
+        }
+    }
+
+    /// Whether an order still has each negative ordinary edge that fell go from later to earlier.
+    fn keeps(&self, order: &Order, fell: &[Vec<Entry>]) -> bool {
+        fell.iter().enumerate().all(|(target, edges)| {
+            edges
+                .iter()
+                .all(|edge| edge.weight >= 0 || order.places[target] < order.places[edge.key.from as usize])
+        })
+    }
+
+    /// The order of the points, or the first cycle of negative ordinary edges.
+    fn order(&self) -> Result<Order, Vec<u32>> {
+        let count = self.plan.points.len();
+        let mut waits = vec![0usize; count];
+        let negative = |entry: &&Entry| entry.key.label.is_none() && entry.weight < 0;
+        for target in 0..count as u32 {
+            for entry in self.table.row(target).iter().filter(negative) {
+                waits[entry.key.from as usize] += 1;
+            }
+        }
+        let mut free: BinaryHeap<Reverse<u32>> = (0..count as u32).filter(|&point| waits[point as usize] == 0).map(Reverse).collect();
+        let mut points = vec![];
+        while let Some(Reverse(point)) = free.pop() {
+            points.push(point);
+            for entry in self.table.row(point).iter().filter(negative) {
+                let from = entry.key.from as usize;
+                waits[from] -= 1;
+                if waits[from] == 0 {
+                    free.push(Reverse(entry.key.from));
+                }
+            }
+        }
+        if points.len() == count {
+            let mut places = vec![0; count];
+            for (place, &point) in points.iter().enumerate() {
+                places[point as usize] = place as u32;
+            }
+            return Ok(Order { points, places });
+        }
+        Err(self.cycle(&points))
+    }
+
+    /// The cycle that is met from the lowest point that is not placed.
+    fn cycle(&self, placed: &[u32]) -> Vec<u32> {
+        let count = self.plan.points.len() as u32;
+        let mut is_placed = vec![false; count as usize];
+        for &point in placed {
+            is_placed[point as usize] = true;
+        }
+        let goes = |from: u32, to: u32| {
+            self.table
+                .entry(to, Key { from, label: None })
+                .is_some_and(|entry| entry.weight < 0)
+        };
+        let left: Vec<u32> = (0..count).filter(|&point| !is_placed[point as usize]).collect();
+        let mut path = vec![left[0]];
+        loop {
+            let last = path[path.len() - 1];
+            let next = *left.iter().find(|&&to| goes(last, to)).expect("a point that is not placed goes on");
+            if let Some(place) = path.iter().position(|&point| point == next) {
+                return path.split_off(place);
+            }
+            path.push(next);
+        }
+    }
+}
