@@ -1,10 +1,9 @@
 -- The list of the consequences of an edge of a row holds what the rules give, and nothing else.
-use Rattle.std.proofs.Common.{◌≡◌, ◌≢◌, ℕ, zero, suc, ◌+◌, ◌<◌, ◌≤◌, ℤ, pos, ◌≤ℤ◌, ◌==◌, Bool, true, false, cond, ◌⊎◌, List, [], ◌∷◌, ◌++◌, length, map, get_or, Option, Some, None, refl, ap, sym, subst, ◌∙◌, inl, inr, arith}
-use Rattle.std.specs.Prelude.{slice_get, position}
+use Rattle.std.proofs.Common.{◌≡◌, ◌≢◌, ℕ, zero, suc, ◌+◌, ◌<◌, ◌≤◌, ℤ, ◌==◌, Bool, true, false, ◌⊎◌, List, [], ◌∷◌, ◌++◌, length, map, get_or, Option, Some, None, refl, ap, sym, subst, ◌∙◌, inl, inr, arith}
 use Rattle.std.specs.List.{position_or_len}
 use Rattle.std.proofs.lemmas.List.Sums.{position_or_len_is}
 use Rattle.std.specs.Option.{option_map, option_map_or}
-use Rattle.std.specs.List.{Contains, filter_map, flat_map, range_with_len, All, AllPairs}
+use Rattle.std.specs.List.{Contains, filter_map, flat_map, range_with_len}
 use Rattle.std.proofs.lemmas.Bool.{eqb-true}
 use Rattle.std.proofs.lemmas.Bool.Decides.{nat_tests}
 use Rattle.std.proofs.lemmas.Option.{slice_get_within, get_or_from_slice_get}
@@ -16,8 +15,8 @@ use Rattle.net_model.specs.declared.ids.LinkId.{LinkId}
 use Rattle.net_model.specs.declared.ids.PointId.{PointId}
 use Rattle.net_model.specs.declared.part.Edge.{Edge}
 use Rattle.net_model.specs.declared.part.Link.{Link}
-use Rattle.net_model.proofs.RuleLemmas.{NoCaseGives, no_case_gives, UpperCaseGives, upper_case_gives, LowerCaseGives, lower_case_gives, CrossCaseGives, cross_case_gives}
-use Rattle.closure_model.specs.Keys.{edge_of, ordinary_key, all_points, Shape, IsKey, key_of}
+use Rattle.net_model.proofs.RuleLemmas.{no_case_gives, upper_case_gives, lower_case_gives, cross_case_gives}
+use Rattle.closure_model.specs.Keys.{edge_of, ordinary_key, all_points, Shape, key_of}
 use Rattle.closure_model.specs.Tables.{Graph, HasEdge, weight_of, IsGraph}
 use Rattle.closure_model.specs.ReferenceRow.{given, ordinary_into, from_removal, over_link, from_link, from_first, consequences}
 use Rattle.closure_model.specs.declared.rows.Made.{Made}

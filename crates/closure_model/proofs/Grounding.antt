@@ -1,13 +1,13 @@
 -- The edges that fall stand on the table as it is when they come: each follows from an edge that the table then has.
-use Rattle.std.proofs.Common.{◌≡◌, ◌≢◌, ℕ, zero, suc, ℤ, ◌≤ℤ◌, ◌<ℤ◌, Bool, true, false, cond, ◌⊎◌, List, [], ◌∷◌, ◌++◌, map, fold, Option, Some, None, refl, ap, sym, subst, ◌∙◌, inl, inr, arith}
+use Rattle.std.proofs.Common.{◌≡◌, ◌≢◌, Bool, true, false, cond, List, [], ◌∷◌, ◌++◌, map, fold, Some, refl, ap, sym, subst, ◌∙◌}
 use Rattle.std.specs.List.{Contains}
 use Rattle.std.proofs.lemmas.List.{map_push}
-use Rattle.std.proofs.lemmas.List.Sums.{fold_push, fold-append}
+use Rattle.std.proofs.lemmas.List.Sums.{fold_push}
 use Rattle.net_model.specs.Network.{Plan}
 use Rattle.net_model.specs.declared.ids.PointId.{PointId}
 use Rattle.net_model.specs.declared.part.Edge.{Edge}
-use Rattle.closure_model.specs.Keys.{Key, key_of, edge_of}
-use Rattle.closure_model.specs.Tables.{Graph, HasEdge, HasAtMost, weight_of, lowered, with_edge, has_at_most}
+use Rattle.closure_model.specs.Keys.{Key, key_of}
+use Rattle.closure_model.specs.Tables.{Graph, HasEdge, weight_of, lowered, with_edge, has_at_most}
 use Rattle.closure_model.specs.ReferenceRow.{with_made, IsBelow}
 use Rattle.closure_model.specs.declared.rows.Made.{Made}
 use Rattle.closure_model.proofs.Consequences.{IsConsequence}

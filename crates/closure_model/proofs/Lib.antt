@@ -30,3 +30,12 @@ pub mod RoundClosing
 pub mod RowRun
 pub mod RoundsLaw
 pub mod Rooms
+pub mod RowsAfter
+pub mod RowsNeedRows
+pub mod Walks
+pub mod FewRounds
+pub mod RoundsEndings
+pub mod LeanRuns
+pub mod ThinnedLemmas
+pub mod FreshLemmas
+pub mod OrderStays

@@ -1,7 +1,8 @@
 -- What holds of each element of a list that is made from others, and what such a list holds.
-use Rattle.std.proofs.Common.{◌≡◌, zero, suc, ◌⊎◌, List, [], ◌∷◌, ◌++◌, map, refl, ap, sym, subst, inl, inr, arith}
+use Rattle.std.proofs.Common.{◌≡◌, zero, suc, Bool, true, false, cond, ◌⊎◌, List, [], ◌∷◌, ◌++◌, map, refl, ap, sym, subst, inl, inr, arith}
+use Rattle.std.specs.Prelude.{filter}
 use Rattle.std.specs.List.{AllByRecursion, Contains, flat_map}
-use Rattle.std.proofs.lemmas.List.Elements.{Contains-append_left, Contains-append_right}
+use Rattle.std.proofs.lemmas.List.Elements.{Contains-append_cases, Contains-append_left, Contains-append_right}
 
 pub Contains-head : {X : Type 0} (x : X) (xs : List X) → Contains (x ∷ xs) x
 Contains-head x xs = (0, omega arith, refl)
@@ -32,6 +33,26 @@ Contains-flat_map f [] x y outer inner = absurd (Contains-none x outer)
 Contains-flat_map f (z ∷ zs) x y (zero, inside, at) inner = Contains-append_left (f z) (flat_map f zs) y (subst (λ w. Contains (f w) y) (sym at) inner)
 Contains-flat_map f (z ∷ zs) x y (suc k, inside, at) inner =
     Contains-append_right (f z) (flat_map f zs) y (Contains-flat_map f zs x y (k, omega arith, at) inner)
+
+pub Contains-flat_map_from : {X Y : Type 0} (f : X → List Y) (xs : List X) (y : Y) → Contains (flat_map f xs) y → (x : X) × Contains xs x × Contains (f x) y
+Contains-flat_map_from f [] y inside = absurd (Contains-none y inside)
+Contains-flat_map_from f (x ∷ xs) y inside = by (Contains-flat_map_from f xs y) (Contains-append_cases (f x) (flat_map f xs) y inside)
+  where
+    by : (Contains (flat_map f xs) y → (z : _) × Contains xs z × Contains (f z) y) → Contains (f x) y ⊎ Contains (flat_map f xs) y → (z : _) × Contains (x ∷ xs) z × Contains (f z) y
+    by rest (inl here) = (x, Contains-head x xs, here)
+    by rest (inr there) = let (z, at, is) = rest there in (z, Contains-tail x xs z at, is)
+
+pub Contains-filter_from : {X : Type 0} (keep : X → Bool) (xs : List X) (x : X) → Contains (filter keep xs) x → Contains xs x
+Contains-filter_from keep [] x inside = absurd (Contains-none x inside)
+Contains-filter_from keep (y ∷ ys) x inside = by (λ there. Contains-filter_from keep ys x there) (keep y) inside
+  where
+    by : (Contains (filter keep ys) x → Contains ys x) → (b : Bool) → Contains (cond b (y ∷ filter keep ys) (filter keep ys)) x → Contains (y ∷ ys) x
+    by rest true inside = either (Contains-cases y (filter keep ys) x inside)
+      where
+        either : (y ≡ x) ⊎ Contains (filter keep ys) x → Contains (y ∷ ys) x
+        either (inl is) = subst (Contains (y ∷ ys)) is (Contains-head y ys)
+        either (inr there) = Contains-tail y ys x (rest there)
+    by rest false inside = Contains-tail y ys x (rest inside)
 
 pub each-append : {X : Type 0} (P : X → Type 0) (xs ys : List X) → AllByRecursion P xs → AllByRecursion P ys → AllByRecursion P (xs ++ ys)
 each-append P [] ys here there = there

@@ -38,7 +38,7 @@ find_some p (y ∷ ys) x found = by (find_some p ys x) (p y) refl found
     by rest true is here = let same : y ≡ x = cc in record { inside = subst (Contains (y ∷ ys)) same (Contains-head y ys); passes = ap p (sym same) ∙ is }
     by rest false is there = let found = rest there in record { inside = Contains-tail y ys x found.inside; passes = found.passes }
 
-both_true : (a b : Bool) → (a && b) ≡ true → (a ≡ true) × (b ≡ true)
+pub both_true : (a b : Bool) → (a && b) ≡ true → (a ≡ true) × (b ≡ true)
 both_true true b holds = (refl, holds)
 both_true false b holds = absurd cc
 
@@ -338,11 +338,11 @@ walk_more graph before p next walk low went = record { points = All-push (λ (q 
     here d some = ap (λ q. goes graph q next) (last (length (before ++ p ∷ []) - 1) d (omega (arith, length_push before p))) ∙ went
 
 -- the place of a point in a list that has it
-record IsPlace (ps : List PointId) (p : PointId) (k : ℕ) : Type 0 where
+pub record IsPlace (ps : List PointId) (p : PointId) (k : ℕ) : Type 0 where
   pub inside : k < length ps
   pub at : (d : PointId) → get_or ps k d ≡ p
 
-place_of : (ps : List PointId) (p : PointId) → is_among ps p ≡ true → IsPlace ps p (position_or_len (λ q. q.0 == p.0) ps)
+pub place_of : (ps : List PointId) (p : PointId) → is_among ps p ≡ true → IsPlace ps p (position_or_len (λ q. q.0 == p.0) ps)
 place_of [] p among = absurd cc
 place_of (q ∷ ps) p among = by (place_of ps p) (q.0 == p.0) refl among
   where
@@ -395,10 +395,10 @@ cycles_are_met graph first is =
     (in_points graph first found.inside) (from_not (is_among (placed_points graph) first) found.passes) (omega (arith, left_most graph []))
 
 -- ---- an order excludes cycles
-abbrev place : List PointId → PointId → ℕ
+abbrev pub place : List PointId → PointId → ℕ
 place order p = position_or_len (λ q. q.0 == p.0) order
 
-falls_in_order : (graph : Graph) (order : List PointId) → IsOrder graph order → (a b : PointId) → a.0 < graph.shape.points → b.0 < graph.shape.points → goes graph a b ≡ true → place order b < place order a
+pub falls_in_order : (graph : Graph) (order : List PointId) → IsOrder graph order → (a b : PointId) → a.0 < graph.shape.points → b.0 < graph.shape.points → goes graph a b ≡ true → place order b < place order a
 falls_in_order graph order is a b begins ends went = ⊎_elim
     (λ less. less)
     (λ not_less. let same : goes graph a b ≡ false = (λ k. goes graph (sym (one.at a) k) (sym (two.at a) k)) ∙ is.falls (place order a) (place order b) a not_less two.inside in absurd cc)

@@ -1,11 +1,10 @@
 -- How far the weights of a table can still fall: each round in which something falls leaves less.
-use Rattle.std.proofs.Common.{◌≡◌, ◌≢◌, ℕ, zero, suc, ◌+◌, ◌*◌, ◌<◌, ◌≤◌, ℤ, pos, ◌+ℤ◌, ◌≤ℤ◌, ◌<ℤ◌, ◌⊎◌, List, [], ◌∷◌, map, length, Option, Some, None, refl, ap, sym, subst, ◌∙◌, inl, inr, arith}
+use Rattle.std.proofs.Common.{◌≡◌, ◌≢◌, ℕ, ◌+◌, ◌*◌, ◌<◌, ◌≤◌, ℤ, pos, ◌+ℤ◌, ◌≤ℤ◌, ◌<ℤ◌, ◌⊎◌, List, [], ◌∷◌, map, length, Option, Some, None, refl, sym, subst, ◌∙◌, inl, inr, arith}
 use Rattle.std.specs.Prelude.{unsigned_abs, sum_by}
 use Rattle.std.specs.List.{Contains}
 use Rattle.std.proofs.lemmas.Int.{ints}
 use Rattle.std.proofs.lemmas.List.Sums.{sum_by-le, sum_by-cons}
 use Rattle.std.proofs.lemmas.Option.{same_Some}
-use Rattle.std.specs.List.{All}
 use Rattle.net_model.specs.Network.{Plan, IsPlan, greatest}
 use Rattle.net_model.specs.declared.part.Edge.{Edge}
 use Rattle.closure_model.specs.Derivations.{Support, StandsOn}
@@ -18,7 +17,7 @@ use Rattle.closure_model.proofs.Grounding.{AreGrounded, grounded_first}
 use Rattle.closure_model.proofs.KeyLists.{all_keys_whole}
 use Rattle.closure_model.proofs.Lists.{Contains-head, Contains-cases, Contains-none, Contains-map}
 use Rattle.closure_model.proofs.RoundClosing.{standing_fits, standing_sound, standing_within}
-use Rattle.closure_model.proofs.RoundLaw.{StandsAfter, round_is_grounded}
+use Rattle.closure_model.proofs.RoundLaw.{round_is_grounded}
 use Rattle.closure_model.proofs.RoundsLaw.{round_stands_after, rounds_keep_standing}
 use Rattle.closure_model.proofs.TableLemmas.{all_lowered-has, at_most_gives}
 

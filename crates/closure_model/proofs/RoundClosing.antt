@@ -1,6 +1,6 @@
 -- A table that stands on a network and whose rows make nothing fall is the closure of the network.
-use Rattle.std.proofs.Common.{◌≡◌, ◌≢◌, ℕ, zero, suc, ◌+◌, ◌<◌, ◌≤◌, ℤ, pos, ◌+ℤ◌, ◌-ℤ◌, ◌≤ℤ◌, ◌<ℤ◌, ◌⊎◌, List, [], ◌∷◌, ◌++◌, length, map, fold, Option, Some, None, refl, ap, sym, subst, ◌∙◌, inl, inr, arith}
-use Rattle.std.specs.Prelude.{slice_get, unsigned_abs}
+use Rattle.std.proofs.Common.{◌≡◌, ℕ, ◌+◌, ◌<◌, ◌≤◌, ℤ, pos, ◌+ℤ◌, ◌-ℤ◌, ◌≤ℤ◌, ◌<ℤ◌, ◌⊎◌, List, [], ◌∷◌, ◌++◌, length, map, Option, Some, None, refl, ap, sym, subst, ◌∙◌, inl, inr, arith}
+use Rattle.std.specs.Prelude.{unsigned_abs}
 use Rattle.std.specs.Int.{int_max}
 use Rattle.std.specs.Option.{option_map}
 use Rattle.std.specs.List.{Contains, flat_map, All, enumerate_from}
@@ -8,32 +8,30 @@ use Rattle.std.proofs.lemmas.Int.{ints, int_max_is}
 use Rattle.std.proofs.lemmas.Option.{slice_get-map}
 use Rattle.std.proofs.lemmas.List.Elements.{All-contains, Contains-append_left, Contains-append_right}
 use Rattle.std.proofs.Math.ListN.{length-map}
-use Rattle.net_model.specs.Limits.{most_points, most_links, most_size, most_weight}
+use Rattle.net_model.specs.Limits.{most_points, most_links}
 use Rattle.net_model.specs.Network.{Plan, IsPlan, IsLink, greatest}
 use Rattle.net_model.specs.Edges.{IsLinkOf, IsEdge, IsLabelled}
 use Rattle.net_model.specs.Rules.{bound_edge, link_edge, no_case, upper_case, lower_case, cross_case, removal}
 use Rattle.net_model.specs.Rules as rules
 use Rattle.net_model.specs.declared.ids.LinkId.{LinkId}
 use Rattle.net_model.specs.declared.ids.PointId.{PointId}
-use Rattle.net_model.specs.declared.part.Bound.{Bound}
 use Rattle.net_model.specs.declared.part.Edge.{Edge}
 use Rattle.net_model.specs.declared.part.Link.{Link}
 use Rattle.net_model.proofs.NetworkLemmas.{greatest-le}
 use Rattle.net_model.proofs.RuleLemmas.{no_case_gives, upper_case_gives, lower_case_gives, cross_case_gives, removal_gives}
-use Rattle.closure_model.specs.Closure.{IsClosure, HoldsDerivable}
-use Rattle.closure_model.specs.Derivable.{IsDerivable}
+use Rattle.closure_model.specs.Closure.{IsClosure}
 use Rattle.closure_model.specs.Derivations.{Support, StandsOn, base_nodes, edges_of_nodes}
-use Rattle.closure_model.specs.Keys.{Key, key_of, all_points, shape_of, Shape, IsKey, IsLabelAt}
+use Rattle.closure_model.specs.Keys.{key_of, all_points, shape_of, Shape, IsKey, IsLabelAt}
 use Rattle.closure_model.specs.ReferenceRow.{reference_row, with_made, IsInRow, of_table, by_no_case, by_upper_case, by_lower_case, by_cross_case, by_removal}
 use Rattle.closure_model.specs.ReferenceRound.{round_made}
-use Rattle.closure_model.specs.Tables.{Graph, HasEdge, HasAtMost, IsGraph, IsFor, IsClosed, HasBase, IsWeight, base_edges, no_edges, table_of}
+use Rattle.closure_model.specs.Tables.{Graph, HasEdge, HasAtMost, IsGraph, IsFor, IsClosed, HasBase, base_edges, no_edges}
 use Rattle.closure_model.specs.declared.derivation.Node.{Node}
 use Rattle.closure_model.specs.declared.rows.Made.{Made}
 use Rattle.closure_model.proofs.BaseLemmas.{all_contained, numbered_contained}
 use Rattle.closure_model.proofs.Consequences.{all_points_stand}
 use Rattle.closure_model.proofs.Deriving.{longest_within}
 use Rattle.closure_model.proofs.LawProofs.{standing_is_derivable, derivable_are_edges, derivable_are_bounded, closed_and_derivable_is_closure}
-use Rattle.closure_model.proofs.Lists.{Contains-head, Contains-tail, Contains-none, Contains-cases, Contains-map, Contains-map_from}
+use Rattle.closure_model.proofs.Lists.{Contains-none, Contains-cases, Contains-map, Contains-map_from}
 use Rattle.closure_model.proofs.Nodes.{listed_at}
 use Rattle.closure_model.proofs.RowLaw.{row_result}
 use Rattle.closure_model.proofs.Standing.{base_node_edges}

@@ -1,36 +1,30 @@
 -- A round gives each edge that falls a node that follows, so what stood on a network stands on it afterwards.
-use Rattle.std.proofs.Common.{◌≡◌, ◌≢◌, ℕ, zero, suc, ◌+◌, ◌<◌, ◌≤◌, ℤ, ◌≤ℤ◌, ◌<ℤ◌, ◌==◌, ◌&&◌, Bool, true, false, cond, ◌⊎◌, List, [], ◌∷◌, ◌++◌, length, map, fold, Option, Some, None, refl, ap, sym, subst, ◌∙◌, inl, inr, arith, append_assoc, append-nil}
+use Rattle.std.proofs.Common.{◌≡◌, ℕ, zero, suc, ◌+◌, ◌≤◌, ℤ, ◌≤ℤ◌, ◌<ℤ◌, ◌==◌, ◌&&◌, Bool, true, false, cond, List, [], ◌∷◌, ◌++◌, map, fold, Option, Some, None, refl, ap, sym, subst, ◌∙◌, arith}
 use Rattle.std.specs.Prelude.{slice_get, MatchOption}
 use Rattle.std.specs.Option.{option_map, option_map_or, option_and_then}
-use Rattle.std.specs.List.{Contains, flat_map, range_with_len, All}
+use Rattle.std.specs.List.{Contains, flat_map, range_with_len}
 use Rattle.std.proofs.lemmas.Bool.{eqb-true}
 use Rattle.std.proofs.lemmas.Bool.Decides.{nat_tests}
 use Rattle.std.proofs.lemmas.Option.{same_Some}
 use Rattle.std.proofs.lemmas.List.Elements.{All-contains}
-use Rattle.std.proofs.lemmas.List.Sums.{fold-append}
 use Rattle.net_model.specs.Network.{Plan, IsPlan}
-use Rattle.net_model.specs.Rules.{no_case, upper_case, lower_case, cross_case, removal}
-use Rattle.net_model.specs.declared.ids.LinkId.{LinkId}
 use Rattle.net_model.specs.declared.ids.PointId.{PointId}
 use Rattle.net_model.specs.declared.part.Edge.{Edge}
 use Rattle.net_model.proofs.RuleLemmas.{no_case_gives, upper_case_gives, lower_case_gives, cross_case_gives, removal_gives}
-use Rattle.closure_model.specs.Derivations.{Support, StandsOn, with_node, IsTableOf, IsGiven, IsNodeOf, HasNoNode, IsNewest, given_by, node_at, edge_at}
-use Rattle.closure_model.specs.DerivationLaws.{TableTellsNodes}
-use Rattle.closure_model.specs.Keys.{Key, key_of, edge_of, all_points}
-use Rattle.closure_model.specs.Least.{weight_at, IsFirstLeast, HasNoWeight, first_least}
-use Rattle.closure_model.specs.ReferenceRow.{same_label, with_made, reference_row, IsBelow}
-use Rattle.closure_model.specs.ReferenceRound.{is_same_key, weight_for, node_for, rule_for, with_one, round_made, after_round}
+use Rattle.closure_model.specs.Derivations.{Support, StandsOn, with_node, IsTableOf, IsGiven, IsNodeOf, HasNoNode, IsNewest, edge_at}
+use Rattle.closure_model.specs.Keys.{Key, key_of, edge_of}
+use Rattle.closure_model.specs.Least.{weight_at, IsFirstLeast, HasNoWeight}
+use Rattle.closure_model.specs.ReferenceRow.{same_label, with_made, reference_row}
+use Rattle.closure_model.specs.ReferenceRound.{is_same_key, weight_for, node_for, rule_for, with_one, round_made}
 use Rattle.closure_model.specs.Tables.{Graph, HasEdge, weight_of, lowered, IsGraph, IsFor}
 use Rattle.closure_model.specs.declared.derivation.Node.{Node}
 use Rattle.closure_model.specs.declared.derivation.NodeId.{NodeId}
 use Rattle.closure_model.specs.declared.derivation.Rule.{Rule}
 use Rattle.closure_model.specs.declared.derivation.Rule.TheVariants as node_by
 use Rattle.closure_model.specs.declared.rows.Made.{Made}
-use Rattle.closure_model.specs.declared.rows.Why.{Why}
-use Rattle.closure_model.specs.declared.rows.Why.TheVariants.{No, Up, Low, Cross, Drop}
 use Rattle.closure_model.proofs.Consequences.{IsConsequence, removed, moved, crossed, joined, joined_labelled}
-use Rattle.closure_model.proofs.FirstLeast.{FirstIs, first_least_of}
-use Rattle.closure_model.proofs.Grounding.{IsGrounded, AreGrounded, grounded_append, grounded_none, grounded_first, grounded_rest, grounded_cons, lowered_other, with_made_other, AgreeAt, below_agreeing, agree_lowered}
+use Rattle.closure_model.proofs.FirstLeast.{first_least_of}
+use Rattle.closure_model.proofs.Grounding.{IsGrounded, AreGrounded, grounded_append, grounded_none, grounded_first, grounded_rest, grounded_cons, with_made_other, AgreeAt, below_agreeing, agree_lowered}
 use Rattle.closure_model.proofs.LawProofs.{table_tells_nodes, following_keeps_standing}
 use Rattle.closure_model.proofs.Lists.{Contains-head, Contains-tail}
 use Rattle.closure_model.proofs.Nodes.{before_push}
@@ -47,7 +41,7 @@ same_key_is one other same =
     let label : other.label ≡ one.label = sym (same_label_is one.label other.label labels) in
     λ i. record { to = to i; from = from i; label = label i }
 
-is_same_key_of : (one other : Edge) → key_of other ≡ key_of one → is_same_key one other ≡ true
+pub is_same_key_of : (one other : Edge) → key_of other ≡ key_of one → is_same_key one other ≡ true
 is_same_key_of one other same =
     let to : one.to.0 ≡ other.to.0 = ap (λ (k : Key). k.to.0) (sym same) in
     let from : one.from.0 ≡ other.from.0 = ap (λ (k : Key). k.from.0) (sym same) in

@@ -1,12 +1,11 @@
 -- Rounds end in one way; what they make stands on the network; and where they close the table is the closure.
-use Rattle.std.proofs.Common.{◌≡◌, ◌≢◌, ℕ, suc, zero, ◌+◌, List, [], ◌∷◌, map, fold, Some, None, refl, ap, sym, subst, ◌∙◌, arith}
+use Rattle.std.proofs.Common.{◌≡◌, ℕ, suc, List, map, refl, ap, sym, subst, ◌∙◌}
 use Rattle.std.proofs.lemmas.Option.{same_Some}
 use Rattle.net_model.specs.Network.{Plan, IsPlan}
 use Rattle.net_model.specs.declared.ids.PointId.{PointId}
-use Rattle.net_model.specs.declared.part.Edge.{Edge}
 use Rattle.closure_model.specs.Closure.{IsClosure}
 use Rattle.closure_model.specs.Derivations.{Support, StandsOn}
-use Rattle.closure_model.specs.Orders.{first_left, placed_points, cycle_from}
+use Rattle.closure_model.specs.Orders.{cycle_from}
 use Rattle.closure_model.specs.ReferenceRow.{with_made}
 use Rattle.closure_model.specs.ReferenceRound.{round_made, after_round}
 use Rattle.closure_model.specs.ReferenceRounds.{Ending, closed, looped, RoundsEnd, in_cycle, in_order, after_one, RoundsEndInOneWay, RoundsKeepStanding, RoundsThatCloseGiveTheClosure, RoundsStand}

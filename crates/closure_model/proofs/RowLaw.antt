@@ -1,8 +1,8 @@
 -- The reference row is the least row: whatever is derivable in the row is met when all is settled, and what fell is derivable there.
-use Rattle.std.proofs.Common.{◌≡◌, ◌≢◌, ℕ, zero, suc, ◌+◌, ◌<◌, ◌≤◌, ℤ, pos, ◌≤ℤ◌, ◌<ℤ◌, ◌==◌, ◌&&◌, Bool, true, false, cond, ◌⊎◌, List, [], ◌∷◌, ◌++◌, length, map, fold, get_or, Option, Some, None, refl, ap, sym, subst, ◌∙◌, inl, inr, arith}
-use Rattle.std.specs.Prelude.{slice_get, slice_set, int_lt, MatchOption}
+use Rattle.std.proofs.Common.{◌≡◌, ◌≢◌, ℕ, zero, suc, ◌<◌, ◌≤◌, ℤ, ◌≤ℤ◌, ◌<ℤ◌, ◌==◌, Bool, true, false, cond, ◌⊎◌, List, [], ◌∷◌, ◌++◌, length, map, fold, get_or, Option, Some, None, refl, ap, sym, subst, ◌∙◌, inl, inr, arith}
+use Rattle.std.specs.Prelude.{slice_get, slice_set}
 use Rattle.std.specs.Option.{option_map, option_map_or}
-use Rattle.std.specs.List.{Contains, All, AllPairs, AllByRecursion}
+use Rattle.std.specs.List.{Contains, AllPairs, AllByRecursion}
 use Rattle.std.proofs.lemmas.List.{append-nil}
 use Rattle.std.proofs.lemmas.List.Quantifiers.{all_pairs_push}
 use Rattle.std.proofs.lemmas.Bool.{eqb-true}
@@ -17,18 +17,18 @@ use Rattle.net_model.specs.declared.part.Edge.{Edge}
 use Rattle.net_model.specs.declared.part.Link.{Link}
 use Rattle.net_model.proofs.RuleLemmas.{no_case_gives, upper_case_gives, lower_case_gives, cross_case_gives, removal_gives}
 use Rattle.net_model.specs.Rules.{no_case, upper_case, lower_case, cross_case, removal}
-use Rattle.closure_model.specs.Keys.{Key, key_of, edge_of, row_keys, Shape, IsKey, IsLabelAt, shape_of}
-use Rattle.closure_model.specs.Least.{weight_at, IsFirstLeast, HasNoWeight}
+use Rattle.closure_model.specs.Keys.{Key, key_of, edge_of, row_keys, Shape, IsKey, IsLabelAt}
+use Rattle.closure_model.specs.Least.{weight_at}
 use Rattle.closure_model.specs.Tables.{Graph, HasEdge, HasAtMost, weight_of, IsGraph, IsFor}
-use Rattle.closure_model.specs.ReferenceRow.{is_slot_of, has_above, offered, edge_in, open_weight, IsInRow, of_table, by_no_case, by_upper_case, by_lower_case, by_cross_case, by_removal, consequences, slots_after, first_slots, Making, fell, settled_at, settled_times, settled_row, reference_row, with_made, IsLeastRow, IsBelow, IsRowOf, RowsAreLeast, next_slot, IsAllSettled, IsNextSlot}
+use Rattle.closure_model.specs.ReferenceRow.{has_above, offered, edge_in, open_weight, IsInRow, of_table, by_no_case, by_upper_case, by_lower_case, by_cross_case, by_removal, consequences, slots_after, first_slots, Making, fell, settled_times, settled_row, reference_row, with_made, IsLeastRow, IsBelow, IsRowOf, RowsAreLeast, next_slot, IsAllSettled, IsNextSlot}
 use Rattle.closure_model.specs.declared.rows.Made.{Made}
 use Rattle.closure_model.specs.declared.rows.Slot.{Slot}
 use Rattle.closure_model.specs.declared.rows.Why.{Why}
 use Rattle.closure_model.proofs.Weights.{same_weight, le_then, lt_then, le_then_lt, lt_is_le, le_refl, le_of_same, not_below}
-use Rattle.closure_model.proofs.RuleSteps.{Lengthens, GivesLess, at_weight, no_case_lengthens, upper_case_lengthens, lower_case_lengthens, cross_case_lengthens, removal_lengthens, no_case_of_less, upper_case_of_less, lower_case_of_less, cross_case_of_less, removal_of_less}
+use Rattle.closure_model.proofs.RuleSteps.{GivesLess, at_weight, no_case_lengthens, upper_case_lengthens, lower_case_lengthens, cross_case_lengthens, removal_lengthens, no_case_of_less, upper_case_of_less, lower_case_of_less, cross_case_of_less, removal_of_less}
 use Rattle.closure_model.proofs.Consequences.{IsConsequence, removed, moved, crossed, joined, joined_labelled, consequence_is, Follows, removal_stands, lower_case_stands, cross_case_stands, no_case_stands, upper_case_stands}
-use Rattle.closure_model.proofs.Slots.{set_same, set_other, map_set_kept, some_of_map, key_in, slot_of_key, Change, stays, takes, was_slot, slot_after, change_key, change_settled, above, IsMet, met_after, met_after_all, offer_met, offered_keys}
-use Rattle.closure_model.proofs.Grounding.{IsGrounded, AreGrounded, lowered_has, lowered_other, with_made_push, with_made_other, grounded_push, grounded_none}
+use Rattle.closure_model.proofs.Slots.{set_same, set_other, map_set_kept, some_of_map, key_in, slot_of_key, Change, stays, takes, was_slot, slot_after, change_settled, above, IsMet, met_after, met_after_all, offer_met, offered_keys}
+use Rattle.closure_model.proofs.Grounding.{AreGrounded, lowered_has, lowered_other, with_made_push, with_made_other, grounded_push, grounded_none}
 use Rattle.closure_model.proofs.FirstLeast.{FirstIs, first_least-is}
 use Rattle.closure_model.proofs.RowSteps.{unsettled, length-unsettled, slot_there, after_slot, unsettled-after, settled_times-none, settled_times-some}
 use Rattle.closure_model.proofs.TableLemmas.{all_lowered-at_most, all_lowered-has, all_lowered-cases, at_most_below, at_most_from, at_most_gives}

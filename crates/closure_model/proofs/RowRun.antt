@@ -1,15 +1,14 @@
 -- A row under way: what is left to settle leads to the settled row.
-use Rattle.std.proofs.Common.{◌≡◌, ℕ, suc, ◌+◌, ◌<◌, ◌≤◌, ℤ, true, false, cond, List, [], ◌∷◌, ◌++◌, length, map, Option, Some, None, refl, ap, sym, subst, ◌∙◌, arith}
-use Rattle.std.specs.Prelude.{slice_get, unsigned_abs}
+use Rattle.std.proofs.Common.{◌≡◌, ℕ, suc, ◌<◌, ℤ, List, [], ◌∷◌, length, map, Some, None, refl, ap, sym, subst, ◌∙◌, arith}
+use Rattle.std.specs.Prelude.{slice_get}
 use Rattle.std.specs.List.{All}
-use Rattle.std.proofs.Math.ListN.{length-map}
-use Rattle.net_model.specs.Network.{Plan, IsPlan, greatest}
+use Rattle.net_model.specs.Network.{Plan, IsPlan}
 use Rattle.net_model.specs.declared.ids.PointId.{PointId}
 use Rattle.net_model.specs.declared.part.Edge.{Edge}
 use Rattle.closure_model.specs.Keys.{Key, key_of, row_keys, IsKey}
 use Rattle.closure_model.specs.Least.{IsFirstLeast}
 use Rattle.closure_model.specs.ReferenceRow.{Making, first_slot, first_slots, next_slot, open_weight, settled_times, settled_row, reference_row, edge_in, IsInRow, HasWeightsWithin, IsWithin, RowsStayWithin}
-use Rattle.closure_model.specs.Tables.{Graph, HasEdge, IsFor, IsGraph}
+use Rattle.closure_model.specs.Tables.{Graph, IsFor, IsGraph}
 use Rattle.closure_model.specs.declared.rows.Made.{Made}
 use Rattle.closure_model.specs.declared.rows.Slot.{Slot}
 use Rattle.closure_model.proofs.BaseLemmas.{all_contained}

@@ -1,17 +1,14 @@
 -- Each settling leaves one slot fewer to settle, so as many steps as there are slots settle all that can be.
-use Rattle.std.proofs.Common.{◌≡◌, ◌≢◌, ℕ, zero, suc, ◌+◌, ◌<◌, ◌≤◌, ℤ, Bool, true, false, cond, not, List, [], ◌∷◌, ◌++◌, length, map, fold, Option, Some, None, refl, ap, sym, subst, ◌∙◌, arith}
-use Rattle.std.specs.Prelude.{slice_get, slice_set, MatchOption}
-use Rattle.std.specs.List.{count_by}
-use Rattle.std.specs.Option.{option_map, option_map_or, option_and_then}
+use Rattle.std.proofs.Common.{◌≡◌, ℕ, zero, suc, ◌+◌, ◌≤◌, ℤ, Bool, true, false, cond, List, [], ◌∷◌, ◌++◌, length, fold, Option, Some, None, refl, ap, sym, ◌∙◌, arith}
+use Rattle.std.specs.Prelude.{slice_get, slice_set}
+use Rattle.std.specs.Option.{option_map_or, option_and_then}
 use Rattle.net_model.specs.Network.{Plan}
 use Rattle.net_model.specs.declared.ids.PointId.{PointId}
-use Rattle.closure_model.specs.Keys.{Key, row_keys}
-use Rattle.closure_model.specs.Least.{weight_at, IsFirstLeast}
-use Rattle.closure_model.specs.Tables.{Graph, weight_of}
-use Rattle.closure_model.specs.ReferenceRow.{offered, edge_in, open_weight, consequences, slots_after, first_slots, Making, fell, settled_at, settled_times, settled_row, next_slot, IsAllSettled, IsNextSlot}
+use Rattle.closure_model.specs.Least.{weight_at}
+use Rattle.closure_model.specs.Tables.{Graph}
+use Rattle.closure_model.specs.ReferenceRow.{offered, edge_in, open_weight, consequences, slots_after, Making, fell, settled_at, settled_times, next_slot}
 use Rattle.closure_model.specs.declared.rows.Made.{Made}
 use Rattle.closure_model.specs.declared.rows.Slot.{Slot}
-use Rattle.closure_model.proofs.FirstLeast.{FirstIs, first_least-is}
 use Rattle.closure_model.proofs.Slots.{offered_one, change_settled, offered_change}
 
 -- how many slots are not settled

@@ -1,9 +1,7 @@
 -- What a reduction does to the edge that it lengthens: the conclusion is at least as heavy, ends where that edge ends, and a lesser
 -- weight of the edge gives a conclusion of lesser weight.
-use Rattle.std.proofs.Common.{◌≡◌, ◌≢◌, ℕ, ℤ, pos, ◌≤ℤ◌, ◌<ℤ◌, ◌+ℤ◌, ◌-ℤ◌, ◌==◌, ◌&&◌, not, Bool, true, false, cond, List, Option, Some, None, refl, ap, sym, ◌∙◌, subst, arith, is_some, is_none}
-use Rattle.std.specs.Prelude.{slice_get, int_lt}
+use Rattle.std.proofs.Common.{◌≡◌, ◌≢◌, ℕ, ℤ, pos, ◌≤ℤ◌, ◌<ℤ◌, ◌+ℤ◌, ◌-ℤ◌, ◌==◌, not, Bool, true, false, Option, Some, None, refl, ap, sym, ◌∙◌, subst, arith, is_some, is_none}
 use Rattle.std.specs.Int.{int_max}
-use Rattle.std.specs.Option.{option_and_then, option_map_or}
 use Rattle.std.proofs.lemmas.Int.{ints, int_max_is}
 use Rattle.std.proofs.lemmas.Bool.{eqb-true}
 use Rattle.net_model.specs.Network.{Plan}
@@ -13,7 +11,7 @@ use Rattle.net_model.specs.declared.ids.LinkId.{LinkId}
 use Rattle.net_model.specs.declared.ids.PointId.{PointId}
 use Rattle.net_model.specs.declared.part.Edge.{Edge}
 use Rattle.net_model.specs.declared.part.Link.{Link}
-use Rattle.net_model.proofs.RuleLemmas.{NoCaseGives, UpperCaseGives, LowerCaseGives, CrossCaseGives, RemovalGives, no_case_gives, upper_case_gives, lower_case_gives, cross_case_gives, removal_gives}
+use Rattle.net_model.proofs.RuleLemmas.{NoCaseGives, UpperCaseGives, LowerCaseGives, CrossCaseGives, RemovalGives}
 use Rattle.closure_model.proofs.Weights.{lt_true, le_then_lt}
 
 -- ---- sums

@@ -1,22 +1,21 @@
 -- What an offer does to the slots of a row: a slot takes it or stays, and whatever the row met it meets afterwards.
-use Rattle.std.proofs.Common.{◌≡◌, ◌≢◌, ℕ, zero, suc, ◌+◌, ◌<◌, ◌≤◌, ℤ, pos, ◌≤ℤ◌, ◌<ℤ◌, ◌==◌, ◌&&◌, Bool, true, false, cond, ◌⊎◌, List, [], ◌∷◌, ◌++◌, length, map, fold, get_or, Option, Some, None, refl, ap, sym, subst, ◌∙◌, inl, inr, arith}
+use Rattle.std.proofs.Common.{◌≡◌, ◌≢◌, ℕ, zero, suc, ℤ, ◌≤ℤ◌, ◌<ℤ◌, ◌==◌, ◌&&◌, Bool, true, false, cond, List, [], ◌∷◌, map, fold, Option, Some, None, refl, ap, sym, subst, ◌∙◌, arith}
 use Rattle.std.specs.Prelude.{slice_get, slice_set, int_lt}
 use Rattle.std.specs.Option.{option_map, option_map_or}
 use Rattle.std.specs.List.{Contains}
 use Rattle.std.proofs.lemmas.Bool.{eqb-true}
 use Rattle.std.proofs.lemmas.Bool.Decides.{nat_tests}
-use Rattle.std.proofs.lemmas.Option.{slice_get-map, same_Some, slice_get-get_or}
+use Rattle.std.proofs.lemmas.Option.{slice_get-map, same_Some}
 use Rattle.net_model.specs.declared.ids.LinkId.{LinkId}
 use Rattle.net_model.specs.declared.ids.PointId.{PointId}
 use Rattle.net_model.specs.declared.part.Edge.{Edge}
-use Rattle.closure_model.specs.Keys.{Key, key_of, edge_of, row_keys, Shape, IsKey}
-use Rattle.closure_model.specs.ReferenceRow.{same_label, is_slot_of, has_above, taken, offered, edge_in}
+use Rattle.closure_model.specs.Keys.{Key, key_of, row_keys, Shape, IsKey}
+use Rattle.closure_model.specs.ReferenceRow.{same_label, is_slot_of, has_above, taken, offered}
 use Rattle.closure_model.specs.declared.rows.Made.{Made}
 use Rattle.closure_model.specs.declared.rows.Slot.{Slot}
-use Rattle.closure_model.specs.declared.rows.Why.{Why}
 use Rattle.closure_model.proofs.KeyLists.{row_keys_whole}
 use Rattle.closure_model.proofs.BaseLemmas.{slice_get-contained}
-use Rattle.closure_model.proofs.Weights.{lt_is, lt_is_not, lt_is_le, le_then, le_refl, le_of_same}
+use Rattle.closure_model.proofs.Weights.{lt_is, lt_is_not, lt_is_le, le_then, le_refl}
 
 -- ---- lists
 pub set_same : {X : Type 0} (xs : List X) (k : ℕ) (old new : X) → slice_get xs k ≡ Some old → slice_get (slice_set xs k new) k ≡ Some new

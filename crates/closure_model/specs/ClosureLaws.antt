@@ -4,10 +4,12 @@ use Rattle.std.specs.List.{All}
 use Rattle.net_model.specs.Network.{Plan, IsPlan, greatest}
 use Rattle.net_model.specs.Edges.{IsEdge}
 use Rattle.net_model.specs.Rules.{Follows}
+use Rattle.net_model.specs.declared.ids.PointId.{PointId}
 use Rattle.net_model.specs.declared.part.Edge.{Edge}
 use Rattle.closure_model.specs.Tables.{Graph, IsFor, HasBase, IsClosed, IsAtMost}
 use Rattle.closure_model.specs.Derivable.{IsDerivable}
 use Rattle.closure_model.specs.Closure.{IsClosure, HoldsDerivable, IsReached}
+use Rattle.closure_model.specs.Orders.{IsCycle}
 
 -- what follows from derivable edges by one rule is derivable
 abbrev pub RulesKeepDerivable : Type 0
@@ -40,3 +42,7 @@ ClosureIsOne = (net : Plan) (one two : Graph) → IsClosure net one → IsClosur
 -- a closed table of derivable edges is the closure
 abbrev pub ClosedAndDerivableIsClosure : Type 0
 ClosedAndDerivableIsClosure = (net : Plan) (table : Graph) → IsFor net table → IsClosed net table → HoldsDerivable net table → IsClosure net table
+
+-- a cycle of derivable edges is a cycle of the closure
+abbrev pub CyclesAreInClosures : Type 0
+CyclesAreInClosures = (net : Plan) (table closure : Graph) (cycle : List PointId) → IsFor net table → HoldsDerivable net table → IsClosure net closure → IsCycle table cycle → IsCycle closure cycle

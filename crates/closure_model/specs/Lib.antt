@@ -6,6 +6,9 @@ pub mod Least
 pub mod ReferenceRow
 pub mod ReferenceRound
 pub mod ReferenceRounds
+pub mod LeanRows
+pub mod FreshEdges
+pub mod RoundLaws
 pub mod Orders
 pub mod OrderLaws
 pub mod Derivable

@@ -1,8 +1,8 @@
 -- The reference rounds (Morris and Muscettola 2005, in this project's form): before each the order of the table is sought; where it
 -- is a cycle they end with it, and where nothing falls in a round the table is closed. They may start from whatever stands on the
 -- network. No worker, store or edit occurs here.
-use Rattle.std.specs.Prelude.{◌≡◌, ◌≢◌, ◌==◌, ◌+◌, ℕ, suc, ℤ, List, [], ◌∷◌, map, Some, None}
-use Rattle.std.specs.List.{AllZip, Contains, position_or_len}
+use Rattle.std.specs.Prelude.{◌≡◌, ◌≢◌, ◌==◌, ◌+◌, ℕ, suc, List, [], ◌∷◌, map, Some, None}
+use Rattle.std.specs.List.{AllZip, position_or_len}
 use Rattle.net_model.specs.Network.{Plan, IsPlan}
 use Rattle.net_model.specs.declared.ids.PointId.{PointId}
 use Rattle.closure_model.specs.Closure.{IsClosure}

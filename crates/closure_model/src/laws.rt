@@ -1,6 +1,6 @@
 //! Laws about derivable edges, the closure and derivation lists, each the contract of a function without parameters.
 
-ghost use Rattle.closure_model.specs.ClosureLaws.{RulesKeepDerivable, DerivableAreEdges, DerivableAreBounded, ReachedAreDerivable, ClosureIsClosed, ClosureIsWeakest, ClosureIsOne, ClosedAndDerivableIsClosure};
+ghost use Rattle.closure_model.specs.ClosureLaws.{RulesKeepDerivable, DerivableAreEdges, DerivableAreBounded, ReachedAreDerivable, ClosureIsClosed, ClosureIsWeakest, ClosureIsOne, ClosedAndDerivableIsClosure, CyclesAreInClosures};
 ghost use Rattle.closure_model.specs.DerivationLaws.{NodesAreDerivable, PremisesAreEarlier, UnderIsEarlier, LabelledRestOnLinks, BaseStands, FollowingKeepsStanding, StandingIsDerivable, TableTellsNodes, NewestHasTheWeight, NodeOfKeyIsOne};
 
 /// What follows from derivable edges by one rule is derivable.
@@ -41,6 +41,11 @@ pub fn closure_is_one()
 /// A closed table of derivable edges is the closure.
 pub fn closed_and_derivable_is_closure()
     ensures { ClosedAndDerivableIsClosure }
+{}
+
+/// A cycle of derivable edges is a cycle of the closure.
+pub fn cycles_are_in_closures()
+    ensures { CyclesAreInClosures }
 {}
 
 /// The weight of every node of a derivation list is derivable for its key.
