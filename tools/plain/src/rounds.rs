@@ -1,7 +1,7 @@
 //! Rounds, until the table is closed or has a cycle of negative ordinary edges.
 
 use crate::plan::Plan;
-use crate::rows::{row, row_by_letter, Fresh, Made, Why};
+use crate::rows::{row, row_by_letter, Fresh, Made, Slots, Why};
 use crate::table::{Entry, Key, Table};
 use std::cmp::Reverse;
 use std::collections::BinaryHeap;
@@ -123,6 +123,7 @@ impl<'a> Rounds<'a> {
 
     pub fn propagate(&mut self, way: Way) -> Outcome {
         let mut rounds = 0;
+        let mut slots = Slots::new();
         let mut fell: Option<Vec<Vec<Entry>>> = None;
         let mut order = match self.order() {
             Ok(order) => order,
@@ -132,7 +133,7 @@ impl<'a> Rounds<'a> {
             let targets = self.targets(way, fell.as_deref());
             let rows: Vec<(u32, Vec<Made>)> = targets
                 .iter()
-                .map(|&target| (target, self.row(way, target, fell.as_deref())))
+                .map(|&target| (target, self.row(way, target, fell.as_deref(), &mut slots)))
                 .collect();
             rounds += 1;
             if rows.iter().all(|(_, made)| made.is_empty()) {
@@ -155,11 +156,11 @@ impl<'a> Rounds<'a> {
         }
     }
 
-    fn row(&self, way: Way, target: u32, fell: Option<&[Vec<Entry>]>) -> Vec<Made> {
+    fn row(&self, way: Way, target: u32, fell: Option<&[Vec<Entry>]>, slots: &mut Slots) -> Vec<Made> {
         match (way, fell) {
-            (Way::Letter, _) => row_by_letter(self.plan, &self.table, target),
-            (Way::Told, Some(fell)) => row(self.plan, &self.table, target, &Fresh::Fell(fell)),
-            _ => row(self.plan, &self.table, target, &Fresh::All),
+            (Way::Letter, _) => row_by_letter(self.plan, &self.table, target, slots),
+            (Way::Told, Some(fell)) => row(self.plan, &self.table, target, &Fresh::Fell(fell), slots),
+            _ => row(self.plan, &self.table, target, &Fresh::All, slots),
         }
     }
 

@@ -23,14 +23,60 @@ pub struct Made {
     pub why: Why,
 }
 
+/// The weight of a key in the row under work, and whether it is settled.
 #[derive(Clone, Copy)]
 struct Slot {
     weight: i32,
+    /// The number of the row by which it was written; of any other row the key is absent.
+    row: u32,
     why: Option<Why>,
     settled: bool,
 }
 
-const ABSENT: i32 = i32::MAX;
+const ABSENT: Slot = Slot {
+    weight: i32::MAX,
+    row: 0,
+    why: None,
+    settled: false,
+};
+
+/// The slots of rows that are made one after another, written anew by each.
+pub struct Slots {
+    slots: Vec<Slot>,
+    row: u32,
+}
+
+impl Slots {
+    pub fn new() -> Slots {
+        Slots { slots: vec![], row: 0 }
+    }
+
+    /// Begins a row of so many keys.
+    fn begin(&mut self, keys: usize) {
+        self.row += 1;
+        if self.slots.len() < keys {
+            self.slots.resize(keys, ABSENT);
+        }
+    }
+
+    fn slot(&self, place: usize) -> Slot {
+        let slot = self.slots[place];
+        if slot.row == self.row {
+            slot
+        } else {
+            ABSENT
+        }
+    }
+
+    fn put(&mut self, place: usize, weight: i32, why: Option<Why>) {
+        self.slots[place] = Slot {
+            weight,
+            row: self.row,
+            why,
+            settled: false,
+        };
+    }
+}
 
 /// The keys of a row by their places: for each source first its ordinary key, then those of the labels that the target activates.
 struct Keys<'a> {
@@ -60,7 +106,7 @@ struct Row<'a> {
     plan: &'a Plan,
     table: &'a Table,
     keys: Keys<'a>,
-    slots: Vec<Slot>,
+    slots: &'a mut Slots,
     queue: BinaryHeap<Reverse<(i32, usize)>>,
 }
 
@@ -73,68 +119,59 @@ pub enum Fresh<'a> {
 }
 
 /// The edges that fall in the row of a target, in the order of settling.
-pub fn row(plan: &Plan, table: &Table, target: u32, fresh: &Fresh) -> Vec<Made> {
-    let labels = &plan.begins[target as usize];
-    let keys = Keys {
-        labels,
-        width: labels.len() + 1,
-    };
-    let begun: Vec<&Entry> = match fresh {
-        Fresh::All => table.row(target).iter().collect(),
-        Fresh::Fell(fell) => table
-            .row(target)
-            .iter()
-            .filter(|entry| improves(table, target, entry, fell))
-            .collect(),
-    };
-    if begun.is_empty() {
-        return vec![];
-    }
-    let absent = Slot {
-        weight: ABSENT,
-        why: None,
-        settled: false,
-    };
-    let mut slots = vec![absent; table.points() * keys.width];
+pub fn row(plan: &Plan, table: &Table, target: u32, fresh: &Fresh, slots: &mut Slots) -> Vec<Made> {
+    let mut row = Row::new(plan, table, target, slots);
     for entry in table.row(target) {
-        slots[keys.place(entry.key)].weight = entry.weight;
+        let begins = match fresh {
+            Fresh::All => true,
+            Fresh::Fell(fell) => entry.weight < 0 && row.improves(entry, &fell[entry.key.from as usize]),
+        };
+        if begins {
+            row.queue.push(Reverse((entry.weight, row.keys.place(entry.key))));
+        }
     }
-    let mut queue = BinaryHeap::new();
-    for entry in begun {
-        queue.push(Reverse((entry.weight, keys.place(entry.key))));
-    }
-    Row {
-        plan,
-        table,
-        keys,
-        slots,
-        queue,
-    }
-    .settle(fresh)
+    row.settle(fresh)
 }
 
-/// Whether a key with an edge that fell gives an edge that the table does not meet.
-fn improves(table: &Table, target: u32, entry: &Entry, fell: &[Vec<Entry>]) -> bool {
-    entry.weight < 0
-        && fell[entry.key.from as usize].iter().any(|first| {
-            let key = Key {
-                from: first.key.from,
-                label: entry.key.label,
-            };
-            let weight = first.weight.max(0) + entry.weight;
-            table.entry(target, key).map_or(true, |held| weight < held.weight)
+impl<'a> Row<'a> {
+    fn new(plan: &'a Plan, table: &'a Table, target: u32, slots: &'a mut Slots) -> Row<'a> {
+        let labels = &plan.begins[target as usize];
+        let keys = Keys {
+            labels,
+            width: labels.len() + 1,
+        };
+        slots.begin(table.points() * keys.width);
+        for entry in table.row(target) {
+            slots.put(keys.place(entry.key), entry.weight, None);
+        }
+        Row {
+            plan,
+            table,
+            keys,
+            slots,
+            queue: BinaryHeap::new(),
+        }
+    }
+
+    /// Whether a negative key with one of these first premises gives an edge that the table does not meet.
+    fn improves(&self, entry: &Entry, firsts: &[Entry]) -> bool {
+        let column = self.keys.place(entry.key) % self.keys.width;
+        firsts.iter().any(|first| {
+            let place = first.key.from as usize * self.keys.width + column;
+            first.weight.max(0) + entry.weight < self.slots.slot(place).weight
         })
+    }
 }
 
 impl Row<'_> {
     fn settle(mut self, fresh: &Fresh) -> Vec<Made> {
         let mut made = vec![];
         while let Some(Reverse((weight, place))) = self.queue.pop() {
-            let slot = self.slots[place];
+            let slot = self.slots.slot(place);
             if slot.settled {
                 continue;
             }
-            self.slots[place].settled = true;
+            self.slots.slots[place].settled = true;
             let key = self.keys.key(place);
             match (slot.why, fresh) {
                 (Some(why), _) => {
@@ -149,10 +186,8 @@ impl Row<'_> {
     }
 
     fn offer(&mut self, place: usize, weight: i32, why: Why) {
-        let slot = &mut self.slots[place];
-        if weight < slot.weight {
-            slot.weight = weight;
-            slot.why = Some(why);
+        if weight < self.slots.slot(place).weight {
+            self.slots.put(place, weight, Some(why));
             self.queue.push(Reverse((weight, place)));
         }
     }
@@ -202,32 +237,12 @@ impl Row<'_> {
 }
 
 /// The same edges, by looking through all keys for the least, again and again.
-pub fn row_by_letter(plan: &Plan, table: &Table, target: u32) -> Vec<Made> {
-    let labels = &plan.begins[target as usize];
-    let keys = Keys {
-        labels,
-        width: labels.len() + 1,
-    };
-    let absent = Slot {
-        weight: ABSENT,
-        why: None,
-        settled: false,
-    };
-    let mut slots = vec![absent; table.points() * keys.width];
-    for entry in table.row(target) {
-        slots[keys.place(entry.key)].weight = entry.weight;
-    }
-    let mut row = Row {
-        plan,
-        table,
-        keys,
-        slots,
-        queue: BinaryHeap::new(),
-    };
+pub fn row_by_letter(plan: &Plan, table: &Table, target: u32, slots: &mut Slots) -> Vec<Made> {
+    let mut row = Row::new(plan, table, target, slots);
     let mut made = vec![];
     while let Some(place) = row.least() {
-        let slot = row.slots[place];
-        row.slots[place].settled = true;
+        let slot = row.slots.slot(place);
+        row.slots.slots[place].settled = true;
         let key = row.keys.key(place);
         made.extend(slot.why.map(|why| Made {
             key,
@@ -243,11 +258,8 @@ pub fn row_by_letter(plan: &Plan, table: &Table, target: u32) -> Vec<Made> {
 impl Row<'_> {
     /// The key of least weight that is not settled, and of several the first.
     fn least(&self) -> Option<usize> {
-        let waiting = self
-            .slots
-            .iter()
-            .enumerate()
-            .filter(|(_, slot)| !slot.settled && slot.weight != ABSENT);
+        let slots = (0..self.table.points() * self.keys.width).map(|place| (place, self.slots.slot(place)));
+        let waiting = slots.filter(|(_, slot)| !slot.settled && slot.weight != ABSENT.weight);
         waiting.min_by_key(|(place, slot)| (slot.weight, *place)).map(|(place, _)| place)
     }
 }
