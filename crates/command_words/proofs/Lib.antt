@@ -1,0 +1,12 @@
+pub mod DefaultLemmas
+pub mod FaultLemmas
+pub mod LawLemmas
+pub mod LookupLemmas
+pub mod ReadLemmas
+pub mod RowLemmas
+pub mod RuleLemmas
+pub mod SoundLemmas
+pub mod SpelledLemmas
+pub mod TextLemmas
+pub mod TurnLemmas
+pub mod WalkLemmas
