@@ -1,16 +1,15 @@
 -- The words of a line that is printed, and what the buffer of an answer holds. This project's own choice.
 use Rattle.std.specs.Prelude.{ℕ, ◌+◌, List, [], ◌∷◌, map, length}
-use Rattle.std.specs.Fmt.{decimal, signed_decimal}
+use Rattle.std.specs.Fmt.{decimal}
 use Rattle.std.specs.List.{flat_map}
 use Rattle.texts.specs.Printing.{after_blank, printed_line}
 use Rattle.commands.specs.declared.words.Word.{Word}
-use Rattle.commands.specs.declared.words.Word.TheVariants.{Text, Number, Signed, Name}
+use Rattle.commands.specs.declared.words.Word.TheVariants.{Text, Number, Name}
 
 -- the bytes of a word
 abbrev pub word_text : Word → List ℕ
 word_text (Text text) = text.now
 word_text (Number number) = decimal number
-word_text (Signed number) = signed_decimal number
 word_text (Name bytes) = bytes.now
 
 -- these words, each after a blank
@@ -25,7 +24,6 @@ line_of words = printed_line (map word_text words)
 abbrev pub most_word : Word → ℕ
 most_word (Text text) = length text.now
 most_word (Number number) = 20
-most_word (Signed number) = 20
 most_word (Name bytes) = length bytes.now
 
 -- how many bytes a line of these words has at most: each word with a blank, and the line end

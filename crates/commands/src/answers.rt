@@ -1,6 +1,6 @@
 //! The buffer of the answers.
 
-ghost use Rattle.std.specs.Prelude.{◌≡◌, ◌+◌, ◌≤◌, ◌++◌, [], length, IfOk, OnOk, is_ok, if◌then◌else◌};
+ghost use Rattle.std.specs.Prelude.{◌≡◌, ◌+◌, ◌≤◌, ◌++◌, [], length, IfOk, OnErr, OnOk, is_ok, if◌then◌else◌};
 ghost use Rattle.commands.specs.Limits.{least_room};
 ghost use Rattle.commands.specs.Words.{line_of, word_text, words_after, most_word, most_size};
 
@@ -94,6 +94,18 @@ impl Answer {
         Ok(())
     }
 
+    /// Puts a text as it stands, of any number of lines, with more memory where there is no room. `AllocError` comes only for want of
+    /// memory, and then nothing was put.
+    pub fn push_text(&mut self, text: &[u8]) -> Result<(), AllocError>
+        ensures text { OnOk result (self.new.text ≡ self.old.text ++ text.now) }
+        ensures kept { OnErr result (self.new.text ≡ self.old.text) }
+        ensures capacity { self.old.capacity ≤ self.new.capacity }
+    {
+        self.reserve(text.len())?;
+        self.put_bytes(text);
+        Ok(())
+    }
+
     /// Puts a line of these words in place of what stood there, without memory: that of a refusal.
     pub fn refuse(&mut self, words: &[Word])
         requires { most_size words.now ≤ least_room }
@@ -152,7 +164,6 @@ impl Answer {
             Word::Text(text) => self.put_bytes(text.as_bytes()),
             Word::Name(name) => self.put_bytes(name),
             Word::Number(number) => self.put_bytes(Buffer::new().format(number).as_bytes()),
-            Word::Signed(number) => self.put_bytes(Buffer::new().format(number).as_bytes()),
         }
     }
 

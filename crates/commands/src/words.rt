@@ -10,8 +10,6 @@ pub enum Word<'a> {
     Text(&'a str),
     /// A number, in decimal digits.
     Number(u64),
-    /// A number with its sign: `-` and digits where it is below 0.
-    Signed(i64),
     /// A name, by its bytes.
     Name(&'a [u8]),
 }
@@ -24,7 +22,7 @@ impl Word<'_> {
         match self {
             Word::Text(text) => text.len(),
             Word::Name(name) => name.len(),
-            Word::Number(_) | Word::Signed(_) => 20,
+            Word::Number(_) => 20,
         }
     }
 }
