@@ -1,15 +1,10 @@
 -- What the propagation through a network gives for its answer.
-use Rattle.std.proofs.Common.{◌≡◌, ℕ, List, [], ◌∷◌, ◌++◌, refl, sym, ◌∙◌, subst, inl, inr, append_assoc}
-use Rattle.std.specs.List.{flat_map}
-use Rattle.texts.specs.Printing.{joined, printed_line}
+use Rattle.std.proofs.Common.{◌≡◌, ℕ, List, refl, subst, inl, inr}
 use Rattle.net_model.specs.Network.{Plan}
 use Rattle.net_model.specs.declared.ids.PointId.{PointId}
 use Rattle.closure_model.specs.Derivations.{Support, base_support}
 use Rattle.closure_model.specs.ReferenceRounds.{RoundsEnd, closed, looped}
-use Rattle.cert_format.specs.CertificateWords.{line_words, walk_words, header_words, refutation_words, end_words, printed_certificate}
 use Rattle.cert_format.specs.declared.certificate.Certificate.{Certificate}
-use Rattle.cert_format.specs.declared.certificate.Certificate.TheVariants.{Refutation}
-use Rattle.cert_format.proofs.PrintLemmas.{printed_pieces}
 use Rattle.refutations.specs.Certifying.{IsCertificateBy}
 use Rattle.parallel_rounds.specs.Propagated.{IsPropagated}
 use Rattle.parallel_rounds.specs.declared.outcome.Outcome.{Outcome}
@@ -43,9 +38,3 @@ looped_answers net before after outcome rounds cycle answer end base is propagat
       },
       puts,
     )
-
--- the printed text of a certificate ends its last line
-pub ends_its_line : (cert : Certificate) → (front : List ℕ) × (printed_certificate cert ≡ front ++ 10 ∷ [])
-ends_its_line (Refutation lines walk) =
-    let before : List ℕ = ((([] ++ printed_line header_words) ++ printed_line refutation_words) ++ flat_map (λ line. printed_line (line_words line)) lines) ++ flat_map (λ i. printed_line (walk_words i)) walk in
-    (before ++ joined end_words, sym (printed_pieces lines walk) ∙ sym (append_assoc before (joined end_words) (10 ∷ [])))

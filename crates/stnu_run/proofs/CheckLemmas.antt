@@ -5,20 +5,14 @@ use Rattle.net_model.specs.Network.{Plan}
 use Rattle.strategy_model.specs.Control.{IsControllable}
 use Rattle.plan_format.specs.PlanNetwork.{DeclaresNetwork}
 use Rattle.cert_format.specs.CertificateWords.{printed_certificate}
-use Rattle.commands.specs.Runs.{Runs}
 use Rattle.commands.specs.declared.endings.End.{End}
-use Rattle.stnu_run.specs.Checking.{check_answers, check_machine, check_start, controllable_line, refuted_line}
+use Rattle.stnu_run.specs.Checking.{controllable_line, refuted_line}
 use Rattle.stnu_run.specs.CheckPromise.{CheckPromise, PutsVerdict}
 use Rattle.stnu_run.specs.Faults.{fault_line}
-use Rattle.stnu_run.specs.PlanText.{plan_begun, plan_reader}
 use Rattle.stnu_run.specs.ToCheck.{plan_grammar}
-use Rattle.stnu_run.specs.ToRead.{AnswersOrRefuses}
+use Rattle.stnu_run.specs.ToRead.{AnswersOrRefuses, AnswersText}
 use Rattle.stnu_run.specs.declared.faults.Fault.{Fault}
-use Rattle.stnu_run.proofs.NetworkLemmas.{declared_sound}
 use Rattle.stnu_run.proofs.OnceLemmas.{network_one}
-use Rattle.stnu_run.proofs.PlanLemmas.{plan_by, plan_once}
-use Rattle.stnu_run.proofs.TextLemmas.{answers_text}
-use Rattle.stnu_run.proofs.VerdictLemmas.{Laws, verdict_put}
 
 -- the byte at the front
 abbrev first_byte : List ℕ → ℕ
@@ -46,21 +40,10 @@ refutes_by input put end (inl (other, after, is, inr (never, (cert, accepted, pu
     never (subst (λ (n : Plan). IsControllable n) (sym (network_one (lines input) other net after rest is network)) controls)
 refutes_by input put end (inr (fault, first, puts)) more same net rest network controls = no_refusal_is_refuted fault more (sym puts.0 ∙ same)
 
-module _ (laws : Laws) (input put : List ℕ) (end : End) where
-  answers_by : AnswersOrRefuses plan_grammar (check_answers tt) input put end → AnswersOrRefuses plan_grammar PutsVerdict input put end
-  answers_by (inl (net, after, is, answered)) = inl (net, after, is, verdict_put laws net (declared_sound (lines input) net after is) put end answered)
-  answers_by (inr refused) = inr refused
-
-  pub check_keeps : Runs check_machine check_start input put end → CheckPromise input put end
-  check_keeps runs =
-      let text = answers_text plan_reader plan_grammar plan_begun plan_by plan_once check_answers tt input put end runs in
-      let answers = answers_by text.answers in
-      record {
-        checks = record {
-          answers = answers;
-          declared = λ net within. verdict_put laws net (declared_sound _ net _ within.declared) put end (text.declared net within);
-          refuses = text.refuses;
-        };
-        controllable = controllable_by input put end answers;
-        refutes = refutes_by input put end answers;
-      }
+-- where the verdict of the network of an input is put, or the first refusal of the input, the promise is kept
+pub check_keeps : (input put : List ℕ) (end : End) → AnswersText plan_grammar PutsVerdict input put end → CheckPromise input put end
+check_keeps input put end text = record {
+  checks = text;
+  controllable = controllable_by input put end text.answers;
+  refutes = refutes_by input put end text.answers;
+}

@@ -152,10 +152,10 @@ excludes_by law input put end (inl (value, after, both, puts)) same net rest net
 excludes_by law input put end (inr (fault, first, puts)) same net rest network controllable =
     no_refusal_line fault (sym puts.0 ∙ same)
 
-pub judge_keeps : AcceptedExcludes → (input put : List ℕ) (end : End) → Runs judge_machine judge_start input put end → JudgePromise input put end
+pub judge_keeps : AcceptedExcludes → (judge : Judge) (input put : List ℕ) (end : End) → Runs judge_machine (judge_start judge) input put end → JudgePromise input put end
 unfolding accepted
-judge_keeps law input put end runs =
-    let judges = answers_text both_reader judge_grammar (at_plan plan.begun) both_by both_once judge_answers (record {}) input put end runs in
+judge_keeps law judge input put end runs =
+    let judges = answers_text both_reader judge_grammar (at_plan plan.begun) both_by both_once judge_answers judge input put end runs in
     record {
       judges = judges;
       excludes = λ same net rest network controllable. excludes_by law input put end judges.answers same net rest network controllable;

@@ -1,5 +1,5 @@
 -- A run of a program keeps what its command promises, where each run of the command does.
-use Rattle.std.proofs.Common.{◌≡◌, ℕ, ◌==◌, List, [], ◌++◌, Option, Some, None, refl, sym, ap, ◌∙◌, subst, append-nil, if◌then◌else◌}
+use Rattle.std.proofs.Common.{◌≡◌, ◌⊎◌, ℕ, ◌==◌, List, [], ◌++◌, Option, Some, None, refl, sym, ap, ◌∙◌, subst, if◌then◌else◌}
 use Rattle.std.proofs.lemmas.List.{append_cancel_left}
 use Rattle.plan_port.specs.Talk.{Piece, Seen, Talk, WhereTold}
 use Rattle.commands.specs.Breaks.{BreaksForMemory}
@@ -11,7 +11,7 @@ use Rattle.commands.specs.declared.endings.End.{End}
 use Rattle.commands.specs.declared.endings.End.TheVariants.{Done, Refused, Fault, Limit, EventRefused}
 use Rattle.commands.specs.declared.endings.Status.{Status as Ending}
 use Rattle.commands.specs.declared.endings.Status.TheVariants.{Ended, ReadFault, WriteFault, NoMemory}
-use Rattle.stnu_run.specs.Programs.{Program, Promise, serves, says, ServesProgram, PromiseHolds, KeepsPromise, PutsNothingAtNoMemory}
+use Rattle.stnu_run.specs.Programs.{Program, Promise, serves, tells, ServesProgram, PromiseHolds, KeepsPromise, KeepsWithoutMemory}
 use Rattle.stnu_run.specs.declared.status.Status.{Status}
 
 -- what follows on what is told is told
@@ -65,16 +65,17 @@ kept (serves {C} machine start promise) status before after holds (ending, numbe
     told before.talk after.talk _ _ (λ was is inner.
     told before.left after.left _ _ (λ input untaken puts put all.
     holds input put end (puts_run machine start end ending was is input untaken put same puts all)) inner) ran.puts
-kept (says line number) status before after holds ran = tt
+kept (tells answers) status before after holds ran = tt
 
--- where a run ended for want of memory nothing was put, where it breaks off so only before it has put anything
-pub starved : {C : Type 0} (machine : Machine C) (start at : C) (ending : Ending) (status : Status) (before after : Seen)
+-- where a run ended for want of memory, what was put is what the command promises for that, where each run that breaks off so has put that
+pub kept_without_memory : {C : Type 0} (machine : Machine C) (start at : C) (promise : Promise) (ending : Ending) (status : Status) (before after : Seen)
     → status ≡ record { 0 = status_number ending } → at ≡ start
-    → ((input untaken put : List ℕ) (pieces : List Piece) → BreaksForMemory machine start input untaken put pieces → put ≡ [])
-    → Serves machine at ending before after → PutsNothingAtNoMemory status before after
-starved {C} machine start at ending status before after number same nothing ran = λ is.
+    → ((input untaken put : List ℕ) (pieces : List Piece) → BreaksForMemory machine start input untaken put pieces → (put ≡ []) ⊎ promise.without_memory input put)
+    → Serves machine at ending before after → KeepsWithoutMemory (serves machine start promise) status before after
+kept_without_memory {C} machine start at promise ending status before after number same law ran = λ is.
     let so : ending ≡ NoMemory = ending_one ending NoMemory (ap (λ (s : Status). s.0) (sym number) ∙ is) in
     let served : Serves machine start NoMemory before after = subst (λ (e : Ending). Serves machine start e before after) so (subst (λ (s : C). Serves machine s ending before after) same ran) in
     told before.talk after.talk _ _ (λ was is inner.
-    told before.left after.left _ _ (λ input untaken puts.
-    puts.all ∙ (ap (λ (p : List ℕ). was.put ++ p) (nothing input untaken puts.put puts.pieces puts.puts) ∙ append-nil was.put)) inner) served.puts
+    told before.left after.left _ _ (λ input untaken puts put all.
+    let one : puts.put ≡ put = append_cancel_left was.put puts.put put (sym puts.all ∙ all) in
+    subst (λ (p : List ℕ). (p ≡ []) ⊎ promise.without_memory input p) one (law input untaken puts.put puts.pieces puts.puts)) inner) served.puts

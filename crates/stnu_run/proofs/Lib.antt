@@ -13,6 +13,7 @@ pub mod VerdictLemmas
 pub mod CauseLemmas
 pub mod FeedingLemmas
 pub mod CheckLemmas
+pub mod PlanAskingLemmas
 pub mod AnswerLemmas
 pub mod ProgramLemmas
 pub mod KeptLemmas

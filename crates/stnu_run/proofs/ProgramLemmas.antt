@@ -1,5 +1,5 @@
 -- A program defines at most one pair of bytes and exit status for an input, where its command has at most one reply.
-use Rattle.std.proofs.Common.{ℕ, List, Bool, true, false, Option, Some, None, sym, ap, ◌∙◌}
+use Rattle.std.proofs.Common.{◌≡◌, ℕ, List, Bool, true, false, Option, Some, None, sym, ap, ◌∙◌}
 use Rattle.commands.specs.Asked.{asked_machine}
 use Rattle.commands.specs.Endings.{end_number}
 use Rattle.commands.specs.Machine.{Machine}
@@ -15,7 +15,9 @@ use Rattle.commands.proofs.PhaseLemmas.{planned_single}
 use Rattle.commands.proofs.SingleLemmas.{runs_same}
 use Rattle.stnu_run.specs.DefinedRuns.{program_named, program_for, program_of, request_of, when◌run◌else◌}
 use Rattle.stnu_run.specs.Options.{Options}
-use Rattle.stnu_run.specs.Programs.{Program, Promise, serves, says, DefinesOne}
+use Rattle.stnu_run.specs.Programs.{Program, Promise, serves, tells, told_number, DefinesOne, EachDefinesOne}
+use Rattle.stnu_run.specs.Requests.{RefusesWords, refuses_words, program_asked}
+use Rattle.stnu_run.specs.declared.telling.TellingEnd.{TellingEnd}
 use Rattle.stnu_run.specs.declared.status.Status.{Status}
 
 pub single_defines_one : {C : Type 0} (machine : Machine C) (start : C) (promise : Promise) → IsSingle machine → DefinesOne (serves machine start promise)
@@ -38,10 +40,21 @@ pub planned_defines_one : {B S V F P : Type 0} (begin : B → V → List ℕ →
 planned_defines_one begin reader refusing phase start promise begins single =
     single_defines_one (planned_machine begin reader refusing phase) start promise (planned_single begin reader refusing phase begins single)
 
-pub said_defines_one : (line : List ℕ) (number : ℕ) → DefinesOne (says line number)
-said_defines_one line number = record {
-  one = λ input a b x y one other. (one.0 ∙ sym other.0, one.1 ∙ sym other.1);
+-- an answer without an input is one where at most one is told, and one way to end
+pub told_defines_one : (answers : List ℕ → TellingEnd → Type 0) → ((a b : List ℕ) (x y : TellingEnd) → answers a x → answers b y → (a ≡ b) × (x ≡ y)) → DefinesOne (tells answers)
+told_defines_one answers single = record {
+  one = λ input a b x y one other.
+      let same = single a b one.0 other.0 one.2 other.2 in
+      let number : TellingEnd → Status = λ end. record { 0 = told_number end } in
+      (same.0, one.1 ∙ (ap number same.1 ∙ sym other.1));
 }
+
+pub refused_defines_one : DefinesOne refuses_words
+refused_defines_one = told_defines_one RefusesWords (λ a b x y one other. (one.0 ∙ sym other.0, one.1 ∙ sym other.1))
+
+pub asked_program_defines_one : {A : Type 0} (program : A → Program) (asked : Option A) → EachDefinesOne program → DefinesOne (program_asked program asked)
+asked_program_defines_one program (Some asked) ones = ones.each asked
+asked_program_defines_one program None ones = refused_defines_one
 
 pub chosen_defines_one : (so : Bool) (one other : Program) → DefinesOne one → DefinesOne other → DefinesOne (when so run one else other)
 chosen_defines_one true one other first second = first
@@ -50,7 +63,7 @@ chosen_defines_one false one other first second = second
 -- whatever the words name
 request_defines_one : ((command : List ℕ) (options : Options) → DefinesOne (program_named command options)) → (request : Option (List ℕ × Options)) → DefinesOne (program_for request)
 request_defines_one each (Some (command, options)) = each command options
-request_defines_one each None = said_defines_one _ _
+request_defines_one each None = refused_defines_one
 
 -- whatever the words are
 pub words_define_one : ((command : List ℕ) (options : Options) → DefinesOne (program_named command options)) → (words : List (List ℕ)) → DefinesOne (program_of words)

@@ -468,8 +468,8 @@ module _ (laws : RunLaws) where
         by (lasted one) = let (fault, has) = fault_so one so one.ending.decided in (fault, inr has)
 
   -- each run keeps the promise
-  pub run_keeps : (input put : List ℕ) (end : End) → Runs run_machine run_start input put end → RunPromise input put end
-  run_keeps input put end runs =
+  pub run_keeps : (run : Unit {0}) (input put : List ℕ) (end : End) → Runs run_machine (run_start run) input put end → RunPromise input put end
+  run_keeps run input put end runs =
       let follows = run_is run_begins plan_reader refusing executing_machine tt (begins plan_begun) (input_lines input) put end runs in
       let text = outcome_answered plan_reader plan_grammar plan_begun plan_by plan_once begins_answers tt input put end (follows_answered (outcome_of (input_lines input)) put end follows) in
       record {

@@ -9,8 +9,9 @@ use Rattle.cert_checker.specs.Judgement.{judgement_of}
 use Rattle.cert_checker.specs.declared.judgement.Claim.TheVariants.{NotControllable}
 use Rattle.cert_checker.specs.declared.judgement.Judgement.TheVariants.{Accepted}
 use Rattle.commands.specs.declared.endings.End.{End}
-use Rattle.stnu_run.specs.Checking.{controllable_line, refuted_line, PutsControllable, PutsRefuted, check_machine, check_start}
-use Rattle.stnu_run.specs.Programs.{Program, serves}
+use Rattle.stnu_run.specs.Checking.{check_answers, controllable_line, refuted_line, PutsControllable, PutsRefuted}
+use Rattle.stnu_run.specs.PlanAsking.{plan_program}
+use Rattle.stnu_run.specs.Programs.{Program}
 use Rattle.stnu_run.specs.ToCheck.{plan_grammar}
 use Rattle.stnu_run.specs.ToRead.{AnswersText}
 
@@ -30,5 +31,5 @@ pub record CheckPromise (input put : List ℕ) (end : End) : Type 0 where
   pub refutes : (more : List ℕ) → put ≡ refuted_line ++ more → (net : Plan) (rest : List (List ℕ)) → DeclaresNetwork (lines input) net rest → ¬ IsControllable net
 
 -- the program of `check`
-abbrev pub check_program : Program
-check_program = serves check_machine check_start CheckPromise
+abbrev pub check_program : Unit {0} → Program
+check_program = plan_program check_answers (λ check. CheckPromise)

@@ -10,14 +10,8 @@ use Rattle.closure_model.specs.declared.derivation.NodeId.{NodeId}
 use Rattle.cert_format.specs.CertificateWords.{printed_certificate}
 use Rattle.cert_format.specs.declared.certificate.Certificate.{Certificate}
 use Rattle.refutations.specs.Certifying.{certificate_by}
-use Rattle.commands.specs.Machine.{Machine}
-use Rattle.commands.specs.Asked.{asked_machine}
-use Rattle.commands.specs.declared.asking.Asked.{Asked}
 use Rattle.commands.specs.declared.endings.End.{End}
 use Rattle.commands.specs.declared.endings.End.TheVariants.{Done, Refused}
-use Rattle.stnu_run.specs.Faults.{refusing}
-use Rattle.stnu_run.specs.PlanText.{plan_begun, plan_reader}
-use Rattle.stnu_run.specs.declared.plan_text.PlanText.{PlanText}
 
 -- the line `controllable`
 abbrev pub controllable_line : List ℕ
@@ -50,19 +44,8 @@ pub record IsCertificateOf (net : Plan) (cert : Certificate) : Type 0 where
   pub refutation : IsRefutationOf net nodes lines walk
   pub is : cert ≡ certificate_by net nodes lines walk
 
--- the answer to a network: that it is controllable where the reference rounds close, else its refutation
+-- The answer to a network: that it is controllable where the reference rounds close, else its refutation. Nothing is seen of the question,
+-- in which the number of workers stands.
 abbrev pub check_answers : Unit {0} → Plan → List ℕ → End → Type 0
 check_answers question net answer end =
     (RoundsClose net × PutsControllable answer end) ⊎ ((cert : Certificate) × IsCertificateOf net cert × PutsRefuted cert answer end)
-
--- how far the input of `check` was read; nothing is seen of the question, in which the number of workers stands
-abbrev pub Checking : Type 0
-Checking = Asked (Unit {0}) PlanText
-
--- before the first line
-abbrev pub check_start : Checking
-check_start = record { question = tt; text = plan_begun }
-
--- what `check` means
-abbrev pub check_machine : Machine Checking
-check_machine = asked_machine check_answers plan_reader refusing

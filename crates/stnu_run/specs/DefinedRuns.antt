@@ -1,19 +1,15 @@
 -- The commands of the program by their words, and the defined run: what the program puts for words and an input. This project's own
 -- choice.
-use Rattle.std.specs.Prelude.{ℕ, List, [], ◌∷◌, ◌&&◌, codes, Bool, true, false, Option, Some, None}
+use Rattle.std.specs.Prelude.{ℕ, List, ◌∷◌, codes, Bool, true, false, Option, Some, None}
 use Rattle.std.specs.Option.{option_map}
 use Rattle.std.specs.Str.{bytes_eq}
-use Rattle.texts.specs.Printing.{printed_line}
 use Rattle.stnu_run.specs.CheckPromise.{check_program}
 use Rattle.stnu_run.specs.JudgePromise.{judge_program}
 use Rattle.stnu_run.specs.RunPromise.{run_program}
-use Rattle.stnu_run.specs.Options.{Options, has_none, options_of}
-use Rattle.stnu_run.specs.Programs.{Program, says, Defines}
+use Rattle.stnu_run.specs.Options.{Options, options_of}
+use Rattle.stnu_run.specs.Programs.{Program, Defines}
+use Rattle.stnu_run.specs.Requests.{program_asked, refuses_words, without_options}
 use Rattle.stnu_run.specs.declared.status.Status.{Status}
-
--- the program that refuses the words
-abbrev pub refuses_words : Program
-refuses_words = says (printed_line (codes "error" ∷ codes "words" ∷ [])) 2
 
 -- one program where this is so, else another
 infixr 5 when◌run◌else◌
@@ -24,9 +20,9 @@ when false run one else other = other
 -- the program of the word of a command and of options: `judge` takes none, and how many workers there are decides nothing
 abbrev pub program_named : List ℕ → Options → Program
 program_named command options =
-    when (bytes_eq command (codes "judge") && has_none options) run judge_program
-    else when bytes_eq command (codes "check") run check_program
-    else when bytes_eq command (codes "run") run run_program
+    when bytes_eq command (codes "judge") run program_asked judge_program (without_options (record {}) options)
+    else when bytes_eq command (codes "check") run check_program tt
+    else when bytes_eq command (codes "run") run run_program tt
     else refuses_words
 
 -- the command and the options that the words name: the first is the program's name, the second the word of a command, and options stand

@@ -9,9 +9,10 @@ use Rattle.cert_format.specs.declared.certificate.Certificate.{Certificate}
 use Rattle.cert_checker.specs.Judgement.{judgement_of}
 use Rattle.commands.specs.declared.endings.End.{End}
 use Rattle.stnu_run.specs.Judging.{judgement_line, judgement_end, judge_machine, judge_start}
-use Rattle.stnu_run.specs.Programs.{Program, serves}
+use Rattle.stnu_run.specs.Programs.{Program, or_nothing, serves}
 use Rattle.stnu_run.specs.ToJudge.{judge_grammar}
 use Rattle.stnu_run.specs.ToRead.{AnswersText}
+use Rattle.stnu_run.specs.declared.judging.Judge.{Judge}
 
 -- the judgement of a certificate of a network is put
 abbrev pub PutsJudgement : Plan × Certificate → List ℕ → End → Type 0
@@ -25,5 +26,5 @@ pub record JudgePromise (input put : List ℕ) (end : End) : Type 0 where
   pub excludes : put ≡ printed_line (codes "accepted not controllable" ∷ []) → (net : Plan) (rest : List (List ℕ)) → DeclaresNetwork (lines input) net rest → ¬ IsControllable net
 
 -- the program of `judge`
-abbrev pub judge_program : Program
-judge_program = serves judge_machine judge_start JudgePromise
+abbrev pub judge_program : Judge → Program
+judge_program judge = serves judge_machine (judge_start judge) (or_nothing JudgePromise)

@@ -41,8 +41,8 @@ abbrev pub Judging : Type 0
 Judging = Asked Judge (Then PlanText Plan CertificateText)
 
 -- before the first line
-abbrev pub judge_start : Judging
-judge_start = record { question = record {}; text = First plan_begun certificate_begun }
+abbrev pub judge_start : Judge → Judging
+judge_start judge = record { question = judge; text = First plan_begun certificate_begun }
 
 -- what `judge` means
 abbrev pub judge_machine : Machine Judging

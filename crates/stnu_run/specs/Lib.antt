@@ -9,6 +9,8 @@ pub mod ToCheck
 pub mod JudgePromise
 pub mod Checking
 pub mod CheckPromise
+pub mod PlanAsking
+pub mod Requests
 pub mod DefinedRuns
 pub mod Course
 pub mod EventAnswers

@@ -1,6 +1,6 @@
--- What the program does, as data: a command that it serves, with what the command promises, or a line that it says without an
+-- What the program does, as data: a command that it serves, with what the command promises, or an answer that it puts without an
 -- input. This project's own choice.
-use Rattle.std.specs.Prelude.{◌≡◌, ℕ, List, ◌++◌}
+use Rattle.std.specs.Prelude.{◌≡◌, ◌⊎◌, ℕ, List, [], ◌++◌}
 use Rattle.plan_port.specs.Talk.{Seen, raised}
 use Rattle.plan_port.specs.Writing.{Writes}
 use Rattle.plan_port.specs.declared.writing.Written.{Written}
@@ -12,59 +12,91 @@ use Rattle.commands.specs.Serves.{Serves, WhereBothTold}
 use Rattle.commands.specs.declared.endings.End.{End}
 use Rattle.commands.specs.declared.endings.Status.{Status as Ending}
 use Rattle.stnu_run.specs.declared.status.Status.{Status}
+use Rattle.stnu_run.specs.declared.telling.TellingEnd.{TellingEnd}
+use Rattle.stnu_run.specs.declared.telling.TellingEnd.TheVariants.{Told, WordsRefused}
 
--- what a command promises, in the subject's words: of an input, the bytes put for it, and how the run ended
-abbrev pub Promise : Type 1
-Promise = (input put : List ℕ) → End → Type 0
+-- What a command promises, in the subject's words. `ended`: of an input, the bytes put for it, and how the command ended the run.
+-- `without_memory`: of an input and the bytes put for it, where some were and then the run ended for want of memory.
+pub record Promise : Type 1 where
+  pub ended : (input put : List ℕ) → End → Type 0
+  pub without_memory : (input put : List ℕ) → Type 0
 
--- a command that is served from a state, and what it promises of what it puts for an input; or a line that is said, with its
--- exit status
+-- this promise of runs that the command ends, and that nothing was put where a run ended for want of memory
+abbrev pub or_nothing : ((input put : List ℕ) → End → Type 0) → Promise
+or_nothing promised = record { ended = promised; without_memory = λ input put. ⊥ }
+
+-- a command that is served from a state, and what it promises of what it puts for an input; or what is answered without an input, and how
+-- the run ends then
 pub data Program : Type 1 where
   serves : {C : Type 0} → Machine C → C → Promise → Program
-  says : List ℕ → ℕ → Program
+  tells : (List ℕ → TellingEnd → Type 0) → Program
 
--- the bytes and the exit status that a program defines for an input: those of a run of its command, or its line and status
+-- the exit status of a command without an input
+abbrev pub told_number : TellingEnd → ℕ
+told_number Told = 0
+told_number WordsRefused = 2
+
+-- the bytes and the exit status that a program defines for an input: those of a run of its command, or its answer and status
 abbrev pub Defines : Program → (input put : List ℕ) → Status → Type 0
 Defines (serves machine start promise) input put status = (end : End) × (status ≡ record { 0 = end_number end }) × Runs machine start input put end
-Defines (says line number) input put status = (put ≡ line) × (status ≡ record { 0 = number })
+Defines (tells answers) input put status = (end : TellingEnd) × (status ≡ record { 0 = told_number end }) × answers put end
 
 -- for an input a program defines at most one pair of bytes and exit status
 pub record DefinesOne (program : Program) : Type 0 where
   pub one : (input a b : List ℕ) (x y : Status) → Defines program input a x → Defines program input b y → (a ≡ b) × (x ≡ y)
 
--- the exit status after a line was said, or a part of it
-abbrev pub said_number : ℕ → Written → ℕ
-said_number number All = number
-said_number number (Part count) = 6
+-- whatever is asked, the program of it defines at most one pair for an input
+pub record EachDefinesOne {A : Type 0} (program : A → Program) : Type 0 where
+  pub each : (asked : A) → DefinesOne (program asked)
 
--- The program ran over a port and ended with this exit status: its command was served, or its line was said, and nothing was
--- taken.
+-- the exit status after an answer was put, or a part of it
+abbrev pub written_number : TellingEnd → Written → ℕ
+written_number end All = told_number end
+written_number end (Part count) = 6
+
+-- an answer was put, or a part of it, and nothing was taken
+pub record TellsAnswer (answers : List ℕ → TellingEnd → Type 0) (status : Status) (before after : Seen) : Type 0 where
+  pub put : List ℕ
+  pub end : TellingEnd
+  pub answered : answers put end
+  pub written : Written
+  pub is : status ≡ record { 0 = written_number end written }
+  pub writes : Writes before after written put
+
+-- there was no memory, and nothing was taken or put
+abbrev pub HasNoMemory : Status → (before after : Seen) → Type 0
+HasNoMemory status before after = (status ≡ record { 0 = 8 }) × (after ≡ before)
+
+-- The program ran over a port and ended with this exit status: its command was served, or its answer was put, or there was no memory for
+-- that.
 abbrev pub ServesProgram : Program → Status → (before after : Seen) → Type 0
 ServesProgram (serves machine start promise) status before after =
     (ending : Ending) × (status ≡ record { 0 = status_number ending }) × Serves machine start ending before after
-ServesProgram (says line number) status before after =
-    (written : Written) × (status ≡ record { 0 = said_number number written }) × Writes before after written line
+ServesProgram (tells answers) status before after = TellsAnswer answers status before after ⊎ HasNoMemory status before after
 
 -- each run of the program's command keeps what the command promises
 abbrev pub PromiseHolds : Program → Type 0
-PromiseHolds (serves machine start promise) = (input put : List ℕ) (end : End) → Runs machine start input put end → promise input put end
-PromiseHolds (says line number) = Unit {0}
+PromiseHolds (serves machine start promise) = (input put : List ℕ) (end : End) → Runs machine start input put end → promise.ended input put end
+PromiseHolds (tells answers) = Unit {0}
 
 -- Over a port that tells its bytes, a run that its command ended keeps the command's promise.
 abbrev pub KeepsPromise : Program → Status → (before after : Seen) → Type 0
 KeepsPromise (serves machine start promise) status before after =
     (end : End) → status ≡ record { 0 = end_number end }
-    → WhereBothTold before after (λ was is input untaken. (put : List ℕ) → is.put ≡ was.put ++ put → promise input put end)
-KeepsPromise (says line number) status before after = Unit {0}
+    → WhereBothTold before after (λ was is input untaken. (put : List ℕ) → is.put ≡ was.put ++ put → promise.ended input put end)
+KeepsPromise (tells answers) status before after = Unit {0}
 
--- over a port that tells its bytes, nothing was put where a run ended for want of memory
-abbrev pub PutsNothingAtNoMemory : Status → (before after : Seen) → Type 0
-PutsNothingAtNoMemory status before after = status.0 ≡ 8 → WhereBothTold before after (λ was is input untaken. is.put ≡ was.put)
+-- Over a port that tells its bytes, where a run ended for want of memory nothing was put, or what was put is as the command promises for that.
+-- Without an input nothing was taken or put then.
+abbrev pub KeepsWithoutMemory : Program → Status → (before after : Seen) → Type 0
+KeepsWithoutMemory (serves machine start promise) status before after =
+    status.0 ≡ 8 → WhereBothTold before after (λ was is input untaken. (put : List ℕ) → is.put ≡ was.put ++ put → (put ≡ []) ⊎ promise.without_memory input put)
+KeepsWithoutMemory (tells answers) status before after = status.0 ≡ 8 → after ≡ before
 
 -- the exit statuses of a program that are not for failed calls or want of memory
 abbrev pub MayEndWith : Program → ℕ → Type 0
 MayEndWith (serves machine start promise) number = (end : End) × (number ≡ end_number end)
-MayEndWith (says line other) number = number ≡ other
+MayEndWith (tells answers) number = (end : TellingEnd) × (number ≡ told_number end)
 
 -- The causes of the exit statuses that any port shows. `read`: 5 exactly where a take failed and no put did; `write`: 6 exactly where
 -- a put failed; each is counted once. `memory`: at 8 no call failed. `others`: at every other status no call failed, and it is one

@@ -18,7 +18,7 @@ use Rattle.stnu_run.specs.Due.{IsDueAfter}
 use Rattle.stnu_run.specs.EventAnswers.{due_line, event_line}
 use Rattle.stnu_run.specs.EventFaults.{HasEventFault, event_refusal}
 use Rattle.stnu_run.specs.Faults.{fault_end}
-use Rattle.stnu_run.specs.Programs.{Program, serves}
+use Rattle.stnu_run.specs.Programs.{Program, or_nothing, serves}
 use Rattle.stnu_run.specs.Running.{run_machine, run_start}
 use Rattle.stnu_run.specs.ToCheck.{plan_grammar}
 use Rattle.stnu_run.specs.ToRead.{AnswersText, IsFirstRefusal}
@@ -60,5 +60,5 @@ pub record RunPromise (input put : List ℕ) (end : End) : Type 0 where
       → (fault : Fault) × (IsFirstRefusal plan_grammar (input_lines input) fault ⊎ HasEventFault (input_lines input) fault)
 
 -- the program of `run`
-abbrev pub run_program : Program
-run_program = serves run_machine run_start RunPromise
+abbrev pub run_program : Unit {0} → Program
+run_program run = serves run_machine (run_start run) (or_nothing RunPromise)

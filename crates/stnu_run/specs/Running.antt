@@ -66,8 +66,8 @@ abbrev pub Running : Type 0
 Running = Planned (Unit {0}) PlanText Course
 
 -- before the first line
-abbrev pub run_start : Running
-run_start = Reading tt plan_begun
+abbrev pub run_start : Unit {0} → Running
+run_start run = Reading run plan_begun
 
 -- what `run` means
 abbrev pub run_machine : Machine Running

@@ -1,18 +1,19 @@
 //! The command `check`: a plan, and then whether the network that it declares is controllable.
 
-ghost use Rattle.std.specs.Prelude.{◌≡◌, ◌≤◌, ◌++◌, ◌∷◌, ℕ, [], List, IfOk, OnOk};
-ghost use Rattle.commands.specs.Limits.{least_room};
+ghost use Rattle.std.specs.Prelude.{◌≡◌, [], Some, IfOk};
 ghost use Rattle.closure_model.specs.Derivations.{StandsOn, base_support};
 ghost use Rattle.closure_model.specs.Orders.{IsCycle};
 ghost use Rattle.cert_format.specs.CertificateWords.{HasWeights};
 ghost use Rattle.cert_format.specs.declared.certificate.Certificate.{Certificate};
 ghost use Rattle.refutations.specs.Certifying.{IsCertificateBy};
 ghost use Rattle.parallel_rounds.specs.Propagated.{IsPropagated};
-ghost use Rattle.stnu_run.specs.CheckPromise.{CheckPromise};
-ghost use Rattle.stnu_run.specs.Checking.{check_answers, check_machine, check_start, PutsControllable, PutsRefuted};
+ghost use Rattle.stnu_run.specs.CheckPromise.{CheckPromise, PutsVerdict};
+ghost use Rattle.stnu_run.specs.Checking.{check_answers, PutsControllable, PutsRefuted};
 
+use crate::options::Options;
+use crate::plan_asking::PlanQuestion;
 use crate::plan_text::PlanText;
-use crate::promising::Promising;
+use crate::requests::Request;
 use crate::workers::Workers;
 use cert_checker::laws::accepted_excludes;
 use cert_format::{Certificate, print_certificate};
@@ -56,28 +57,24 @@ impl Question<Network> for Check {
     }
 }
 
-/// The command: how far its input was read.
-pub type Checking = Asked<Check, PlanText>;
+impl Request for Check {
+    ghost asked = { λ options. Some tt };
 
-impl Check {
-    /// The command before the first line.
-    pub(crate) fn begun(alloc: Global, workers: Workers) -> Checking
-        ensures start { result ≡ check_start }
-        ensures room { check_machine.room result ≤ least_room }
-    {
-        Asked {
-            question: Check { workers },
-            text: PlanText::new(alloc),
-        }
+    fn of(options: &Options) -> Option<Check> {
+        let workers = Workers::new(options.workers());
+        Some(Check { workers })
     }
 }
 
-impl Promising for Checking {
-    ghost start = { check_start };
+/// The command: how far its input was read.
+pub type Checking = Asked<Check, PlanText>;
 
-    ghost promise = { CheckPromise };
+impl PlanQuestion for Check {
+    ghost puts = { λ check. PutsVerdict };
 
-    fn keeps_its_promise() {
+    ghost promised = { λ check. CheckPromise };
+
+    fn puts_the_answer() {
         accepted_excludes();
         refutations_are_accepted();
         closures_decide();
@@ -88,9 +85,9 @@ impl Promising for Checking {
         order_laws::cycles_are_met();
     }
 
-    fn puts_nothing_without_memory() {}
+    fn answers_keep_it() {}
 
-    fn defines_one() {}
+    fn answers_once() {}
 }
 
 /// Puts whether a network is controllable into the buffer, which is empty.
@@ -166,14 +163,6 @@ pub(crate) fn put_refuted(
 {
     let text = print_certificate(alloc, certificate)?;
     answer.push_line(&[Word::Text("not controllable")])?;
-    push_text(answer, text.as_slice())?;
+    answer.push_text(text.as_slice())?;
     Ok(End::Refused)
-}
-
-/// Puts a text, of which the last byte is a line end.
-fn push_text(answer: &mut Answer, text: &[u8]) -> Result<(), AllocError>
-    requires { (front : List ℕ) × (text.now ≡ front ++ 10 ∷ []) }
-    ensures { OnOk result (answer.new.text ≡ answer.old.text ++ text.now) }
-{
-    answer.push_line(&[Word::Name(&text[..text.len() - 1])])
 }

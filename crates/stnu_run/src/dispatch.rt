@@ -1,17 +1,17 @@
 //! The commands of the program, and the run of the one that the words name.
 
 ghost use Rattle.std.specs.Prelude.{◌≡◌, map, None, Some, string_bytes, MatchOption};
-ghost use Rattle.stnu_run.specs.DefinedRuns.{program_of, program_named, refuses_words, request_of};
-ghost use Rattle.stnu_run.specs.Programs.{ServesProgram, KeepsPromise, HasCauses, PutsNothingAtNoMemory};
+ghost use Rattle.stnu_run.specs.DefinedRuns.{program_of, program_named, request_of};
+ghost use Rattle.stnu_run.specs.Programs.{ServesProgram, KeepsPromise, HasCauses, KeepsWithoutMemory};
 
-use crate::checking::Check;
-use crate::judging::Judge;
+use crate::checking::Checking;
+use crate::judging::Judging;
 use crate::options::Options;
-use crate::promising::serve_command;
-use crate::running::Run;
+use crate::promising::serve_asked;
+use crate::running::Running;
 use crate::status::Status;
-use crate::workers::Workers;
-use plan_port::{Port, Written, write_all};
+use crate::telling::{RefusedWords, tell};
+use plan_port::Port;
 use std::alloc::Global;
 use std::thread::Threads;
 
@@ -37,12 +37,12 @@ pub fn run<R: Threads + Sync, P: Port>(
     ensures kept { KeepsPromise (program_of (map string_bytes words.now.items)) result (P.seen port.old) (P.seen port.new) }
     // Each status has its cause, over every port.
     ensures causes { HasCauses (program_of (map string_bytes words.now.items)) result (P.seen port.old) (P.seen port.new) }
-    // For want of memory a run ends only before it has put anything.
-    ensures memory { PutsNothingAtNoMemory result (P.seen port.old) (P.seen port.new) }
+    // Where it ends for want of memory nothing was put, or what the command of the words promises for that.
+    ensures memory { KeepsWithoutMemory (program_of (map string_bytes words.now.items)) result (P.seen port.old) (P.seen port.new) }
 {
     match request_of(words.as_slice()) {
         Some((command, options)) => run_command(rt, alloc, command, &options, port),
-        None => refuse_words(port),
+        None => tell(rt, alloc, RefusedWords, port),
     }
 }
 
@@ -69,26 +69,12 @@ fn run_command<R: Threads + Sync, P: Port>(
     ensures served { ServesProgram (program_named command.now options.now) result (P.seen port.old) (P.seen port.new) }
     ensures kept { KeepsPromise (program_named command.now options.now) result (P.seen port.old) (P.seen port.new) }
     ensures causes { HasCauses (program_named command.now options.now) result (P.seen port.old) (P.seen port.new) }
-    ensures memory { PutsNothingAtNoMemory result (P.seen port.old) (P.seen port.new) }
+    ensures memory { KeepsWithoutMemory (program_named command.now options.now) result (P.seen port.old) (P.seen port.new) }
 {
-    let workers = Workers::new(options.workers());
     match command {
-        "judge" if options.are_none() => serve_command(rt, alloc, Judge::begun(alloc), port),
-        "check" => serve_command(rt, alloc, Check::begun(alloc, workers), port),
-        "run" => serve_command(rt, alloc, Run::begun(alloc, workers), port),
-        _ => refuse_words(port),
-    }
-}
-
-/// Refuses words that are those of no command.
-fn refuse_words<P: Port>(port: &mut P) -> Status
-    ensures served { ServesProgram refuses_words result (P.seen port.old) (P.seen port.new) }
-    ensures kept { KeepsPromise refuses_words result (P.seen port.old) (P.seen port.new) }
-    ensures causes { HasCauses refuses_words result (P.seen port.old) (P.seen port.new) }
-    ensures memory { PutsNothingAtNoMemory result (P.seen port.old) (P.seen port.new) }
-{
-    match write_all(port, b"error words\n".as_slice()) {
-        Written::All => Status(2),
-        Written::Part(_) => Status(6),
+        "judge" => serve_asked::<R, Judging, P>(rt, alloc, options, port),
+        "check" => serve_asked::<R, Checking, P>(rt, alloc, options, port),
+        "run" => serve_asked::<R, Running, P>(rt, alloc, options, port),
+        _ => tell(rt, alloc, RefusedWords, port),
     }
 }

@@ -1,14 +1,17 @@
 //! The command `judge`: a plan, and after it a certificate, which is judged.
 
-ghost use Rattle.std.specs.Prelude.{◌≡◌, ◌≤◌, OnOk, ◌++◌};
-ghost use Rattle.commands.specs.Limits.{least_room};
+ghost use Rattle.std.specs.Prelude.{◌≡◌, OnOk, ◌++◌};
 ghost use Rattle.cert_checker.specs.Judgement.{judgement_of};
 ghost use Rattle.stnu_run.specs.JudgePromise.{JudgePromise};
-ghost use Rattle.stnu_run.specs.Judging.{judge_answers, judgement_line, judgement_end, judge_machine, judge_start};
+ghost use Rattle.stnu_run.specs.Judging.{judge_answers, judgement_line, judgement_end, judge_start};
+ghost use Rattle.stnu_run.specs.Programs.{or_nothing};
+ghost use Rattle.stnu_run.specs.Requests.{without_options};
 
 use crate::certificate_text::CertificateText;
+use crate::options::Options;
 use crate::plan_text::PlanText;
 use crate::promising::Promising;
+use crate::requests::Request;
 use cert_checker::laws::accepted_excludes;
 use cert_checker::{Judgement, judge};
 use cert_format::Certificate;
@@ -38,32 +41,40 @@ impl Question<(Network, Certificate)> for Judge {
     }
 }
 
-/// The command: how far its input was read.
-pub type Judging = Asked<Judge, Then<PlanText, Network, CertificateText>>;
+impl Request for Judge {
+    ghost asked = { without_options (record {}) };
 
-impl Judge {
-    /// The command before the first line.
-    pub(crate) fn begun(alloc: Global) -> Judging
-        ensures start { result ≡ judge_start }
-        ensures room { judge_machine.room result ≤ least_room }
-    {
-        Asked {
-            question: Judge,
-            text: Then::First(PlanText::new(alloc), CertificateText::new(alloc)),
+    fn of(options: &Options) -> Option<Judge> {
+        if options.are_none() {
+            Some(Judge)
+        } else {
+            None
         }
     }
 }
 
+/// The command: how far its input was read.
+pub type Judging = Asked<Judge, Then<PlanText, Network, CertificateText>>;
+
 impl Promising for Judging {
+    type Request = Judge;
+
     ghost start = { judge_start };
 
-    ghost promise = { JudgePromise };
+    ghost promise = { λ judge. or_nothing JudgePromise };
+
+    fn begun(alloc: Global, request: Judge) -> Judging {
+        Asked {
+            question: request,
+            text: Then::First(PlanText::new(alloc), CertificateText::new(alloc)),
+        }
+    }
 
     fn keeps_its_promise() {
         accepted_excludes();
     }
 
-    fn puts_nothing_without_memory() {}
+    fn keeps_it_without_memory() {}
 
     fn defines_one() {}
 }

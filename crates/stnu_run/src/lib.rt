@@ -10,10 +10,13 @@ mod faults;
 mod judging;
 mod laws;
 mod options;
+mod plan_asking;
 mod plan_text;
 mod promising;
+mod requests;
 mod running;
 mod status;
+mod telling;
 mod workers;
 
 pub use dispatch::run;

@@ -11,7 +11,7 @@ const MOST_WORKERS: u64 = 64;
 
 /// The options that are given after the word of a command, each at most once.
 #[derive(Drop)]
-pub(crate) struct Options {
+pub struct Options {
     workers: Option<u32>,
 }
 

@@ -1,53 +1,83 @@
 //! A command of the program: where it begins, what it promises, and how it is served.
 
-ghost use Rattle.std.specs.Prelude.{◌≡◌, ◌≤◌, ℕ, List, []};
+ghost use Rattle.std.specs.Prelude.{◌≡◌, ◌⊎◌, ◌≤◌, ℕ, List, []};
 ghost use Rattle.plan_port.specs.Talk.{Piece};
 ghost use Rattle.commands.specs.Breaks.{BreaksForMemory};
 ghost use Rattle.commands.specs.Limits.{least_room};
-ghost use Rattle.stnu_run.specs.Programs.{Promise, PromiseHolds, DefinesOne, ServesProgram, KeepsPromise, HasCauses, PutsNothingAtNoMemory, serves};
+ghost use Rattle.stnu_run.specs.Programs.{Promise, PromiseHolds, EachDefinesOne, ServesProgram, KeepsPromise, HasCauses, KeepsWithoutMemory, serves};
+ghost use Rattle.stnu_run.specs.Requests.{serves_asked};
 
+use crate::options::Options;
+use crate::requests::Request;
 use crate::status::Status;
+use crate::telling::{RefusedWords, tell};
 use commands::{Command, serve};
 use plan_port::Port;
 use std::alloc::Global;
 use std::thread::Threads;
 
-/// A command of the program, with what it promises of what it puts for an input.
+/// A command of the program, with what it promises of what it puts for an input. Both where it begins and what it promises depend on
+/// what the words ask of it.
 pub trait Promising: Command {
+    /// What the words ask of it.
+    type Request: Request;
+
     /// Before the first line.
-    ghost start: { Self };
+    ghost start: { Self.Request → Self };
 
     /// What is promised of an input, the bytes put for it, and how the run ends.
-    ghost promise: { Promise };
+    ghost promise: { Self.Request → Promise };
+
+    /// The command before the first line.
+    fn begun(alloc: Global, request: Self::Request) -> Self
+        ensures start { result ≡ start request }
+        ensures room { Self.machine.room result ≤ least_room };
 
     /// The law that each run keeps the promise.
     fn keeps_its_promise()
-        ensures { PromiseHolds (serves Self.machine start promise) };
+        ensures { (asked : Self.Request) → PromiseHolds (serves Self.machine (start asked) (promise asked)) };
 
-    /// The law that a run has put nothing where it breaks off for want of memory.
-    fn puts_nothing_without_memory()
-        ensures { (input untaken put : List ℕ) (pieces : List Piece) → BreaksForMemory Self.machine start input untaken put pieces → put ≡ [] };
+    /// The law that a run which breaks off for want of memory has put nothing, or what is promised for that.
+    fn keeps_it_without_memory()
+        ensures { (asked : Self.Request) (input untaken put : List ℕ) (pieces : List Piece)
+            → BreaksForMemory Self.machine (start asked) input untaken put pieces → (put ≡ []) ⊎ (promise asked).without_memory input put };
 
     /// The law that an input has at most one run: one pair of bytes and exit status.
     fn defines_one()
-        ensures { DefinesOne (serves Self.machine start promise) };
+        ensures { EachDefinesOne (λ asked. serves Self.machine (start asked) (promise asked)) };
+}
+
+/// Serves a command over a port as options ask, or refuses the words where it does not take the options.
+pub fn serve_asked<R: Threads + Sync, C: Promising, P: Port>(
+    rt: &R,
+    alloc: Global,
+    options: &Options,
+    port: &mut P,
+) -> Status
+    ensures served { ServesProgram (serves_asked C.machine C.start C.promise (C.Request.asked options.now)) result (P.seen port.old) (P.seen port.new) }
+    ensures kept { KeepsPromise (serves_asked C.machine C.start C.promise (C.Request.asked options.now)) result (P.seen port.old) (P.seen port.new) }
+    ensures causes { HasCauses (serves_asked C.machine C.start C.promise (C.Request.asked options.now)) result (P.seen port.old) (P.seen port.new) }
+    ensures memory { KeepsWithoutMemory (serves_asked C.machine C.start C.promise (C.Request.asked options.now)) result (P.seen port.old) (P.seen port.new) }
+{
+    match C::Request::of(options) {
+        Some(request) => serve_command::<R, C, P>(rt, alloc, request, port),
+        None => tell(rt, alloc, RefusedWords, port),
+    }
 }
 
 /// Serves a command over a port, from its first line on.
-pub fn serve_command<R: Threads + Sync, C: Promising, P: Port>(
+fn serve_command<R: Threads + Sync, C: Promising, P: Port>(
     rt: &R,
     alloc: Global,
-    command: C,
+    request: C::Request,
     port: &mut P,
 ) -> Status
-    requires start { command ≡ C.start }
-    requires room { C.machine.room command ≤ least_room }
-    ensures served { ServesProgram (serves C.machine C.start C.promise) result (P.seen port.old) (P.seen port.new) }
-    ensures kept { KeepsPromise (serves C.machine C.start C.promise) result (P.seen port.old) (P.seen port.new) }
-    ensures causes { HasCauses (serves C.machine C.start C.promise) result (P.seen port.old) (P.seen port.new) }
-    ensures memory { PutsNothingAtNoMemory result (P.seen port.old) (P.seen port.new) }
+    ensures served { ServesProgram (serves C.machine (C.start request) (C.promise request)) result (P.seen port.old) (P.seen port.new) }
+    ensures kept { KeepsPromise (serves C.machine (C.start request) (C.promise request)) result (P.seen port.old) (P.seen port.new) }
+    ensures causes { HasCauses (serves C.machine (C.start request) (C.promise request)) result (P.seen port.old) (P.seen port.new) }
+    ensures memory { KeepsWithoutMemory (serves C.machine (C.start request) (C.promise request)) result (P.seen port.old) (P.seen port.new) }
 {
     C::keeps_its_promise();
-    C::puts_nothing_without_memory();
-    Status(serve(rt, alloc, command, port).number())
+    C::keeps_it_without_memory();
+    Status(serve(rt, alloc, C::begun(alloc, request), port).number())
 }

@@ -1,21 +1,23 @@
 //! The command `run`: a plan, and then the execution of its network over lines of events.
 
-ghost use Rattle.std.specs.Prelude.{◌≡◌, ◌≤◌, [], length, IfOk, OnOk};
+ghost use Rattle.std.specs.Prelude.{◌≡◌, ◌≤◌, [], length, Some, IfOk, OnOk};
 ghost use Rattle.closure_model.specs.Derivations.{base_support};
 ghost use Rattle.parallel_rounds.specs.Propagated.{IsPropagated};
-ghost use Rattle.commands.specs.Limits.{least_room};
 ghost use Rattle.commands.specs.Machine.{HasRoom};
 ghost use Rattle.execution_model.specs.Feeding.{IsDueAnswer};
 ghost use Rattle.live_executor.specs.Sound.{IsDispatchOf};
 ghost use Rattle.stnu_run.specs.Executing.{executing_machine, answer_room};
+ghost use Rattle.stnu_run.specs.Programs.{or_nothing};
 ghost use Rattle.stnu_run.specs.RunPromise.{RunPromise};
-ghost use Rattle.stnu_run.specs.Running.{run_begins, run_machine, run_start, IsExamined, PutsBegun, GoesOnFrom};
+ghost use Rattle.stnu_run.specs.Running.{run_begins, run_start, IsExamined, PutsBegun, GoesOnFrom};
 
 use crate::checking::put_refuted;
 use crate::event_answers::put_due;
 use crate::executing::Executing;
+use crate::options::Options;
 use crate::plan_text::PlanText;
 use crate::promising::Promising;
+use crate::requests::Request;
 use crate::workers::Workers;
 use cert_checker::laws::accepted_excludes;
 use cert_format::Certificate;
@@ -50,18 +52,17 @@ impl Model for Run {
     ghost view = { λ run. tt };
 }
 
-/// The command: how far its input was read.
-pub type Running = Planned<Run, PlanText, Executing>;
+impl Request for Run {
+    ghost asked = { λ options. Some tt };
 
-impl Run {
-    /// The command before the first line.
-    pub(crate) fn begun(alloc: Global, workers: Workers) -> Running
-        ensures start { result ≡ run_start }
-        ensures room { run_machine.room result ≤ least_room }
-    {
-        Planned::Reading(Run { workers }, PlanText::new(alloc))
+    fn of(options: &Options) -> Option<Run> {
+        let workers = Workers::new(options.workers());
+        Some(Run { workers })
     }
 }
+
+/// The command: how far its input was read.
+pub type Running = Planned<Run, PlanText, Executing>;
 
 /// What the propagation through a network shows.
 #[derive(Drop)]
@@ -94,9 +95,15 @@ impl Begin<Network> for Run {
 }
 
 impl Promising for Running {
+    type Request = Run;
+
     ghost start = { run_start };
 
-    ghost promise = { RunPromise };
+    ghost promise = { λ run. or_nothing RunPromise };
+
+    fn begun(alloc: Global, request: Run) -> Running {
+        Planned::Reading(request, PlanText::new(alloc))
+    }
 
     fn keeps_its_promise() {
         base_stands();
@@ -115,7 +122,7 @@ impl Promising for Running {
         execution_laws::last_acts_are_earliest();
     }
 
-    fn puts_nothing_without_memory() {}
+    fn keeps_it_without_memory() {}
 
     fn defines_one() {
         lines_have_one_reading();

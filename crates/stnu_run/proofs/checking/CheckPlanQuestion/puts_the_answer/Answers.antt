@@ -1,8 +1,8 @@
-use Rattle.stnu_run.proofs.CheckLemmas.{check_keeps}
-use Rattle.stnu_run.proofs.checking.CheckingPromising.keeps_its_promise.Goals as goal
+use Rattle.stnu_run.proofs.VerdictLemmas.{verdict_put}
+use Rattle.stnu_run.proofs.checking.CheckPlanQuestion.puts_the_answer.Goals as goal
 
 pub returns : goal.returns
-returns c = check_keeps (record {
+returns c = λ check net put end plan answered. verdict_put (record {
   base = c.base_stands.ensures;
   stand = c.rounds_stand.ensures;
   close = c.rounds_that_close.ensures;
@@ -11,4 +11,4 @@ returns c = check_keeps (record {
   decide = c.closures_decide.ensures;
   accepted = c.refutations_are_accepted.ensures;
   exclude = c.accepted_excludes.ensures;
-})
+}) net plan put end answered

@@ -1,9 +1,0 @@
-use Rattle.commands.proofs.PhaseLemmas.{wants_while_reading}
-use Rattle.stnu_run.specs.Executing.{executing_machine}
-use Rattle.stnu_run.specs.Faults.{refusing}
-use Rattle.stnu_run.specs.PlanText.{plan_begun, plan_reader}
-use Rattle.stnu_run.specs.Running.{run_begins}
-use Rattle.stnu_run.proofs.running.RunningPromising.puts_nothing_without_memory.Goals as goal
-
-pub returns : goal.returns
-returns c = wants_while_reading run_begins plan_reader refusing executing_machine (λ state wants. wants) tt plan_begun

@@ -1,0 +1,64 @@
+//! Commands that read a plan and answer it once.
+
+ghost use Rattle.std.specs.Prelude.{◌≡◌, ℕ, List};
+ghost use Rattle.net_model.specs.Network.{Plan, IsPlan};
+ghost use Rattle.commands.specs.Single.{IsSingleAnswer};
+ghost use Rattle.commands.specs.declared.endings.End.{End};
+ghost use Rattle.stnu_run.specs.PlanAsking.{asking};
+ghost use Rattle.stnu_run.specs.Programs.{or_nothing};
+ghost use Rattle.stnu_run.specs.ToCheck.{plan_grammar};
+ghost use Rattle.stnu_run.specs.ToRead.{AnswersText};
+
+use crate::plan_text::PlanText;
+use crate::promising::Promising;
+use crate::requests::Request;
+use commands::{Asked, Question};
+use net_model::Network;
+use std::alloc::Global;
+
+/// A question about the network of a plan, as the words ask it. With the text of the plan it is a command of the program.
+pub trait PlanQuestion: Question<Network> + Request {
+    /// What is put for a network, and how the run ends then, in the subject's words.
+    ghost puts: { Self → Plan → List ℕ → End → Type 0 };
+
+    /// What is promised of an input, the bytes put for it, and how the run ends.
+    ghost promised: { Self → (input put : List ℕ) → End → Type 0 };
+
+    /// The law that the answer to a network is what is put.
+    fn puts_the_answer()
+        ensures { (question : Self) (net : Plan) (put : List ℕ) (end : End) → IsPlan net → Self.answers question net put end → puts question net put end };
+
+    /// The law that the promise is kept where the network of an input is answered so, or its first refusal is put.
+    fn answers_keep_it()
+        ensures { (question : Self) (input put : List ℕ) (end : End) → AnswersText plan_grammar (puts question) input put end → promised question input put end };
+
+    /// The law that a network has at most one answer.
+    fn answers_once()
+        ensures { IsSingleAnswer Self.answers };
+}
+
+impl<Q: PlanQuestion> Promising for Asked<Q, PlanText> {
+    type Request = Q;
+
+    ghost start = { λ question. asking question };
+
+    ghost promise = { λ question. or_nothing (Q.promised question) };
+
+    fn begun(alloc: Global, request: Q) -> Asked<Q, PlanText> {
+        Asked {
+            question: request,
+            text: PlanText::new(alloc),
+        }
+    }
+
+    fn keeps_its_promise() {
+        Q::puts_the_answer();
+        Q::answers_keep_it();
+    }
+
+    fn keeps_it_without_memory() {}
+
+    fn defines_one() {
+        Q::answers_once();
+    }
+}

@@ -1,0 +1,109 @@
+//! Commands without an input.
+
+ghost use Rattle.std.specs.Prelude.{◌≡◌, ℕ, List, [], IfOk};
+ghost use Rattle.std.specs.Thread.{IsSync};
+ghost use Rattle.plan_port.specs.Writing.{Writes};
+ghost use Rattle.plan_port.specs.declared.writing.Written.{Written};
+ghost use Rattle.stnu_run.specs.Programs.{ServesProgram, KeepsPromise, HasCauses, KeepsWithoutMemory, EachDefinesOne, told_number, written_number, tells};
+ghost use Rattle.stnu_run.specs.Requests.{RefusesWords};
+ghost use Rattle.stnu_run.specs.declared.telling.TellingEnd.{TellingEnd};
+
+use crate::status::Status;
+use commands::{Answer, Word};
+use plan_port::{Port, Written, write_all};
+use std::alloc::{AllocError, Global};
+use std::thread::Threads;
+
+/// How a command without an input ends.
+#[derive(Clone, Copy, Debug, PartialEq, Eq)]
+pub enum TellingEnd {
+    /// It was told what was asked.
+    Told,
+    /// The words are those of no command.
+    WordsRefused,
+}
+
+impl TellingEnd {
+    /// The exit status: 0 or 2, in the order of the variants.
+    fn number(self) -> u8
+        ensures { result ≡ told_number self }
+    {
+        match self {
+            TellingEnd::Told => 0,
+            TellingEnd::WordsRefused => 2,
+        }
+    }
+}
+
+/// A command that puts one answer, and reads nothing.
+pub trait Telling: Drop {
+    /// This is put, and so the run ends.
+    ghost told: { Self → List ℕ → TellingEnd → Type 0 };
+
+    /// The law that one answer is told, and the run ends in one way.
+    fn tells_one()
+        ensures { EachDefinesOne (λ asked. tells (told asked)) };
+
+    /// Puts the answer into the buffer, which is empty. `AllocError` comes only for want of memory.
+    fn answer<R: Threads + Sync>(
+        self,
+        rt: &R,
+        alloc: Global,
+        answer: &mut Answer,
+    ) -> Result<TellingEnd, AllocError>
+        // An implementation does not learn this from the bound `Sync`.
+        requires shared { IsSync R.row }
+        requires fresh { answer.old.text ≡ [] }
+        ensures { IfOk result (λ end. told self answer.new.text end) };
+}
+
+/// Runs a command without an input: its answer is put by one writing.
+pub fn tell<R: Threads + Sync, T: Telling, P: Port>(
+    rt: &R,
+    alloc: Global,
+    command: T,
+    port: &mut P,
+) -> Status
+    ensures served { ServesProgram (tells (T.told command)) result (P.seen port.old) (P.seen port.new) }
+    ensures kept { KeepsPromise (tells (T.told command)) result (P.seen port.old) (P.seen port.new) }
+    ensures causes { HasCauses (tells (T.told command)) result (P.seen port.old) (P.seen port.new) }
+    ensures memory { KeepsWithoutMemory (tells (T.told command)) result (P.seen port.old) (P.seen port.new) }
+{
+    let Ok(mut answer) = Answer::new(alloc) else {
+        return Status(8);
+    };
+    match command.answer(rt, alloc, &mut answer) {
+        Ok(end) => put(port, &answer, end),
+        Err(AllocError) => Status(8),
+    }
+}
+
+/// Puts an answer, and gives the exit status.
+fn put<P: Port>(port: &mut P, answer: &Answer, end: TellingEnd) -> Status
+    ensures { (written : Written) × (result ≡ record { 0 = written_number end written }) × Writes (P.seen port.old) (P.seen port.new) written answer.now.text }
+{
+    match write_all(port, answer.bytes()) {
+        Written::All => Status(end.number()),
+        Written::Part(_) => Status(6),
+    }
+}
+
+/// The refusal of words that are those of no command.
+#[derive(Clone, Copy)]
+pub struct RefusedWords;
+
+impl Telling for RefusedWords {
+    ghost told = { λ refused. RefusesWords };
+
+    fn tells_one() {}
+
+    fn answer<R: Threads + Sync>(
+        self,
+        _rt: &R,
+        _alloc: Global,
+        answer: &mut Answer,
+    ) -> Result<TellingEnd, AllocError> {
+        answer.refuse(&[Word::Text("error"), Word::Text("words")]);
+        Ok(TellingEnd::WordsRefused)
+    }
+}
