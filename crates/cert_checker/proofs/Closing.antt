@@ -4,7 +4,8 @@ use Rattle.std.specs.Prelude.{int_lt}
 use Rattle.std.specs.List.{AllByRecursion, Contains, cons_option}
 use Rattle.std.specs.Str.{bytes_eq}
 use Rattle.std.proofs.lemmas.List.Elements.{All-from_recursion}
-use Rattle.net_model.specs.Network.{Plan, IsPlan}
+use Rattle.net_model.specs.Network.{Plan}
+use Rattle.strategy_model.specs.Plays.{IsInstant}
 use Rattle.strategy_model.specs.Control.{IsControllable}
 use Rattle.strategy_model.specs.Edges.{IsWalk, IsNegativeLoop, total}
 use Rattle.strategy_model.specs.Laws.{RulesKeepEdges, RefutationsExcludeStrategies}
@@ -60,21 +61,21 @@ module _ (net : Plan) where
       negative_walk (length lines + 1) (walked lines walk) negative
 
   -- no strategy controls a network of which a refutation passes
-  pub refutation_excludes : IsPlan net → RulesKeepEdges → RefutationsExcludeStrategies → (lines : List CertLine) (walk : List ℕ) → refutation_passes net lines walk ≡ Ok tt → IsControllable net → ⊥
+  pub refutation_excludes : IsInstant net → RulesKeepEdges → RefutationsExcludeStrategies → (lines : List CertLine) (walk : List ℕ) → refutation_passes net lines walk ≡ Ok tt → IsControllable net → ⊥
   unfolding refutation_passes
-  refutation_excludes plan keep exclude lines walk passes controllable =
+  refutation_excludes instant keep exclude lines walk passes controllable =
       let (_, pass, closed) = bind_ok (lines_pass net [] lines) _ tt passes in
       let loop = walk_ok lines walk closed in
       let steps = edges_of net (walked lines walk) in
-      exclude net (edges_of net lines) steps plan (derivation net plan keep lines pass) (All-from_recursion (Contains (edges_of net lines)) steps (steps_among lines walk)) loop controllable
+      exclude net (edges_of net lines) steps instant (derivation net instant.sound keep lines pass) (All-from_recursion (Contains (edges_of net lines)) steps (steps_among lines walk)) loop controllable
 
 accepted_passes : (passes : WalkPasses) → judged passes ≡ Accepted NotControllable → passes ≡ Ok tt
 accepted_passes (Ok passed) accepted = refl
 accepted_passes (Err refused) accepted = absurd (cc)
 
-excludes_by : RulesKeepEdges → RefutationsExcludeStrategies → (net : Plan) (certificate : Certificate) → IsPlan net → judgement_of net certificate ≡ Accepted NotControllable → IsControllable net → ⊥
-excludes_by keep exclude net (Refutation lines walk) plan accepted =
-    refutation_excludes net plan keep exclude lines walk (accepted_passes (refutation_passes net lines walk) accepted)
+excludes_by : RulesKeepEdges → RefutationsExcludeStrategies → (net : Plan) (certificate : Certificate) → IsInstant net → judgement_of net certificate ≡ Accepted NotControllable → IsControllable net → ⊥
+excludes_by keep exclude net (Refutation lines walk) instant accepted =
+    refutation_excludes net instant keep exclude lines walk (accepted_passes (refutation_passes net lines walk) accepted)
 
 -- an accepted refutation excludes every strategy that controls the network
 pub accepted_excludes : RulesKeepEdges → RefutationsExcludeStrategies → AcceptedExcludes

@@ -11,6 +11,7 @@ use Rattle.net_model.specs.Network.{Plan, IsPlan, point_named}
 use Rattle.net_model.specs.Edges.{IsEdge}
 use Rattle.net_model.specs.LooseRules.{FollowsLoosely, IsLooseDerivation}
 use Rattle.net_model.specs.declared.part.Edge.{Edge}
+use Rattle.strategy_model.specs.Plays.{IsInstant}
 use Rattle.strategy_model.specs.Edges.{HoldsOf}
 use Rattle.strategy_model.specs.declared.tree.Tree.{Tree}
 use Rattle.strategy_model.specs.Laws.{RulesKeepEdges, DerivationsAreTrue}
@@ -105,9 +106,9 @@ module _ (net : Plan) (plan : IsPlan net) (rules_keep_edges : RulesKeepEdges) wh
       let (passes, others) = first_passes net earlier line lines pass in
       ((edge_of net line, states line (names_ok net earlier line passes), all.0), stated_true strategy (earlier ++ line ∷ []) lines others all.1)
 
-  pub lines_are_true : DerivationsAreTrue → (lines : List CertLine) → lines_pass net [] lines ≡ Ok tt → AreTrue net lines
-  lines_are_true derivations_are_true lines pass = record {
+  pub lines_are_true : IsInstant net → DerivationsAreTrue → (lines : List CertLine) → lines_pass net [] lines ≡ Ok tt → AreTrue net lines
+  lines_are_true instant derivations_are_true lines pass = record {
     of_each = λ strategy controls.
-        let true_edges = derivations_are_true net strategy (edges_of net lines) plan controls (derivation lines pass) in
+        let true_edges = derivations_are_true net strategy (edges_of net lines) instant controls (derivation lines pass) in
         All-from_recursion (IsTrueOf net strategy) lines (stated_true strategy [] lines pass (recursion_from_All (HoldsOf net strategy) (edges_of net lines) true_edges));
   }

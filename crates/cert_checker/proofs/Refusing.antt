@@ -1,7 +1,8 @@
 -- The lines before the one at which a refutation is refused pass.
 use Rattle.std.proofs.Common.{◌≡◌, ℕ, ◌+◌, ◌-◌, zero, suc, List, [], ◌∷◌, ◌++◌, length, take, Ok, Err, refl, ap, ◌∙◌, arith}
 use Rattle.std.proofs.lemmas.List.{length_push}
-use Rattle.net_model.specs.Network.{Plan, IsPlan}
+use Rattle.net_model.specs.Network.{Plan}
+use Rattle.strategy_model.specs.Plays.{IsInstant}
 use Rattle.strategy_model.specs.Laws.{RulesKeepEdges, DerivationsAreTrue}
 use Rattle.cert_format.specs.declared.certificate.Certificate.{Certificate}
 use Rattle.cert_format.specs.declared.certificate.Certificate.TheVariants.{Refutation}
@@ -68,8 +69,8 @@ pub passed_lines_pass : (net : Plan) (lines : List CertLine) (walk : List ℕ) �
 passed_lines_pass net lines walk = passed_of net lines walk (refutation_passes net lines walk) refl
 
 pub all_passed_true : RulesKeepEdges → DerivationsAreTrue → PassedLinesAreTrue
-all_passed_true keep derivations = λ net certificate plan. passed_true net keep derivations plan certificate
+all_passed_true keep derivations = λ net certificate instant. passed_true net keep derivations instant certificate
   where
-    passed_true : (net : Plan) → RulesKeepEdges → DerivationsAreTrue → IsPlan net → (certificate : Certificate) → AreTrue net (passed_lines certificate (judgement_of net certificate))
-    passed_true net keep derivations plan (Refutation lines walk) =
-        lines_are_true net plan keep derivations (passed_lines (Refutation lines walk) (judgement_of net (Refutation lines walk))) (passed_lines_pass net lines walk)
+    passed_true : (net : Plan) → RulesKeepEdges → DerivationsAreTrue → IsInstant net → (certificate : Certificate) → AreTrue net (passed_lines certificate (judgement_of net certificate))
+    passed_true net keep derivations instant (Refutation lines walk) =
+        lines_are_true net instant.sound keep instant derivations (passed_lines (Refutation lines walk) (judgement_of net (Refutation lines walk))) (passed_lines_pass net lines walk)

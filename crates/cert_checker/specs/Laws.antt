@@ -1,6 +1,7 @@
 -- What holds of the judgement of certificates: what they say is so, whoever wrote them.
 use Rattle.std.specs.Prelude.{◌≡◌, ◌⊎◌, ℕ, List}
-use Rattle.net_model.specs.Network.{Plan, IsPlan}
+use Rattle.net_model.specs.Network.{Plan}
+use Rattle.strategy_model.specs.Plays.{IsInstant}
 use Rattle.strategy_model.specs.Control.{IsControllable}
 use Rattle.cert_format.specs.declared.certificate.Certificate.{Certificate}
 use Rattle.cert_format.specs.declared.certificate.Certificate.TheVariants.{Refutation}
@@ -14,11 +15,11 @@ use Rattle.cert_checker.specs.declared.judgement.Claim.TheVariants.{NotControlla
 
 -- each line that passes is true of every strategy that controls the network
 abbrev pub PassedLinesAreTrue : Type 0
-PassedLinesAreTrue = (net : Plan) (certificate : Certificate) → IsPlan net → AreTrue net (passed_lines certificate (judgement_of net certificate))
+PassedLinesAreTrue = (net : Plan) (certificate : Certificate) → IsInstant net → AreTrue net (passed_lines certificate (judgement_of net certificate))
 
 -- an accepted refutation excludes every strategy that controls the network
 abbrev pub AcceptedExcludes : Type 0
-AcceptedExcludes = (net : Plan) (certificate : Certificate) → IsPlan net → judgement_of net certificate ≡ Accepted NotControllable → IsControllable net → ⊥
+AcceptedExcludes = (net : Plan) (certificate : Certificate) → IsInstant net → judgement_of net certificate ≡ Accepted NotControllable → IsControllable net → ⊥
 
 -- a refused refutation has one line that is refused, or its walk is
 abbrev pub RefusalsAreOfOneLine : Type 0

@@ -5,7 +5,7 @@ use Rattle.std.specs.List.{All, Contains}
 use Rattle.std.specs.Option.{option_map}
 use Rattle.std.proofs.lemmas.List.Elements.{All-from_recursion, recursion_from_All, All-weaker, All-contains_itself}
 use Rattle.std.proofs.lemmas.Option.{none-some, same_Some, slice_get-map, MatchOption-at_some}
-use Rattle.net_model.specs.Network.{Plan, IsPlan}
+use Rattle.net_model.specs.Network.{Plan}
 use Rattle.net_model.specs.Edges.{IsEdge, IsLabelled, IsLinkOf}
 use Rattle.net_model.specs.Rules as exact
 use Rattle.net_model.specs.Rules.{Follows}
@@ -19,6 +19,7 @@ use Rattle.closure_model.specs.Derivable.{IsDerivable, IsDerivableFor, IsLeastDe
 use Rattle.closure_model.specs.Closure.{IsClosure, HoldsDerivable}
 use Rattle.closure_model.proofs.LawProofs.{derivable_are_edges, closure_is_closed}
 use Rattle.closure_model.proofs.TableLemmas.{edge_listed, listed_edge}
+use Rattle.strategy_model.specs.Plays.{IsInstant}
 use Rattle.strategy_model.specs.Control.{Controls, IsEarliest}
 use Rattle.strategy_model.specs.Edges.{HoldsOf}
 use Rattle.strategy_model.specs.Dispatch.{Stands, IsOrder, IsDispatched}
@@ -34,18 +35,18 @@ use Rattle.strategy_model.proofs.LowerLemmas.{dispatched_exist}
 use Rattle.controllability.specs.Laws.{DerivableAreTrue, DerivableCyclesExclude, ClosedTablesAreClosedLists, ClosuresAreClosedLists, ClosuresDecide, ClosuresDispatchEarliest}
 
 -- what follows from derivable edges that are true is true
-module _ (net : Plan) (strategy : Tree) (plan : IsPlan net) (controls : Controls strategy net) where
+module _ (net : Plan) (strategy : Tree) (instant : IsInstant net) (controls : Controls strategy net) where
   from_one : (premise edge : Edge) → IsDerivable net premise → HoldsOf net strategy premise → Follows net (premise ∷ []) edge → HoldsOf net strategy edge
   from_one premise edge derived holds follows =
-      exact_rules_keep_truth net strategy (premise ∷ []) edge plan controls (All-from_recursion (IsEdge net) (premise ∷ []) (derivable_are_edges net premise plan derived, tt)) (All-from_recursion (HoldsOf net strategy) (premise ∷ []) (holds, tt)) follows
+      exact_rules_keep_truth net strategy (premise ∷ []) edge instant controls (All-from_recursion (IsEdge net) (premise ∷ []) (derivable_are_edges net premise instant.sound derived, tt)) (All-from_recursion (HoldsOf net strategy) (premise ∷ []) (holds, tt)) follows
 
   from_two : (first second edge : Edge) → IsDerivable net first → IsDerivable net second → HoldsOf net strategy first → HoldsOf net strategy second → Follows net (first ∷ second ∷ []) edge → HoldsOf net strategy edge
   from_two first second edge one two holds_first holds_second follows =
-      exact_rules_keep_truth net strategy (first ∷ second ∷ []) edge plan controls (All-from_recursion (IsEdge net) (first ∷ second ∷ []) (derivable_are_edges net first plan one, (derivable_are_edges net second plan two, tt))) (All-from_recursion (HoldsOf net strategy) (first ∷ second ∷ []) (holds_first, (holds_second, tt))) follows
+      exact_rules_keep_truth net strategy (first ∷ second ∷ []) edge instant controls (All-from_recursion (IsEdge net) (first ∷ second ∷ []) (derivable_are_edges net first instant.sound one, (derivable_are_edges net second instant.sound two, tt))) (All-from_recursion (HoldsOf net strategy) (first ∷ second ∷ []) (holds_first, (holds_second, tt))) follows
 
   from_none : (edge : Edge) → Follows net [] edge → HoldsOf net strategy edge
   from_none edge follows =
-      exact_rules_keep_truth net strategy [] edge plan controls (All-from_recursion (IsEdge net) [] tt) (All-from_recursion (HoldsOf net strategy) [] tt) follows
+      exact_rules_keep_truth net strategy [] edge instant controls (All-from_recursion (IsEdge net) [] tt) (All-from_recursion (HoldsOf net strategy) [] tt) follows
 
   derived_is_true : (edge : Edge) → IsDerivable net edge → HoldsOf net strategy edge
   derived_is_true edge (by_bound place bound e declared is) = from_none edge (exact.by_bound place bound declared is)
@@ -62,12 +63,12 @@ module _ (net : Plan) (strategy : Tree) (plan : IsPlan net) (controls : Controls
       from_one premise edge one (derived_is_true premise one) (exact.by_removal premise (0, omega arith, refl) gave)
 
 pub derivable_are_true : DerivableAreTrue
-derivable_are_true net strategy edge plan controls derived = derived_is_true net strategy plan controls edge derived
+derivable_are_true net strategy edge instant controls derived = derived_is_true net strategy instant controls edge derived
 
 pub derivable_cycles_exclude : DerivableCyclesExclude
-derivable_cycles_exclude net cycle plan derived negative controllable =
+derivable_cycles_exclude net cycle instant derived negative controllable =
     let (strategy, controls) = controllable in
-    loops_exclude_strategies net strategy cycle plan (recursion_from_All (HoldsOf net strategy) cycle (All-weaker (IsDerivable net) (HoldsOf net strategy) (λ edge its. derived_is_true net strategy plan controls edge its) cycle derived)) (cycle_is_loop cycle negative) controls
+    loops_exclude_strategies net strategy cycle instant (recursion_from_All (HoldsOf net strategy) cycle (All-weaker (IsDerivable net) (HoldsOf net strategy) (λ edge its. derived_is_true net strategy instant controls edge its) cycle derived)) (cycle_is_loop cycle negative) controls
 
 -- ---- tables as lists
 -- what a table has at most stands in the list of its edges
@@ -130,24 +131,24 @@ closures_are_closed_lists net table plan closure =
       closed = λ edge follows. stands_in table edge ((closure_is_closed net table closure).0 edge follows);
     }
 
-closure_true : (net : Plan) (table : Graph) → IsPlan net → IsClosure net table → AreTrue net (edges_of table)
-closure_true net table plan closure strategy controls =
-    listed_all table (HoldsOf net strategy) (λ edge has. derivable_are_true net strategy edge plan controls (closure_derivable net table closure edge has))
+closure_true : (net : Plan) (table : Graph) → IsInstant net → IsClosure net table → AreTrue net (edges_of table)
+closure_true net table instant closure strategy controls =
+    listed_all table (HoldsOf net strategy) (λ edge has. derivable_are_true net strategy edge instant controls (closure_derivable net table closure edge has))
 
 pub closures_decide : ClosuresDecide
-closures_decide net table plan closure =
-    closed_lists_decide net (edges_of table) plan (closures_are_closed_lists net table plan closure) (closure_true net table plan closure)
+closures_decide net table instant closure =
+    closed_lists_decide net (edges_of table) instant (closures_are_closed_lists net table instant.sound closure) (closure_true net table instant closure)
 
 -- the schedule of the lower bounds and waits of the closure is the earliest
-earliest_if : (net : Plan) (table : Graph) (order : List PointId) (situation schedule : List ℕ) → IsPlan net → IsClosure net table → IsOrder net (edges_of table) order → IsSituation net situation → IsDispatched net (edges_of table) situation schedule → IsEarliest net situation schedule
-earliest_if net table order situation schedule plan closure ordered is_situation dispatched =
-    dispatched_are_earliest net (edges_of table) order situation schedule plan (closures_are_closed_lists net table plan closure) ordered (closure_true net table plan closure) is_situation dispatched
+earliest_if : (net : Plan) (table : Graph) (order : List PointId) (situation schedule : List ℕ) → IsInstant net → IsClosure net table → IsOrder net (edges_of table) order → IsSituation net situation → IsDispatched net (edges_of table) situation schedule → IsEarliest net situation schedule
+earliest_if net table order situation schedule instant closure ordered is_situation dispatched =
+    dispatched_are_earliest net (edges_of table) order situation schedule instant (closures_are_closed_lists net table instant.sound closure) ordered (closure_true net table instant closure) is_situation dispatched
 
 pub closures_dispatch_earliest : ClosuresDispatchEarliest
-closures_dispatch_earliest net table order situation schedule plan closure ordered is_situation = (
+closures_dispatch_earliest net table order situation schedule instant closure ordered is_situation = (
   λ earliest.
-      let (made, dispatched) = dispatched_exist net (edges_of table) order situation plan (closures_are_closed_lists net table plan closure) ordered is_situation in
-      let same : made ≡ schedule = at_most_one_earliest net situation made schedule (earliest_if net table order situation made plan closure ordered is_situation dispatched) earliest in
+      let (made, dispatched) = dispatched_exist net (edges_of table) order situation instant (closures_are_closed_lists net table instant.sound closure) ordered is_situation in
+      let same : made ≡ schedule = at_most_one_earliest net situation made schedule (earliest_if net table order situation made instant closure ordered is_situation dispatched) earliest in
       subst (IsDispatched net (edges_of table) situation) same dispatched,
-  earliest_if net table order situation schedule plan closure ordered is_situation,
+  earliest_if net table order situation schedule instant closure ordered is_situation,
 )

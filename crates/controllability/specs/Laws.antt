@@ -8,6 +8,7 @@ use Rattle.closure_model.specs.Tables.{Graph, edges_of, IsFor, IsClosed, IsGraph
 use Rattle.closure_model.specs.Derivable.{IsDerivable}
 use Rattle.closure_model.specs.Closure.{IsClosure}
 use Rattle.strategy_model.specs.Situations.{IsSituation}
+use Rattle.strategy_model.specs.Plays.{IsInstant}
 use Rattle.strategy_model.specs.Control.{Controls, IsControllable, IsEarliest}
 use Rattle.strategy_model.specs.Edges.{HoldsOf, IsNegativeCycle, HasNoNegativeCycle}
 use Rattle.strategy_model.specs.Dispatch.{IsClosedList, IsOrder, IsDispatched}
@@ -15,11 +16,11 @@ use Rattle.strategy_model.specs.declared.tree.Tree.{Tree}
 
 -- every derivable edge is true of every strategy that controls the network
 abbrev pub DerivableAreTrue : Type 0
-DerivableAreTrue = (net : Plan) (strategy : Tree) (edge : Edge) → IsPlan net → Controls strategy net → IsDerivable net edge → HoldsOf net strategy edge
+DerivableAreTrue = (net : Plan) (strategy : Tree) (edge : Edge) → IsInstant net → Controls strategy net → IsDerivable net edge → HoldsOf net strategy edge
 
 -- so a cycle of negative ordinary edges that are derivable excludes every strategy that controls the network
 abbrev pub DerivableCyclesExclude : Type 0
-DerivableCyclesExclude = (net : Plan) (cycle : List Edge) → IsPlan net → All (IsDerivable net) cycle → IsNegativeCycle cycle → IsControllable net → ⊥
+DerivableCyclesExclude = (net : Plan) (cycle : List Edge) → IsInstant net → All (IsDerivable net) cycle → IsNegativeCycle cycle → IsControllable net → ⊥
 
 -- the edges of a closed table of a network are a closed list
 abbrev pub ClosedTablesAreClosedLists : Type 0
@@ -31,11 +32,11 @@ ClosuresAreClosedLists = (net : Plan) (table : Graph) → IsPlan net → IsClosu
 
 -- a network is controllable exactly where its closure has no cycle of negative ordinary edges
 abbrev pub ClosuresDecide : Type 0
-ClosuresDecide = (net : Plan) (table : Graph) → IsPlan net → IsClosure net table → (IsControllable net ↔ HasNoNegativeCycle (edges_of table))
+ClosuresDecide = (net : Plan) (table : Graph) → IsInstant net → IsClosure net table → (IsControllable net ↔ HasNoNegativeCycle (edges_of table))
 
 -- a schedule is the earliest of a situation exactly where it is that of the lower bounds and waits of the closure
 abbrev pub ClosuresDispatchEarliest : Type 0
 ClosuresDispatchEarliest =
-    (net : Plan) (table : Graph) (order : List PointId) (situation schedule : List ℕ) → IsPlan net → IsClosure net table
+    (net : Plan) (table : Graph) (order : List PointId) (situation schedule : List ℕ) → IsInstant net → IsClosure net table
     → IsOrder net (edges_of table) order → IsSituation net situation
     → (IsEarliest net situation schedule ↔ IsDispatched net (edges_of table) situation schedule)

@@ -26,8 +26,8 @@ closures_may_dispatch net table order plan closure ordered =
     }
 
 pub closures_execute_earliest : ClosuresExecuteEarliest
-closures_execute_earliest net table order situation schedule plan closure sound ordered is_situation =
-    let dispatch = closures_dispatch_earliest net table order situation schedule plan closure (order_of_edges net table order closure.for_network ordered) is_situation in
+closures_execute_earliest net table order situation schedule instant closure sound ordered is_situation =
+    let dispatch = closures_dispatch_earliest net table order situation schedule instant closure (order_of_edges net table order closure.for_network ordered) is_situation in
     let executed = executions_are_dispatched net table situation schedule closure.for_network sound in (
       λ earliest. executed.1 (dispatch.0 earliest),
       λ execution. dispatch.1 (executed.0 execution),

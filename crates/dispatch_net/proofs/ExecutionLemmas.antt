@@ -176,20 +176,20 @@ order_of_edges net table order for ordered =
 
 -- ---- executions of a closed table
 pub executions_satisfy : ExecutionsSatisfy
-executions_satisfy net table order plan for sound closed ordered =
+executions_satisfy net table order instant for sound closed ordered =
     let list = closed_tables_are_closed_lists net table for sound closed in
     let order_is = order_of_edges net table order for ordered in
     record {
       executed = λ situation is_situation.
-          let (schedule, dispatched) = dispatched_exist net (edges_of table) order situation plan list order_is is_situation in
+          let (schedule, dispatched) = dispatched_exist net (edges_of table) order situation instant list order_is is_situation in
           (schedule, (executions_are_dispatched net table situation schedule for sound).1 dispatched);
       satisfies = λ situation schedule is_situation execution.
-          dispatched_satisfy net (edges_of table) situation schedule plan list is_situation ((executions_are_dispatched net table situation schedule for sound).0 execution);
+          dispatched_satisfy net (edges_of table) situation schedule instant list is_situation ((executions_are_dispatched net table situation schedule for sound).0 execution);
     }
 
 pub executions_are_played : ExecutionsArePlayed
-executions_are_played net table order plan for sound closed ordered =
-    let (strategy, controls, dispatches) = closed_lists_give_strategies net (edges_of table) order plan (closed_tables_are_closed_lists net table for sound closed) (order_of_edges net table order for ordered) in (
+executions_are_played net table order instant for sound closed ordered =
+    let (strategy, controls, dispatches) = closed_lists_give_strategies net (edges_of table) order instant (closed_tables_are_closed_lists net table for sound closed) (order_of_edges net table order for ordered) in (
       strategy,
       controls,
       λ situation is_situation.

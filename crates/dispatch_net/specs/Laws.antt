@@ -8,7 +8,7 @@ use Rattle.closure_model.specs.Tables.{Graph, HasEdge, edges_of, IsFor, IsGraph,
 use Rattle.closure_model.specs.Orders as table_orders
 use Rattle.closure_model.specs.Closure.{IsClosure}
 use Rattle.strategy_model.specs.Situations.{IsSituation}
-use Rattle.strategy_model.specs.Plays.{play}
+use Rattle.strategy_model.specs.Plays.{play, IsInstant}
 use Rattle.strategy_model.specs.Control.{Controls, IsEarliest}
 use Rattle.strategy_model.specs.Dispatch.{IsDispatched}
 use Rattle.strategy_model.specs.declared.tree.Tree.{Tree}
@@ -25,13 +25,13 @@ ExecutionsAreDispatched =
 -- that of a closed table with an order is executed in every situation, and each execution satisfies the network
 abbrev pub ExecutionsSatisfy : Type 0
 ExecutionsSatisfy =
-    (net : Plan) (table : Graph) (order : List PointId) → IsPlan net → IsFor net table → IsGraph table → IsClosed net table
+    (net : Plan) (table : Graph) (order : List PointId) → IsInstant net → IsFor net table → IsGraph table → IsClosed net table
     → table_orders.IsOrder table order → ExecutionSatisfies net (dispatchable net table)
 
 -- and a strategy that controls the network plays the execution in every situation
 abbrev pub ExecutionsArePlayed : Type 0
 ExecutionsArePlayed =
-    (net : Plan) (table : Graph) (order : List PointId) → IsPlan net → IsFor net table → IsGraph table → IsClosed net table
+    (net : Plan) (table : Graph) (order : List PointId) → IsInstant net → IsFor net table → IsGraph table → IsClosed net table
     → table_orders.IsOrder table order → (strategy : Tree) × Controls strategy net
     × ((situation : List ℕ) → IsSituation net situation
     → (schedule : List ℕ) × (play strategy net situation ≡ Some schedule) × IsExecutedBy net (dispatchable net table) situation schedule)
@@ -60,6 +60,6 @@ ClosuresMayDispatch =
 -- and then a schedule is the earliest of a situation exactly where it is the execution
 abbrev pub ClosuresExecuteEarliest : Type 0
 ClosuresExecuteEarliest =
-    (net : Plan) (table : Graph) (order : List PointId) (situation schedule : List ℕ) → IsPlan net → IsClosure net table → IsGraph table
+    (net : Plan) (table : Graph) (order : List PointId) (situation schedule : List ℕ) → IsInstant net → IsClosure net table → IsGraph table
     → table_orders.IsOrder table order → IsSituation net situation
     → (IsEarliest net situation schedule ↔ IsExecutedBy net (dispatchable net table) situation schedule)

@@ -2,6 +2,7 @@ ghost use Rattle.std.specs.Prelude.{◌≡◌, ◌<◌, ◌++◌, [], length, If
 ghost use Rattle.std.specs.List.{cons_option};
 ghost use Rattle.std.specs.Option.{option_and_then};
 ghost use Rattle.net_model.specs.Network.{IsPoint};
+ghost use Rattle.strategy_model.specs.Plays.{IsInstant};
 ghost use Rattle.closure_model.specs.Tables.{IsFor, IsGraph, IsWeight};
 ghost use Rattle.dispatch_net.specs.Dispatchable.{MayDispatch, lower_bounds_in, waits_in, conditions_in, dispatchable, conditions_at, moments_of, with_moments};
 ghost use Rattle.dispatch_net.specs.Execution.{ExecutionSatisfies};
@@ -49,7 +50,7 @@ impl Dispatch {
         requires { MayDispatch net.now table.now order.now }
         ensures dispatchable { IfOk result (λ dispatch. dispatch ≡ dispatchable net.now table.now) }
         ensures whole { IfOk result (λ dispatch. length dispatch ≡ length net.now.points) }
-        ensures executed { IfOk result (λ dispatch. IsGraph table.now → ExecutionSatisfies net.now dispatch) }
+        ensures executed { IfOk result (λ dispatch. IsInstant net.now → IsGraph table.now → ExecutionSatisfies net.now dispatch) }
     {
         let mut conditions = Vec::new(alloc);
         for point in 0..net.points().len() as u32 {

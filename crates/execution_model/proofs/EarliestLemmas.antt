@@ -74,7 +74,7 @@ refused_after (listing ∷ others) execution = refused_after others (after_listi
 none_refused : (net : Plan) (table : Graph) (order : List PointId) (listings : List Listing) (execution : Execution) → IsDispatchedByClosure net table order
     → fed_all (started (setting_of net table)) listings ≡ Ok execution → execution.refused ≡ None
 none_refused net table order listings execution by fed =
-    let leads = (fed_in_time net listings (started (setting_of net table)) execution (started_of net table by.sound by.closure.for_network) fed).1 in
+    let leads = (fed_in_time net listings (started (setting_of net table)) execution (started_of net table by.instant by.closure.for_network) fed).1 in
     ap (λ (e : Execution). e.refused) (sym leads) ∙ refused_after listings (started (setting_of net table))
 
 -- what comes next, in two parts
@@ -144,7 +144,7 @@ module _ (net : Plan) (table : Graph) (order : List PointId) (by : IsDispatchedB
 
   is_of : IsExecutionOf net execution
   is_of = record {
-    sound = by.sound;
+    instant = by.instant;
     links = ap (λ (setting : Setting). setting.links) keeps.setting;
     dispatch = ap (λ (setting : Setting). length setting.dispatch) keeps.setting ∙ dispatchable_length net table by.closure.for_network;
     moments = keeps.cut.long;

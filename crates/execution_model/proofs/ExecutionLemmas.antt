@@ -6,9 +6,10 @@ use Rattle.std.specs.Option.{option_map_or}
 use Rattle.std.proofs.lemmas.Bool.{cases_lt}
 use Rattle.std.proofs.lemmas.List.{same_lists, get_or-map, get_or_default, length-map}
 use Rattle.std.proofs.lemmas.Option.{same_Some}
-use Rattle.net_model.specs.Network.{Plan, IsPlan, IsPoint}
+use Rattle.net_model.specs.Network.{Plan, IsPoint}
 use Rattle.net_model.specs.declared.ids.PointId.{PointId}
 use Rattle.closure_model.proofs.Lists.{Contains-head, Contains-tail}
+use Rattle.strategy_model.specs.Plays.{IsInstant}
 use Rattle.strategy_model.specs.Situations.{moment_in}
 use Rattle.strategy_model.specs.Dispatch.{AgreeUpTo, SameCompletions}
 use Rattle.strategy_model.proofs.AgreeLemmas.{played_length}
@@ -37,7 +38,7 @@ shown_up_to last m = if option_map_or (nat_le m) last false then Some m else Non
 abbrev fixed_where : (done : Bool) → Option ℕ → List ℕ → List (Option ℕ)
 fixed_where done last schedule = if done then map Some schedule else cut_at last schedule
 
-module _ (net : Plan) (plan : IsPlan net) (stream : Stream) (one other : List ℕ) (first : Fits net stream one) (second : Fits net stream other) where
+module _ (net : Plan) (instant : IsInstant net) (stream : Stream) (one other : List ℕ) (first : Fits net stream one) (second : Fits net stream other) where
   -- while all that comes is listed, the completions are the same
   same_completions : (t : ℕ) → ((m : ℕ) → m ≤ t → HasGoneBy stream m) → SameCompletions net t first.schedule second.schedule
   same_completions t gone name link declared =
@@ -55,7 +56,7 @@ module _ (net : Plan) (plan : IsPlan net) (stream : Stream) (one other : List �
       → AgreeUpTo t (moment_in first.schedule point) (moment_in second.schedule point)
   agree t gone point within =
       elim (kind net point within) [
-        | inl executable ↦ earliest_see_alone net one other first.schedule second.schedule t plan first.earliest second.earliest (same_completions t gone) point executable
+        | inl executable ↦ earliest_see_alone net one other first.schedule second.schedule t instant first.earliest second.earliest (same_completions t gone) point executable
         | inr ending ↦ subst (λ (p : PointId). AgreeUpTo t (moment_in first.schedule p) (moment_in second.schedule p)) ending.ends (same_completions t gone ending.name ending.link ending.declared)
       ]
 
@@ -126,5 +127,5 @@ module _ (net : Plan) (plan : IsPlan net) (stream : Stream) (one other : List �
           ap (λ (b : Bool). fixed_where b last first.schedule) goes_on ∙ same_up_to last refl ∙ sym (ap (λ (b : Bool). fixed_where b last second.schedule) goes_on)
 
 pub executions_are_one : ExecutionsAreOne
-executions_are_one net stream one other plan first second =
-    first.fixed ∙ same_fixed net plan stream first.situation second.situation first.fits second.fits ∙ sym second.fixed
+executions_are_one net stream one other instant first second =
+    first.fixed ∙ same_fixed net instant stream first.situation second.situation first.fits second.fits ∙ sym second.fixed

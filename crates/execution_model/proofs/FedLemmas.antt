@@ -7,9 +7,10 @@ use Rattle.std.proofs.lemmas.Bool.{ltb-true, ltb-false}
 use Rattle.std.proofs.lemmas.List.{length-map}
 use Rattle.std.proofs.lemmas.List.Elements.{All-head, All-tail}
 use Rattle.std.proofs.lemmas.Option.{none-some}
-use Rattle.net_model.specs.Network.{Plan, IsPlan}
+use Rattle.net_model.specs.Network.{Plan}
 use Rattle.net_model.specs.declared.ids.PointId.{PointId}
 use Rattle.closure_model.specs.Tables.{Graph, IsFor}
+use Rattle.strategy_model.specs.Plays.{IsInstant}
 use Rattle.dispatch_net.proofs.ExecutionLemmas.{dispatchable_length}
 use Rattle.execution_model.specs.Execution.{Moments, Setting, points_of}
 use Rattle.execution_model.specs.Feeding.{Execution, started, next_moment, most_moment, refusal_of_moment, completed_in, taken, after_feed}
@@ -22,11 +23,11 @@ use Rattle.execution_model.proofs.MomentLemmas.{length-points, length-acted}
 use Rattle.execution_model.proofs.TimelyLemmas.{taken_in_time}
 
 -- the start is an execution of the network
-pub started_of : (net : Plan) (table : Graph) → IsPlan net → IsFor net table → IsExecutionOf net (started (setting_of net table))
-started_of net table plan for =
+pub started_of : (net : Plan) (table : Graph) → IsInstant net → IsFor net table → IsExecutionOf net (started (setting_of net table))
+started_of net table instant for =
     let setting : Setting = setting_of net table in
     record {
-      sound = plan;
+      instant = instant;
       links = refl;
       dispatch = dispatchable_length net table for;
       moments = length-map (points_of setting) (λ point. let none : Option ℕ = None in none) ∙ length-points setting ∙ dispatchable_length net table for;
@@ -35,7 +36,7 @@ started_of net table plan for =
 -- and so is what comes after a feed
 pub fed_of : (net : Plan) (execution : Execution) (moment : ℕ) (moments : Moments) → IsExecutionOf net execution → IsExecutionOf net (after_feed execution moment moments)
 fed_of net execution moment moments of =
-    record { sound = of.sound; links = of.links; dispatch = of.dispatch; moments = length-acted execution.setting moments moment ∙ of.dispatch }
+    record { instant = of.instant; links = of.links; dispatch = of.dispatch; moments = length-acted execution.setting moments moment ∙ of.dispatch }
 
 -- the execution after a listing that is in time, and after several
 abbrev pub after_listing : Execution → Listing → Execution

@@ -43,18 +43,18 @@ module _ (net : Plan) (table : Graph) (order : List PointId) (by : IsDispatchedB
   -- the earliest schedule of a situation is the one that is executed
   pub run_of : (situation schedule : List ℕ) → IsEarliest net situation schedule → IsRun net table schedule
   run_of situation schedule earliest = record {
-    plan = by.sound;
+    plan = by.instant.sound;
     for = by.closure.for_network;
-    sound = closures_are_graphs net table by.sound by.closure;
+    sound = closures_are_graphs net table by.instant.sound by.closure;
     situation = situation;
     is_situation = earliest.is_situation;
-    executed = (closures_execute_earliest net table order situation schedule by.sound by.closure (closures_are_graphs net table by.sound by.closure) by.ordered earliest.is_situation).0 earliest;
+    executed = (closures_execute_earliest net table order situation schedule by.instant by.closure (closures_are_graphs net table by.instant.sound by.closure) by.ordered earliest.is_situation).0 earliest;
   }
 
   module _ (listings : List Listing) (execution : Execution) (fed : fed_all (started (setting_of net table)) listings ≡ Ok execution) (schedule : List ℕ)
       (run : IsRun net table schedule) (shows : Shows net (going_on listings) schedule) where
     leads : after_all (started (setting_of net table)) listings ≡ execution
-    leads = (fed_in_time net listings (started (setting_of net table)) execution (started_of net table by.sound by.closure.for_network) fed).1
+    leads = (fed_in_time net listings (started (setting_of net table)) execution (started_of net table by.instant by.closure.for_network) fed).1
 
     pub fed_keeps : KeepsTo net table schedule execution
     fed_keeps =
@@ -109,7 +109,7 @@ module _ (net : Plan) (table : Graph) (order : List PointId) (by : IsDispatchedB
     final = (after_all (started (setting_of net table)) listings).moments
 
     of_start : IsExecutionOf net (started (setting_of net table))
-    of_start = started_of net table by.sound by.closure.for_network
+    of_start = started_of net table by.instant by.closure.for_network
 
     each_lasted : EachLasted net final
     each_lasted =
@@ -117,26 +117,26 @@ module _ (net : Plan) (table : Graph) (order : List PointId) (by : IsDispatchedB
         (λ name link completed declared found. absurd (none-some completed (sym (none_of_map (points_of (setting_of net table)) link.to.0) ∙ found)))
 
     is_situation : IsSituation net (situation_seen net final)
-    is_situation = seen_is_situation net by.sound final each_lasted
+    is_situation = seen_is_situation net by.instant.sound final each_lasted
 
     pub in_time_fits : IsFaithful net (going_on listings)
     in_time_fits =
         let closed : IsClosed net table = (closure_is_closed net table by.closure).0 in
         let situation = situation_seen net final in
         let (schedule, executed) =
-        (executions_satisfy net table order by.sound by.closure.for_network (closures_are_graphs net table by.sound by.closure) closed by.ordered).executed situation is_situation in
+        (executions_satisfy net table order by.instant by.closure.for_network (closures_are_graphs net table by.instant.sound by.closure) closed by.ordered).executed situation is_situation in
         let run : IsRun net table schedule =
-        record { plan = by.sound; for = by.closure.for_network; sound = closures_are_graphs net table by.sound by.closure; situation = situation; is_situation = is_situation; executed = executed } in
+        record { plan = by.instant.sound; for = by.closure.for_network; sound = closures_are_graphs net table by.instant.sound by.closure; situation = situation; is_situation = is_situation; executed = executed } in
         let shown : IsShownBy net table schedule final = record {
           run = run;
           each = each_lasted;
-          timed = λ name link declared. executed.contingent name link (duration_seen final link) declared (seen_duration net by.sound final each_lasted name link declared);
+          timed = λ name link declared. executed.contingent name link (duration_seen final link) declared (seen_duration net by.instant.sound final each_lasted name link declared);
         } in
         let next = in_time_next net table schedule final shown listings (started (setting_of net table)) of_start (start_keeps net table schedule by.closure.for_network) are refl in (
           situation,
           record {
             schedule = schedule;
-            earliest = (closures_execute_earliest net table order situation schedule by.sound by.closure (closures_are_graphs net table by.sound by.closure) by.ordered is_situation).1 executed;
+            earliest = (closures_execute_earliest net table order situation schedule by.instant by.closure (closures_are_graphs net table by.instant.sound by.closure) by.ordered is_situation).1 executed;
             shows = next_shows net schedule listings next;
           },
         )
@@ -150,14 +150,14 @@ module _ (net : Plan) (table : Graph) (order : List PointId) (by : IsDispatchedB
 
   pub fed_faithful : (execution : Execution) → fed_all (started (setting_of net table)) listings ≡ Ok execution → IsFaithful net (going_on listings)
   fed_faithful execution fed =
-      in_time_fits (fed_in_time net listings (started (setting_of net table)) execution (started_of net table by.sound by.closure.for_network) fed).0
+      in_time_fits (fed_in_time net listings (started (setting_of net table)) execution (started_of net table by.instant by.closure.for_network) fed).0
 
 pub faithful_streams_are_taken : FaithfulStreamsAreTaken
 faithful_streams_are_taken net table order listings by within = (
   (
     λ faithful. (
       after_all (started (setting_of net table)) listings,
-      in_time_fed net listings (started (setting_of net table)) (started_of net table by.sound by.closure.for_network) within (faithful_in_time net table order by listings faithful),
+      in_time_fed net listings (started (setting_of net table)) (started_of net table by.instant by.closure.for_network) within (faithful_in_time net table order by listings faithful),
     ),
     λ taken. fed_faithful net table order by listings taken.0 taken.1,
   ),
@@ -190,7 +190,7 @@ module _ (net : Plan) (table : Graph) (order : List PointId) (by : IsDispatchedB
       contingent_come point ending =
           let before = done_before_end net fits.schedule listings fits.shows point (ending_contingent net point ending) in
           let end = fed_end net table order by listings execution fed fits.schedule run shows_on in
-          ap is_some (keeps.cut.known point (ending_point net by.sound point ending) (omega (arith, before, end)))
+          ap is_some (keeps.cut.known point (ending_point net by.instant.sound point ending) (omega (arith, before, end)))
 
       none : (point : PointId) → Contains (points_of execution.setting) point → is_open execution.setting execution.moments point ≡ false
       none point among = by_link (link_to execution.setting point) refl
@@ -203,7 +203,7 @@ module _ (net : Plan) (table : Graph) (order : List PointId) (by : IsDispatchedB
           by_link None unlinked =
               open_test execution.moments execution.setting point (has_come execution.moments point) false refl (ap is_some unlinked) ∙ either (has_come execution.moments point)
           by_link (Some link) linked =
-              let (ending, same) = ending_of net by.sound execution.setting links point link linked in
+              let (ending, same) = ending_of net by.instant.sound execution.setting links point link linked in
               open_test execution.moments execution.setting point true (is_some (link_to execution.setting point)) (contingent_come point ending) refl
 
   none_open_done : first_open execution ≡ None → IsFaithful net (ended listings)
@@ -231,10 +231,10 @@ module _ (net : Plan) (table : Graph) (order : List PointId) (by : IsDispatchedB
               ending = contingent_ending net point contingent
 
               within : IsPoint net point
-              within = ending_point net by.sound point ending
+              within = ending_point net by.instant.sound point ending
 
               linked : is_some (link_to execution.setting point) ≡ true
-              linked = ap is_some (link_found net by.sound execution.setting links point ending)
+              linked = ap is_some (link_found net by.instant.sound execution.setting links point ending)
 
               closed : is_open execution.setting execution.moments point ≡ false
               closed = find_none (is_open execution.setting execution.moments) (points_of execution.setting) point none (Contains-point execution.setting point (omega (arith, within, long)))

@@ -39,7 +39,7 @@ module _ (net : Plan) (execution : Execution) (of : IsExecutionOf net execution)
     pub before_contingent : (point : PointId) → Ending net point → moment_of (moments_before execution moment) point ≡ moment_of execution.moments point
     before_contingent point ending =
         time_runs_contingent execution.setting execution.moments (next_moment execution) (moments_to execution moment) long point ending.link
-        (link_found net of.sound execution.setting of.links point ending)
+        (link_found net of.instant.sound execution.setting of.links point ending)
 
   module _ (listing : Listing) (in_time : IsInTime execution listing.moment listing.points) where
     -- a listed point has not come before
@@ -65,13 +65,13 @@ module _ (net : Plan) (execution : Execution) (of : IsExecutionOf net execution)
         → moment_of (after_listing execution listing).moments point ≡ moment_of (with_completed execution listing.moment listing.points) point
     after_contingent point ending =
         acted_contingent execution.setting (with_completed execution listing.moment listing.points) listing.moment length_completed point ending.link
-        (link_found net of.sound execution.setting of.links point ending)
+        (link_found net of.instant.sound execution.setting of.links point ending)
 
     -- a contingent point has come after a feed where it is listed or had come before
     pub feed_listed : (point : PointId) → Ending net point → Contains listing.points point
         → moment_of (after_listing execution listing).moments point ≡ Some listing.moment
     feed_listed point ending among =
-        let within = ending_point net of.sound point ending in
+        let within = ending_point net of.instant.sound point ending in
         let size = length_before listing.moment in
         let points = of.dispatch in
         after_contingent point ending
@@ -138,7 +138,7 @@ module _ (net : Plan) (execution : Execution) (of : IsExecutionOf net execution)
       by (inl among) =
           let timely = All-contains (CompletesInTime execution.setting (moments_before execution listing.moment) listing.moment) listing.points link.to in_time.completes among in
           let now : listing.moment ≡ completed = same_Some listing.moment completed (sym (feed_listed net execution of listing in_time link.to ending among) ∙ found) in
-          let same : timely.link ≡ link = same_Some timely.link link (sym timely.ends ∙ link_of_is_link_to net execution.setting of.links of.sound name link link.to declared refl) in
+          let same : timely.link ≡ link = same_Some timely.link link (sym timely.ends ∙ link_of_is_link_to net execution.setting of.links of.instant.sound name link link.to declared refl) in
           let active : moment_of (moments_before execution listing.moment) link.from ≡ Some timely.activated =
           ap (λ (l : Link). moment_of (moments_before execution listing.moment) l.from) (sym same) ∙ timely.active in
           let low_same : unsigned_abs timely.link.low ≡ unsigned_abs link.low = ap (λ (l : Link). unsigned_abs l.low) same in

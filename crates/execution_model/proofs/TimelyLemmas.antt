@@ -275,10 +275,10 @@ module _ (net : Plan) (execution : Execution) (of : IsExecutionOf net execution)
   long_before = length-time_runs execution.setting execution.moments (next_moment execution) (moments_to execution moment) (of.moments ∙ sym of.dispatch) ∙ of.dispatch
 
   link_sound : (point : PointId) (link : Link) → link_to execution.setting point ≡ Some link → IsLink net link
-  link_sound = link_to_is_sound net execution.setting of.links of.sound
+  link_sound = link_to_is_sound net execution.setting of.links of.instant.sound
 
   link_point : (point : PointId) (link : Link) → link_to execution.setting point ≡ Some link → IsPoint net point
-  link_point = link_to_is_point net execution.setting of.links of.sound
+  link_point = link_to_is_point net execution.setting of.links of.instant.sound
 
   now_listed : (point : PointId) → IsPoint net point → is_among listed point ≡ true → moment_of (with_completed execution moment listed) point ≡ Some moment
   now_listed point within among = let long = long_before in moment_listed moment (moments_before execution moment) listed point (omega arith) among
@@ -312,7 +312,7 @@ module _ (net : Plan) (execution : Execution) (of : IsExecutionOf net execution)
       ap (λ (b : Bool). if b then option_map why.NotLater execution.last else if nat_lt most_moment moment then Some why.MomentLimit else none) not_before
       ∙ ap (λ (b : Bool). if b then Some why.MomentLimit else none) not_beyond in
       ap (λ (o : Option Why). option_map_or Err o (completed_in execution moment listed)) free
-      ∙ ap (onward execution moment) (taken_if net execution.setting of.links of.sound moment (moments_before execution moment) listed long_before timely.once timely.completes)
+      ∙ ap (onward execution moment) (taken_if net execution.setting of.links of.instant.sound moment (moments_before execution moment) listed long_before timely.once timely.completes)
       ∙ ap (λ (o : Option Why). option_map_or Err o (Ok after)) (none_late_free execution.setting after moment (none_late timely))
 
   later_from : refusal_of_moment execution moment ≡ None → next_moment execution ≤ moment
@@ -359,7 +359,7 @@ module _ (net : Plan) (execution : Execution) (of : IsExecutionOf net execution)
           → IsInTime execution moment listed × (after ≡ with_completed execution moment listed)
       by_taken later (Err cause) is took = absurd (cc)
       by_taken later (Ok made) is took =
-          by_overdue made later (taken_means net execution.setting of.links of.sound moment (moments_before execution moment) made listed long_before is)
+          by_overdue made later (taken_means net execution.setting of.links of.instant.sound moment (moments_before execution moment) made listed long_before is)
           (first_overdue execution.setting made moment) refl took
 
       by : (o : Option Why) → refusal_of_moment execution moment ≡ o → option_map_or Err o (completed_in execution moment listed) ≡ Ok after

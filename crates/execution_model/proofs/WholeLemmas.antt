@@ -201,8 +201,8 @@ module _ (net : Plan) (table : Graph) (order : List PointId) (moments : Moments)
               ]
 
 pub no_acts_left_is_whole : NoActsLeftIsWhole
-no_acts_left_is_whole net table order moments from plan sound may long contingent still =
+no_acts_left_is_whole net table order moments from instant sound may long contingent still =
     all_come moments (λ point inside.
     let count = point_count net table may.for_network in
     let (k, low, at) = may.ordered.whole point (omega arith) in
-    come_by net table order moments from (record { plan = plan; sound = sound; may = may; contingent = contingent; still = still }) (suc k) point k (omega arith) low at)
+    come_by net table order moments from (record { plan = instant.sound; sound = sound; may = may; contingent = contingent; still = still }) (suc k) point k (omega arith) low at)

@@ -7,6 +7,7 @@ use Rattle.net_model.specs.declared.ids.PointId.{PointId}
 use Rattle.closure_model.specs.Tables.{Graph, IsGraph}
 use Rattle.closure_model.specs.Closure.{IsClosure}
 use Rattle.closure_model.specs.Orders.{IsOrder}
+use Rattle.strategy_model.specs.Plays.{IsInstant}
 use Rattle.strategy_model.specs.Control.{IsEarliest}
 use Rattle.dispatch_net.specs.Dispatchable.{MayDispatch, dispatchable}
 use Rattle.execution_model.specs.Execution.{Moments, Setting, moment_of, acts_at}
@@ -20,7 +21,7 @@ setting_of net table = record { links = net.links; dispatch = dispatchable net t
 
 -- a network, its closure and an order of it
 pub record IsDispatchedByClosure (net : Plan) (table : Graph) (order : List PointId) : Type 0 where
-  pub sound : IsPlan net
+  pub instant : IsInstant net
   pub closure : IsClosure net table
   pub ordered : IsOrder table order
 
@@ -30,7 +31,7 @@ ClosuresAreGraphs = (net : Plan) (table : Graph) → IsPlan net → IsClosure ne
 
 -- an execution of a network: by the links of the network, and with as many points
 pub record IsExecutionOf (net : Plan) (execution : Execution) : Type 0 where
-  pub sound : IsPlan net
+  pub instant : IsInstant net
   pub links : execution.setting.links ≡ net.links
   pub dispatch : length execution.setting.dispatch ≡ length net.points
   pub moments : length execution.moments ≡ length net.points
@@ -87,7 +88,7 @@ EndsAreEarliest =
 -- a stream has at most one execution
 abbrev pub ExecutionsAreOne : Type 0
 ExecutionsAreOne =
-    (net : Plan) (stream : Stream) (first second : Moments) → IsPlan net → IsExecution net stream first → IsExecution net stream second → first ≡ second
+    (net : Plan) (stream : Stream) (first second : Moments) → IsInstant net → IsExecution net stream first → IsExecution net stream second → first ≡ second
 
 -- and feeds that are all taken make it, up to the last moment, and whole at the end where no contingent point is open
 abbrev pub StreamsAreExecuted : Type 0
@@ -100,6 +101,6 @@ StreamsAreExecuted =
 -- has come
 abbrev pub NoActsLeftIsWhole : Type 0
 NoActsLeftIsWhole =
-    (net : Plan) (table : Graph) (order : List PointId) (moments : Moments) (from : ℕ) → IsPlan net → IsGraph table → MayDispatch net table order
+    (net : Plan) (table : Graph) (order : List PointId) (moments : Moments) (from : ℕ) → IsInstant net → IsGraph table → MayDispatch net table order
     → length moments ≡ length net.points → ((point : PointId) → IsContingent net point → IsSome (moment_of moments point))
     → ((t : ℕ) → from ≤ t → acts_at (setting_of net table) moments t ≡ []) → All IsSome moments

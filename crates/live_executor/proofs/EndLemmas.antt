@@ -29,10 +29,10 @@ comes_to_its_end law setting ends kept moments whole contingent idle =
     let same : setting ≡ setting_of kept.net of.table =
     ap (λ (links : List Link). let s : Setting = record { links = links; dispatch = setting.dispatch } in s) kept.links
     ∙ ap (λ (dispatch : List Conditions). let s : Setting = record { links = kept.net.links; dispatch = dispatch } in s) of.made in
-    law kept.net of.table of.order moments 0 kept.is_net of.graph of.may (whole ∙ count)
+    law kept.net of.table of.order moments 0 of.instant of.graph of.may (whole ∙ count)
     (λ point is.
-    let (link, found) = contingent_has_link kept.net setting kept.links kept.is_net point is in
-    let inside = link_to_is_point kept.net setting kept.links kept.is_net point link found in
+    let (link, found) = contingent_has_link kept.net setting kept.links of.instant.sound point is in
+    let inside = link_to_is_point kept.net setting kept.links of.instant.sound point link found in
     contingent point (omega (arith, count, inside)) (ap is_some found))
     (λ t from. subst (λ (s : Setting). acts_at s moments t ≡ []) same (idle t))
 

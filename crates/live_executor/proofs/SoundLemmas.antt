@@ -31,9 +31,9 @@ some_or_none : {X : Type 0} (o : Option X) (A : Type 0) → (is_some o ≡ true 
 some_or_none (Some x) A some none = some refl
 some_or_none None A some none = none refl
 
-module _ (net : Plan) (plan : IsPlan net) (dispatch : List Conditions) (of : IsDispatchOf net dispatch) where
+module _ (net : Plan) (dispatch : List Conditions) (of : IsDispatchOf net dispatch) where
   within : (edge : Edge) → HasEdge of.table edge → unsigned_abs edge.weight ≤ most_size
-  within edge has = let small = greatest-le net plan in let low = of.may.within edge has in omega (arith, low, small)
+  within edge has = let small = greatest-le net of.instant.sound in let low = of.may.within edge has in omega (arith, low, small)
 
   size_of_negated : (n : ℤ) → unsigned_abs (pos 0 -ℤ n) ≤ most_size → unsigned_abs n ≤ most_size
   size_of_negated n h = omega (arith, ints, h)
@@ -90,15 +90,14 @@ module _ (net : Plan) (plan : IsPlan net) (dispatch : List Conditions) (of : IsD
   dispatch_sound = record {
     bounds = λ k d inside. rw (at_index k d inside, count) ((conditions_sound (record { 0 = k }) (omega (arith, inside, count))).0);
     waits = λ k d inside. rw (at_index k d inside) ((conditions_sound (record { 0 = k }) (omega (arith, inside, count))).1);
-    links = All-weaker (IsLink net) (IsLinkOf (length dispatch)) link_sound net.links plan.links_sound;
-    few = (let few = plan.few_points in omega (arith, few, count));
+    links = All-weaker (IsLink net) (IsLinkOf (length dispatch)) link_sound net.links of.instant.sound.links_sound;
+    few = (let few = of.instant.sound.few_points in omega (arith, few, count));
   }
 
   pub kept : (links : List Link) (points : ℕ) (ends : List (Option Link)) → links ≡ net.links → points ≡ length net.points → AreEnds links points ends
       → IsKept (record { links = links; dispatch = dispatch }) ends
   kept links points ends same same_points are = record {
     net = net;
-    is_net = plan;
     links = same;
     dispatched = of;
     sound = rw same dispatch_sound;

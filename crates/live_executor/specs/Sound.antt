@@ -1,8 +1,9 @@
 -- By what a network is executed, as an executor keeps it.
 use Rattle.std.specs.Prelude.{◌≡◌, ◌==◌, ℕ, ℤ, ◌<◌, ◌≤◌, List, length, find, unsigned_abs, Option, None, IsSome, is_some, true, []}
 use Rattle.std.specs.List.{All, slice_index_or}
-use Rattle.net_model.specs.Network.{Plan, IsPlan}
+use Rattle.net_model.specs.Network.{Plan}
 use Rattle.closure_model.specs.Tables.{Graph, IsGraph}
+use Rattle.strategy_model.specs.Plays.{IsInstant}
 use Rattle.dispatch_net.specs.Dispatchable.{MayDispatch, dispatchable}
 use Rattle.net_model.specs.Limits.{most_points, most_size}
 use Rattle.net_model.specs.declared.ids.PointId.{PointId}
@@ -35,8 +36,9 @@ pub record IsSound (setting : Setting) : Type 0 where
   pub links : All (IsLinkOf (length setting.dispatch)) setting.links
   pub few : length setting.dispatch ≤ most_points
 
--- a dispatchable network is one of a network: that of a table by which the network may be dispatched in some order
+-- a dispatchable network is one of a network in which reaction is instantaneous: that of a table by which the network may be dispatched in some order
 pub record IsDispatchOf (net : Plan) (dispatch : List Conditions) : Type 0 where
+  pub instant : IsInstant net
   pub table : Graph
   pub order : List PointId
   pub graph : IsGraph table
@@ -51,7 +53,6 @@ pub record AreEnds (links : List Link) (points : ℕ) (ends : List (Option Link)
 -- what is kept of a network and its dispatchable network: the links, the conditions, and for each point the link that ends in it
 pub record IsKept (setting : Setting) (ends : List (Option Link)) : Type 0 where
   pub net : Plan
-  pub is_net : IsPlan net
   pub links : setting.links ≡ net.links
   pub dispatched : IsDispatchOf net setting.dispatch
   pub sound : IsSound setting

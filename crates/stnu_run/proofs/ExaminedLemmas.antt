@@ -35,7 +35,7 @@ module _ (net : Plan) (before after : Support) (outcome : Outcome) (propagated :
   closed_examined rounds order dispatch plan base is dispatched count =
       let made : IsPropagated net before after (Closed rounds order) = subst (IsPropagated net before after) is propagated in (
         (record { rounds = rounds; after = after; order = order; ends = subst (λ (s : Support). RoundsEnd net s rounds after (closed order)) base made.ends }, dispatched),
-        record { table = after.table; order = order; graph = standing_sound net plan after propagated.stands; may = closed_may rounds order plan is; made = dispatched },
+        record { instant = record { sound = plan }; table = after.table; order = order; graph = standing_sound net plan after propagated.stands; may = closed_may rounds order plan is; made = dispatched },
         count,
       )
 

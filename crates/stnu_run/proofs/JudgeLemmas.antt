@@ -148,7 +148,7 @@ excludes_by : AcceptedExcludes → (input put : List ℕ) (end : End) → Answer
 excludes_by law input put end (inl (value, after, both, puts)) same net rest network controllable =
     let one : value.0 ≡ net = network_one (lines input) value.0 net both.rest rest both.network network in
     let judged : judgement_of value.0 value.1 ≡ Accepted NotControllable = only_accepted (judgement_of value.0 value.1) (sym puts.0 ∙ same) in
-    law net value.1 (declared_sound (lines input) net rest network) (subst (λ (n : Plan). judgement_of n value.1 ≡ Accepted NotControllable) one judged) controllable
+    law net value.1 (record { sound = declared_sound (lines input) net rest network }) (subst (λ (n : Plan). judgement_of n value.1 ≡ Accepted NotControllable) one judged) controllable
 excludes_by law input put end (inr (fault, first, puts)) same net rest network controllable =
     no_refusal_line fault (sym puts.0 ∙ same)
 

@@ -149,7 +149,7 @@ module _ (laws : RunLaws) where
   dispatched net plan closes =
       let base = laws.verdict.base net in
       record {
-        sound = plan;
+        instant = record { sound = plan };
         closure = laws.verdict.close net (base_support net) closes.after closes.rounds closes.order plan base closes.ends;
         ordered = laws.verdict.placed closes.after.table (closes_placed net (base_support net) closes.after closes.rounds (closed closes.order) closes.order refl closes.ends);
       }
@@ -163,7 +163,7 @@ module _ (laws : RunLaws) where
           inl (closing_controls laws.verdict net plan opened.closing, (opened.due, opened.more, first, opened.all))
       by (inr refuted) =
           let accepted = certificate_accepted laws.verdict net plan refuted.cert refuted.of in
-          inr (laws.verdict.exclude net refuted.cert plan accepted, (refuted.cert, accepted, refuted.puts))
+          inr (laws.verdict.exclude net refuted.cert (record { sound = plan }) accepted, (refuted.cert, accepted, refuted.puts))
 
   opens_text : (input put : List ℕ) (end : End) → AnswersOrRefuses plan_grammar Begins input put end → AnswersOrRefuses plan_grammar OpensExecution input put end
   opens_text input put end (inl (net, after, is, begins)) = inl (net, after, is, opens_by net (declared_sound (lines input) net after is) put end begins)
@@ -185,7 +185,7 @@ module _ (laws : RunLaws) where
       opened_by : Opened net (length day.plan) (room_after most_input day.plan) (day.events ++ day.rest) put end ⊎ RefutedSo net put end
           → Opened net (length day.plan) (room_after most_input day.plan) (day.events ++ day.rest) put end
       opened_by (inl opening) = opening
-      opened_by (inr refuted) = absurd (laws.verdict.exclude net refuted.cert plan (certificate_accepted laws.verdict net plan refuted.cert refuted.of) controls)
+      opened_by (inr refuted) = absurd (laws.verdict.exclude net refuted.cert (record { sound = plan }) (certificate_accepted laws.verdict net plan refuted.cert refuted.of) controls)
 
       opened : Opened net (length day.plan) (room_after most_input day.plan) (day.events ++ day.rest) put end
       opened =

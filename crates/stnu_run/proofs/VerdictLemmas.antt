@@ -54,7 +54,7 @@ module _ (laws : Laws) (net : Plan) (plan : IsPlan net) where
       let stands = (laws.stand net (base_support net) closes.after closes.rounds (closed closes.order) plan base closes.ends).0 in
       let closure = laws.close net (base_support net) closes.after closes.rounds closes.order plan base closes.ends in
       let placed = laws.placed closes.after.table (closes_placed net (base_support net) closes.after closes.rounds (closed closes.order) closes.order refl closes.ends) in
-      (laws.decide net closes.after.table plan closure).1 (order_excludes closes.after.table (placed_points closes.after.table) (standing_sound net plan closes.after stands) placed)
+      (laws.decide net closes.after.table (record { sound = plan }) closure).1 (order_excludes closes.after.table (placed_points closes.after.table) (standing_sound net plan closes.after stands) placed)
 
   pub certificate_accepted : (cert : Certificate) → IsCertificateOf net cert → judgement_of net cert ≡ Accepted NotControllable
   certificate_accepted cert of =
@@ -71,4 +71,4 @@ module _ (laws : Laws) (net : Plan) (plan : IsPlan net) where
   verdict_put answer end (inl (closes, puts)) = inl (closing_controls closes, puts)
   verdict_put answer end (inr (cert, of, puts)) =
       let accepted = certificate_accepted cert of in
-      inr (laws.exclude net cert plan accepted, (cert, accepted, puts))
+      inr (laws.exclude net cert (record { sound = plan }) accepted, (cert, accepted, puts))

@@ -5,12 +5,12 @@ use Rattle.std.specs.List.{All}
 use Rattle.std.proofs.lemmas.Bool.{cases_lt}
 use Rattle.std.proofs.lemmas.Int.{ints}
 use Rattle.std.proofs.lemmas.List.Elements.{All-contains}
-use Rattle.net_model.specs.Network.{Plan, IsPlan, IsPoint}
+use Rattle.net_model.specs.Network.{Plan, IsPoint}
 use Rattle.net_model.specs.declared.ids.PointId.{PointId}
 use Rattle.net_model.specs.declared.ids.LinkId.{LinkId}
 use Rattle.net_model.specs.declared.part.Edge.{Edge}
 use Rattle.strategy_model.specs.Situations.{IsSituation, moment_in}
-use Rattle.strategy_model.specs.Plays.{play}
+use Rattle.strategy_model.specs.Plays.{IsInstant, play}
 use Rattle.strategy_model.specs.Control.{Controls}
 use Rattle.strategy_model.specs.Edges.{HoldsIn, HoldsOf}
 use Rattle.strategy_model.specs.Dispatch.{IsClosedList, IsOrder, HoldsBack, IsDispatched, awaited}
@@ -29,7 +29,7 @@ use Rattle.strategy_model.proofs.ViolationLemmas.{size_of, bound_awaited, wait_a
 use Rattle.strategy_model.proofs.SeenLemmas.{no_later, dispatched_are_one}
 use Rattle.strategy_model.proofs.CompletenessLemmas.{closed_lists_give_strategies}
 
-module _ (net : Plan) (edges : List Edge) (order : List PointId) (plan : IsPlan net) (closed : IsClosedList net edges) (ordered : IsOrder net edges order) (situation schedule : List ℕ)
+module _ (net : Plan) (edges : List Edge) (order : List PointId) (instant : IsInstant net) (closed : IsClosedList net edges) (ordered : IsOrder net edges order) (situation schedule : List ℕ)
     (is_situation : IsSituation net situation) (dispatched : IsDispatched net edges situation schedule) (strategy : Tree) (controls : Controls strategy net) (all : All (HoldsOf net strategy) edges)
     (other : List ℕ) (played : play strategy net situation ≡ Some other) where
   -- a point of the play isn't held back longer by an edge whose end comes no sooner in the play
@@ -55,12 +55,12 @@ module _ (net : Plan) (edges : List Edge) (order : List PointId) (plan : IsPlan 
           let completion = completion_is net schedule name link declared in
           let (duration, its, fits) = duration_of net.links situation name.0 link is_situation declared in
           let lasts = dispatched.contingent name link duration declared its in
-          let lasts_other = completion_follows_activation net strategy situation other name link duration plan played declared its in
+          let lasts_other = completion_follows_activation net strategy situation other name link duration instant played declared its in
           let from : moment_in schedule edge.to ≡ moment_in schedule link.from = ap (moment_in schedule) ends in
           let from_other : moment_in other edge.to ≡ moment_in other link.from = ap (moment_in other) ends in
           elim (cases_lt (moment_in other edge.from) (moment_in other link.to)) [
             | inl before ↦
-                let keeps : HoldsIn other edge = wait_kept net strategy name link edge situation other plan controls true_edge labelled declared ends is_situation played before in
+                let keeps : HoldsIn other edge = wait_kept net strategy name link edge situation other instant controls true_edge labelled declared ends is_situation played before in
                 omega (arith, ints, size, asks, keeps, later, at)
             | inr after ↦ omega (arith, asks, completion, lasts, lasts_other, from, from_other, later, after, at)
           ]
@@ -71,26 +71,26 @@ module _ (net : Plan) (edges : List Edge) (order : List PointId) (plan : IsPlan 
   not_ahead (suc limit) point within is_point =
       elim (kind net point is_point) [
         | inl executable ↦ no_later net edges schedule point (moment_in other point) (dispatched.executable point executable) (λ edge holds.
-            let falls = falls_to net edges order plan closed ordered point edge holds in
+            let falls = falls_to net edges order instant.sound closed ordered point edge holds in
             held point edge holds (not_ahead limit edge.to (omega (arith, falls, within)) (edge_sound net edges closed edge holds.among).to_point))
         | inr ending ↦
             let link = ending.link in
             let (duration, its, fits) = duration_of net.links situation ending.name.0 link is_situation ending.declared in
             let lasts = dispatched.contingent ending.name link duration ending.declared its in
-            let lasts_other = completion_follows_activation net strategy situation other ending.name link duration plan played ending.declared its in
+            let lasts_other = completion_follows_activation net strategy situation other ending.name link duration instant played ending.declared its in
             let at : moment_in schedule link.to ≡ moment_in schedule point = ap (moment_in schedule) ending.ends in
             let at_other : moment_in other link.to ≡ moment_in other point = ap (moment_in other) ending.ends in
-            let falls = falls_to_activation net edges order plan closed ordered ending.name link ending.declared in
+            let falls = falls_to_activation net edges order instant.sound closed ordered ending.name link ending.declared in
             let same_place : rank order link.to ≡ rank order point = ap (rank order) ending.ends in
-            let rest = not_ahead limit link.from (omega (arith, falls, same_place, within)) (link_sound net plan ending.name.0 link ending.declared).from_point in
+            let rest = not_ahead limit link.from (omega (arith, falls, same_place, within)) (link_sound net instant.sound ending.name.0 link ending.declared).from_point in
             omega (arith, lasts, lasts_other, at, at_other, rest)
       ]
 
 pub dispatched_are_earliest : DispatchedAreEarliest
-dispatched_are_earliest net edges order situation schedule plan closed ordered all is_situation dispatched =
-    let (strategy, controls, dispatches) = closed_lists_give_strategies net edges order plan closed ordered in
+dispatched_are_earliest net edges order situation schedule instant closed ordered all is_situation dispatched =
+    let (strategy, controls, dispatches) = closed_lists_give_strategies net edges order instant closed ordered in
     let (made, played, is_made) = dispatches situation is_situation in
-    let same : made ≡ schedule = dispatched_are_one net edges order situation made schedule plan closed ordered is_situation is_made dispatched in
+    let same : made ≡ schedule = dispatched_are_one net edges order situation made schedule instant closed ordered is_situation is_made dispatched in
     record {
       is_situation = is_situation;
       strategy = strategy;
@@ -99,6 +99,6 @@ dispatched_are_earliest net edges order situation schedule plan closed ordered a
       earliest = λ other its controls_too played_too.
           let size = played_length net situation its other [] 0 played_too in
           place_by_place schedule its (dispatched.complete ∙ sym size)
-          (λ k within. not_ahead net edges order plan closed ordered situation schedule is_situation dispatched other controls_too (all other controls_too) its played_too
+          (λ k within. not_ahead net edges order instant closed ordered situation schedule is_situation dispatched other controls_too (all other controls_too) its played_too
           (suc (rank order (record { 0 = k }))) (record { 0 = k }) (omega arith) (let long = dispatched.complete in omega (arith, within, long)));
     }

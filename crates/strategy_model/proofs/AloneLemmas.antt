@@ -4,13 +4,13 @@ use Rattle.std.proofs.Common.{◌≡◌, ℕ, zero, suc, ◌+◌, ◌<◌, ◌�
 use Rattle.std.specs.Prelude.{slice_get}
 use Rattle.std.proofs.lemmas.Option.{none-some}
 use Rattle.std.proofs.lemmas.List.Elements.{AllZip-get_or}
-use Rattle.net_model.specs.Network.{Plan, IsPlan, IsPoint}
+use Rattle.net_model.specs.Network.{Plan, IsPoint}
 use Rattle.net_model.specs.Edges.{IsLinkOf}
 use Rattle.net_model.specs.declared.ids.PointId.{PointId}
 use Rattle.net_model.specs.declared.ids.LinkId.{LinkId}
 use Rattle.net_model.specs.declared.part.Link.{Link}
 use Rattle.strategy_model.specs.Situations.{moment_in}
-use Rattle.strategy_model.specs.Plays.{play}
+use Rattle.strategy_model.specs.Plays.{IsInstant, play}
 use Rattle.strategy_model.specs.Control.{IsEarliest}
 use Rattle.strategy_model.specs.Dispatch.{SameCompletions}
 use Rattle.strategy_model.specs.DispatchLaws.{EarliestSeeAlone}
@@ -34,11 +34,11 @@ same_back net t first second same name link declared =
     (λ by_then. sym ((same name link declared).1 by_then), λ by_then. sym ((same name link declared).0 by_then))
 
 -- in a play a link lasts its duration
-lasts_in : (net : Plan) (situation schedule : List ℕ) → IsPlan net → (is : IsEarliest net situation schedule) → (name : LinkId) (link : Link) (duration : ℕ) → IsLinkOf net name link → slice_get situation name.0 ≡ Some duration → moment_in schedule link.to ≡ moment_in schedule link.from + duration
-lasts_in net situation schedule plan is name link duration =
-    completion_follows_activation net is.strategy situation schedule name link duration plan is.played
+lasts_in : (net : Plan) (situation schedule : List ℕ) → IsInstant net → (is : IsEarliest net situation schedule) → (name : LinkId) (link : Link) (duration : ℕ) → IsLinkOf net name link → slice_get situation name.0 ≡ Some duration → moment_in schedule link.to ≡ moment_in schedule link.from + duration
+lasts_in net situation schedule instant is name link duration =
+    completion_follows_activation net is.strategy situation schedule name link duration instant is.played
 
-module _ (net : Plan) (plan : IsPlan net) (ds es first second : List ℕ) (is_first : IsEarliest net ds first) (is_second : IsEarliest net es second) (t m : ℕ) (by_t : m ≤ t) (same : SameCompletions net t first second) (agree : AgreeBefore net m first second) where
+module _ (net : Plan) (instant : IsInstant net) (ds es first second : List ℕ) (is_first : IsEarliest net ds first) (is_second : IsEarliest net es second) (t m : ℕ) (by_t : m ≤ t) (same : SameCompletions net t first second) (agree : AgreeBefore net m first second) where
   -- what the strategy of the first situation plays in the second
   there : List ℕ
   there = (is_first.controls es is_second.is_situation).0
@@ -50,14 +50,14 @@ module _ (net : Plan) (plan : IsPlan net) (ds es first second : List ℕ) (is_fi
   -- the completions up to a moment are the same there, where what comes before it is
   same_there : (k : ℕ) → k ≤ m → AgreeBefore net k first there → SameCompletions net k first there
   same_there k by_m before name link declared =
-      let sound = link_sound net plan name.0 link declared in
+      let sound = link_sound net instant.sound name.0 link declared in
       let (d, d_its, d_fits) = duration_of net.links ds name.0 link is_first.is_situation declared in
       let (e, e_its, e_fits) = duration_of net.links es name.0 link is_second.is_situation declared in
       let d_positive = at_least_1 net link d sound d_fits in
       let e_positive = at_least_1 net link e sound e_fits in
-      let lasts = lasts_in net ds first plan is_first name link d declared d_its in
-      let lasts_second = lasts_in net es second plan is_second name link e declared e_its in
-      let lasts_there = completion_follows_activation net is_first.strategy es there name link e plan played_there declared e_its in
+      let lasts = lasts_in net ds first instant is_first name link d declared d_its in
+      let lasts_second = lasts_in net es second instant is_second name link e declared e_its in
+      let lasts_there = completion_follows_activation net is_first.strategy es there name link e instant played_there declared e_its in
       let activation = before link.from sound.from_point in
       let activation_second = agree link.from sound.from_point in
       let completion = same name link declared in (
@@ -78,9 +78,9 @@ module _ (net : Plan) (plan : IsPlan net) (ds es first second : List ℕ) (is_fi
   agree_there zero by_m point within = (λ sooner. absurd (omega (arith, sooner)), λ sooner. absurd (omega (arith, sooner)))
   agree_there (suc k) by_m point within =
       let same_now = same_there k (omega (arith, by_m)) (agree_there k (omega (arith, by_m))) in
-      let agrees = agree_up_to net plan ds es is_first.is_situation is_second.is_situation first there
-      (λ name link duration. completion_follows_activation net is_first.strategy ds first name link duration plan is_first.played)
-      (λ name link duration. completion_follows_activation net is_first.strategy es there name link duration plan played_there) k same_now is_first.strategy [] 0
+      let agrees = agree_up_to net instant.sound ds es is_first.is_situation is_second.is_situation first there
+      (λ name link duration. completion_follows_activation net is_first.strategy ds first name link duration instant is_first.played)
+      (λ name link duration. completion_follows_activation net is_first.strategy es there name link duration instant played_there) k same_now is_first.strategy [] 0
       (λ point m found. absurd (none-some m found)) is_first.played played_there point within in
       (λ sooner. agrees.0 (omega (arith, sooner)), λ sooner. agrees.1 (omega (arith, sooner)))
 
@@ -93,15 +93,15 @@ module _ (net : Plan) (plan : IsPlan net) (ds es first second : List ℕ) (is_fi
       omega (arith, at, below)
 
 -- while the completions are the same, so are the executions
-agree_before : (net : Plan) → IsPlan net → (ds es first second : List ℕ) → IsEarliest net ds first → IsEarliest net es second → (t : ℕ) → SameCompletions net t first second → (m : ℕ) → m ≤ suc t → AgreeBefore net m first second
-agree_before net plan ds es first second is_first is_second t same zero by_t point within =
+agree_before : (net : Plan) → IsInstant net → (ds es first second : List ℕ) → IsEarliest net ds first → IsEarliest net es second → (t : ℕ) → SameCompletions net t first second → (m : ℕ) → m ≤ suc t → AgreeBefore net m first second
+agree_before net instant ds es first second is_first is_second t same zero by_t point within =
     (λ sooner. absurd (omega (arith, sooner)), λ sooner. absurd (omega (arith, sooner)))
-agree_before net plan ds es first second is_first is_second t same (suc m) by_t point within =
+agree_before net instant ds es first second is_first is_second t same (suc m) by_t point within =
     elim (kind net point within) [
       | inl executable ↦
-          let agree = agree_before net plan ds es first second is_first is_second t same m (omega (arith, by_t)) in
-          let one = not_later net plan ds es first second is_first is_second t m (omega (arith, by_t)) same agree point within in
-          let two = not_later net plan es ds second first is_second is_first t m (omega (arith, by_t)) (same_back net t first second same) (other_way net m first second agree) point within in
+          let agree = agree_before net instant ds es first second is_first is_second t same m (omega (arith, by_t)) in
+          let one = not_later net instant ds es first second is_first is_second t m (omega (arith, by_t)) same agree point within in
+          let two = not_later net instant es ds second first is_second is_first t m (omega (arith, by_t)) (same_back net t first second same) (other_way net m first second agree) point within in
           (λ sooner. let below = one (omega (arith, sooner)) in let above = two (omega (arith, sooner, below)) in omega (arith, below, above), λ sooner. let above = two (omega (arith, sooner)) in let below = one (omega (arith, sooner, above)) in omega (arith, below, above))
       | inr ending ↦
           let at : moment_in first ending.link.to ≡ moment_in first point = ap (moment_in first) ending.ends in
@@ -111,6 +111,6 @@ agree_before net plan ds es first second is_first is_second t same (suc m) by_t 
     ]
 
 pub earliest_see_alone : EarliestSeeAlone
-earliest_see_alone net ds es first second t plan is_first is_second same point executable =
-    let agree = agree_before net plan ds es first second is_first is_second t same (suc t) (omega arith) point executable.0 in
+earliest_see_alone net ds es first second t instant is_first is_second same point executable =
+    let agree = agree_before net instant ds es first second is_first is_second t same (suc t) (omega arith) point executable.0 in
     (λ by_then. agree.0 (omega (arith, by_then)), λ by_then. agree.1 (omega (arith, by_then)))

@@ -7,13 +7,13 @@ use Rattle.std.proofs.lemmas.Bool.{cases_lt}
 use Rattle.std.proofs.lemmas.Int.{ints}
 use Rattle.std.proofs.lemmas.List.{get_or_past}
 use Rattle.std.proofs.lemmas.Option.{none-some, same_Some}
-use Rattle.net_model.specs.Network.{Plan, IsPlan, IsLink}
+use Rattle.net_model.specs.Network.{Plan, IsLink}
 use Rattle.net_model.specs.Edges.{IsLinkOf}
 use Rattle.net_model.specs.declared.ids.PointId.{PointId}
 use Rattle.net_model.specs.declared.ids.LinkId.{LinkId}
 use Rattle.net_model.specs.declared.part.Link.{Link}
 use Rattle.strategy_model.specs.Situations.{IsSituation, IsDuration, DifferOnlyIn, moment_in}
-use Rattle.strategy_model.specs.Plays.{play}
+use Rattle.strategy_model.specs.Plays.{IsInstant, play}
 use Rattle.strategy_model.specs.Control.{Controls}
 use Rattle.strategy_model.specs.Laws.{CompletionFollowsActivation, PlaysAgree}
 use Rattle.strategy_model.specs.declared.tree.Tree.{Tree}
@@ -21,8 +21,8 @@ use Rattle.strategy_model.proofs.PlayLemmas.{lasting, follow_at_first, link_soun
 use Rattle.strategy_model.proofs.AgreeLemmas.{agree_from, played_length}
 
 pub completion_follows_activation : CompletionFollowsActivation
-completion_follows_activation net strategy situation schedule name link duration plan played declared lasts =
-    lasting net plan situation schedule strategy [] 0 played (follow_at_first net situation) name.0 link duration declared lasts
+completion_follows_activation net strategy situation schedule name link duration instant played declared lasts =
+    lasting net instant.sound situation schedule strategy [] 0 played (follow_at_first net situation) name.0 link duration declared lasts
 
 -- the moment of a number beyond the points is 0
 pub beyond : (net : Plan) (first second : List ℕ) → length first ≡ length net.points → length second ≡ length net.points → (p : PointId) → length net.points ≤ p.0 → slice_index first p.0 ≡ slice_index second p.0
@@ -37,11 +37,11 @@ situation_length (link ∷ links) [] picks = absurd picks
 situation_length (link ∷ links) (d ∷ durations) picks = ap suc (situation_length links durations picks.1)
 
 pub plays_agree : PlaysAgree
-plays_agree net strategy name link first second first_play second_play plan declared is_first is_second differ played_first played_second point sooner =
-    let sound = link_sound net plan name.0 link declared in
+plays_agree net strategy name link first second first_play second_play instant declared is_first is_second differ played_first played_second point sooner =
+    let sound = link_sound net instant.sound name.0 link declared in
     let limit = min (moment_in first_play link.to) (moment_in second_play link.to) in
-    let lasting_first = lasting net plan first first_play strategy [] 0 played_first (follow_at_first net first) name.0 link in
-    let lasting_second = lasting net plan second second_play strategy [] 0 played_second (follow_at_first net second) name.0 link in
+    let lasting_first = lasting net instant.sound first first_play strategy [] 0 played_first (follow_at_first net first) name.0 link in
+    let lasting_second = lasting net instant.sound second second_play strategy [] 0 played_second (follow_at_first net second) name.0 link in
     elim (cases_lt point.0 (length net.points)) [
       | inl within ↦ agree_from net name.0 link declared sound.from_point first second (situation_length net.links first is_first)
           (situation_length net.links second is_second) differ first_play second_play limit (λ d lasts. let h = lasting_first d declared lasts in omega (arith, h))
@@ -112,22 +112,22 @@ at_least_1 net link duration sound fits =
     let low = fits.0 in
     omega (arith, ints, positive, low)
 
-module _ (net : Plan) (strategy : Tree) (name : LinkId) (link : Link) (plan : IsPlan net) (declared : IsLinkOf net name link) (situation other schedule other_schedule : List ℕ)
+module _ (net : Plan) (strategy : Tree) (name : LinkId) (link : Link) (instant : IsInstant net) (declared : IsLinkOf net name link) (situation other schedule other_schedule : List ℕ)
     (is_situation : IsSituation net situation) (is_other : IsSituation net other) (differ : DifferOnlyIn name situation other) (played : play strategy net situation ≡ Some schedule)
     (other_played : play strategy net other ≡ Some other_schedule) (duration another : ℕ) (lasts : slice_get situation name.0 ≡ Some duration) (other_lasts : slice_get other name.0 ≡ Some another)
     (is_duration : IsDuration link duration) (is_another : IsDuration link another) where
   agree : (point : PointId) → moment_in schedule point < min (moment_in schedule link.to) (moment_in other_schedule link.to) → moment_in schedule point ≡ moment_in other_schedule point
-  agree = plays_agree net strategy name link situation other schedule other_schedule plan declared is_situation is_other differ played other_played
+  agree = plays_agree net strategy name link situation other schedule other_schedule instant declared is_situation is_other differ played other_played
 
   agree_back : (point : PointId) → moment_in other_schedule point < min (moment_in schedule link.to) (moment_in other_schedule link.to) → moment_in schedule point ≡ moment_in other_schedule point
   agree_back point before =
-      sym (plays_agree net strategy name link other situation other_schedule schedule plan declared is_other is_situation (λ k apart. sym (differ k apart)) other_played played point (omega (arith, before)))
+      sym (plays_agree net strategy name link other situation other_schedule schedule instant declared is_other is_situation (λ k apart. sym (differ k apart)) other_played played point (omega (arith, before)))
 
   compared_with : Compared net strategy name link situation schedule another
   compared_with =
-      let sound = link_sound net plan name.0 link declared in
-      let completes = completion_follows_activation net strategy situation schedule name link duration plan played declared lasts in
-      let other_completes = completion_follows_activation net strategy other other_schedule name link another plan other_played declared other_lasts in
+      let sound = link_sound net instant.sound name.0 link declared in
+      let completes = completion_follows_activation net strategy situation schedule name link duration instant played declared lasts in
+      let other_completes = completion_follows_activation net strategy other other_schedule name link another instant other_played declared other_lasts in
       let same_activation = activation_agrees (moment_in schedule link.from) (moment_in other_schedule link.from) duration another (at_least_1 net link duration sound is_duration)
       (at_least_1 net link another sound is_another) (λ before. agree link.from (omega (arith, before, completes, other_completes)))
       (λ before. agree_back link.from (omega (arith, before, completes, other_completes))) in
@@ -147,11 +147,11 @@ module _ (net : Plan) (strategy : Tree) (name : LinkId) (link : Link) (plan : Is
         agree_back = agree_back;
       }
 
-pub compared : (net : Plan) (strategy : Tree) (name : LinkId) (link : Link) (situation schedule : List ℕ) (another : ℕ) → IsPlan net → Controls strategy net → IsLinkOf net name link
+pub compared : (net : Plan) (strategy : Tree) (name : LinkId) (link : Link) (situation schedule : List ℕ) (another : ℕ) → IsInstant net → Controls strategy net → IsLinkOf net name link
     → IsSituation net situation → play strategy net situation ≡ Some schedule → IsDuration link another → Compared net strategy name link situation schedule another
-compared net strategy name link situation schedule another plan controls declared is_situation played fits =
+compared net strategy name link situation schedule another instant controls declared is_situation played fits =
     let (duration, lasts, is_duration) = duration_of net.links situation name.0 link is_situation declared in
     let other = set situation name.0 another in
     let is_other : IsSituation net other = with_duration net.links situation name.0 link another is_situation declared fits in
     let (other_schedule, other_played, satisfied) = controls other is_other in
-    compared_with net strategy name link plan declared situation other schedule other_schedule is_situation is_other (λ k apart. set_elsewhere situation name.0 another k apart) played other_played duration another lasts (set_here situation name.0 another duration lasts) is_duration fits
+    compared_with net strategy name link instant declared situation other schedule other_schedule is_situation is_other (λ k apart. set_elsewhere situation name.0 another k apart) played other_played duration another lasts (set_here situation name.0 another duration lasts) is_duration fits

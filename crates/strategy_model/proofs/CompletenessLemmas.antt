@@ -1,9 +1,10 @@
 -- A closed list of edges with an order gives a strategy that controls the network.
 use Rattle.std.proofs.Common.{List}
 use Rattle.std.proofs.lemmas.List.Elements.{recursion_from_All}
-use Rattle.net_model.specs.Network.{Plan, IsPlan}
+use Rattle.net_model.specs.Network.{Plan}
 use Rattle.net_model.specs.declared.ids.PointId.{PointId}
 use Rattle.net_model.specs.declared.part.Edge.{Edge}
+use Rattle.strategy_model.specs.Plays.{IsInstant}
 use Rattle.strategy_model.specs.Dispatch.{IsClosedList, IsOrder, IsDynamic}
 use Rattle.strategy_model.specs.DispatchLaws.{AreTrue, ClosedListsGiveStrategies, ClosedListsDecide}
 use Rattle.strategy_model.specs.Control.{IsControllable}
@@ -17,42 +18,42 @@ use Rattle.strategy_model.proofs.SeenLemmas.{dispatched_see_alone}
 use Rattle.strategy_model.proofs.UnfoldLemmas.{dynamic_strategies_are_trees}
 
 -- the schedules of lower bounds and waits are a dynamic execution strategy
-pub lower_is_dynamic : (net : Plan) (edges : List Edge) (order : List PointId) → IsPlan net → IsClosedList net edges → IsOrder net edges order → IsDynamic net (lower_schedule net edges order)
-lower_is_dynamic net edges order plan closed ordered =
+pub lower_is_dynamic : (net : Plan) (edges : List Edge) (order : List PointId) → IsInstant net → IsClosedList net edges → IsOrder net edges order → IsDynamic net (lower_schedule net edges order)
+lower_is_dynamic net edges order instant closed ordered =
     record {
-      complete = λ situation is_situation. (lower_is_dispatched net edges order situation plan closed ordered is_situation).complete;
-      lasting = λ situation name link duration is_situation. (lower_is_dispatched net edges order situation plan closed ordered is_situation).contingent name link duration;
+      complete = λ situation is_situation. (lower_is_dispatched net edges order situation instant.sound closed ordered is_situation).complete;
+      lasting = λ situation name link duration is_situation. (lower_is_dispatched net edges order situation instant.sound closed ordered is_situation).contingent name link duration;
       seen_alone = λ first second t is_first is_second. dispatched_see_alone net edges order first second (lower_schedule net edges order first)
-          (lower_schedule net edges order second) t plan closed ordered is_first is_second (lower_is_dispatched net edges order first plan closed ordered is_first)
-          (lower_is_dispatched net edges order second plan closed ordered is_second);
+          (lower_schedule net edges order second) t instant closed ordered is_first is_second (lower_is_dispatched net edges order first instant.sound closed ordered is_first)
+          (lower_is_dispatched net edges order second instant.sound closed ordered is_second);
     }
 
 pub closed_lists_give_strategies : ClosedListsGiveStrategies
-closed_lists_give_strategies net edges order plan closed ordered =
-    let (strategy, played) = dynamic_strategies_are_trees net (lower_schedule net edges order) plan (lower_is_dynamic net edges order plan closed ordered) in (
+closed_lists_give_strategies net edges order instant closed ordered =
+    let (strategy, played) = dynamic_strategies_are_trees net (lower_schedule net edges order) instant (lower_is_dynamic net edges order instant closed ordered) in (
       strategy,
       λ situation is_situation. (
         lower_schedule net edges order situation,
         played situation is_situation,
         dispatched_satisfy net edges situation
-            (lower_schedule net edges order situation) plan closed is_situation (lower_is_dispatched net edges order situation plan closed ordered is_situation),
+            (lower_schedule net edges order situation) instant closed is_situation (lower_is_dispatched net edges order situation instant.sound closed ordered is_situation),
       ),
       λ situation is_situation.
-          (lower_schedule net edges order situation, played situation is_situation, lower_is_dispatched net edges order situation plan closed ordered is_situation),
+          (lower_schedule net edges order situation, played situation is_situation, lower_is_dispatched net edges order situation instant.sound closed ordered is_situation),
     )
 
 -- a list of edges that are true of every strategy that controls the network excludes them all by a negative cycle
-excluded : (net : Plan) (edges : List Edge) → IsPlan net → AreTrue net edges → IsControllable net → HasNoNegativeCycle edges
-excluded net edges plan all controllable cycle among negative =
+excluded : (net : Plan) (edges : List Edge) → IsInstant net → AreTrue net edges → IsControllable net → HasNoNegativeCycle edges
+excluded net edges instant all controllable cycle among negative =
     let (strategy, controls) = controllable in
     let holds = walk_true net strategy edges cycle (all strategy controls) among in
-    loops_exclude_strategies net strategy cycle plan (recursion_from_All (HoldsOf net strategy) cycle holds) (cycle_is_loop cycle negative) controls
+    loops_exclude_strategies net strategy cycle instant (recursion_from_All (HoldsOf net strategy) cycle holds) (cycle_is_loop cycle negative) controls
 
 pub closed_lists_decide : ClosedListsDecide
-closed_lists_decide net edges plan closed all = (
-  excluded net edges plan all,
+closed_lists_decide net edges instant closed all = (
+  excluded net edges instant all,
   λ acyclic.
       let (order, ordered) = closed_lists_have_orders net edges closed acyclic in
-      let (strategy, controls, dispatches) = closed_lists_give_strategies net edges order plan closed ordered in
+      let (strategy, controls, dispatches) = closed_lists_give_strategies net edges order instant closed ordered in
       (strategy, controls),
 )

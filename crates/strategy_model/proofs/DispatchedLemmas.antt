@@ -36,8 +36,8 @@ bound_keeps net edges situation schedule plan closed is_situation dispatched pla
     ]
 
 pub dispatched_satisfy : DispatchedSatisfy
-dispatched_satisfy net edges situation schedule plan closed is_situation dispatched =
+dispatched_satisfy net edges situation schedule instant closed is_situation dispatched =
     record {
       complete = dispatched.complete;
-      keeps = λ place other inside. bound_keeps net edges situation schedule plan closed is_situation dispatched place (get_or net.bounds place other) (slice_get-get_or net.bounds place other inside);
+      keeps = λ place other inside. bound_keeps net edges situation schedule instant.sound closed is_situation dispatched place (get_or net.bounds place other) (slice_get-get_or net.bounds place other inside);
     }

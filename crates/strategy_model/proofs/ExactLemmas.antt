@@ -21,8 +21,8 @@ stated : (net : Plan) (earlier : List Edge) (edge : Edge) → All (IsEdge net) e
 stated net earlier edge sound follows = exact_may_be_stated net earlier edge (recursion_from_All (IsEdge net) earlier sound) follows
 
 pub exact_rules_keep_truth : ExactRulesKeepTruth
-exact_rules_keep_truth net strategy earlier edge plan controls sound holds follows =
-    rules_keep_truth net strategy earlier edge plan controls (recursion_from_All (HoldsOf net strategy) earlier holds) (stated net earlier edge sound follows)
+exact_rules_keep_truth net strategy earlier edge instant controls sound holds follows =
+    rules_keep_truth net strategy earlier edge instant controls (recursion_from_All (HoldsOf net strategy) earlier holds) (stated net earlier edge sound follows)
 
 pub exact_rules_keep_edges : (net : Plan) (earlier : List Edge) (edge : Edge) → IsPlan net → All (IsEdge net) earlier → Follows net earlier edge → IsEdge net edge
 exact_rules_keep_edges net earlier edge plan sound follows =
@@ -55,8 +55,8 @@ derivation_stated net edges plan derivation place edge found =
     ]
 
 pub exact_derivations_are_true : ExactDerivationsAreTrue
-exact_derivations_are_true net strategy edges plan controls derivation =
-    derivations_are_true net strategy edges plan controls (derivation_stated net edges plan derivation)
+exact_derivations_are_true net strategy edges instant controls derivation =
+    derivations_are_true net strategy edges instant controls (derivation_stated net edges instant.sound derivation)
 
 pub below_zero : (edge : Edge) → IsTrue (is_negative edge) → edge.weight <ℤ pos 0
 below_zero edge holds = grind (arith, ints)
@@ -75,5 +75,5 @@ cycle_is_loop [] cycle = absurd (cycle.2 refl)
 cycle_is_loop (edge ∷ edges) cycle = (cycle.0, cycle.1, negative_total edge edges cycle.3)
 
 pub negative_cycles_exclude_strategies : NegativeCyclesExcludeStrategies
-negative_cycles_exclude_strategies net edges cycle plan derivation among negative controllable =
-    refutations_exclude_strategies net edges cycle plan (derivation_stated net edges plan derivation) among (cycle_is_loop cycle negative) controllable
+negative_cycles_exclude_strategies net edges cycle instant derivation among negative controllable =
+    refutations_exclude_strategies net edges cycle instant (derivation_stated net edges instant.sound derivation) among (cycle_is_loop cycle negative) controllable

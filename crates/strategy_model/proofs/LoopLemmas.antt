@@ -40,9 +40,9 @@ true_edges_hold net strategy schedule plan played (edge ∷ edges) all =
     (all.0 (longest_of net.links) schedule (longest_situation net plan) (all_longest net plan edge.label) played, true_edges_hold net strategy schedule plan played edges all.1)
 
 pub loops_exclude_strategies : LoopsExcludeStrategies
-loops_exclude_strategies net strategy edges plan all loop controls =
-    let (schedule, played, satisfies) = controls (longest_of net.links) (longest_situation net plan) in
-    loops_exclude schedule edges loop (true_edges_hold net strategy schedule plan played edges all)
+loops_exclude_strategies net strategy edges instant all loop controls =
+    let (schedule, played, satisfies) = controls (longest_of net.links) (longest_situation net instant.sound) in
+    loops_exclude schedule edges loop (true_edges_hold net strategy schedule instant.sound played edges all)
 
 -- the edges of a walk over true edges are true
 pub walk_true : (net : Plan) (strategy : Tree) (edges walk : List Edge) → All (HoldsOf net strategy) edges → All (Contains edges) walk → All (HoldsOf net strategy) walk
@@ -50,10 +50,10 @@ walk_true net strategy edges walk all among =
     All-weaker (Contains edges) (HoldsOf net strategy) (λ edge here. All-contains (HoldsOf net strategy) edges edge all here) walk among
 
 pub refutations_exclude_strategies : RefutationsExcludeStrategies
-refutations_exclude_strategies net edges walk plan derivation among loop controllable =
+refutations_exclude_strategies net edges walk instant derivation among loop controllable =
     let (strategy, controls) = controllable in
-    let all = derivations_are_true net strategy edges plan controls derivation in
-    loops_exclude_strategies net strategy walk plan (recursion_from_All (HoldsOf net strategy) walk (walk_true net strategy edges walk all among)) loop controls
+    let all = derivations_are_true net strategy edges instant controls derivation in
+    loops_exclude_strategies net strategy walk instant (recursion_from_All (HoldsOf net strategy) walk (walk_true net strategy edges walk all among)) loop controls
 
 -- an edge from a point to a point without a label, or with that of an edge which ends where it ends
 ordinary_edge : (net : Plan) (edge : Edge) → IsPoint net edge.from → IsPoint net edge.to → edge.label ≡ None → IsEdge net edge

@@ -316,5 +316,5 @@ lower_is_dispatched net edges order situation plan closed ordered is_situation =
     is_dispatched net edges order situation plan closed ordered is_situation
 
 pub dispatched_exist : DispatchedExist
-dispatched_exist net edges order situation plan closed ordered is_situation =
-    (lower_schedule net edges order situation, lower_is_dispatched net edges order situation plan closed ordered is_situation)
+dispatched_exist net edges order situation instant closed ordered is_situation =
+    (lower_schedule net edges order situation, lower_is_dispatched net edges order situation instant.sound closed ordered is_situation)

@@ -126,12 +126,12 @@ module _ (net : Plan) (plan : IsPlan net) (ds es : List ℕ) (is_ds : IsSituatio
         ]
 
 pub trees_are_dynamic : TreesAreDynamic
-trees_are_dynamic net strategy schedule_of plan played =
+trees_are_dynamic net strategy schedule_of instant played =
     record {
       complete = λ situation is_situation. played_length net situation (schedule_of situation) strategy [] 0 (played situation is_situation);
-      lasting = λ situation name link duration is_situation. completion_follows_activation net strategy situation (schedule_of situation) name link duration plan (played situation is_situation);
-      seen_alone = λ first second t is_first is_second same point executable. agree_up_to net plan first second is_first is_second (schedule_of first) (schedule_of second)
-          (λ name link duration. completion_follows_activation net strategy first (schedule_of first) name link duration plan (played first is_first))
-          (λ name link duration. completion_follows_activation net strategy second (schedule_of second) name link duration plan (played second is_second)) t same strategy [] 0
+      lasting = λ situation name link duration is_situation. completion_follows_activation net strategy situation (schedule_of situation) name link duration instant (played situation is_situation);
+      seen_alone = λ first second t is_first is_second same point executable. agree_up_to net instant.sound first second is_first is_second (schedule_of first) (schedule_of second)
+          (λ name link duration. completion_follows_activation net strategy first (schedule_of first) name link duration instant (played first is_first))
+          (λ name link duration. completion_follows_activation net strategy second (schedule_of second) name link duration instant (played second is_second)) t same strategy [] 0
           (λ point m found. absurd (none-some m found)) (played first is_first) (played second is_second) point executable.0;
     }

@@ -7,14 +7,14 @@ use Rattle.std.proofs.lemmas.Bool.{cases_lt}
 use Rattle.std.proofs.lemmas.Int.{ints}
 use Rattle.std.proofs.lemmas.List.Elements.{All-from_recursion, recursion_from_All, All-contains, All-nil, All-more}
 use Rattle.std.proofs.lemmas.Option.{same_Some, slice_get_cases}
-use Rattle.net_model.specs.Network.{Plan, IsPlan, IsLink}
+use Rattle.net_model.specs.Network.{Plan, IsLink}
 use Rattle.net_model.specs.Edges.{IsLinkOf}
 use Rattle.net_model.specs.LooseRules.{IsLooseDerivation, by_bound, by_link, by_no_case, by_upper_case, by_lower_case, by_cross_case, by_removal}
 use Rattle.net_model.specs.declared.ids.LinkId.{LinkId}
 use Rattle.net_model.specs.declared.part.Edge.{Edge}
 use Rattle.net_model.specs.declared.part.Link.{Link}
 use Rattle.strategy_model.specs.Situations.{IsSituation, IsDuration, DifferOnlyIn, Satisfies, moment_in}
-use Rattle.strategy_model.specs.Plays.{play}
+use Rattle.strategy_model.specs.Plays.{IsInstant, play}
 use Rattle.strategy_model.specs.Control.{Controls}
 use Rattle.strategy_model.specs.Edges.{HoldsIn, HoldsOf, TakesLongest}
 use Rattle.strategy_model.specs.Laws.{BoundKeepsTruth, LinkKeepsTruth, NoCaseKeepsTruth, UpperCaseKeepsTruth, LowerCaseKeepsTruth, CrossCaseKeepsTruth, RemovalKeepsTruth, RulesKeepTruth, DerivationsAreTrue}
@@ -30,14 +30,14 @@ satisfied net strategy situation schedule controls is_situation played =
     subst (Satisfies net) (same_Some made schedule (sym made_played ∙ played)) satisfies
 
 pub bound_keeps_truth : BoundKeepsTruth
-bound_keeps_truth net strategy edge plan controls rule situation schedule is_situation longest played =
+bound_keeps_truth net strategy edge instant controls rule situation schedule is_situation longest played =
     edge_of_bound_holds net schedule (satisfied net strategy situation schedule controls is_situation played) edge rule
 
 pub link_keeps_truth : LinkKeepsTruth
-link_keeps_truth net strategy edge plan controls rule situation schedule is_situation longest played =
+link_keeps_truth net strategy edge instant controls rule situation schedule is_situation longest played =
     let (duration, lasts, fits) = duration_of net.links situation rule.name.0 rule.link is_situation rule.declared in
     let is_longest : pos duration ≡ rule.link.high = (subst (TakesLongest net situation) rule.labelled longest) rule.link duration rule.declared lasts in
-    let completes = completion_follows_activation net strategy situation schedule rule.name rule.link duration plan played rule.declared lasts in
+    let completes = completion_follows_activation net strategy situation schedule rule.name rule.link duration instant played rule.declared lasts in
     let from : moment_in schedule edge.from ≡ moment_in schedule rule.link.to = ap (moment_in schedule) rule.from in
     let to : moment_in schedule edge.to ≡ moment_in schedule rule.link.from = ap (moment_in schedule) rule.to in
     let looser = rule.looser in
@@ -60,11 +60,11 @@ same_label : (net : Plan) (situation : List ℕ) (label other : Option LinkId) �
 same_label net situation label other same longest = subst (TakesLongest net situation) same longest
 
 pub no_case_keeps_truth : NoCaseKeepsTruth
-no_case_keeps_truth net strategy first second edge plan controls holds_first holds_second rule situation schedule is_situation longest played =
+no_case_keeps_truth net strategy first second edge instant controls holds_first holds_second rule situation schedule is_situation longest played =
     joined schedule first second edge (holds_first situation schedule is_situation (free net situation first.label rule.first_ordinary) played) (holds_second situation schedule is_situation (free net situation second.label rule.second_ordinary) played) rule.meet rule.from rule.to rule.looser
 
 pub upper_case_keeps_truth : UpperCaseKeepsTruth
-upper_case_keeps_truth net strategy first second edge plan controls holds_first holds_second rule situation schedule is_situation longest played =
+upper_case_keeps_truth net strategy first second edge instant controls holds_first holds_second rule situation schedule is_situation longest played =
     joined schedule first second edge (holds_first situation schedule is_situation (free net situation first.label rule.first_ordinary) played) (holds_second situation schedule is_situation (same_label net situation edge.label second.label (rule.labelled ∙ sym rule.second_labelled) longest) played) rule.meet rule.from rule.to rule.looser
 
 -- the shortest duration of a link, as a number
@@ -98,9 +98,9 @@ after_shortest net strategy name link situation schedule sound both second edge 
     omega (arith, ints, holds, begins_in, from_in, to_in, same_activation, other_completes, shortest, same_end, looser)
 
 pub lower_case_keeps_truth : LowerCaseKeepsTruth
-lower_case_keeps_truth net strategy second edge plan controls holds rule situation schedule is_situation longest played =
-    let sound = link_sound net plan rule.name.0 rule.link rule.declared in
-    let both = compared net strategy rule.name rule.link situation schedule (nat_abs rule.link.low) plan controls rule.declared is_situation played (shortest_is_duration net rule.link sound) in
+lower_case_keeps_truth net strategy second edge instant controls holds rule situation schedule is_situation longest played =
+    let sound = link_sound net instant.sound rule.name.0 rule.link rule.declared in
+    let both = compared net strategy rule.name rule.link situation schedule (nat_abs rule.link.low) instant controls rule.declared is_situation played (shortest_is_duration net rule.link sound) in
     let holds_there = holds both.other both.other_schedule both.is_situation (free net both.other second.label rule.second_ordinary) both.played in
     after_shortest net strategy rule.name rule.link situation schedule sound both second edge holds_there rule.begins rule.negative rule.from rule.to rule.looser
 
@@ -110,9 +110,9 @@ longest_stays net situation other name label another differ longest link duratio
     longest link duration declared (differ label.0 (λ same. another (λ i. record { 0 = same i })) ∙ lasts)
 
 pub cross_case_keeps_truth : CrossCaseKeepsTruth
-cross_case_keeps_truth net strategy second edge plan controls holds rule situation schedule is_situation longest played =
-    let sound = link_sound net plan rule.name.0 rule.link rule.declared in
-    let both = compared net strategy rule.name rule.link situation schedule (nat_abs rule.link.low) plan controls rule.declared is_situation played (shortest_is_duration net rule.link sound) in
+cross_case_keeps_truth net strategy second edge instant controls holds rule situation schedule is_situation longest played =
+    let sound = link_sound net instant.sound rule.name.0 rule.link rule.declared in
+    let both = compared net strategy rule.name rule.link situation schedule (nat_abs rule.link.low) instant controls rule.declared is_situation played (shortest_is_duration net rule.link sound) in
     let longest_here : TakesLongest net situation (Some rule.label) = same_label net situation edge.label (Some rule.label) rule.labelled longest in
     let longest_there : TakesLongest net both.other (Some rule.label) = longest_stays net situation both.other rule.name rule.label rule.another both.elsewhere longest_here in
     let holds_there = holds both.other both.other_schedule both.is_situation (same_label net both.other (Some rule.label) second.label (sym rule.second_labelled) longest_there) both.played in
@@ -143,22 +143,22 @@ longest_there net other name link declared lasts longest its duration its_declar
     ap pos same_duration ∙ longest ∙ ap (λ (l : Link). l.high) same_link
 
 -- a labelled edge that is true holds wherever its first point comes before its label's completion
-pub wait_kept : (net : Plan) (strategy : Tree) (name : LinkId) (link : Link) (premise : Edge) (situation schedule : List ℕ) → IsPlan net → Controls strategy net → HoldsOf net strategy premise
+pub wait_kept : (net : Plan) (strategy : Tree) (name : LinkId) (link : Link) (premise : Edge) (situation schedule : List ℕ) → IsInstant net → Controls strategy net → HoldsOf net strategy premise
     → premise.label ≡ Some name → IsLinkOf net name link → premise.to ≡ link.from → IsSituation net situation → play strategy net situation ≡ Some schedule
     → moment_in schedule premise.from < moment_in schedule link.to → HoldsIn schedule premise
-wait_kept net strategy name link premise situation schedule plan controls holds labelled declared ends is_situation played before =
-    let sound = link_sound net plan name.0 link declared in
+wait_kept net strategy name link premise situation schedule instant controls holds labelled declared ends is_situation played before =
+    let sound = link_sound net instant.sound name.0 link declared in
     let positive = sound.positive in
     let interval = sound.interval in
-    let both = compared net strategy name link situation schedule (nat_abs link.high) plan controls declared is_situation played (longest_is_duration net link sound) in
+    let both = compared net strategy name link situation schedule (nat_abs link.high) instant controls declared is_situation played (longest_is_duration net link sound) in
     let is_longest = longest_there net both.other name link declared both.lasts (own_size link.high (omega (arith, ints, positive, interval))) in
     let holds_there = holds both.other both.other_schedule both.is_situation (same_label net both.other (Some name) premise.label (sym labelled) is_longest) both.played in
     beside_longest net strategy name link situation schedule sound both premise holds_there ends before
 
 pub removal_keeps_truth : RemovalKeepsTruth
-removal_keeps_truth net strategy premise edge plan controls holds rule situation schedule is_situation longest played =
+removal_keeps_truth net strategy premise edge instant controls holds rule situation schedule is_situation longest played =
     let (duration, lasts, fits) = duration_of net.links situation rule.name.0 rule.link is_situation rule.declared in
-    let completes = completion_follows_activation net strategy situation schedule rule.name rule.link duration plan played rule.declared lasts in
+    let completes = completion_follows_activation net strategy situation schedule rule.name rule.link duration instant played rule.declared lasts in
     let shortest = fits.0 in
     let ends : moment_in schedule premise.to ≡ moment_in schedule rule.link.from = ap (moment_in schedule) rule.ends in
     let from : moment_in schedule edge.from ≡ moment_in schedule premise.from = ap (moment_in schedule) rule.from in
@@ -167,7 +167,7 @@ removal_keeps_truth net strategy premise edge plan controls holds rule situation
     let not_below = rule.not_below_shortest in
     elim (cases_lt (moment_in schedule premise.from) (moment_in schedule rule.link.to)) [
       | inl before ↦
-          let kept = wait_kept net strategy rule.name rule.link premise situation schedule plan controls holds rule.premise_labelled rule.declared rule.ends is_situation played before in
+          let kept = wait_kept net strategy rule.name rule.link premise situation schedule instant controls holds rule.premise_labelled rule.declared rule.ends is_situation played before in
           omega (arith, ints, kept, from, to, looser)
       | inr after ↦ omega (arith, ints, after, ends, from, to, completes, shortest, not_below)
     ]
@@ -178,34 +178,34 @@ true_of net strategy edges edge all among =
     All-contains (HoldsOf net strategy) edges edge (All-from_recursion (HoldsOf net strategy) edges all) among
 
 pub rules_keep_truth : RulesKeepTruth
-rules_keep_truth net strategy earlier edge plan controls all (by_bound rule) = bound_keeps_truth net strategy edge plan controls rule
-rules_keep_truth net strategy earlier edge plan controls all (by_link rule) = link_keeps_truth net strategy edge plan controls rule
-rules_keep_truth net strategy earlier edge plan controls all (by_no_case first second first_among second_among rule) =
-    no_case_keeps_truth net strategy first second edge plan controls (true_of net strategy earlier first all first_among) (true_of net strategy earlier second all second_among) rule
-rules_keep_truth net strategy earlier edge plan controls all (by_upper_case first second first_among second_among rule) =
-    upper_case_keeps_truth net strategy first second edge plan controls (true_of net strategy earlier first all first_among) (true_of net strategy earlier second all second_among) rule
-rules_keep_truth net strategy earlier edge plan controls all (by_lower_case second among rule) =
-    lower_case_keeps_truth net strategy second edge plan controls (true_of net strategy earlier second all among) rule
-rules_keep_truth net strategy earlier edge plan controls all (by_cross_case second among rule) =
-    cross_case_keeps_truth net strategy second edge plan controls (true_of net strategy earlier second all among) rule
-rules_keep_truth net strategy earlier edge plan controls all (by_removal premise among rule) =
-    removal_keeps_truth net strategy premise edge plan controls (true_of net strategy earlier premise all among) rule
+rules_keep_truth net strategy earlier edge instant controls all (by_bound rule) = bound_keeps_truth net strategy edge instant controls rule
+rules_keep_truth net strategy earlier edge instant controls all (by_link rule) = link_keeps_truth net strategy edge instant controls rule
+rules_keep_truth net strategy earlier edge instant controls all (by_no_case first second first_among second_among rule) =
+    no_case_keeps_truth net strategy first second edge instant controls (true_of net strategy earlier first all first_among) (true_of net strategy earlier second all second_among) rule
+rules_keep_truth net strategy earlier edge instant controls all (by_upper_case first second first_among second_among rule) =
+    upper_case_keeps_truth net strategy first second edge instant controls (true_of net strategy earlier first all first_among) (true_of net strategy earlier second all second_among) rule
+rules_keep_truth net strategy earlier edge instant controls all (by_lower_case second among rule) =
+    lower_case_keeps_truth net strategy second edge instant controls (true_of net strategy earlier second all among) rule
+rules_keep_truth net strategy earlier edge instant controls all (by_cross_case second among rule) =
+    cross_case_keeps_truth net strategy second edge instant controls (true_of net strategy earlier second all among) rule
+rules_keep_truth net strategy earlier edge instant controls all (by_removal premise among rule) =
+    removal_keeps_truth net strategy premise edge instant controls (true_of net strategy earlier premise all among) rule
 
 -- the edges of a derivation up to a place are true
-true_up_to : (net : Plan) (strategy : Tree) (edges : List Edge) → IsPlan net → Controls strategy net → IsLooseDerivation net edges → (k : ℕ) → k ≤ length edges → All (HoldsOf net strategy) (take k edges)
-true_up_to net strategy edges plan controls derivation zero within = All-nil (HoldsOf net strategy)
-true_up_to net strategy edges plan controls derivation (suc k) within =
-    let before = true_up_to net strategy edges plan controls derivation k (omega arith) in
+true_up_to : (net : Plan) (strategy : Tree) (edges : List Edge) → IsInstant net → Controls strategy net → IsLooseDerivation net edges → (k : ℕ) → k ≤ length edges → All (HoldsOf net strategy) (take k edges)
+true_up_to net strategy edges instant controls derivation zero within = All-nil (HoldsOf net strategy)
+true_up_to net strategy edges instant controls derivation (suc k) within =
+    let before = true_up_to net strategy edges instant controls derivation k (omega arith) in
     elim (slice_get_cases edges k).1 [
       | inl (edge, inside, found, here) ↦
           let earlier = recursion_from_All (HoldsOf net strategy) (take k edges) before in
-          let holds = rules_keep_truth net strategy (take k edges) edge plan controls earlier (derivation k edge found) in
+          let holds = rules_keep_truth net strategy (take k edges) edge instant controls earlier (derivation k edge found) in
           let holds_here : HoldsOf net strategy (get_or edges k edge) = subst (HoldsOf net strategy) (sym here) holds in
           subst (λ (n : ℕ). All (HoldsOf net strategy) (take n edges)) (add-one k) (All-more (HoldsOf net strategy) edges k edge inside before holds_here)
       | inr (past, missing) ↦ absurd (omega arith)
     ]
 
 pub derivations_are_true : DerivationsAreTrue
-derivations_are_true net strategy edges plan controls derivation =
+derivations_are_true net strategy edges instant controls derivation =
     let whole : take (length edges) edges ≡ edges = take-length edges in
-    subst (All (HoldsOf net strategy)) whole (true_up_to net strategy edges plan controls derivation (length edges) (omega arith))
+    subst (All (HoldsOf net strategy)) whole (true_up_to net strategy edges instant controls derivation (length edges) (omega arith))

@@ -103,22 +103,22 @@ module _ (net : Plan) (edges : List Edge) (order : List PointId) (plan : IsPlan 
       ]
 
 pub dispatched_see_alone : DispatchedSeeAlone
-dispatched_see_alone net edges order first second first_schedule second_schedule t plan closed ordered is_first is_second first_dispatched second_dispatched same point executable =
+dispatched_see_alone net edges order first second first_schedule second_schedule t instant closed ordered is_first is_second first_dispatched second_dispatched same point executable =
     (λ by_then. let late = later by_then in let early = sooner (omega (arith, by_then, late)) in omega (arith, late, early), λ by_then. let early = sooner by_then in let late = later (omega (arith, by_then, early)) in omega (arith, late, early))
   where
     later : moment_in first_schedule point ≤ t → moment_in second_schedule point ≤ moment_in first_schedule point
-    later by_then = up_to net edges order plan closed ordered first_schedule second_schedule t first_dispatched.executable second_dispatched.executable same (suc (rank order point)) point (omega arith) executable.0 by_then
+    later by_then = up_to net edges order instant.sound closed ordered first_schedule second_schedule t first_dispatched.executable second_dispatched.executable same (suc (rank order point)) point (omega arith) executable.0 by_then
 
     sooner : moment_in second_schedule point ≤ t → moment_in first_schedule point ≤ moment_in second_schedule point
-    sooner by_then = up_to net edges order plan closed ordered second_schedule first_schedule t second_dispatched.executable first_dispatched.executable
+    sooner by_then = up_to net edges order instant.sound closed ordered second_schedule first_schedule t second_dispatched.executable first_dispatched.executable
         (λ name link declared. let agree = same name link declared in (λ before. sym (agree.1 before), λ before. sym (agree.0 before))) (suc (rank order point)) point
         (omega arith) executable.0 by_then
 
 pub dispatched_are_one : DispatchedAreOne
-dispatched_are_one net edges order situation first second plan closed ordered is_situation is_first is_second =
+dispatched_are_one net edges order situation first second instant closed ordered is_situation is_first is_second =
     both_ways first second (place_by_place first second (is_first.complete ∙ sym is_second.complete)
-    (λ k within. sooner_in net edges order plan closed ordered situation second first is_situation is_second is_first (suc (rank order (record { 0 = k }))) (record { 0 = k }) (omega arith)
+    (λ k within. sooner_in net edges order instant.sound closed ordered situation second first is_situation is_second is_first (suc (rank order (record { 0 = k }))) (record { 0 = k }) (omega arith)
     (let size = is_first.complete in omega (arith, within, size))))
     (place_by_place second first (is_second.complete ∙ sym is_first.complete)
-    (λ k within. sooner_in net edges order plan closed ordered situation first second is_situation is_first is_second (suc (rank order (record { 0 = k }))) (record { 0 = k }) (omega arith)
+    (λ k within. sooner_in net edges order instant.sound closed ordered situation first second is_situation is_first is_second (suc (rank order (record { 0 = k }))) (record { 0 = k }) (omega arith)
     (let size = is_second.complete in omega (arith, within, size))))

@@ -184,13 +184,13 @@ module _ (net : Plan) (schedule_of : List ℕ → List ℕ) (plan : IsPlan net) 
       next ∙ ap (λ (acts : List PointId). play_from (unfolded net schedule_of moments (left_by net schedule_of situations t its) (t + 1)) net situation (and_moment so_far t (seen_in net schedule t) acts) (t + 1)) acts_same ∙ rest
 
 pub dynamic_strategies_are_trees : DynamicStrategiesAreTrees
-dynamic_strategies_are_trees net schedule_of plan dynamic =
+dynamic_strategies_are_trees net schedule_of instant dynamic =
     let situations = situations_of net in
     let moments = suc (horizon net schedule_of situations) in (
       unfolded net schedule_of moments situations 0,
       λ situation is_situation.
-          let among = has_situation net situation plan is_situation in
-          plays net schedule_of plan dynamic moments situations 0 situation [] among (λ other among'. are_situations net other plan among') (λ other among' m before. absurd (omega (arith, before)))
+          let among = has_situation net situation instant.sound is_situation in
+          plays net schedule_of instant.sound dynamic moments situations 0 situation [] among (λ other among'. are_situations net other instant.sound among') (λ other among' m before. absurd (omega (arith, before)))
           (record { before = λ point within before. absurd (omega (arith, before)); not_yet = λ point within later. refl })
           (λ point within. let below = within_horizon net schedule_of situations situation among point.0 in omega (arith, below)),
     )

@@ -5,7 +5,7 @@ use Rattle.std.specs.Prelude.{ℕ, ◌+◌, ◌==◌, ◌&&◌, ◌||◌, not, B
 use Rattle.std.specs.Option.{option_map}
 use Rattle.std.specs.List.{list_any, range_with_len}
 use Rattle.std.specs.Cmp.Lexicographic.{pointwise}
-use Rattle.net_model.specs.Network.{Plan, activation}
+use Rattle.net_model.specs.Network.{Plan, IsPlan, activation}
 use Rattle.net_model.specs.declared.ids.PointId.{PointId}
 use Rattle.net_model.specs.declared.part.Link.{Link}
 use Rattle.strategy_model.specs.declared.tree.Case.{Case}
@@ -87,3 +87,7 @@ case_for (case ∷ cases) points = if pointwise same_point case.seen points then
 -- the play of a strategy in a situation: the schedule that is made, or none
 abbrev pub play : Tree → Plan → List ℕ → Option (List ℕ)
 play tree net situation = play_from tree net situation [] 0
+
+-- a sound network in which reaction is instantaneous, as plays have it: a completion is seen at its own moment
+pub record IsInstant (net : Plan) : Type 0 where
+  pub sound : IsPlan net

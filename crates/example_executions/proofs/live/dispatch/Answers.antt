@@ -11,6 +11,7 @@ pub returns-clause-dispatched : goal.returns-clause-dispatched
 returns-clause-dispatched g c =
     let plan = c.points-points.ensures.sound in
     record {
+      instant = record { sound = plan };
       table = c.table.result.now;
       order = c.as_slice.result.now;
       graph = sound_graph c.args.net.now c.propagate.new.store c.table.result.now plan c.in_ok-order.ensures.stands c.table.ensures;

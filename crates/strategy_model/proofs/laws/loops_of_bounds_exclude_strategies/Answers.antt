@@ -4,6 +4,6 @@ use Rattle.strategy_model.proofs.laws.loops_of_bounds_exclude_strategies.Goals a
 
 pub returns : goal.returns
 returns c =
-    λ net edges plan loop made controllable.
-    let found = controllable_has_schedule net plan controllable in
+    λ net edges instant loop made controllable.
+    let found = controllable_has_schedule net instant.sound controllable in
     loops_exclude found.0 edges loop (edges_of_bounds_hold net found.0 found.1 edges made)

@@ -26,9 +26,9 @@ returns-clause-whole c =
 
 pub returns-clause-executed : goal.returns-clause-executed
 returns-clause-executed c =
-    λ sound.
+    λ instant sound.
     let net = c.args.net.now in
     let table = c.args.table.now in
     let done : c.loop-point.point ≡ table.shape.points = omega (arith, point_count net table c.requires.for_network, ap length c.points.ensures.points) in
     subst (ExecutionSatisfies net) (sym (made net table c.loop-point.conditions.items c.loop-point.point done c.loop-point.invariant))
-    (executions_satisfy net table c.args.order.now c.points.ensures.sound c.requires.for_network sound c.requires.closed c.requires.ordered)
+    (executions_satisfy net table c.args.order.now instant c.requires.for_network sound c.requires.closed c.requires.ordered)
