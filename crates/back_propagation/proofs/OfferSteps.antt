@@ -1,8 +1,8 @@
 -- What is offered to a row goes to one slot, and the slots keep their keys.
-use Rattle.std.proofs.Common.{◌≡◌, ◌≢◌, ℕ, zero, suc, ◌+◌, ◌*◌, ◌^◌, ◌<◌, ◌≤◌, ℤ, pos, ◌≤ℤ◌, ◌<ℤ◌, Bool, true, false, cond, List, [], ◌∷◌, ◌++◌, length, map, fold, get_or, Option, Some, None, IfSome, refl, ap, sym, subst, ◌∙◌, arith, ◌==◌}
-use Rattle.std.specs.Prelude.{slice_get, position, slice_set, unsigned_abs, filter, int_lt}
+use Rattle.std.proofs.Common.{◌≡◌, ℕ, zero, suc, ◌+◌, ◌*◌, ◌^◌, ◌<◌, ◌≤◌, ℤ, pos, ◌≤ℤ◌, ◌<ℤ◌, Bool, true, false, cond, List, [], ◌∷◌, ◌++◌, length, map, fold, get_or, Option, Some, None, IfSome, refl, ap, sym, subst, ◌∙◌, arith, ◌==◌}
+use Rattle.std.specs.Prelude.{slice_get, position, slice_set, unsigned_abs, filter}
 use Rattle.std.specs.Option.{option_map, option_map_or}
-use Rattle.std.specs.List.{Contains, flat_map, filter_map, cons_option, range_with_len, enumerate_from}
+use Rattle.std.specs.List.{flat_map, filter_map, cons_option, range_with_len, enumerate_from}
 use Rattle.std.proofs.lemmas.Int.{ints}
 use Rattle.std.proofs.lemmas.Nat.{mul-add-lt, mul-le}
 use Rattle.std.proofs.lemmas.Option.{slice_get-map, same_Some, slice_get_within, get_or_from_slice_get}
@@ -12,10 +12,10 @@ use Rattle.std.proofs.lemmas.List.Concat.{flat_map-append}
 use Rattle.std.proofs.lemmas.List.Sums.{fold-append}
 use Rattle.std.proofs.lemmas.List.FromFn.{map-range_with_len_more}
 use Rattle.std.proofs.Math.ListN.{length-map}
-use Rattle.net_model.specs.Limits.{most_points, most_links, most_size, most_weight}
-use Rattle.net_model.specs.Network.{Plan, IsPlan, IsLink, IsPoint, activation, greatest}
+use Rattle.net_model.specs.Limits.{most_points, most_links, most_weight}
+use Rattle.net_model.specs.Network.{Plan, IsPlan, IsLink, IsPoint, activation}
 use Rattle.net_model.specs.Edges.{IsLinkOf}
-use Rattle.net_model.specs.Rules.{no_case, upper_case, lower_case, cross_case, removal}
+use Rattle.net_model.specs.Rules.{joined_weight, no_case, upper_case, lower_case, cross_case, removal}
 use Rattle.net_model.specs.declared.ids.LinkId.{LinkId}
 use Rattle.net_model.specs.declared.ids.PointId.{PointId}
 use Rattle.net_model.specs.declared.part.Edge.{Edge}
@@ -23,8 +23,8 @@ use Rattle.net_model.specs.declared.part.Link.{Link}
 use Rattle.net_model.proofs.NetworkLemmas.{greatest-le}
 use Rattle.net_model.proofs.RuleLemmas.{no_case_gives, upper_case_gives, lower_case_gives, cross_case_gives, removal_gives}
 use Rattle.closure_model.specs.Keys.{Key, Shape, key_of, edge_of, ordinary_key, row_keys, labels_at, all_points, IsLabelAt}
-use Rattle.closure_model.specs.ReferenceRow.{given, is_slot_of, taken, offered, from_removal, over_link, from_link, from_first, ordinary_into, consequences, IsWithin}
-use Rattle.closure_model.specs.Tables.{Graph, HasEdge, weight_of}
+use Rattle.closure_model.specs.ReferenceRow.{given, is_slot_of, has_above, taken, offered, from_removal, over_link, from_link, from_first, ordinary_into, consequences, IsWithin}
+use Rattle.closure_model.specs.Tables.{Graph, HasEdge, weight_of, IsGraph}
 use Rattle.closure_model.specs.declared.rows.Made.{Made}
 use Rattle.closure_model.specs.declared.rows.Slot.{Slot}
 use Rattle.closure_model.specs.declared.rows.Why.{Why}
@@ -32,8 +32,7 @@ use Rattle.closure_model.specs.declared.rows.Why.TheVariants.{No, Up, Low, Cross
 use Rattle.closure_model.proofs.KeyLists.{row_keys_rise}
 use Rattle.closure_model.proofs.Nodes.{listed_at}
 use Rattle.closure_model.proofs.RowLaw.{only_place}
-use Rattle.closure_model.proofs.Slots.{some_of_map, slot_of_key, key_of_slot, offered_keys, key_in}
-use Rattle.closure_model.proofs.Weights.{not_below, lt_then}
+use Rattle.closure_model.proofs.Slots.{some_of_map, slot_of_key, key_of_slot, offered_keys}
 use Rattle.back_propagation.specs.Offering.{place_of, width_of, HasColumn, slot_key, IsSlotAt, after_point, IsRowAgainst, IsOfRow}
 use Rattle.back_propagation.proofs.RowPlaces.{row_at, at_column, column_inside}
 
@@ -76,21 +75,26 @@ labels_few to n (p ∷ ps) = by (p.0 == to.0) (labels_few to (n + 1) ps)
     by true rest = omega arith
     by false rest = omega arith
 
+pub width_under : (table : Graph) (to : PointId) (width : ℕ) → IsGraph table → width ≡ width_of table.shape to → width ≤ most_links + 1
+width_under table to width sound wide =
+    let few = labels_few to 0 table.shape.activations in
+    let same : length (labels_at table.shape to) ≡ length (filter (λ (e : ℕ × PointId). e.1.0 == to.0) (enumerate_from 0 table.shape.activations)) =
+    length-map {B = LinkId} (filter (λ (e : ℕ × PointId). e.1.0 == to.0) (enumerate_from 0 table.shape.activations)) (λ (e : ℕ × PointId). record { 0 = e.0 }) in
+    let links = sound.few_links in
+    omega (arith, few, same, wide, links)
+
+pub place_under : (table : Graph) (to : PointId) (width : ℕ) → IsGraph table → width ≡ width_of table.shape to → (from : PointId) (column : ℕ) → from.0 < table.shape.points → column < width → place_of width from column < 2 ^ 64
+place_under table to width sound wide from column inside within =
+    let below : from.0 * width + column < width * table.shape.points = mul-add-lt from.0 width column table.shape.points inside within in
+    let most : width * table.shape.points ≤ (most_links + 1) * most_points = mul-le width table.shape.points (most_links + 1) most_points (width_under table to width sound wide) sound.few_points in
+    omega (arith, below, most)
+
 module _ (net : Plan) (table : Graph) (to : PointId) (slots : List Slot) (width : ℕ) (row : IsRowAgainst net table to slots width) where
   pub width_few : width ≤ most_links + 1
-  width_few =
-      let few = labels_few to 0 table.shape.activations in
-      let same : length (labels_at table.shape to) ≡ length (filter (λ (e : ℕ × PointId). e.1.0 == to.0) (enumerate_from 0 table.shape.activations)) =
-      length-map {B = LinkId} (filter (λ (e : ℕ × PointId). e.1.0 == to.0) (enumerate_from 0 table.shape.activations)) (λ (e : ℕ × PointId). record { 0 = e.0 }) in
-      let wide = row.wide in
-      let links = row.sound.few_links in
-      omega (arith, few, same, wide, links)
+  width_few = width_under table to width row.sound row.wide
 
   pub place_fits : (from : PointId) (column : ℕ) → from.0 < table.shape.points → column < width → place_of width from column < 2 ^ 64
-  place_fits from column inside within =
-      let below : from.0 * width + column < width * table.shape.points = mul-add-lt from.0 width column table.shape.points inside within in
-      let most : width * table.shape.points ≤ (most_links + 1) * most_points = mul-le width table.shape.points (most_links + 1) most_points width_few row.sound.few_points in
-      omega (arith, below, most)
+  place_fits = place_under table to width row.sound row.wide
 
   pub slot_at : (edge : Edge) (column : ℕ) → edge.to ≡ to → edge.from.0 < table.shape.points → HasColumn table.shape to edge.label column → IsSlotAt slots (place_of width edge.from column) edge
   slot_at edge column ends inside has =
@@ -309,3 +313,36 @@ consequences_of_light net table edge slots one two after is_one is_two is =
     is ∙ (ap (λ (s : List Slot). fold offered s (flat_map (from_first edge) (ordinary_into table edge.from))) (is_two ∙ ap (λ (s : List Slot). fold offered s (from_link net edge)) is_one)
     ∙ (sym (fold-append offered (fold offered slots (from_removal net edge)) (from_link net edge) (flat_map (from_first edge) (ordinary_into table edge.from)))
     ∙ sym (fold-append offered slots (from_removal net edge) (from_link net edge ++ flat_map (from_first edge) (ordinary_into table edge.from)))))
+
+-- ---- what stands at the place of an offer
+pub at_place : (slots : List Slot) (place : ℕ) (made : Made) (d : Slot) → IsSlotAt slots place made.edge → slice_get slots place ≡ Some (get_or slots place d)
+at_place slots place made d at = at.here ∙ ap Some (sym (get_or_from_slice_get slots place at.slot d at.here))
+
+same_set : (slots : List Slot) (place : ℕ) (slot : Slot) → slice_get slots place ≡ Some slot → slice_set slots place slot ≡ slots
+same_set [] place slot here = absurd cc
+same_set (x ∷ xs) zero slot here = ap (λ (s : Slot). s ∷ xs) (sym (same_Some x slot here))
+same_set (x ∷ xs) (suc place) slot here = ap (λ (list : List Slot). x ∷ list) (same_set xs place slot here)
+
+-- an offer that is not below the slot changes nothing
+pub offer_leaves : (slots : List Slot) (place : ℕ) (made : Made) (d : Slot) → IsSlotAt slots place made.edge → has_above (get_or slots place d) made.edge.weight ≡ false → slots ≡ offered slots made
+offer_leaves slots place made d at not =
+    let slot : Slot = get_or slots place d in
+    let kept : taken made slot ≡ slot = ap (λ (b : Bool). cond b (record slot { weight = Some made.edge.weight; why = Some made.why }) slot) not in
+    sym (ap (slice_set slots place) kept ∙ same_set slots place slot (at_place slots place made d at)) ∙ offer_sets slots place made d at
+
+-- ---- what is no lesser than the slot
+leaves_given : (slots : List Slot) (place : ℕ) (d : Slot) (w : ℤ) (why : Why) (o : Option Edge) → IfSome o (IsSlotAt slots place) → ((other : Edge) → o ≡ Some other → other.weight ≡ w) → has_above (get_or slots place d) w ≡ false → fold offered slots (given why o) ≡ slots
+leaves_given slots place d w why None at weights not = refl
+leaves_given slots place d w why (Some other) at weights not = sym (offer_leaves slots place (record { edge = other; why = why }) d at (subst (λ (v : ℤ). has_above (get_or slots place d) v ≡ false) (sym (weights other refl)) not))
+
+module _ (net : Plan) (table : Graph) (to : PointId) (slots : List Slot) (width : ℕ) (row : IsRowAgainst net table to slots width) (edge : Edge) (column : ℕ) (is : IsOfRow net table to edge column) (first : Edge) (has : HasEdge table first) where
+  pub first_place : place_of width first.from column < length slots
+  first_place =
+      let at = slot_at net table to slots width row (record { from = first.from; to = edge.to; label = edge.label; weight = edge.weight }) column is.ends (row.sound.keys first has).from_point is.column in
+      slice_get_within slots (place_of width first.from column) at.slot at.here
+
+  pub first_left : (d : Slot) → has_above (get_or slots (place_of width first.from column) d) (joined_weight first edge) ≡ false → slots ≡ fold offered slots (from_first edge first)
+  first_left d not =
+      let no_left = leaves_given slots (place_of width first.from column) d (joined_weight first edge) (No first edge) (no_case first edge) (no_case_slot net table to slots width row edge column is first (no_case first edge) has refl) (λ other gave. ap (λ (e : Edge). e.weight) (sym (no_case_gives first edge other gave).is)) not in
+      let up_left = leaves_given slots (place_of width first.from column) d (joined_weight first edge) (Up first edge) (upper_case first edge) (upper_case_slot net table to slots width row edge column is first (upper_case first edge) has refl) (λ other gave. ap (λ (e : Edge). e.weight) (sym (upper_case_gives first edge other gave).is)) not in
+      sym (fold-append offered slots (given (No first edge) (no_case first edge)) (given (Up first edge) (upper_case first edge)) ∙ (ap (λ (s : List Slot). fold offered s (given (Up first edge) (upper_case first edge))) no_left ∙ up_left))

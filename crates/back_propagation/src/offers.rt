@@ -1,15 +1,19 @@
-ghost use Rattle.std.specs.Prelude.{◌≡◌, ◌+◌, ◌*◌, ◌<◌, ◌≤◌, ◌^◌, fold, length, true, pos, int_lt, IfSome, IfNone, slice_set, IsTrue, ◌<ℤ◌};
+ghost use Rattle.std.specs.Prelude.{◌≡◌, ◌+◌, ◌*◌, ◌<◌, ◌≤◌, ◌^◌, fold, length, true, pos, int_lt, IfSome, IfNone, OnOk, slice_set, IsTrue, ◌<ℤ◌, unsigned_abs};
 ghost use Rattle.std.specs.List.{flat_map};
 ghost use Rattle.net_model.specs.Edges.{IsLinkOf};
-ghost use Rattle.net_model.specs.Rules.{is_negative};
+ghost use Rattle.net_model.specs.Limits.{most_weight};
+ghost use Rattle.net_model.specs.Rules.{is_negative, joined_weight};
 ghost use Rattle.closure_model.specs.ReferenceRow.{given, has_above, taken, offered, from_removal, from_link, from_first, ordinary_into, consequences};
 ghost use Rattle.closure_model.specs.Tables.{HasEdge};
+ghost use Rattle.back_propagation.specs.Queued.{KeepsQueued};
 ghost use Rattle.back_propagation.specs.Offering.{place_of, IsSlotAt, IsRowAgainst, IsOfRow, after_point};
 
+use crate::queue::Queue;
 use closure_model::rows::{Made, Slot, Why};
 use labelled_graph::Table;
 use net_model::{Edge, Link, LinkId, Network, PointId, Weight};
 use reduction_rules::{cross_case, lower_case, no_case, removal, upper_case};
+use std::alloc::AllocError;
 
 /// Where the slots of a row stand: `width` for each source, and that of the edge at hand in a column.
 #[derive(Clone, Copy)]
@@ -22,20 +26,23 @@ pub(crate) struct Column {
 /// but the removal of its label.
 pub(crate) fn offer_consequences(
     slots: &mut [Slot],
+    queue: &mut Queue,
     table: &Table,
     net: &Network,
     edge: &Edge,
     at: Column,
-)
+) -> Result<(), AllocError>
     requires row { IsRowAgainst net.now table.now edge.now.to slots.old at.width }
     requires edge { IsOfRow net.now table.now edge.now.to edge.now at.column }
-    ensures { slots.new ≡ fold offered slots.old (consequences net.now table.now edge.now) }
+    ensures slots { OnOk result (slots.new ≡ fold offered slots.old (consequences net.now table.now edge.now)) }
+    ensures queue { OnOk result (KeepsQueued slots.old queue.old slots.new queue.new) }
 {
-    offer_removal(slots, table, net, edge, at);
+    offer_removal(slots, queue, table, net, edge, at)?;
     if is_negative(edge) {
-        offer_over_link(slots, table, net, edge, at);
-        offer_after_firsts(slots, table, net, edge, at);
+        offer_over_link(slots, queue, table, net, edge, at)?;
+        offer_after_firsts(slots, queue, table, net, edge, at)?;
     }
+    Ok(())
 }
 
 fn is_negative(edge: &Edge) -> bool
@@ -45,62 +52,93 @@ fn is_negative(edge: &Edge) -> bool
 }
 
 /// Offers the edge without its label.
-fn offer_removal(slots: &mut [Slot], table: &Table, net: &Network, edge: &Edge, at: Column)
+fn offer_removal(
+    slots: &mut [Slot],
+    queue: &mut Queue,
+    table: &Table,
+    net: &Network,
+    edge: &Edge,
+    at: Column,
+) -> Result<(), AllocError>
     requires row { IsRowAgainst net.now table.now edge.now.to slots.old at.width }
     requires edge { IsOfRow net.now table.now edge.now.to edge.now at.column }
-    ensures { slots.new ≡ fold offered slots.old (from_removal net.now edge.now) }
+    ensures slots { OnOk result (slots.new ≡ fold offered slots.old (from_removal net.now edge.now)) }
+    ensures queue { OnOk result (KeepsQueued slots.old queue.old slots.new queue.new) }
 {
     let place = place_of(at.width, edge.from, 0);
-    offer_given(slots, place, Why::Drop(*edge), removal(net, edge));
+    offer_given(slots, queue, place, Why::Drop(*edge), removal(net, edge))?;
+    Ok(())
 }
 
 /// Offers what follows over the link that ends where the edge begins, if one does.
-fn offer_over_link(slots: &mut [Slot], table: &Table, net: &Network, edge: &Edge, at: Column)
+fn offer_over_link(
+    slots: &mut [Slot],
+    queue: &mut Queue,
+    table: &Table,
+    net: &Network,
+    edge: &Edge,
+    at: Column,
+) -> Result<(), AllocError>
     requires row { IsRowAgainst net.now table.now edge.now.to slots.old at.width }
     requires edge { IsOfRow net.now table.now edge.now.to edge.now at.column }
-    ensures { slots.new ≡ fold offered slots.old (from_link net.now edge.now) }
+    ensures slots { OnOk result (slots.new ≡ fold offered slots.old (from_link net.now edge.now)) }
+    ensures queue { OnOk result (KeepsQueued slots.old queue.old slots.new queue.new) }
 {
     if let Some(link) = net.activation(edge.from) {
         let place = place_of(at.width, link_of(net, link).from, at.column);
         offer_given(
             slots,
+            queue,
             place,
             Why::Low(link, *edge),
             lower_case(net, link, edge),
-        );
+        )?;
         offer_given(
             slots,
+            queue,
             place,
             Why::Cross(link, *edge),
             cross_case(net, link, edge),
-        );
+        )?;
     }
+    Ok(())
 }
 
 /// Offers what follows with an ordinary edge of the table before the edge, for each that ends where it begins.
-fn offer_after_firsts(slots: &mut [Slot], table: &Table, net: &Network, edge: &Edge, at: Column)
+fn offer_after_firsts(
+    slots: &mut [Slot],
+    queue: &mut Queue,
+    table: &Table,
+    net: &Network,
+    edge: &Edge,
+    at: Column,
+) -> Result<(), AllocError>
     requires row { IsRowAgainst net.now table.now edge.now.to slots.old at.width }
     requires edge { IsOfRow net.now table.now edge.now.to edge.now at.column }
-    ensures { slots.new ≡ fold offered slots.old (flat_map (from_first edge.now) (ordinary_into table.now edge.now.from)) }
+    ensures slots { OnOk result (slots.new ≡ fold offered slots.old (flat_map (from_first edge.now) (ordinary_into table.now edge.now.from))) }
+    ensures queue { OnOk result (KeepsQueued slots.old queue.old slots.new queue.new) }
 {
     for from in 0..net.points().len() as u32 {
-        offer_after_point(slots, table, net, edge, at, PointId(from));
+        offer_after_point(slots, queue, table, net, edge, at, PointId(from))?;
     }
+    Ok(())
 }
 
 /// Offers what follows with the ordinary edge of the table from a point before the edge, if the table has one.
 fn offer_after_point(
     slots: &mut [Slot],
+    queue: &mut Queue,
     table: &Table,
     net: &Network,
     edge: &Edge,
     at: Column,
     from: PointId,
-)
+) -> Result<(), AllocError>
     requires row { IsRowAgainst net.now table.now edge.now.to slots.old at.width }
     requires edge { IsOfRow net.now table.now edge.now.to edge.now at.column }
     requires from { from.0 < length net.now.points }
-    ensures { slots.new ≡ fold offered slots.old (after_point table.now edge.now from) }
+    ensures slots { OnOk result (slots.new ≡ fold offered slots.old (after_point table.now edge.now from)) }
+    ensures queue { OnOk result (KeepsQueued slots.old queue.old slots.new queue.new) }
 {
     if let Some(weight) = table.weight(from, edge.from) {
         let first = Edge {
@@ -109,49 +147,86 @@ fn offer_after_point(
             label: None,
             weight,
         };
-        offer_after_first(slots, table, net, edge, at, &first);
+        offer_after_first(slots, queue, table, net, edge, at, &first)?;
     }
+    Ok(())
 }
 
-fn offer_after_first(
+pub(crate) fn offer_after_first(
     slots: &mut [Slot],
+    queue: &mut Queue,
     table: &Table,
     net: &Network,
     edge: &Edge,
     at: Column,
     first: &Edge,
-)
+) -> Result<(), AllocError>
     requires row { IsRowAgainst net.now table.now edge.now.to slots.old at.width }
     requires edge { IsOfRow net.now table.now edge.now.to edge.now at.column }
     requires first { HasEdge table.now first.now }
-    ensures { slots.new ≡ fold offered slots.old (from_first edge.now first.now) }
+    ensures slots { OnOk result (slots.new ≡ fold offered slots.old (from_first edge.now first.now)) }
+    ensures queue { OnOk result (KeepsQueued slots.old queue.old slots.new queue.new) }
 {
     let place = place_of(at.width, first.from, at.column);
-    offer_given(slots, place, Why::No(*first, *edge), no_case(first, edge));
+    let weight = joined_weight(first, edge);
+    if !has_above(&slots[place], weight) {
+        return Ok(());
+    }
     offer_given(
         slots,
+        queue,
+        place,
+        Why::No(*first, *edge),
+        no_case(first, edge),
+    )?;
+    offer_given(
+        slots,
+        queue,
         place,
         Why::Up(*first, *edge),
         upper_case(first, edge),
-    );
+    )?;
+    Ok(())
+}
+
+/// The weight of the way over both edges.
+pub(crate) fn joined_weight(first: &Edge, second: &Edge) -> Weight
+    requires first { unsigned_abs first.now.weight ≤ most_weight }
+    requires second { unsigned_abs second.now.weight ≤ most_weight }
+    ensures { result ≡ joined_weight first.now second.now }
+{
+    first.weight.max(0) + second.weight
 }
 
 /// Offers what a rule gave, if it gave an edge.
-fn offer_given(slots: &mut [Slot], place: usize, why: Why, edge: Option<Edge>)
+fn offer_given(
+    slots: &mut [Slot],
+    queue: &mut Queue,
+    place: usize,
+    why: Why,
+    edge: Option<Edge>,
+) -> Result<(), AllocError>
     requires { IfSome edge (IsSlotAt slots.old place) }
-    ensures { slots.new ≡ fold offered slots.old (given why edge) }
+    ensures slots { OnOk result (slots.new ≡ fold offered slots.old (given why edge)) }
+    ensures queue { OnOk result (KeepsQueued slots.old queue.old slots.new queue.new) }
 {
     if let Some(edge) = edge {
-        offer(slots, place, &Made { edge, why });
+        offer(slots, queue, place, Made { edge, why })?;
     }
+    Ok(())
 }
 
 /// Offers an edge to its slot, which takes it exactly where it has no weight or a greater one.
-fn offer(slots: &mut [Slot], place: usize, made: &Made)
-    requires { IsSlotAt slots.old place made.now.edge }
-    ensures { slots.new ≡ offered slots.old made.now }
+fn offer(slots: &mut [Slot], queue: &mut Queue, place: usize, made: Made) -> Result<(), AllocError>
+    requires { IsSlotAt slots.old place made.edge }
+    ensures slots { OnOk result (slots.new ≡ offered slots.old made) }
+    ensures queue { OnOk result (KeepsQueued slots.old queue.old slots.new queue.new) }
 {
-    slots[place] = taken(&slots[place], made);
+    if has_above(&slots[place], made.edge.weight) {
+        queue.push(made.edge.weight, place)?;
+        slots[place] = taken(&slots[place], &made);
+    }
+    Ok(())
 }
 
 fn taken(slot: &Slot, made: &Made) -> Slot
@@ -185,7 +260,7 @@ fn link_of(net: &Network, name: LinkId) -> Link
 }
 
 /// The place of the slot of a source and a column, where there are so many slots for each source.
-fn place_of(width: usize, from: PointId, column: usize) -> usize
+pub(crate) fn place_of(width: usize, from: PointId, column: usize) -> usize
     requires { place_of width from column < 2 ^ 64 }
     ensures { result ≡ place_of width from column }
 {

@@ -50,7 +50,7 @@ fn push_slots(
 }
 
 /// A slot as a table has it.
-fn slot(from: PointId, label: Option<LinkId>, weight: Option<Weight>) -> Slot
+pub(crate) fn slot(from: PointId, label: Option<LinkId>, weight: Option<Weight>) -> Slot
     ensures { result ≡ record { from = from; label = label; weight = weight; why = None; settled = false } }
 {
     Slot {
@@ -59,48 +59,6 @@ fn slot(from: PointId, label: Option<LinkId>, weight: Option<Weight>) -> Slot
         weight,
         why: None,
         settled: false,
-    }
-}
-
-/// The place and the weight of the slot that is settled next.
-pub(crate) fn next_slot(slots: &[Slot]) -> Option<(usize, Weight)>
-    ensures next { result ≡ next_slot slots.now }
-    ensures inside { IfSome result (λ next. next.0 < length slots.now) }
-{
-    let mut next = None;
-    for (place, slot) in slots.iter().enumerate() {
-        next = lesser(next, at_place(place, open_weight(slot)));
-    }
-    next
-}
-
-/// The weight at which a slot can be settled.
-fn open_weight(slot: &Slot) -> Option<Weight>
-    ensures { result ≡ open_weight slot.now }
-{
-    if slot.settled { None } else { slot.weight }
-}
-
-fn at_place(place: usize, weight: Option<Weight>) -> Option<(usize, Weight)>
-    ensures { result ≡ option_map (λ w. (place, w)) weight }
-{
-    match weight {
-        Some(weight) => Some((place, weight)),
-        None => None,
-    }
-}
-
-/// The lesser of two weights with their places, the first where they are equal.
-fn lesser(
-    first: Option<(usize, Weight)>,
-    second: Option<(usize, Weight)>,
-) -> Option<(usize, Weight)>
-    ensures { result ≡ lesser first second }
-{
-    match (first, second) {
-        (None, second) => second,
-        (first, None) => first,
-        (Some(first), Some(second)) => Some(if first.1 <= second.1 { first } else { second }),
     }
 }
 

@@ -1,5 +1,5 @@
 -- The conclusion is in the first column of its source.
-use Rattle.std.proofs.Common.{◌≡◌, ◌<◌, ◌+◌, IfSome, Option, ap, sym, subst, ◌∙◌, fold, ℕ, arith}
+use Rattle.std.proofs.Common.{IfSome, Option, ap, sym, subst, ◌∙◌, fold, ℕ, arith}
 use Rattle.net_model.specs.declared.part.Edge.{Edge}
 use Rattle.closure_model.specs.ReferenceRow.{given, offered}
 use Rattle.closure_model.specs.declared.rows.Why.TheVariants.{Drop}
@@ -23,5 +23,5 @@ offer_given-requires c =
     subst (λ (place : ℕ). IfSome c.removal.result (IsSlotAt c.args.slots.now place)) (sym c.place_of-place.ensures)
     (removal_slot c.args.net.now c.args.table.now c.args.edge.now.to c.args.slots.now c.args.at.width c.requires.row c.args.edge.now c.args.at.column c.requires.edge c.removal.result c.removal.ensures.exact)
 
-pub returns : goal.returns
-returns c = c.offer_given.ensures ∙ ap (λ (o : Option Edge). fold offered c.args.slots.now (given (Drop c.args.edge.now) o)) c.removal.ensures.exact
+pub returns-clause-slots : goal.returns-clause-slots
+returns-clause-slots c = c.in_ok-offer_given.ensures.slots ∙ ap (λ (o : Option Edge). fold offered c.args.slots.now (given (Drop c.args.edge.now) o)) c.removal.ensures.exact

@@ -1,0 +1,28 @@
+-- The row begins as the table has it, and what falls is the reference row, which is least.
+use Rattle.std.proofs.Common.{ap, sym, ◌∙◌, subst}
+use Rattle.std.specs.List.{All}
+use Rattle.closure_model.specs.Keys.{Shape, labels_at}
+use Rattle.closure_model.specs.ReferenceRow.{IsRowOf, IsWithin}
+use Rattle.closure_model.specs.declared.rows.Made.{Made}
+use Rattle.closure_model.proofs.RowLaw.{rows_are_least}
+use Rattle.closure_model.proofs.RowRun.{row_within}
+use Rattle.back_propagation.proofs.RowPlaces.{links_from_labels}
+use Rattle.back_propagation.proofs.begun.row_after.Goals as goal
+
+pub queue_begun-requires-clause-labels : goal.queue_begun-requires-clause-labels
+queue_begun-requires-clause-labels c =
+    c.as_slice.ensures.value ∙ (c.in_ok-labels.ensures ∙ (links_from_labels c.args.net.now c.args.target ∙ ap (λ (s : Shape). labels_at s c.args.target) (sym c.requires.fits)))
+
+pub made_from-requires-clause-labels : goal.made_from-requires-clause-labels
+made_from-requires-clause-labels c =
+    c.as_slice-2.ensures.value ∙ (c.in_ok-labels.ensures ∙ (links_from_labels c.args.net.now c.args.target ∙ ap (λ (s : Shape). labels_at s c.args.target) (sym c.requires.fits)))
+
+pub returns-clause-least : goal.returns-clause-least
+returns-clause-least c =
+    subst (IsRowOf c.args.net.now c.args.table.now c.args.target) (sym (c.new.ensures ∙ c.in_ok-made.ensures))
+    (rows_are_least c.args.net.now c.args.table.now c.args.target c.points.ensures.sound c.requires.fits c.weight.ensures.sound)
+
+pub returns-clause-within : goal.returns-clause-within
+returns-clause-within c =
+    subst (All (λ (one : Made). IsWithin c.args.net.now one.edge.weight)) (sym (c.new.ensures ∙ c.in_ok-made.ensures))
+    (row_within c.args.net.now c.args.table.now c.args.target c.points.ensures.sound c.requires.fits c.weight.ensures.sound c.requires.within)
