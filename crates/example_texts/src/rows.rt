@@ -10,26 +10,25 @@ pub fn cells(row: &str) -> Option<(&str, &str)> {
 
 /// Gives the lines of a plan text to a reader, up to the `end` line or to the first fault.
 pub fn feed(reader: &mut PlanReader, text: &str) -> Result<(), TextFault> {
+    let mut number: u32 = 0;
     for line in text.split('|') {
-        if reader.is_full() {
-            return Err(TextFault::OutOfMemory);
-        }
-        match reader.read_line(line.as_bytes()) {
+        number = number.saturating_add(1);
+        match reader.read_line(number, line.as_bytes()) {
             Ok(PlanLine::End) => return Ok(()),
             Ok(_) => {}
-            Err(fault) => return Err(at_line(reader.count(), fault)),
+            Err(fault) => return Err(at_line(number, fault)),
         }
     }
-    Err(TextFault::Format(reader.fault_at_end()))
+    Err(TextFault::Format(FormatFault {
+        line: number.saturating_add(1),
+        kind: reader.missing(),
+    }))
 }
 
-/// The fault of the line after so many lines.
-fn at_line(count: u32, fault: WordFault) -> TextFault {
+/// The fault of a line.
+fn at_line(line: u32, fault: WordFault) -> TextFault {
     match fault {
-        WordFault::Kind(kind) => TextFault::Format(FormatFault {
-            line: count.saturating_add(1),
-            kind,
-        }),
+        WordFault::Kind(kind) => TextFault::Format(FormatFault { line, kind }),
         WordFault::OutOfMemory => TextFault::OutOfMemory,
     }
 }

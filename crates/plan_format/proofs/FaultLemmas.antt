@@ -18,7 +18,7 @@ use Rattle.plan_format.specs.declared.read.Parts.{Parts}
 use Rattle.plan_format.specs.PlanLines.{plan_line}
 use Rattle.plan_format.specs.PlanGrammar.{Says}
 use Rattle.plan_format.specs.PlanFaults.{Departs, CanBecomePlan, ExcludesPlan, Stops, IsFirstFault}
-use Rattle.plan_format.specs.PlanReading.{Progress, begun, in_section, line_in, advanced, missing, IsReached, IsFront, Brings}
+use Rattle.plan_format.specs.PlanReading.{Progress, begun, in_section, line_in, advanced, missing, IsReached, IsFront, Brings, fault_after}
 use Rattle.plan_format.proofs.PartLemmas.{read_is}
 use Rattle.plan_format.proofs.DepartureLemmas.{departs, departs_one}
 use Rattle.plan_format.proofs.StepLemmas.{reached, advance, goes_on, may_begin}
@@ -29,7 +29,7 @@ no_plan : (before : List (List ℕ)) (read : Progress) (next : List ℕ) (kind :
 no_plan before read next kind has refused (more, parts, numbers, plan) =
     let text : List (List ℕ) = (before ++ next ∷ []) ++ more in
     let good = plan_read text text [] parts numbers (sym (append-nil text)) plan in
-    let bad : read_from begun text ≡ Err (record { line = read.count + 1; kind = kind }) = ap (read_from begun) (append_assoc before (next ∷ []) more) ∙ (has_read before (next ∷ more) read has ∙ step read next more (Err kind) refused) in
+    let bad : read_from begun 1 text ≡ Err (fault_after before kind) = ap (read_from begun 1) (append_assoc before (next ∷ []) more) ∙ (has_read before (next ∷ more) read has ∙ step read (length before + 1) next more (Err kind) refused) in
     absurd (cc)
 
 headless : (read : Result PlanLine FormatKind) (kind : FormatKind) → in_section section.Header read ≡ Err kind → kind ≡ NoHeader
@@ -54,7 +54,7 @@ stops_by section.Declarations before parts numbers next more kind begins refused
     inr (parts, numbers, begins, departs_by next (plan_line (words next)) kind refl refused)
 
 -- a line that is refused has the first fault of its text
-pub fault_in_line : (before : List (List ℕ)) (read : Progress) (next : List ℕ) (kind : FormatKind) → IsFront before read → line_in read.section (words next) ≡ Err kind → (more : List (List ℕ)) → IsFirstFault (before ++ next ∷ more) (record { line = length before + 1; kind = kind })
+pub fault_in_line : (before : List (List ℕ)) (read : Progress) (next : List ℕ) (kind : FormatKind) → IsFront before read → line_in read.section (words next) ≡ Err kind → (more : List (List ℕ)) → IsFirstFault (before ++ next ∷ more) (fault_after before kind)
 fault_in_line before read next kind has refused more = record {
   before = before;
   rest = next ∷ more;
@@ -62,7 +62,7 @@ fault_in_line before read next kind has refused more = record {
   at_line = refl;
   possible = goes_on before read has;
   refused = no_plan before read next kind has refused;
-  stops = stops_by read.section before read.parts read.lines next more kind has.declared refused;
+  stops = stops_by read.section before read.parts read.lines next more kind has refused;
 }
 
 -- the answer to a line that is refused
@@ -70,7 +70,7 @@ pub refused_brings : (before : List (List ℕ)) (next : List ℕ) (read more : P
 refused_brings before next read more kind (Ok said) refused err is has = absurd (cc)
 refused_brings before next read more kind (Err (word.Kind k)) refused err is has = λ others.
     let same : k ≡ kind = cc in
-    subst (λ (f : FormatKind). IsFirstFault (before ++ next ∷ others) (record { line = length before + 1; kind = f })) (sym same) (fault_in_line before read next kind has refused others)
+    subst (λ (f : FormatKind). IsFirstFault (before ++ next ∷ others) (fault_after before f)) (sym same) (fault_in_line before read next kind has refused others)
 refused_brings before next read more kind (Err word.OutOfMemory) refused err is has = tt
 
 ends_by : (s : PlanSection) (before : List (List ℕ)) (parts : List Part) (numbers : List ℕ) → IsReached s before parts numbers → Stops before [] (missing s)
@@ -78,34 +78,34 @@ ends_by section.Header before parts numbers are = inl (are.0, refl)
 ends_by section.Declarations before parts numbers begins = inr (parts, numbers, begins, refl)
 
 -- a text that ends too soon has its first fault after its last line
-pub fault_after : (before : List (List ℕ)) (read : Progress) → IsFront before read → IsFirstFault before (record { line = read.count + 1; kind = missing read.section })
-fault_after before read has = record {
+pub ends_too_soon : (before : List (List ℕ)) (read : Progress) → IsFront before read → IsFirstFault before (fault_after before (missing read.section))
+ends_too_soon before read has = record {
   before = before;
   rest = [];
   whole = sym (append-nil before);
-  at_line = ap (λ (n : ℕ). n + 1) has.counted;
+  at_line = refl;
   possible = goes_on before read has;
   refused = tt;
-  stops = ends_by read.section before read.parts read.lines has.declared;
+  stops = ends_by read.section before read.parts read.lines has;
 }
 
 -- lines before a fault were read
 abbrev read_before : (before rest : List (List ℕ)) (kind : FormatKind) → Stops before rest kind → (read : Progress) × IsFront before read
-read_before before rest kind (inl none) = (reached section.Header [] [] (length before), record { counted = refl; declared = (none.0, refl, refl) })
-read_before before rest kind (inr some) = (reached section.Declarations some.0 some.1 (length before), record { counted = refl; declared = some.2 })
+read_before before rest kind (inl none) = (begun, (none.0, refl, refl))
+read_before before rest kind (inr some) = (reached section.Declarations some.0 some.1, some.2)
 
 told_at : (answer : Result Declared FormatFault) (line : ℕ) (kind : FormatKind) (fault : FormatFault) → answer ≡ Err (record { line = line; kind = kind }) → fault.line ≡ line → fault.kind ≡ kind → answer ≡ Err fault
 told_at answer line kind fault told at is =
     told ∙ (ap (λ (n : ℕ). Err (record { line = n; kind = kind })) (sym at) ∙ ap (λ (k : FormatKind). Err (record { line = fault.line; kind = k })) (sym is))
 
 -- what is read of a line that cannot come is its fault
-refused_line : (before : List (List ℕ)) (next : List ℕ) (others : List (List ℕ)) (read : Progress) (said : Result PlanLine FormatKind) (fault : FormatFault) → IsFront before read → line_in read.section (words next) ≡ said → (CanBecomePlan (before ++ next ∷ []) → ⊥) → fault.line ≡ read.count + 1 → ((kind : FormatKind) → line_in read.section (words next) ≡ Err kind → fault.kind ≡ kind) → read_from read (next ∷ others) ≡ Err fault
+refused_line : (before : List (List ℕ)) (next : List ℕ) (others : List (List ℕ)) (read : Progress) (said : Result PlanLine FormatKind) (fault : FormatFault) → IsFront before read → line_in read.section (words next) ≡ said → (CanBecomePlan (before ++ next ∷ []) → ⊥) → fault.line ≡ length before + 1 → ((kind : FormatKind) → line_in read.section (words next) ≡ Err kind → fault.kind ≡ kind) → read_from read (length before + 1) (next ∷ others) ≡ Err fault
 refused_line before next others read (Ok said) fault has is refused at kind =
-    absurd (refused (may_begin before next said (advanced read said) (advance before next said read is has)))
+    absurd (refused (may_begin before next said (advanced read (length before + 1) said) (advance before next (length before + 1) said read refl is has)))
 refused_line before next others read (Err k) fault has is refused at kind =
-    told_at (read_from read (next ∷ others)) (read.count + 1) k fault (step read next others (Err k) is) at (kind k is)
+    told_at (read_from read (length before + 1) (next ∷ others)) (length before + 1) k fault (step read (length before + 1) next others (Err k) is) at (kind k is)
 
-fault_of_rest : (before rest : List (List ℕ)) (fault : FormatFault) → fault.line ≡ length before + 1 → ExcludesPlan before rest → (stops : Stops before rest fault.kind) → read_from (read_before before rest fault.kind stops).0 rest ≡ Err fault
+fault_of_rest : (before rest : List (List ℕ)) (fault : FormatFault) → fault.line ≡ length before + 1 → ExcludesPlan before rest → (stops : Stops before rest fault.kind) → read_from (read_before before rest fault.kind stops).0 (length before + 1) rest ≡ Err fault
 fault_of_rest before [] fault at refused (inl none) = told_at _ (length before + 1) NoHeader fault refl at none.1
 fault_of_rest before (next ∷ others) fault at refused (inl none) =
     let front = read_before before (next ∷ others) fault.kind (inl none) in
@@ -116,10 +116,10 @@ fault_of_rest before (next ∷ others) fault at refused (inr some) =
     refused_line before next others front.0 (line_in front.0.section (words next)) fault front.1 refl refused at (λ kind is. departs_one (words next) fault.kind kind some.3 (departs_by next (plan_line (words next)) kind refl is))
 
 -- the first fault of a text is what is read of it
-pub fault_is : (text : List (List ℕ)) (fault : FormatFault) → IsFirstFault text fault → read_from begun text ≡ Err fault
+pub fault_is : (text : List (List ℕ)) (fault : FormatFault) → IsFirstFault text fault → read_from begun 1 text ≡ Err fault
 fault_is text fault first =
     let front = read_before first.before first.rest fault.kind first.stops in
-    ap (read_from begun) first.whole ∙ (has_read first.before first.rest front.0 front.1 ∙ fault_of_rest first.before first.rest fault first.at_line first.refused first.stops)
+    ap (read_from begun 1) first.whole ∙ (has_read first.before first.rest front.0 front.1 ∙ fault_of_rest first.before first.rest fault first.at_line first.refused first.stops)
 
 -- a text has one first fault at most
 pub fault_one : (text : List (List ℕ)) (fault other : FormatFault) → IsFirstFault text fault → IsFirstFault text other → fault ≡ other

@@ -12,13 +12,13 @@ use Rattle.plan_format.proofs.GrammarLemmas.{Declared, read_from, plan_read}
 use Rattle.plan_format.proofs.FaultLemmas.{fault_is, fault_one}
 
 -- what is read of lines that declare a network, or of which a part is refused
-declared_of : (lines : List (List ℕ)) (net : Plan) (rest : List (List ℕ)) (is : DeclaresNetwork lines net rest) → read_from begun lines ≡ Ok (record { parts = is.parts; lines = is.numbers; end = length is.plan })
+declared_of : (lines : List (List ℕ)) (net : Plan) (rest : List (List ℕ)) (is : DeclaresNetwork lines net rest) → read_from begun 1 lines ≡ Ok (record { parts = is.parts; lines = is.numbers; end = length is.plan })
 declared_of lines net rest is = plan_read lines is.plan rest is.parts is.numbers is.whole is.is_plan
 
-refused_of : (lines : List (List ℕ)) (line : ℕ) (fault : BuildFault) (is : RefusesPart lines line fault) → read_from begun lines ≡ Ok (record { parts = is.parts; lines = is.numbers; end = length is.plan })
+refused_of : (lines : List (List ℕ)) (line : ℕ) (fault : BuildFault) (is : RefusesPart lines line fault) → read_from begun 1 lines ≡ Ok (record { parts = is.parts; lines = is.numbers; end = length is.plan })
 refused_of lines line fault is = plan_read lines is.plan is.rest is.parts is.numbers is.whole is.is_plan
 
-same_declared : (lines : List (List ℕ)) (a b : Declared) → read_from begun lines ≡ Ok a → read_from begun lines ≡ Ok b → a ≡ b
+same_declared : (lines : List (List ℕ)) (a b : Declared) → read_from begun 1 lines ≡ Ok a → read_from begun 1 lines ≡ Ok b → a ≡ b
 same_declared lines a b x y = cc
 
 rest_is : (lines plan rest : List (List ℕ)) → lines ≡ plan ++ rest → drop (length plan) lines ≡ rest
@@ -33,7 +33,7 @@ network_one lines net other rest after is also =
     let rest_one : rest ≡ after = sym (rest_is lines is.plan rest is.whole) ∙ (cut ∙ rest_is lines also.plan after also.whole) in
     cc
 
-no_fault : (lines : List (List ℕ)) (declared : Declared) (fault : FormatFault) → read_from begun lines ≡ Ok declared → IsFirstFault lines fault → ⊥
+no_fault : (lines : List (List ℕ)) (declared : Declared) (fault : FormatFault) → read_from begun 1 lines ≡ Ok declared → IsFirstFault lines fault → ⊥
 no_fault lines declared fault good first = let bad = fault_is lines fault first in absurd (cc)
 
 no_refusal : (lines : List (List ℕ)) (net : Plan) (rest : List (List ℕ)) (line : ℕ) (fault : BuildFault) → DeclaresNetwork lines net rest → RefusesPart lines line fault → ⊥

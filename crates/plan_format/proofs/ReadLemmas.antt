@@ -5,6 +5,7 @@ use Rattle.std.proofs.lemmas.List.{length-map, append-nil}
 use Rattle.texts.specs.Lines.{lines, size_of_lines}
 use Rattle.texts.proofs.LineLemmas.{lines-few, size_of_lines-le}
 use Rattle.net_model.specs.declared.format.FormatFault.{FormatFault}
+use Rattle.net_model.specs.declared.format.FormatKind.{FormatKind}
 use Rattle.net_model.specs.declared.format.TextFault.{TextFault}
 use Rattle.net_model.specs.declared.format.TextFault.TheVariants as text
 use Rattle.net_model.specs.declared.format.WordFault.{WordFault}
@@ -13,7 +14,7 @@ use Rattle.net_model.specs.declared.part.Part.{Part}
 use Rattle.plan_format.specs.declared.read.Parts.{Parts}
 use Rattle.plan_format.specs.PlanGrammar.{IsBegun, header, blank, declares, IsPlanText, Says}
 use Rattle.plan_format.specs.PlanFaults.{IsFirstFault, IsFaultOf}
-use Rattle.plan_format.specs.PlanReading.{Progress, begun, at_line, IsFront, Brings, Reads, Refuses, ReadsLines, HasSizes}
+use Rattle.plan_format.specs.PlanReading.{Progress, begun, at_line, IsFront, Brings, Reads, Refuses, ReadsLines, HasSizes, fault_after}
 use Rattle.plan_format.proofs.StepLemmas.{one_more}
 use Rattle.plan_format.proofs.GrammarLemmas.{says_one}
 use Rattle.plan_format.proofs.FaultLemmas.{fault_is_none, fault_one}
@@ -51,15 +52,16 @@ size_before bytes count rest after =
     let whole : size_of_lines count bytes ≡ size_of_lines 0 rest + (length bytes - length rest) = subst (λ (n : ℕ). size_of_lines n bytes ≡ size_of_lines 0 rest + (length bytes - length rest)) same (after.sizes 0) in
     omega (arith, size_of_none rest)
 
--- lines of the bytes were read, and this is left of them
-pub record AtLine (bytes rest : List ℕ) (read : Progress) : Type 0 where
+-- lines of the bytes were read, and this is left of them; the next line has this number
+pub record AtLine (bytes rest : List ℕ) (number : ℕ) (read : Progress) : Type 0 where
   pub before : List (List ℕ)
+  pub counted : number ≡ length before + 1
   pub split : lines bytes ≡ before ++ lines rest
   pub has : IsFront before read
   pub left : IsLeftAfter bytes (length before) rest
 
-pub at_first : (bytes : List ℕ) → IsFront [] begun → AtLine bytes bytes begun
-at_first bytes has = record { before = []; split = refl; has = has; left = after_nothing bytes }
+pub at_first : (bytes : List ℕ) → IsFront [] begun → AtLine bytes bytes 1 begun
+at_first bytes has = record { before = []; counted = refl; split = refl; has = has; left = after_nothing bytes }
 
 split_more : (bytes : List ℕ) (before : List (List ℕ)) (text : List ℕ) (rest others : List ℕ) → lines bytes ≡ before ++ lines rest → lines rest ≡ text ∷ lines others → lines bytes ≡ (before ++ text ∷ []) ++ lines others
 split_more bytes before text rest others split here =
@@ -72,17 +74,18 @@ pub record IsNextLine (rest text others : List ℕ) : Type 0 where
   pub sizes : (count : ℕ) → size_of_lines (count + 1) rest ≡ size_of_lines count others + (length rest - length others)
 
 -- one line more was read
-pub at_next : (bytes rest text others : List ℕ) (read more : Progress) (at : AtLine bytes rest read) → IsNextLine rest text others → IsFront (at.before ++ text ∷ []) more → AtLine bytes others more
-at_next bytes rest text others read more at next has = record {
+pub at_next : (bytes rest text others : List ℕ) (number : ℕ) (read more : Progress) (at : AtLine bytes rest number read) → IsNextLine rest text others → IsFront (at.before ++ text ∷ []) more → AtLine bytes others (number + 1) more
+at_next bytes rest text others number read more at next has = record {
   before = at.before ++ text ∷ [];
+  counted = ap (λ (n : ℕ). n + 1) (at.counted ∙ one_more at.before text);
   split = split_more bytes at.before text rest others at.split next.here;
   has = has;
   left = subst (λ (n : ℕ). IsLeftAfter bytes n others) (one_more at.before text) (after_more bytes (length at.before) rest others at.left next.shorter next.sizes);
 }
 
 -- the `end` line was read
-pub at_end_line : (bytes rest text others : List ℕ) (read more : Progress) (at : AtLine bytes rest read) → IsNextLine rest text others → IsPlanText (at.before ++ text ∷ []) more.parts more.lines → ReadsLines bytes more (Ok (length bytes - length others))
-at_end_line bytes rest text others read more at next plan =
+pub at_end_line : (bytes rest text others : List ℕ) (number : ℕ) (read more : Progress) (at : AtLine bytes rest number read) → IsNextLine rest text others → IsPlanText (at.before ++ text ∷ []) more.parts more.lines → ReadsLines bytes more (Ok (length bytes - length others))
+at_end_line bytes rest text others number read more at next plan =
     let left : IsLeftAfter bytes (length (at.before ++ text ∷ [])) others = subst (λ (n : ℕ). IsLeftAfter bytes n others) (one_more at.before text) (after_more bytes (length at.before) rest others at.left next.shorter next.sizes) in
     record {
       text = at.before ++ text ∷ [];
@@ -93,18 +96,17 @@ at_end_line bytes rest text others read more at next plan =
     }
 
 -- a line was refused
-pub at_refused : (bytes rest text others : List ℕ) (read more : Progress) (fault : WordFault) (number : ℕ) (at : AtLine bytes rest read) → IsNextLine rest text others → number ≡ read.count + 1 → Brings at.before text (Err fault) more → ReadsLines bytes more (Err (at_line number fault))
-at_refused bytes rest text others read more (word.Kind kind) number at next same brings =
+pub at_refused : (bytes rest text others : List ℕ) (read more : Progress) (fault : WordFault) (number : ℕ) (at : AtLine bytes rest number read) → IsNextLine rest text others → Brings at.before text (Err fault) more → ReadsLines bytes more (Err (at_line number fault))
+at_refused bytes rest text others read more (word.Kind kind) number at next brings =
     let whole : lines bytes ≡ at.before ++ text ∷ lines others = at.split ∙ ap (λ (ls : List (List ℕ)). at.before ++ ls) next.here in
-    let place : length at.before + 1 ≡ number = ap (λ (n : ℕ). n + 1) (sym at.has.counted) ∙ sym same in
-    subst (λ (n : ℕ). IsFirstFault (lines bytes) (record { line = n; kind = kind })) place (subst (λ (ls : List (List ℕ)). IsFirstFault ls (record { line = length at.before + 1; kind = kind })) (sym whole) (brings (lines others)))
-at_refused bytes rest text others read more word.OutOfMemory number at next same brings = tt
+    subst (λ (n : ℕ). IsFirstFault (lines bytes) (record { line = n; kind = kind })) (sym at.counted) (subst (λ (ls : List (List ℕ)). IsFirstFault ls (fault_after at.before kind)) (sym whole) (brings (lines others)))
+at_refused bytes rest text others read more word.OutOfMemory number at next brings = tt
 
 -- the input ends
-pub at_last : (bytes rest : List ℕ) (read : Progress) (at : AtLine bytes rest read) (fault : FormatFault) → lines rest ≡ [] → IsFirstFault at.before fault → IsFirstFault (lines bytes) fault
-at_last bytes rest read at fault none first =
+pub at_last : (bytes rest : List ℕ) (number : ℕ) (kind : FormatKind) (read : Progress) (at : AtLine bytes rest number read) → lines rest ≡ [] → IsFirstFault at.before (fault_after at.before kind) → IsFirstFault (lines bytes) (record { line = number; kind = kind })
+at_last bytes rest number kind read at none first =
     let whole : lines bytes ≡ at.before = at.split ∙ (ap (λ (ls : List (List ℕ)). at.before ++ ls) none ∙ append-nil at.before) in
-    subst (λ (ls : List (List ℕ)). IsFirstFault ls fault) (sym whole) first
+    subst (λ (n : ℕ). IsFirstFault (lines bytes) (record { line = n; kind = kind })) (sym at.counted) (subst (λ (ls : List (List ℕ)). IsFirstFault ls (fault_after at.before kind)) (sym whole) first)
 
 -- the answer to a text that says something
 pub answer_every : (bytes : List ℕ) (answer : Result Parts TextFault) (read : Parts) → IfOk answer (Says bytes) → IfErr answer (IsFaultOf bytes) → Says bytes read → Reads answer read

@@ -45,48 +45,35 @@ came section.Declarations (Ok line.End) said is = same_line section.Declarations
 came section.Declarations (Err kind) said is = absurd (cc)
 
 -- what was read, by its parts
-abbrev pub reached : PlanSection → List Part → List ℕ → ℕ → Progress
-reached s parts numbers count = record { section = s; parts = parts; lines = numbers; count = count }
+abbrev pub reached : PlanSection → List Part → List ℕ → Progress
+reached s parts numbers = record { section = s; parts = parts; lines = numbers }
 
 pub one_more : (before : List (List ℕ)) (text : List ℕ) → length before + 1 ≡ length (before ++ text ∷ [])
 one_more before text = sym (length-append before (text ∷ []))
 
-counted_more : (count : ℕ) (before : List (List ℕ)) (text : List ℕ) → count ≡ length before → count + 1 ≡ length (before ++ text ∷ [])
-counted_more count before text same = ap (λ (n : ℕ). n + 1) same ∙ one_more before text
-
-advance_by : (s : PlanSection) (parts : List Part) (numbers : List ℕ) (count : ℕ) (before : List (List ℕ)) (text : List ℕ) (said : PlanLine) → MayCome s said → IsLine said text → IsFront before (reached s parts numbers count) → Brings before text (Ok said) (advanced (reached s parts numbers count) said)
-advance_by section.Header parts numbers count before text line.Blank may is read = record {
-  counted = counted_more count before text read.counted;
-  declared = (All-append (IsLine line.Blank) before (text ∷ []) read.declared.0 (All-cons (IsLine line.Blank) text [] is (All-nil (IsLine line.Blank))), read.declared.1, read.declared.2);
-}
-advance_by section.Header parts numbers count before text line.Header may is read = record {
-  counted = counted_more count before text read.counted;
-  declared = rw (read.declared.1, read.declared.2) (header before text read.declared.0 is);
-}
-advance_by section.Header parts numbers count before text (line.Part part) may is read = absurd may
-advance_by section.Header parts numbers count before text line.End may is read = absurd may
-advance_by section.Declarations parts numbers count before text line.Header may is read = absurd may
-advance_by section.Declarations parts numbers count before text line.Blank may is read = record {
-  counted = counted_more count before text read.counted;
-  declared = blank before text parts numbers read.declared is;
-}
-advance_by section.Declarations parts numbers count before text (line.Part part) may is read = record {
-  counted = counted_more count before text read.counted;
-  declared = rw read.counted (declares before text parts (part ∷ []) numbers read.declared (part, refl, is));
-}
-advance_by section.Declarations parts numbers count before text line.End may is read = record {
+advance_by : (s : PlanSection) (parts : List Part) (numbers : List ℕ) (number : ℕ) (before : List (List ℕ)) (text : List ℕ) (said : PlanLine) → number ≡ length before + 1 → MayCome s said → IsLine said text → IsReached s before parts numbers → Brings before text (Ok said) (advanced (reached s parts numbers) number said)
+advance_by section.Header parts numbers number before text line.Blank at may is read =
+    (All-append (IsLine line.Blank) before (text ∷ []) read.0 (All-cons (IsLine line.Blank) text [] is (All-nil (IsLine line.Blank))), read.1, read.2)
+advance_by section.Header parts numbers number before text line.Header at may is read = rw (read.1, read.2) (header before text read.0 is)
+advance_by section.Header parts numbers number before text (line.Part part) at may is read = absurd may
+advance_by section.Header parts numbers number before text line.End at may is read = absurd may
+advance_by section.Declarations parts numbers number before text line.Header at may is read = absurd may
+advance_by section.Declarations parts numbers number before text line.Blank at may is read = blank before text parts numbers read is
+advance_by section.Declarations parts numbers number before text (line.Part part) at may is read =
+    rw at (declares before text parts (part ∷ []) numbers read (part, refl, is))
+advance_by section.Declarations parts numbers number before text line.End at may is read = record {
   begun = before;
   last = text;
   whole = refl;
-  begins = read.declared;
+  begins = read;
   ends = is;
 }
 
 -- a line that comes in its section brings what it says
-pub advance : (before : List (List ℕ)) (text : List ℕ) (said : PlanLine) (read : Progress) → line_in read.section (words text) ≡ Ok said → IsFront before read → Brings before text (Ok said) (advanced read said)
-advance before text said read is has =
+pub advance : (before : List (List ℕ)) (text : List ℕ) (number : ℕ) (said : PlanLine) (read : Progress) → number ≡ length before + 1 → line_in read.section (words text) ≡ Ok said → IsFront before read → Brings before text (Ok said) (advanced read number said)
+advance before text number said read at is has =
     let may = came read.section (plan_line (words text)) said is in
-    advance_by read.section read.parts read.lines read.count before text said may.1 (read_is (words text) said may.0) has
+    advance_by read.section read.parts read.lines number before text said at may.1 (read_is (words text) said may.0) has
 
 -- lines with which what has begun is a plan text
 header_line : List ℕ
@@ -137,7 +124,7 @@ goes_on_by section.Declarations before parts numbers begun = (
 
 -- a plan text may go on after lines that were read
 pub goes_on : (before : List (List ℕ)) (read : Progress) → IsFront before read → GoesOn before
-goes_on before read has = goes_on_by read.section before read.parts read.lines has.declared
+goes_on before read has = goes_on_by read.section before read.parts read.lines has
 
 shorter : (text : List (List ℕ)) (next : List ℕ) → CanBecomePlan (text ++ next ∷ []) → CanBecomePlan text
 shorter text next (more, parts, numbers, plan) =

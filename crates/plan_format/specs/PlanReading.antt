@@ -18,16 +18,15 @@ use Rattle.plan_format.specs.PlanLines.{plan_line}
 use Rattle.plan_format.specs.PlanGrammar.{IsLine, IsBegun, IsPlanText, Says}
 use Rattle.plan_format.specs.PlanFaults.{IsFirstFault, IsFaultOf}
 
--- what was read: the section that is reached, the parts, the number of the line of each, and how many lines there were
+-- what was read: the section that is reached, the parts, and the number of the line of each
 pub record Progress : Type 0 where
   pub section : PlanSection
   pub parts : List Part
   pub lines : List ℕ
-  pub count : ℕ
 
 -- before the first line
 abbrev pub begun : Progress
-begun = record { section = section.Header; parts = []; lines = []; count = 0 }
+begun = record { section = section.Header; parts = []; lines = [] }
 
 -- a line in a section, where `read` is what the line is alone
 abbrev pub in_section : PlanSection → Result PlanLine FormatKind → Result PlanLine FormatKind
@@ -46,12 +45,12 @@ in_section section.Declarations (Err kind) = Err kind
 abbrev pub line_in : PlanSection → List (List ℕ) → Result PlanLine FormatKind
 line_in section words = in_section section (plan_line words)
 
--- with one line more
-abbrev pub advanced : Progress → PlanLine → Progress
-advanced read line.Blank = record read { count = read.count + 1 }
-advanced read line.Header = record read { section = section.Declarations; count = read.count + 1 }
-advanced read (line.Part part) = record read { parts = read.parts ++ part ∷ []; lines = read.lines ++ (read.count + 1) ∷ []; count = read.count + 1 }
-advanced read line.End = record read { count = read.count + 1 }
+-- with one line more, which has this number
+abbrev pub advanced : Progress → ℕ → PlanLine → Progress
+advanced read number line.Blank = read
+advanced read number line.Header = record read { section = section.Declarations }
+advanced read number (line.Part part) = record read { parts = read.parts ++ part ∷ []; lines = read.lines ++ number ∷ [] }
+advanced read number line.End = read
 
 -- the fault of a text that ends in a section
 abbrev pub missing : PlanSection → FormatKind
@@ -70,9 +69,12 @@ IsReached section.Header lines parts numbers = All (IsLine line.Blank) lines × 
 IsReached section.Declarations lines parts numbers = IsBegun lines parts numbers
 
 -- these lines were read, with which a plan text may begin, and this is what they declare
-pub record IsFront (lines : List (List ℕ)) (read : Progress) : Type 0 where
-  pub counted : read.count ≡ length lines
-  pub declared : IsReached read.section lines read.parts read.lines
+abbrev pub IsFront : List (List ℕ) → Progress → Type 0
+IsFront lines read = IsReached read.section lines read.parts read.lines
+
+-- a fault in the line after these
+abbrev pub fault_after : List (List ℕ) → FormatKind → FormatFault
+fault_after lines kind = record { line = length lines + 1; kind = kind }
 
 -- what one line more brings: its text goes on, or has ended, or has its first fault there
 abbrev pub Brings : List (List ℕ) → List ℕ → Result PlanLine WordFault → Progress → Type 0
@@ -80,7 +82,7 @@ Brings before next (Ok line.Blank) read = IsFront (before ++ next ∷ []) read
 Brings before next (Ok line.Header) read = IsFront (before ++ next ∷ []) read
 Brings before next (Ok (line.Part part)) read = IsFront (before ++ next ∷ []) read
 Brings before next (Ok line.End) read = IsPlanText (before ++ next ∷ []) read.parts read.lines
-Brings before next (Err (word.Kind kind)) read = (more : List (List ℕ)) → IsFirstFault (before ++ next ∷ more) (record { line = length before + 1; kind = kind })
+Brings before next (Err (word.Kind kind)) read = (more : List (List ℕ)) → IsFirstFault (before ++ next ∷ more) (fault_after before kind)
 Brings before next (Err word.OutOfMemory) read = Unit {0}
 
 -- the fault of a text whose line has a fault

@@ -63,15 +63,18 @@ fn read_lines(reader: &mut PlanReader, bytes: &[u8]) -> Result<usize, TextFault>
     ensures { ReadsLines bytes.now reader.new result }
 {
     let mut rest = bytes;
+    let mut number: u32 = 1;
     while let Some((line, others)) = texts::next_line(rest) {
         rest = others;
-        match reader.read_line(line) {
+        match reader.read_line(number, line) {
             Ok(PlanLine::End) => return Ok(bytes.len() - rest.len()),
             Ok(_) => {}
-            Err(fault) => return Err(at_line(reader.count() + 1, fault)),
+            Err(fault) => return Err(at_line(number, fault)),
         }
+        number += 1;
     }
-    Err(reader.fault_at_end().into())
+    let kind = reader.missing();
+    Err(FormatFault { line: number, kind }.into())
 }
 
 /// The fault of a text whose line has a fault.

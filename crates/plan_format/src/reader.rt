@@ -1,24 +1,24 @@
 //! The lines of a plan text, one after another.
 
-ghost use Rattle.std.specs.Prelude.{◌≡◌, ◌∷◌, ◌++◌, [], OnOk, OnErr};
+ghost use Rattle.std.specs.Prelude.{◌≡◌, ◌<◌, ◌∷◌, ◌++◌, [], length, OnOk, OnErr};
+ghost use Rattle.net_model.specs.Limits.{most_lines};
 ghost use Rattle.texts.specs.Words.{words};
 ghost use Rattle.plan_format.specs.PlanReading.{in_section, line_in};
 
 use crate::declaration::{DeclarationFault, build};
 use crate::plan_line::{PlanLine, plan_line};
 use crate::section::PlanSection;
-use net_model::{FormatFault, FormatKind, MOST_LINES, Network, Part, WordFault};
+use net_model::{FormatKind, MOST_LINES, Network, Part, WordFault};
 use std::alloc::{AllocError, Global};
 use std::marker::Model;
 
 /// A plan text of which lines are read one after another. Contracts see it as what was read: the section that is
-/// reached, the parts, the number of the line of each, and how many lines there were.
+/// reached, the parts, and the number of the line of each.
 #[derive(Debug, Drop)]
 pub struct PlanReader {
     section: PlanSection,
     parts: Vec<Part>,
     lines: Vec<u32>,
-    count: u32,
 }
 
 impl Model for PlanReader {
@@ -28,19 +28,18 @@ impl Model for PlanReader {
 
     ghost Value = { Progress };
 
-    ghost view = { λ r. record { section = r.section; parts = r.parts.items; lines = r.lines.items; count = r.count } };
+    ghost view = { λ r. record { section = r.section; parts = r.parts.items; lines = r.lines.items } };
 
-    ghost invariant = { λ r. (length r.lines.items ≡ length r.parts.items) × (length r.parts.items ≤ r.count) × (r.count ≤ most_lines) };
+    ghost invariant = { λ r. (length r.lines.items ≡ length r.parts.items) × (length r.parts.items ≤ most_lines) };
 }
 
 impl PlanReader {
-    ghost use Rattle.std.specs.Prelude.{◌≡◌, ◌↔◌, ◌<◌, ◌≤◌, ◌+◌, ℕ, List, ◌++◌, IfOk, IsTrue, OnErr, OnOk};
+    ghost use Rattle.std.specs.Prelude.{◌≡◌, ◌+◌, ℕ, List, ◌++◌, length, IfOk, OnErr, OnOk};
     ghost use Rattle.texts.specs.Words.{words};
-    ghost use Rattle.net_model.specs.Limits.{most_lines};
     ghost use Rattle.net_model.specs.Network.{IsPlan, HasPlanNumbers};
     ghost use Rattle.plan_format.specs.PlanGrammar.{IsPlanText};
     ghost use Rattle.plan_format.specs.PlanFaults.{IsFirstFault};
-    ghost use Rattle.plan_format.specs.PlanReading.{Brings, IsFront, SaysLine, advanced, begun, line_in, missing};
+    ghost use Rattle.plan_format.specs.PlanReading.{Brings, IsFront, SaysLine, advanced, begun, fault_after, line_in, missing};
     ghost use Rattle.plan_format.specs.PlanNetwork.{Answers, BuildsParts};
 
     /// Before the first line.
@@ -52,7 +51,6 @@ impl PlanReader {
             section: PlanSection::Header,
             parts: Vec::new(alloc),
             lines: Vec::new(alloc),
-            count: 0,
         }
     }
 
@@ -77,61 +75,40 @@ impl PlanReader {
         self.lines.as_slice()
     }
 
-    /// How many lines were read, which is the number of the last one.
-    pub fn count(&self) -> u32
-        ensures { result ≡ self.now.count }
-    {
-        self.count
-    }
-
-    /// Whether as many lines were read as one text may have.
-    pub fn is_full(&self) -> bool
-        ensures { IsTrue result ↔ most_lines ≤ self.now.count }
-    {
-        self.count >= MOST_LINES
-    }
-
-    /// Reads the next line in its place and keeps what it declares. With `End` the plan has ended, and the caller reads
-    /// nothing more. The fault of a line that cannot come is the first one of its text: `NoHeader` before the header,
-    /// `UnknownWord` of a second one, and else that of `read_plan_line`. A refused line and want of memory change
-    /// nothing. The reader is not full.
-    pub fn read_line(&mut self, line: &[u8]) -> Result<PlanLine, WordFault>
-        requires room { self.old.count < most_lines }
+    /// Reads the next line, which has this number, in its place and keeps what it declares. With `End` the plan has ended, and
+    /// the caller reads nothing more. The fault of a line that cannot come is the first one of its text: `NoHeader` before the
+    /// header, `UnknownWord` of a second one, and else that of `read_plan_line`. `OutOfMemory` comes only for want of memory, as
+    /// which a part more than 2,147,483,648 counts. A refused line and want of memory change nothing.
+    pub fn read_line(&mut self, number: u32, line: &[u8]) -> Result<PlanLine, WordFault>
         ensures said { SaysLine result (line_in self.old.section (words line.now)) }
-        ensures kept { IfOk result (λ said. self.new ≡ advanced self.old said) }
+        ensures kept { IfOk result (λ said. self.new ≡ advanced self.old number said) }
         ensures refused { OnErr result (self.new ≡ self.old) }
-        ensures brings { (before : List (List ℕ)) → IsFront before self.old → Brings before line.now result self.new }
+        ensures brings { (before : List (List ℕ)) → IsFront before self.old → number ≡ length before + 1 → Brings before line.now result self.new }
     {
         let said = line_in(self.section, line)?;
-        self.keep(&said)?;
+        self.keep(number, &said)?;
         Ok(said)
     }
 
     /// Keeps what a line declares.
-    fn keep(&mut self, said: &PlanLine) -> Result<(), AllocError>
-        requires { self.old.count < most_lines }
-        ensures kept { OnOk result (self.new ≡ advanced self.old said.now) }
+    fn keep(&mut self, number: u32, said: &PlanLine) -> Result<(), AllocError>
+        ensures kept { OnOk result (self.new ≡ advanced self.old number said.now) }
         ensures refused { OnErr result (self.new ≡ self.old) }
     {
         match said {
             PlanLine::Blank | PlanLine::End => {}
             PlanLine::Header => self.section = PlanSection::Declarations,
-            PlanLine::Part(part) => push(&mut self.parts, &mut self.lines, *part, self.count + 1)?,
+            PlanLine::Part(part) => push(&mut self.parts, &mut self.lines, *part, number)?,
         }
-        self.count += 1;
         Ok(())
     }
 
-    /// The fault where the input ends after the lines that were read: `NoHeader` before the header, else `NoEnd`, at the
-    /// number after the last line.
-    pub fn fault_at_end(&self) -> FormatFault
-        ensures fault { result ≡ record { line = self.now.count + 1; kind = missing self.now.section } }
-        ensures first { (before : List (List ℕ)) → IsFront before self.now → IsFirstFault before result }
+    /// The fault where the lines end here, in the line after them: `NoHeader` before the header, else `NoEnd`.
+    pub fn missing(&self) -> FormatKind
+        ensures missing { result ≡ missing self.now.section }
+        ensures fault { (before : List (List ℕ)) → IsFront before self.now → IsFirstFault before (fault_after before result) }
     {
-        FormatFault {
-            line: self.count + 1,
-            kind: self.section.missing(),
-        }
+        self.section.missing()
     }
 
     /// The network of the parts that were declared, or the first part that is refused, with the number of its line.
@@ -154,7 +131,6 @@ impl PlanReader {
             section: _,
             parts,
             lines,
-            count: _,
         } = self;
         (parts, lines)
     }
@@ -197,11 +173,15 @@ fn push(
     part: Part,
     line: u32,
 ) -> Result<(), AllocError>
+    ensures few { OnOk result (length parts.old.items < most_lines) }
     ensures parts { OnOk result (parts.new.items ≡ parts.old.items ++ part ∷ []) }
     ensures lines { OnOk result (lines.new.items ≡ lines.old.items ++ line ∷ []) }
     ensures parts_stay { OnErr result (parts.new.items ≡ parts.old.items) }
     ensures lines_stay { OnErr result (lines.new.items ≡ lines.old.items) }
 {
+    if parts.len() >= MOST_LINES as usize {
+        return Err(AllocError);
+    }
     parts.reserve(1)?;
     lines.reserve(1)?;
     parts.push_reserved(part);

@@ -43,7 +43,7 @@ stop_is (First text other) number stop = refl
 stop_is (Second net text) number stop = refl
 
 nothing_stands : Stands [] (at_plan plan.begun)
-nothing_stands = (record { counted = refl; declared = (All-nil (IsLine line.Blank), refl, refl) }, refl)
+nothing_stands = ((All-nil (IsLine line.Blank), refl, refl), refl)
 
 underway : (before : List (List ℕ)) (state : Both) → Stands before state → IsUnderway before
 underway before (First text other) stands = inl (text.reader, stands.0)

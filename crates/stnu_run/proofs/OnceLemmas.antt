@@ -100,25 +100,25 @@ decided : Result plan_read.Declared FormatFault → ℕ
 decided (Ok declared) = declared.end
 decided (Err fault) = fault.line
 
-plan_by : (said : Result PlanLine FormatKind) (read : plan.Progress) (lines : List (List ℕ)) → ((more : plan.Progress) → more.count + 1 ≤ decided (plan_read.read_from more lines)) → read.count + 1 ≤ decided (plan_read.said_from read said (λ more. plan_read.read_from more lines))
+plan_by : (said : Result PlanLine FormatKind) (read : plan.Progress) (number : ℕ) (lines : List (List ℕ)) → ((more : plan.Progress) → number + 1 ≤ decided (plan_read.read_from more (number + 1) lines)) → number ≤ decided (plan_read.said_from read number said (λ more. plan_read.read_from more (number + 1) lines))
 unfolding decided
-plan_by (Ok line.Blank) read lines later = omega (arith, later (plan.advanced read line.Blank))
-plan_by (Ok line.Header) read lines later = omega (arith, later (plan.advanced read line.Header))
-plan_by (Ok (line.Part part)) read lines later = omega (arith, later (plan.advanced read (line.Part part)))
-plan_by (Ok line.End) read lines later = omega arith
-plan_by (Err kind) read lines later = omega arith
+plan_by (Ok line.Blank) read number lines later = omega (arith, later (plan.advanced read number line.Blank))
+plan_by (Ok line.Header) read number lines later = omega (arith, later (plan.advanced read number line.Header))
+plan_by (Ok (line.Part part)) read number lines later = omega (arith, later (plan.advanced read number (line.Part part)))
+plan_by (Ok line.End) read number lines later = omega arith
+plan_by (Err kind) read number lines later = omega arith
 
-plan_later : (lines : List (List ℕ)) (read : plan.Progress) → read.count + 1 ≤ decided (plan_read.read_from read lines)
+plan_later : (lines : List (List ℕ)) (read : plan.Progress) (number : ℕ) → number ≤ decided (plan_read.read_from read number lines)
 unfolding decided
-plan_later [] read = omega arith
-plan_later (next ∷ lines) read = plan_by (plan.line_in read.section (words next)) read lines (λ more. plan_later lines more)
+plan_later [] read number = omega arith
+plan_later (next ∷ lines) read number = plan_by (plan.line_in read.section (words next)) read number lines (λ more. plan_later lines more (number + 1))
 
-plan_past : (front : List (List ℕ)) (next : List ℕ) (others : List (List ℕ)) (read : plan.Progress) (answer : Result plan_read.Declared FormatFault) → plan.IsFront (front ++ next ∷ []) read → plan_read.read_from plan.begun (front ++ next ∷ others) ≡ answer → length front + 2 ≤ decided answer
+plan_past : (front : List (List ℕ)) (next : List ℕ) (others : List (List ℕ)) (read : plan.Progress) (answer : Result plan_read.Declared FormatFault) → plan.IsFront (front ++ next ∷ []) read → plan_read.read_from plan.begun 1 (front ++ next ∷ others) ≡ answer → length front + 2 ≤ decided answer
 plan_past front next others read answer is reads =
-    let whole : plan_read.read_from plan.begun (front ++ next ∷ others) ≡ plan_read.read_from read others = ap (plan_read.read_from plan.begun) (sym (append_assoc front (next ∷ []) others)) ∙ plan_read.has_read (front ++ next ∷ []) others read is in
-    let same : decided (plan_read.read_from read others) ≡ decided answer = ap decided (sym whole ∙ reads) in
-    let count : read.count ≡ length front + 1 = is.counted ∙ sym (one_more front next) in
-    omega (arith, plan_later others read, same, count)
+    let number : ℕ = length (front ++ next ∷ []) + 1 in
+    let whole : plan_read.read_from plan.begun 1 (front ++ next ∷ others) ≡ plan_read.read_from read number others = ap (plan_read.read_from plan.begun 1) (sym (append_assoc front (next ∷ []) others)) ∙ plan_read.has_read (front ++ next ∷ []) others read is in
+    let same : decided (plan_read.read_from read number others) ≡ decided answer = ap decided (sym whole ∙ reads) in
+    omega (arith, plan_later others read number, same, one_more front next)
 
 AtLeast : ℕ → Result Declared FormatFault → Type 0
 AtLeast number (Ok declared) = Unit {0}

@@ -87,10 +87,10 @@ plan_by = record {
   missing = λ text. plan.missing text.reader.section;
   longest = λ text. refl;
   stops = λ text number stop. refl;
-  nothing = record { counted = refl; declared = (All-nil (IsLine line.Blank), refl, refl) };
+  nothing = (All-nil (IsLine line.Blank), refl, refl);
   underway = λ lines text stands. (text.reader, stands);
-  reach = λ lines on. (record { reader = on.0 }, leads_plan lines plan_begun (record { reader = on.0 }) 0 (leads_front_by on.0.section on.0.parts on.0.lines on.0.count lines on.1));
-  goes = λ lines from to number next stands reads. (stands_step lines (First from certificate_begun) (First to certificate_begun) number next (stands, refl) (ap (after_first certificate_begun) reads)).0;
+  reach = λ lines on. (record { reader = on.0 }, leads_plan lines plan_begun (record { reader = on.0 }) 0 (leads_front_by on.0.section on.0.parts on.0.lines lines on.1));
+  goes = λ lines from to number next at stands reads. (stands_step lines (First from certificate_begun) (First to certificate_begun) number next at (stands, refl) (ap (after_first certificate_begun) reads)).0;
   ended = plan_ended;
   refused = λ lines text number next others fault at stands refused. plan_refused lines next others text.reader (plan.line_in text.reader.section (words next)) number fault at refl stands refused;
   gives = λ lines text number next others net stands gives. plan_gives lines next others text.reader (plan.line_in text.reader.section (words next)) number net refl stands gives;

@@ -42,55 +42,46 @@ at_certificate net read = Second net (record { reader = read })
 plan_brings : (read : plan.Progress) (number : ℕ) (next : List ℕ) (said : Result PlanLine FormatKind) → plan.line_in read.section (words next) ≡ said → both_reader.reads (at_plan read) number next ≡ after_first certificate_begun (plan_step (record { reader = read }) number said)
 plan_brings read number next said is = ap (λ (r : Result PlanLine FormatKind). after_first certificate_begun (plan_step (record { reader = read }) number r)) is
 
-at_same : (s : PlanSection) (parts : List Part) (numbers : List ℕ) (m n : ℕ) → m ≡ n → at_plan (reached s parts numbers m) ≡ at_plan (reached s parts numbers n)
-at_same s parts numbers m n same = ap (λ (k : ℕ). at_plan (reached s parts numbers k)) same
-
-leads_blanks : (blanks : List (List ℕ)) (count end : ℕ) → All (IsLine line.Blank) blanks → end ≡ count + length blanks → Leads both_reader (at_plan (reached section.Header [] [] count)) count blanks (at_plan (reached section.Header [] [] end))
-leads_blanks [] count end all same = at_same section.Header [] [] count end (omega arith)
-leads_blanks (next ∷ blanks) count end all same = (
-  at_plan (reached section.Header [] [] (count + 1)),
-  plan_brings (reached section.Header [] [] count) (count + 1) next (Ok line.Blank) (line_is section.Header next line.Blank (All-head (IsLine line.Blank) next blanks all) refl),
-  leads_blanks blanks (count + 1) end (All-tail (IsLine line.Blank) next blanks all) (omega arith),
+leads_blanks : (blanks : List (List ℕ)) (count : ℕ) → All (IsLine line.Blank) blanks → Leads both_reader (at_plan plan.begun) count blanks (at_plan plan.begun)
+leads_blanks [] count all = refl
+leads_blanks (next ∷ blanks) count all = (
+  at_plan plan.begun,
+  plan_brings plan.begun (count + 1) next (Ok line.Blank) (line_is section.Header next line.Blank (All-head (IsLine line.Blank) next blanks all) refl),
+  leads_blanks blanks (count + 1) (All-tail (IsLine line.Blank) next blanks all),
 )
 
 -- one line more
 leads_one : (front : List (List ℕ)) (next : List ℕ) (between on to : Both) → Leads both_reader (at_plan plan.begun) 0 front between → both_reader.reads between (0 + length front + 1) next ≡ Goes on → on ≡ to → Leads both_reader (at_plan plan.begun) 0 (front ++ next ∷ []) to
 leads_one front next between on to leads reads same = leads_on both_reader (at_plan plan.begun) between to 0 front (next ∷ []) leads (on, reads, same)
 
-leads_begun : (lines : List (List ℕ)) (parts : List Part) (numbers : List ℕ) → IsBegun lines parts numbers → Leads both_reader (at_plan plan.begun) 0 lines (at_plan (reached section.Declarations parts numbers (length lines)))
+leads_begun : (lines : List (List ℕ)) (parts : List Part) (numbers : List ℕ) → IsBegun lines parts numbers → Leads both_reader (at_plan plan.begun) 0 lines (at_plan (reached section.Declarations parts numbers))
 leads_begun lines parts numbers (header blanks next all is) =
-    leads_one blanks next (at_plan (reached section.Header [] [] (length blanks))) (at_plan (reached section.Declarations [] [] (length blanks + 1))) _
-    (leads_blanks blanks 0 (length blanks) all (omega arith))
-    (plan_brings (reached section.Header [] [] (length blanks)) (0 + length blanks + 1) next (Ok line.Header) (line_is section.Header next line.Header is refl))
-    (at_same section.Declarations [] [] (length blanks + 1) (length (blanks ++ next ∷ [])) (one_more blanks next))
+    leads_one blanks next (at_plan plan.begun) (at_plan (reached section.Declarations [] [])) _ (leads_blanks blanks 0 all)
+    (plan_brings plan.begun (0 + length blanks + 1) next (Ok line.Header) (line_is section.Header next line.Header is refl)) refl
 leads_begun lines parts numbers (blank front next ps ns begins is) =
-    leads_one front next (at_plan (reached section.Declarations ps ns (length front))) (at_plan (reached section.Declarations ps ns (length front + 1))) _
-    (leads_begun front ps ns begins)
-    (plan_brings (reached section.Declarations ps ns (length front)) (0 + length front + 1) next (Ok line.Blank) (line_is section.Declarations next line.Blank is refl))
-    (at_same section.Declarations ps ns (length front + 1) (length (front ++ next ∷ [])) (one_more front next))
+    leads_one front next (at_plan (reached section.Declarations ps ns)) (at_plan (reached section.Declarations ps ns)) _ (leads_begun front ps ns begins)
+    (plan_brings (reached section.Declarations ps ns) (0 + length front + 1) next (Ok line.Blank) (line_is section.Declarations next line.Blank is refl)) refl
 leads_begun lines parts numbers (declares front next ps more ns begins declared) =
     let one = declared.1 in
     let part : Part = declared.0 in
+    let number : 0 + length front + 1 ≡ length front + 1 = omega arith in
     rw one
-    (leads_one front next (at_plan (reached section.Declarations ps ns (length front))) (at_plan (reached section.Declarations (ps ++ part ∷ []) (ns ++ (length front + 1) ∷ []) (length front + 1))) _
-    (leads_begun front ps ns begins)
-    (plan_brings (reached section.Declarations ps ns (length front)) (0 + length front + 1) next (Ok (line.Part part)) (line_is section.Declarations next (line.Part part) declared.2 refl))
-    (at_same section.Declarations (ps ++ part ∷ []) (ns ++ (length front + 1) ∷ []) (length front + 1) (length (front ++ next ∷ [])) (one_more front next)))
+    (leads_one front next (at_plan (reached section.Declarations ps ns)) (at_plan (reached section.Declarations (ps ++ part ∷ []) (ns ++ (0 + length front + 1) ∷ []))) _ (leads_begun front ps ns begins)
+    (plan_brings (reached section.Declarations ps ns) (0 + length front + 1) next (Ok (line.Part part)) (line_is section.Declarations next (line.Part part) declared.2 refl)) (ap (λ (n : ℕ). at_plan (reached section.Declarations (ps ++ part ∷ []) (ns ++ n ∷ []))) number))
 
-pub leads_front_by : (s : PlanSection) (parts : List Part) (numbers : List ℕ) (count : ℕ) (lines : List (List ℕ)) → plan.IsFront lines (reached s parts numbers count) → Leads both_reader (at_plan plan.begun) 0 lines (at_plan (reached s parts numbers count))
-leads_front_by section.Header parts numbers count lines front =
-    let bare : at_plan (reached section.Header [] [] count) ≡ at_plan (reached section.Header parts numbers count) = ap (λ (ps : List Part). at_plan (reached section.Header ps [] count)) (sym front.declared.1) ∙ ap (λ (ns : List ℕ). at_plan (reached section.Header parts ns count)) (sym front.declared.2) in
-    subst (λ (to : Both). Leads both_reader (at_plan plan.begun) 0 lines to) bare (leads_blanks lines 0 count front.declared.0 (omega (arith, front.counted)))
-leads_front_by section.Declarations parts numbers count lines front =
-    subst (λ (to : Both). Leads both_reader (at_plan plan.begun) 0 lines to) (at_same section.Declarations parts numbers (length lines) count (sym front.counted)) (leads_begun lines parts numbers front.declared)
+pub leads_front_by : (s : PlanSection) (parts : List Part) (numbers : List ℕ) (lines : List (List ℕ)) → plan.IsFront lines (reached s parts numbers) → Leads both_reader (at_plan plan.begun) 0 lines (at_plan (reached s parts numbers))
+leads_front_by section.Header parts numbers lines front =
+    let bare : at_plan plan.begun ≡ at_plan (reached section.Header parts numbers) = ap (λ (ps : List Part). at_plan (reached section.Header ps [])) (sym front.1) ∙ ap (λ (ns : List ℕ). at_plan (reached section.Header parts ns)) (sym front.2) in
+    subst (λ (to : Both). Leads both_reader (at_plan plan.begun) 0 lines to) bare (leads_blanks lines 0 front.0)
+leads_front_by section.Declarations parts numbers lines front = leads_begun lines parts numbers front
 
 -- a plan that declares a network
 leads_plan : (lines : List (List ℕ)) (parts : List Part) (numbers : List ℕ) (net : Plan) → IsPlanText lines parts numbers → built parts ≡ Ok net → Leads both_reader (at_plan plan.begun) 0 lines (at_certificate net certificate.begun)
 leads_plan lines parts numbers net is builds =
     subst (λ (ls : List (List ℕ)). Leads both_reader (at_plan plan.begun) 0 ls (at_certificate net certificate.begun)) (sym is.whole)
-    (leads_one is.begun is.last (at_plan (reached section.Declarations parts numbers (length is.begun))) (at_certificate net certificate.begun) _
+    (leads_one is.begun is.last (at_plan (reached section.Declarations parts numbers)) (at_certificate net certificate.begun) _
     (leads_begun is.begun parts numbers is.begins)
-    (plan_brings (reached section.Declarations parts numbers (length is.begun)) (0 + length is.begun + 1) is.last (Ok line.End) (line_is section.Declarations is.last line.End is.ends refl)
+    (plan_brings (reached section.Declarations parts numbers) (0 + length is.begun + 1) is.last (Ok line.End) (line_is section.Declarations is.last line.End is.ends refl)
     ∙ ap (λ (answer : Result Plan BuildFault). after_first certificate_begun (built_step numbers answer)) builds)
     refl)
 
@@ -137,7 +128,7 @@ leads_certificate net lines read number front =
 
 -- lines after which more is wanted lead to a place
 pub reach : (lines : List (List ℕ)) → IsUnderway lines → (to : Both) × Leads both_reader (at_plan plan.begun) 0 lines to
-reach lines (inl (read, front)) = (at_plan read, leads_front_by read.section read.parts read.lines read.count lines front)
+reach lines (inl (read, front)) = (at_plan read, leads_front_by read.section read.parts read.lines lines front)
 reach lines (inr (net, rest, read, network, front)) =
     let on = leads_certificate net rest read (0 + length network.plan) front in
     let both = leads_on both_reader (at_plan plan.begun) (at_certificate net certificate.begun) (at_certificate net on.0) 0 network.plan rest (leads_plan network.plan network.parts network.numbers net network.is_plan network.builds) on.1 in

@@ -18,7 +18,7 @@ use Rattle.plan_format.specs.PlanReading as plan
 use Rattle.plan_format.specs.declared.plan_line.PlanLine.{PlanLine}
 use Rattle.plan_format.specs.declared.plan_line.PlanLine.TheVariants as line
 use Rattle.plan_format.proofs.StepLemmas.{advance, one_more}
-use Rattle.plan_format.proofs.FaultLemmas.{fault_in_line, fault_after}
+use Rattle.plan_format.proofs.FaultLemmas.{fault_in_line, ends_too_soon}
 use Rattle.cert_format.specs.CertificateGrammar as certificate
 use Rattle.cert_format.specs.CertificateText as certificate_text
 use Rattle.cert_format.specs.declared.certificate.Certificate.{Certificate}
@@ -94,24 +94,24 @@ end_stands lines next read (Ok net) to is front builds goes =
       parts = read.parts;
       numbers = read.lines;
       whole = sym (append-nil all);
-      is_plan = advance lines next line.End read is front;
+      is_plan = advance lines next (length lines + 1) line.End read refl is front;
       builds = builds;
     } in
     subst (Stands all) same ([], network, front_begun)
 end_stands lines next read (Err why) to is front builds goes = absurd (cc)
 
-first_stands : (lines : List (List ℕ)) (next : List ℕ) (read : plan.Progress) (said : Result PlanLine FormatKind) (number : ℕ) (to : Both) → plan.line_in read.section (words next) ≡ said → plan.IsFront lines read → GoesTo (after_first certificate_begun (plan_step (record { reader = read }) number said)) to → Stands (lines ++ next ∷ []) to
-first_stands lines next read (Ok line.Blank) number to is front goes =
-    let same : First (record { reader = plan.advanced read line.Blank }) certificate_begun ≡ to = cc in
-    subst (Stands (lines ++ next ∷ [])) same (advance lines next line.Blank read is front, refl)
-first_stands lines next read (Ok line.Header) number to is front goes =
-    let same : First (record { reader = plan.advanced read line.Header }) certificate_begun ≡ to = cc in
-    subst (Stands (lines ++ next ∷ [])) same (advance lines next line.Header read is front, refl)
-first_stands lines next read (Ok (line.Part part)) number to is front goes =
-    let same : First (record { reader = plan.advanced read (line.Part part) }) certificate_begun ≡ to = cc in
-    subst (Stands (lines ++ next ∷ [])) same (advance lines next (line.Part part) read is front, refl)
-first_stands lines next read (Ok line.End) number to is front goes = end_stands lines next read (built read.parts) to is front refl goes
-first_stands lines next read (Err kind) number to is front goes = absurd (cc)
+first_stands : (lines : List (List ℕ)) (next : List ℕ) (read : plan.Progress) (said : Result PlanLine FormatKind) (number : ℕ) (to : Both) → number ≡ length lines + 1 → plan.line_in read.section (words next) ≡ said → plan.IsFront lines read → GoesTo (after_first certificate_begun (plan_step (record { reader = read }) number said)) to → Stands (lines ++ next ∷ []) to
+first_stands lines next read (Ok line.Blank) number to at is front goes =
+    let same : First (record { reader = plan.advanced read number line.Blank }) certificate_begun ≡ to = cc in
+    subst (Stands (lines ++ next ∷ [])) same (advance lines next number line.Blank read at is front, refl)
+first_stands lines next read (Ok line.Header) number to at is front goes =
+    let same : First (record { reader = plan.advanced read number line.Header }) certificate_begun ≡ to = cc in
+    subst (Stands (lines ++ next ∷ [])) same (advance lines next number line.Header read at is front, refl)
+first_stands lines next read (Ok (line.Part part)) number to at is front goes =
+    let same : First (record { reader = plan.advanced read number (line.Part part) }) certificate_begun ≡ to = cc in
+    subst (Stands (lines ++ next ∷ [])) same (advance lines next number (line.Part part) read at is front, refl)
+first_stands lines next read (Ok line.End) number to at is front goes = end_stands lines next read (built read.parts) to is front refl goes
+first_stands lines next read (Err kind) number to at is front goes = absurd (cc)
 
 -- the state after a line of a certificate that does not end it
 on_by : (lines : List (List ℕ)) (net : Plan) (rest : List (List ℕ)) (next : List ℕ) (more : certificate.Progress) (to : Both) → DeclaresNetwork lines net rest → certificate.IsFront (rest ++ next ∷ []) more → GoesTo (Goes (Second net (record { reader = more }))) to → Stands (lines ++ next ∷ []) to
@@ -134,11 +134,11 @@ second_stands lines net rest next read (Ok (text.Walk i)) number to is network f
 second_stands lines net rest next read (Ok text.End) number to is network front goes = absurd (cc)
 second_stands lines net rest next read (Err kind) number to is network front goes = absurd (cc)
 
-pub stands_step : (lines : List (List ℕ)) (from to : Both) (number : ℕ) (next : List ℕ) → Stands lines from → both_reader.reads from number next ≡ Goes to → Stands (lines ++ next ∷ []) to
-stands_step lines (First text other) to number next stands goes =
-    first_stands lines next text.reader (plan.line_in text.reader.section (words next)) number to refl stands.0
+pub stands_step : (lines : List (List ℕ)) (from to : Both) (number : ℕ) (next : List ℕ) → number ≡ length lines + 1 → Stands lines from → both_reader.reads from number next ≡ Goes to → Stands (lines ++ next ∷ []) to
+stands_step lines (First text other) to number next at stands goes =
+    first_stands lines next text.reader (plan.line_in text.reader.section (words next)) number to at refl stands.0
     (subst (λ (o : CertificateText). GoesTo (after_first o (plan_step text number (plan.line_in text.reader.section (words next)))) to) stands.1 goes)
-stands_step lines (Second net text) to number next stands goes =
+stands_step lines (Second net text) to number next at stands goes =
     second_stands lines net stands.0 next text.reader (certificate_text.line_in text.reader.section (words next)) number to refl stands.1 stands.2 goes
 
 -- ---- the lines end
@@ -152,8 +152,7 @@ after_plan lines net rest is = ap length is.whole ∙ length-append is.plan rest
 
 -- a plan is not ended
 pub plan_ended : (lines : List (List ℕ)) (text : PlanText) → plan.IsFront lines text.reader → IsFirstFault lines (record { line = length lines + 1; kind = plan.missing text.reader.section })
-plan_ended lines text front =
-    subst (λ (n : ℕ). IsFirstFault lines (record { line = n + 1; kind = plan.missing text.reader.section })) front.counted (fault_after lines text.reader front)
+plan_ended lines text front = ends_too_soon lines text.reader front
 
 pub ended_fault : (lines : List (List ℕ)) (state : Both) → Stands lines state → IsFormatFault lines (length lines + 1) (missing_of state)
 ended_fault lines (First text other) stands = inl (plan_ended lines text stands.0)
@@ -191,7 +190,7 @@ refused_end : (lines : List (List ℕ)) (next : List ℕ) (others : List (List �
 refused_end lines next others read (Ok net) fault is front builds refused = absurd (cc)
 refused_end lines next others read (Err why) fault is front builds refused =
     let same : PartFault (line_of_part read.lines why) why ≡ fault = cc in
-    let plan_text = advance lines next line.End read is front in
+    let plan_text = advance lines next (length lines + 1) line.End read refl is front in
     let refuses : RefusesPart (lines ++ next ∷ others) (line_of_part read.lines why) why = record {
       plan = lines ++ next ∷ [];
       rest = others;
@@ -235,7 +234,7 @@ end_gives lines next others read (Ok made) net is front builds gives =
       parts = read.parts;
       numbers = read.lines;
       whole = sym (append_assoc lines (next ∷ []) others);
-      is_plan = advance lines next line.End read is front;
+      is_plan = advance lines next (length lines + 1) line.End read refl is front;
       builds = builds ∙ ap Ok same;
     }
 end_gives lines next others read (Err why) net is front builds gives = absurd (cc)

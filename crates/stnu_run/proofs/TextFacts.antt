@@ -38,7 +38,7 @@ pub record ReadsBy {S V : Type 0} (reader : Reader S V Fault) (grammar : Grammar
   pub nothing : stands [] start
   pub underway : (lines : List (List ℕ)) (state : S) → stands lines state → grammar.underway lines
   pub reach : (lines : List (List ℕ)) → grammar.underway lines → (to : S) × Leads reader start 0 lines to
-  pub goes : (lines : List (List ℕ)) (from to : S) (number : ℕ) (next : List ℕ) → stands lines from → reader.reads from number next ≡ Goes to → stands (lines ++ next ∷ []) to
+  pub goes : (lines : List (List ℕ)) (from to : S) (number : ℕ) (next : List ℕ) → number ≡ length lines + 1 → stands lines from → reader.reads from number next ≡ Goes to → stands (lines ++ next ∷ []) to
   pub ended : (lines : List (List ℕ)) (state : S) → stands lines state → grammar.faulty lines (length lines + 1) (missing state)
   pub refused : (lines : List (List ℕ)) (state : S) (number : ℕ) (next : List ℕ) (others : List (List ℕ)) (fault : Fault) → number ≡ length lines + 1 → stands lines state → reader.reads state number next ≡ Refused fault → RefusesThere grammar (lines ++ next ∷ others) (length lines + 1) fault
   pub gives : (lines : List (List ℕ)) (state : S) (number : ℕ) (next : List ℕ) (others : List (List ℕ)) (value : V) → stands lines state → reader.reads state number next ≡ Gives value → grammar.declares (lines ++ next ∷ others) value others

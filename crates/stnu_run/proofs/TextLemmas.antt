@@ -1,6 +1,6 @@
 -- The reading of a text by its grammar: what an input comes to, and that a command which asks answers it.
 use Rattle.std.proofs.Common.{◌≡◌, ◌≢◌, ℕ, ◌+◌, ◌-◌, List, [], ◌∷◌, ◌++◌, length, refl, sym, ap, ◌∙◌, subst, arith, inl, inr, append_assoc}
-use Rattle.std.proofs.lemmas.List.{append-nil, map-append, length-map}
+use Rattle.std.proofs.lemmas.List.{append-nil, length-append, map-append, length-map}
 use Rattle.texts.specs.Lines.{InputLine, input_lines, lines, line_size}
 use Rattle.texts.proofs.InputLemmas.{lines-texts}
 use Rattle.net_model.specs.declared.format.FormatKind.{FormatKind}
@@ -49,16 +49,17 @@ not_stopped how is same other comes = other (sym same ∙ comes)
 
 module _ {S V : Type 0} (reader : Reader S V Fault) (grammar : Grammar V) (start : S) (by : ReadsBy reader grammar start) (once : IsOnce grammar) where
   -- where the reading stands after lines that lead on
-  stands_on : (lines : List (List ℕ)) (from : S) (number : ℕ) (others : List (List ℕ)) (to : S) → by.stands lines from → Leads reader from number others to → by.stands (lines ++ others) to
-  stands_on lines from number [] to stands leads =
+  stands_on : (lines : List (List ℕ)) (from : S) (number : ℕ) (others : List (List ℕ)) (to : S) → number ≡ length lines → by.stands lines from → Leads reader from number others to → by.stands (lines ++ others) to
+  stands_on lines from number [] to at stands leads =
       subst (λ (ls : List (List ℕ)). by.stands ls to) (sym (append-nil lines)) (subst (by.stands lines) leads stands)
-  stands_on lines from number (next ∷ others) to stands leads =
+  stands_on lines from number (next ∷ others) to at stands leads =
       subst (λ (ls : List (List ℕ)). by.stands ls to) (append_assoc lines (next ∷ []) others)
-      (stands_on (lines ++ next ∷ []) leads.0 (number + 1) others to (by.goes lines from leads.0 (number + 1) next stands leads.1) leads.2)
+      (let long = length-append lines (next ∷ []) in
+      stands_on (lines ++ next ∷ []) leads.0 (number + 1) others to (omega (arith, at, long)) (by.goes lines from leads.0 (number + 1) next (omega (arith, at)) stands leads.1) leads.2)
 
   -- where lines lead from the beginning
   pub stands_there : (before : List InputLine) (state : S) → Leads reader start 0 (texts before) state → by.stands (texts before) state
-  stands_there before state leads = stands_on [] start 0 (texts before) state by.nothing leads
+  stands_there before state leads = stands_on [] start 0 (texts before) state refl by.nothing leads
 
   -- ---- what a reading comes to, by the grammars
   abbrev pub OutcomeIs : List InputLine → Outcome V Fault → Type 0
@@ -136,7 +137,7 @@ module _ {S V : Type 0} (reader : Reader S V Fault) (grammar : Grammar V) (start
 
   -- the lines with the next one
   one_on : (before : List InputLine) (line : InputLine) (state to : S) → by.stands (texts before) state → reader.reads state (0 + length before + 1) line.text ≡ Goes to → by.stands (texts before ++ line.text ∷ []) to
-  one_on before line state to stands reads = by.goes (texts before) state to (0 + length before + 1) line.text stands reads
+  one_on before line state to stands reads = by.goes (texts before) state to (0 + length before + 1) line.text (omega (arith, texts_many before)) stands reads
 
   format_last : (before : List InputLine) (line : InputLine) (others : List InputLine) (state : S) (kind : FormatKind) (step : Step S V Fault) → reader.reads state (0 + length before + 1) line.text ≡ step
       → coming most_line (room_after most_input before) line ≡ Comes → by.stands (texts before) state → grammar.faulty (texts (before ++ line ∷ others)) (length before + 1) kind → LastAt before state (line ∷ others) (Format (length before + 1) kind)

@@ -34,7 +34,7 @@ built_step lines (Err fault) = Refused (Part (line_of_part lines fault) fault)
 -- what a line brings, by what it says in its place
 abbrev pub plan_step : PlanText → ℕ → Result PlanLine FormatKind → Step PlanText Plan Fault
 plan_step text number (Ok line.End) = built_step text.reader.lines (built text.reader.parts)
-plan_step text number (Ok said) = Goes (record { reader = advanced text.reader said })
+plan_step text number (Ok said) = Goes (record { reader = advanced text.reader number said })
 plan_step text number (Err kind) = Refused (Format number kind)
 
 -- the reader of plan texts

@@ -58,10 +58,7 @@ impl Text for PlanText {
         number: u32,
         line: &[u8],
     ) -> Result<Step<PlanText, Network, Fault>, AllocError> {
-        if self.reader.is_full() {
-            return Err(AllocError);
-        }
-        match self.reader.read_line(line) {
+        match self.reader.read_line(number, line) {
             Ok(PlanLine::End) => self.build(alloc),
             Ok(_) => Ok(Step::Goes(self)),
             Err(WordFault::Kind(kind)) => Ok(Step::Refused(Fault::Format(number, kind))),
@@ -70,6 +67,6 @@ impl Text for PlanText {
     }
 
     fn stop(&self, number: u32, stop: Stop) -> Fault {
-        stop_fault(number, stop, self.reader.section().missing())
+        stop_fault(number, stop, self.reader.missing())
     }
 }

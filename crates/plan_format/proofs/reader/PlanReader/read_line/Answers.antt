@@ -6,11 +6,11 @@ use Rattle.plan_format.proofs.StepLemmas.{advance}
 use Rattle.plan_format.proofs.reader.PlanReader.read_line.Goals as goal
 
 pub returns-in_err-said-clause-brings : goal.returns-in_err-said-clause-brings
-returns-in_err-said-clause-brings c = λ before has.
+returns-in_err-said-clause-brings c = λ before has at.
     let same = ap (λ (read : Progress). line_in read.section (words c.args.line.now)) c.self.view_is in
     refused_brings before c.args.line.now c.args.self.now c.args.self.now c.in_err-said.field-0.0 c.from_residual.result (sym same ∙ (sym c.line_in.ensures ∙ c.in_err-said.was)) c.from_residual.ensures.0 c.from_residual.ensures.1 has
 
 pub returns-clause-brings : goal.returns-clause-brings
-returns-clause-brings c = λ before has.
+returns-clause-brings c = λ before has at.
     let same = ap (λ (read : Progress). line_in read.section (words c.args.line.now)) c.self.view_is in
-    rw c.in_ok-keep.ensures.kept (advance before c.args.line.now c.in_ok-said.said c.args.self.now (sym same ∙ (sym c.line_in.ensures ∙ c.in_ok-said.was)) has)
+    rw c.in_ok-keep.ensures.kept (advance before c.args.line.now c.args.number c.in_ok-said.said c.args.self.now at (sym same ∙ (sym c.line_in.ensures ∙ c.in_ok-said.was)) has)
