@@ -2,9 +2,10 @@
 use Rattle.std.proofs.Common.{◌≡◌, ℕ, suc, Bool, true, false, not, List, [], ◌∷◌, ◌++◌, map, Option, Some, None, codes, refl, sym, ap, ap₂, ◌∙◌, find, if◌then◌else◌, ◌||◌, cond, true≢false}
 use Rattle.std.proofs.Math.Bool.{or-false}
 use Rattle.std.proofs.lemmas.Bool.{or_right}
+use Rattle.std.proofs.lemmas.List.Folds.{find-append, list_any-append}
 use Rattle.std.proofs.lemmas.List.Sums.{fold-append}
 use Rattle.std.specs.Bool.{⊤}
-use Rattle.std.specs.Option.{is_some, option_and_then, option_map, unwrap_or}
+use Rattle.std.specs.Option.{is_some, option_or, option_and_then, option_map, unwrap_or}
 use Rattle.std.specs.Prelude.{slice_get, fold}
 use Rattle.std.specs.Str.{bytes_eq}
 use Rattle.std.proofs.lemmas.Slice.Eq.{bytes_eq-Decides}
@@ -16,7 +17,7 @@ use Rattle.command_words.specs.Arguments.{is_given, text_given}
 use Rattle.command_words.specs.Reading.{complete_by, all_texts}
 use Rattle.command_words.specs.ClapRules.{is_true, arguments_found}
 use Rattle.command_words.proofs.RuleLemmas.{flag_arg, option_arg, operand_args, rules_for}
-use Rattle.command_words.proofs.SoundLemmas.{bytes_same, option_apart, operand_not}
+use Rattle.command_words.proofs.SoundLemmas.{found_nowhere, found_there, bytes_same, option_apart, operand_not}
 use Rattle.command_words.proofs.RowLemmas.{row_for, appended, rows_given}
 
 abbrev false_row : Text → Row
@@ -29,41 +30,33 @@ default_kept : (name : Text) (rows : List Row) → has_row name rows ≡ true �
 default_kept name rows present = rw present refl
 
 added_has : (name : Text) (row : Row) (rows : List Row) → has_row name (rows ++ row ∷ []) ≡ (has_row name rows || bytes_eq row.id name)
-added_has name row [] = or-false (bytes_eq row.id name)
-added_has name row (r ∷ rs) = by (bytes_eq r.id name) (added_has name row rs)
-  where
-    by : (b : Bool) → has_row name (rs ++ row ∷ []) ≡ (has_row name rs || bytes_eq row.id name) → (b || has_row name (rs ++ row ∷ [])) ≡ ((b || has_row name rs) || bytes_eq row.id name)
-    by true e = refl
-    by false e = e
+added_has name row rows = list_any-append (λ r. bytes_eq r.id name) rows (row ∷ []) ∙ ap (λ b. has_row name rows || b) (or-false (bytes_eq row.id name))
+
+abbrev row_of : Text → List Row → Option Row
+row_of name rows = find (λ r. bytes_eq r.id name) rows
 
 abbrev first_text : Option Row → Option Text
 first_text found = option_and_then (λ r. slice_get r.values 0) found
 
+row_found : (name : Text) (rows : List Row) → is_some (row_of name rows) ≡ has_row name rows
+row_found name rows = found_there (λ r. bytes_eq r.id name) rows
+
 added_kept : (name : Text) (row : Row) (rows : List Row) → has_row name rows ≡ true → first_of name (rows ++ row ∷ []) ≡ first_of name rows
-added_kept name row [] has = absurd (true≢false (sym has))
-added_kept name row (r ∷ rs) has = by (bytes_eq r.id name) has (added_kept name row rs)
+added_kept name row rows has = ap first_text (find-append (λ r. bytes_eq r.id name) rows (row ∷ []) ∙ by (row_of name rows) (row_found name rows ∙ has))
   where
-    by : (b : Bool) → (b || has_row name rs) ≡ true → (has_row name rs ≡ true → first_of name (rs ++ row ∷ []) ≡ first_of name rs)
-        → first_text (cond b (Some r) (find (λ x. bytes_eq x.id name) (rs ++ row ∷ []))) ≡ first_text (cond b (Some r) (find (λ x. bytes_eq x.id name) rs))
-    by true h e = refl
-    by false h e = e h
+    by : (found : Option Row) → is_some found ≡ true → option_or found (row_of name (row ∷ [])) ≡ found
+    by (Some r) e = refl
+    by None e = absurd (true≢false (sym e))
+
+not_found : (name : Text) (rows : List Row) → has_row name rows ≡ false → row_of name rows ≡ None
+not_found name rows absent = found_nowhere (λ r. bytes_eq r.id name) rows absent
 
 added_new : (name : Text) (row : Row) (rows : List Row) → has_row name rows ≡ false → first_of name (rows ++ row ∷ []) ≡ first_of name (row ∷ [])
-added_new name row [] absent = refl
-added_new name row (r ∷ rs) absent = by (bytes_eq r.id name) absent (added_new name row rs)
-  where
-    by : (b : Bool) → (b || has_row name rs) ≡ false → (has_row name rs ≡ false → first_of name (rs ++ row ∷ []) ≡ first_of name (row ∷ []))
-        → first_text (cond b (Some r) (find (λ x. bytes_eq x.id name) (rs ++ row ∷ []))) ≡ first_of name (row ∷ [])
-    by true h e = absurd (true≢false h)
-    by false h e = e h
+added_new name row rows absent =
+    ap first_text (find-append (λ r. bytes_eq r.id name) rows (row ∷ []) ∙ ap (λ found. option_or found (row_of name (row ∷ []))) (not_found name rows absent))
 
 none_first : (name : Text) (rows : List Row) → has_row name rows ≡ false → first_of name rows ≡ None
-none_first name [] absent = refl
-none_first name (r ∷ rs) absent = by (bytes_eq r.id name) absent (none_first name rs)
-  where
-    by : (b : Bool) → (b || has_row name rs) ≡ false → (has_row name rs ≡ false → first_of name rs ≡ None) → first_text (cond b (Some r) (find (λ x. bytes_eq x.id name) rs)) ≡ None
-    by true h e = absurd (true≢false h)
-    by false h e = e h
+none_first name rows absent = ap first_text (not_found name rows absent)
 
 -- a row that is there stays
 flags_kept : (name : Text) (names : List Text) (rows : List Row) → has_row name rows ≡ true → first_of name (fold with_default rows (map flag_arg names)) ≡ first_of name rows
@@ -169,7 +162,7 @@ text_read command name uses fits is false given =
     ap (first_of name) (finished_is command (map row_for uses)) ∙ flags_added name command.flags (map row_for uses) (rows_given name uses ∙ given)
     ∙ ap (λ b. if b then Some (codes "false") else None) is ∙ sym (none_first name (map row_for uses) (rows_given name uses ∙ given)) ∙ text_first command.flags name uses fits is
 
-map_on : {X : Type 0} (f g : Text → X) (names : List Text) → ((n : Text) → is_in n names ≡ true → f n ≡ g n) → map f names ≡ map g names
+pub map_on : {X : Type 0} (f g : Text → X) (names : List Text) → ((n : Text) → is_in n names ≡ true → f n ≡ g n) → map f names ≡ map g names
 map_on f g [] each = refl
 map_on f g (n ∷ names) each = ap₂ (λ x xs. x ∷ xs) (each n (rw (bytes_same n) refl)) (map_on f g names (λ m is. each m (or_right (bytes_eq n m) (is_in m names) is)))
 

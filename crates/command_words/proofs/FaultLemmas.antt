@@ -1,5 +1,7 @@
 -- When a parse is refused, and what its matches say.
 use Rattle.std.proofs.Common.{◌≡◌, ℕ, suc, Bool, true, false, not, List, [], ◌∷◌, ◌++◌, map, Option, Some, None, refl, sym, ap, ◌∙◌, true≢false, ap₂, if◌then◌else◌, ◌||◌, ◌&&◌}
+use Rattle.std.proofs.lemmas.Bool.{and_from}
+use Rattle.std.proofs.lemmas.List.Folds.{list_all-append}
 use Rattle.std.specs.Prelude.{fold}
 use Rattle.std.specs.List.{list_any, list_all}
 use Rattle.std.specs.Option.{is_some, option_and_then}
@@ -12,7 +14,7 @@ use Rattle.command_words.specs.Syntax.{Text, Syntax, is_sound}
 use Rattle.command_words.specs.Spelling.{Use}
 use Rattle.command_words.specs.Reading.{uses_from, complete_by}
 use Rattle.command_words.specs.ClapRules.{flag_rule, option_rule, operand_rule, app_for, arguments_found}
-use Rattle.command_words.proofs.RuleLemmas.{flag_arg, option_arg, operand_arg, operand_args, rules_for, raw_rules, with_rules, app_is, rules_are}
+use Rattle.command_words.proofs.RuleLemmas.{flag_arg, option_arg, text_arg, operand_arg, operand_args, rules_for, raw_rules, with_rules, app_is, rules_are}
 use Rattle.command_words.proofs.LookupLemmas.{found_rules}
 use Rattle.command_words.proofs.SoundLemmas.{few_operands}
 use Rattle.command_words.proofs.RowLemmas.{row_for}
@@ -29,29 +31,24 @@ built_is command sound = ap built_app (rules_are command (few_operands command s
 -- ---- what holds of each argument
 
 module _ (p : Rule → Bool) where
-  every_flag : ((n : Text) → p (flag_arg n) ≡ true) → (names : List Text) (rest : List Rule) → list_all p rest ≡ true → list_all p (map flag_arg names ++ rest) ≡ true
-  every_flag each [] rest all = all
-  every_flag each (n ∷ names) rest all = rw (each n) (every_flag each names rest all)
-
-  every_option : ((n : Text) → p (option_arg n) ≡ true) → (names : List Text) (rest : List Rule) → list_all p rest ≡ true → list_all p (map option_arg names ++ rest) ≡ true
-  every_option each [] rest all = all
-  every_option each (n ∷ names) rest all = rw (each n) (every_option each names rest all)
+  every_named : (rule : Text → Rule) → ((n : Text) → p (rule n) ≡ true) → (names : List Text) → list_all p (map rule names) ≡ true
+  every_named rule each [] = refl
+  every_named rule each (n ∷ names) = rw (each n) (every_named rule each names)
 
   every_operand : ((i : ℕ) (n : Text) → p (operand_arg i n) ≡ true) → (i : ℕ) (names : List Text) → list_all p (operand_args i names) ≡ true
   every_operand each i [] = refl
   every_operand each i (n ∷ names) = rw (each i n) (every_operand each (suc i) names)
 
+  all_three : (a b c : List Rule) → list_all p a ≡ true → list_all p b ≡ true → list_all p c ≡ true → list_all p (a ++ (b ++ c)) ≡ true
+  all_three a b c first second third = list_all-append p a (b ++ c) ∙ and_from _ _ first (list_all-append p b c ∙ and_from _ _ second third)
+
   every : (command : Syntax) → ((n : Text) → p (flag_arg n) ≡ true) → ((n : Text) → p (option_arg n) ≡ true) → ((i : ℕ) (n : Text) → p (operand_arg i n) ≡ true)
       → list_all p (rules_for command) ≡ true
-  every command f o x = every_flag f command.flags _ (every_option o command.options _ (every_operand x 1 command.operands))
+  every command f o x = all_three _ _ _ (every_named flag_arg f command.flags) (every_named option_arg o command.options) (every_operand x 1 command.operands)
 
-  every_raw : (rule : Text → Rule) → ((n : Text) → p (rule n) ≡ true) → (names : List Text) (rest : List Rule) → list_all p rest ≡ true → list_all p (map rule names ++ rest) ≡ true
-  every_raw rule each [] rest all = all
-  every_raw rule each (n ∷ names) rest all = rw (each n) (every_raw rule each names rest all)
-
-  every_last : (rule : Text → Rule) → ((n : Text) → p (rule n) ≡ true) → (names : List Text) → list_all p (map rule names) ≡ true
-  every_last rule each [] = refl
-  every_last rule each (n ∷ names) = rw (each n) (every_last rule each names)
+  every_raw : (command : Syntax) → ((n : Text) → p (flag_rule n) ≡ true) → ((n : Text) → p (option_rule n) ≡ true) → ((n : Text) → p (operand_rule n) ≡ true)
+      → list_all p (raw_rules command) ≡ true
+  every_raw command f o x = all_three _ _ _ (every_named flag_rule f command.flags) (every_named option_rule o command.options) (every_named operand_rule x command.operands)
 
 none_of : (p : Rule → Bool) (rules : List Rule) → list_all (λ r. not (p r)) rules ≡ true → list_any p rules ≡ false
 none_of p [] all = refl
@@ -70,8 +67,7 @@ none_required rows command =
 
 pub simple : (command : Syntax) → is_sound command ≡ true → is_simple (with_rules (raw_rules command)) ≡ true
 simple command sound =
-    let raw : list_all (λ a. a.is_simple) (raw_rules command) ≡ true =
-    every_raw (λ a. a.is_simple) flag_rule (λ n. refl) command.flags _ (every_raw (λ a. a.is_simple) option_rule (λ n. refl) command.options _ (every_last (λ a. a.is_simple) operand_rule (λ n. refl) command.operands)) in
+    let raw : list_all (λ a. a.is_simple) (raw_rules command) ≡ true = every_raw (λ a. a.is_simple) command (λ n. refl) (λ n. refl) (λ n. refl) in
     let ready : list_all (λ a. a.is_simple) (rules_for command) ≡ true = every (λ a. a.is_simple) command (λ n. refl) (λ n. refl) (λ i n. refl) in
     rw (raw, rules_are command (few_operands command sound), ready, none_early _ command) refl
 
@@ -94,31 +90,41 @@ none_below : (rules : List Rule) (stop : Option (Text × List Text)) → entered
 none_below rules None = refl
 none_below rules (Some p) = refl
 
-flag_passes : (name : Text) (b : Bool) → (if b || false then [] else given_default_fault (flag_arg name) (flag_arg name).defaults) ≡ []
-flag_passes name true = refl
-flag_passes name false = refl
+-- the default of a flag is one that its parser takes, and the others have none
+abbrev Passes : Rule → Type 0
+Passes a = (rows : List Row) (rest : List Rule) → defaults_fault (with_default rows a) rest ≡ [] → defaults_fault rows (a ∷ rest) ≡ []
 
-text_passes : (a : Rule) (b : Bool) → (if b || true then [] else given_default_fault a []) ≡ []
-text_passes a true = refl
-text_passes a false = refl
-
-flags_pass : (names : List Text) (rest : List Rule) → ((rows : List Row) → defaults_fault rows rest ≡ []) → (rows : List Row) → defaults_fault rows (map flag_arg names ++ rest) ≡ []
+flag_passes : (name : Text) → Passes (flag_arg name)
 unfolding defaults_fault
-flags_pass [] rest pass rows = pass rows
-flags_pass (n ∷ names) rest pass rows = ap₂ or_else (flag_passes n (has_row n rows)) (flags_pass names rest pass (with_default rows (flag_arg n)))
+flag_passes name rows rest pass = by (has_row name rows) pass
+  where
+    by : (b : Bool) → defaults_fault (with_default rows (flag_arg name)) rest ≡ []
+        → or_else (if b || false then [] else given_default_fault (flag_arg name) (flag_arg name).defaults) (defaults_fault (with_default rows (flag_arg name)) rest) ≡ []
+    by true p = p
+    by false p = p
 
-options_pass : (names : List Text) (rest : List Rule) → ((rows : List Row) → defaults_fault rows rest ≡ []) → (rows : List Row) → defaults_fault rows (map option_arg names ++ rest) ≡ []
+text_passes : (name : Text) (long : Option Text) (index : Option ℕ) → Passes (text_arg name long index)
 unfolding defaults_fault
-options_pass [] rest pass rows = pass rows
-options_pass (n ∷ names) rest pass rows = ap₂ or_else (text_passes (option_arg n) (has_row n rows)) (options_pass names rest pass (with_default rows (option_arg n)))
+text_passes name long index rows rest pass = by (has_row name rows) pass
+  where
+    by : (b : Bool) → defaults_fault (with_default rows (text_arg name long index)) rest ≡ []
+        → or_else (if b || true then [] else given_default_fault (text_arg name long index) []) (defaults_fault (with_default rows (text_arg name long index)) rest) ≡ []
+    by true p = p
+    by false p = p
+
+named_pass : (arg : Text → Rule) → ((name : Text) → Passes (arg name)) → (names : List Text) (rest : List Rule) → ((rows : List Row) → defaults_fault rows rest ≡ [])
+    → (rows : List Row) → defaults_fault rows (map arg names ++ rest) ≡ []
+named_pass arg one [] rest pass rows = pass rows
+named_pass arg one (n ∷ names) rest pass rows = one n rows (map arg names ++ rest) (named_pass arg one names rest pass (with_default rows (arg n)))
 
 operands_pass : (i : ℕ) (names : List Text) (rows : List Row) → defaults_fault rows (operand_args i names) ≡ []
 unfolding defaults_fault
 operands_pass i [] rows = refl
-operands_pass i (n ∷ names) rows = ap₂ or_else (text_passes (operand_arg i n) (has_row n rows)) (operands_pass (suc i) names (with_default rows (operand_arg i n)))
+operands_pass i (n ∷ names) rows = text_passes n None (Some i) rows (operand_args (suc i) names) (operands_pass (suc i) names (with_default rows (operand_arg i n)))
 
 defaults_pass : (command : Syntax) (rows : List Row) → defaults_fault rows (rules_for command) ≡ []
-defaults_pass command rows = flags_pass command.flags _ (options_pass command.options _ (operands_pass 1 command.operands)) rows
+defaults_pass command rows =
+    named_pass flag_arg flag_passes command.flags _ (named_pass option_arg (λ n. text_passes n (Some n) None) command.options _ (operands_pass 1 command.operands)) rows
 
 checks_pass : (command : Syntax) (rows : List Row) → check_fault (shape (rules_for command)) rows false ≡ []
 checks_pass command rows = rw (none_required rows command) refl

@@ -17,7 +17,9 @@ use Rattle.command_words.specs.Syntax.{Text, Syntax, is_in, asks, is_name, is_so
 use Rattle.command_words.specs.Spelling.{Use, flag, valued, operand, name_of, text_of, is_plain, Spells, SpellsAll, IsOf, AreOf, operand_names}
 use Rattle.command_words.specs.Arguments.{Arguments, is_given, operand_texts, text_given, arguments_by, Means}
 use Rattle.command_words.specs.Reading.{is_refused, count_operands, long_of, with_use, uses_from, with_next, after_word, after_value, all_texts, with_first, complete_by, arguments_of}
-use Rattle.command_words.proofs.SoundLemmas.{apart_back, bytes_same, differs, flags_named, operand_not, operands_apart, option_apart, options_named, slice_in}
+use Rattle.command_words.proofs.DefaultLemmas.{map_on}
+use Rattle.command_words.proofs.UseLemmas.{operands_append}
+use Rattle.command_words.proofs.SoundLemmas.{found_nowhere, apart_back, bytes_same, differs, flags_named, operand_not, operands_apart, or_later, option_apart, options_named, slice_in}
 use Rattle.command_words.proofs.SpelledLemmas.{given_in, lacks_more, lacks_nothing}
 use Rattle.command_words.proofs.ReadLemmas.{Fine, read_all, plain_words}
 use Rattle.command_words.proofs.FaultLemmas.{accepted}
@@ -32,15 +34,15 @@ lacks_name (x ∷ xs) none =
 no_equals : (x : ℕ) (xs : Text) → is_name (x ∷ xs) ≡ true → Lacks 61 (x ∷ xs)
 no_equals x xs is = lacks_name (x ∷ xs) (not-true _ (and_parts (not (list_any (λ y. y == 61) (x ∷ xs))) (not (asks (dashed (x ∷ xs)))) is).0)
 
-name_long : (name : Text) → is_name name ≡ true → long_of (dashed name) ≡ Some (name, None)
+pub name_long : (name : Text) → is_name name ≡ true → long_of (dashed name) ≡ Some (name, None)
 name_long [] is = absurd (true≢false (sym is))
 name_long (x ∷ xs) is = ap Some (name_and_value-without (x ∷ xs) (no_equals x xs is))
 
-attached_long : (name text : Text) → is_name name ≡ true → long_of (dashed (name ++ 61 ∷ text)) ≡ Some (name, Some text)
+pub attached_long : (name text : Text) → is_name name ≡ true → long_of (dashed (name ++ 61 ∷ text)) ≡ Some (name, Some text)
 attached_long [] text is = absurd (true≢false (sym is))
 attached_long (x ∷ xs) text is = ap Some (name_and_value-at (x ∷ xs) text (no_equals x xs is))
 
-plain_long : (word : Text) → is_plain word ≡ true → long_of word ≡ None
+pub plain_long : (word : Text) → is_plain word ≡ true → long_of word ≡ None
 plain_long [] is = refl
 plain_long (b ∷ bs) is = rw (not-true (b == 45) is) refl
 
@@ -65,12 +67,6 @@ fresh : (uses : List Use) (u : Use) (added : List Use) → are_apart (map name_o
 fresh uses u added apart =
     given_in (name_of u) uses ∙ apart_back (map name_of uses) (name_of u ∷ map name_of added) (name_of u)
     (sym (ap are_apart (map-append name_of uses (u ∷ added))) ∙ apart) (or_left _ _ (bytes_same (name_of u)))
-
-operands_append : (uses more : List Use) → operand_names (uses ++ more) ≡ operand_names uses ++ operand_names more
-operands_append [] more = refl
-operands_append (flag n ∷ uses) more = operands_append uses more
-operands_append (valued n t ∷ uses) more = operands_append uses more
-operands_append (operand n t ∷ uses) more = ap (λ l. n ∷ l) (operands_append uses more)
 
 slice_after : (xs : List Text) (n : Text) (ys : List Text) → slice_get (xs ++ n ∷ ys) (length xs) ≡ Some n
 slice_after [] n ys = refl
@@ -129,20 +125,11 @@ module _ (command : Syntax) (sound : is_sound command ≡ true) where
 
 -- ---- the texts of the operands
 
-texts_on : (f g : Text → Option Text) (names : List Text) → ((n : Text) → is_in n names ≡ true → f n ≡ g n) → all_texts (map f names) ≡ all_texts (map g names)
-texts_on f g [] each = refl
-texts_on f g (n ∷ names) each =
-    ap₂ with_first (each n (rw (bytes_same n) refl)) (texts_on f g names (λ m is. each m (or_right (bytes_eq n m) (is_in m names) is)))
-
 operand_given : (n : Text) (uses : List Use) → is_in n (operand_names uses) ≡ true → is_in n (map name_of uses) ≡ true
 operand_given n [] is = absurd (true≢false (sym is))
 operand_given n (flag m ∷ uses) is = or_right _ _ (operand_given n uses is)
 operand_given n (valued m t ∷ uses) is = or_right _ _ (operand_given n uses is)
-operand_given n (operand m t ∷ uses) is = by (bytes_eq m n) is (operand_given n uses)
-  where
-    by : (b : Bool) → (b || is_in n (operand_names uses)) ≡ true → (is_in n (operand_names uses) ≡ true → is_in n (map name_of uses) ≡ true) → (b || is_in n (map name_of uses)) ≡ true
-    by true i go = refl
-    by false i go = go i
+operand_given n (operand m t ∷ uses) is = or_later (bytes_eq m n) _ _ (operand_given n uses) is
 
 -- a use of another name says nothing of this one
 not_first : (u : Use) (uses : List Use) (n : Text) → is_in (name_of u) (map name_of uses) ≡ false → is_in n (operand_names uses) ≡ true → text_given n (u ∷ uses) ≡ text_given n uses
@@ -155,12 +142,12 @@ not_first u uses n apart is = by (bytes_eq (name_of u) n) refl
 operands_said : (uses : List Use) → are_apart (map name_of uses) ≡ true → all_texts (map (λ n. text_given n uses) (operand_names uses)) ≡ Some (operand_texts uses)
 operands_said [] apart = refl
 operands_said (flag m ∷ uses) apart =
-    texts_on (λ n. text_given n (flag m ∷ uses)) (λ n. text_given n uses) (operand_names uses) (λ n is. not_first (flag m) uses n (not-true _ (and_parts _ _ apart).0) is) ∙ operands_said uses (and_parts _ _ apart).1
+    ap all_texts (map_on (λ n. text_given n (flag m ∷ uses)) (λ n. text_given n uses) (operand_names uses) (λ n is. not_first (flag m) uses n (not-true _ (and_parts _ _ apart).0) is)) ∙ operands_said uses (and_parts _ _ apart).1
 operands_said (valued m t ∷ uses) apart =
-    texts_on (λ n. text_given n (valued m t ∷ uses)) (λ n. text_given n uses) (operand_names uses) (λ n is. not_first (valued m t) uses n (not-true _ (and_parts _ _ apart).0) is) ∙ operands_said uses (and_parts _ _ apart).1
+    ap all_texts (map_on (λ n. text_given n (valued m t ∷ uses)) (λ n. text_given n uses) (operand_names uses) (λ n is. not_first (valued m t) uses n (not-true _ (and_parts _ _ apart).0) is)) ∙ operands_said uses (and_parts _ _ apart).1
 operands_said (operand m t ∷ uses) apart =
     let here : text_given m (operand m t ∷ uses) ≡ Some t = rw (bytes_same m) refl in
-    ap₂ with_first here (texts_on (λ n. text_given n (operand m t ∷ uses)) (λ n. text_given n uses) (operand_names uses) (λ n is. not_first (operand m t) uses n (not-true _ (and_parts _ _ apart).0) is)
+    ap₂ with_first here (ap all_texts (map_on (λ n. text_given n (operand m t ∷ uses)) (λ n. text_given n uses) (operand_names uses) (λ n is. not_first (operand m t) uses n (not-true _ (and_parts _ _ apart).0) is))
     ∙ operands_said uses (and_parts _ _ apart).1)
 
 complete_is : (command : Syntax) (uses : List Use) → are_apart (map name_of uses) ≡ true → operand_names uses ≡ command.operands → complete_by command uses ≡ Some (arguments_by command uses)
@@ -187,33 +174,19 @@ all_given f (m ∷ names) texts all n is none = by (bytes_eq m n) refl (f m) ref
         rest (Some ts) q a = go ts q n i none
 
 none_given : (n : Text) (uses : List Use) → is_given n uses ≡ false → text_given n uses ≡ None
-none_given n [] absent = refl
-none_given n (u ∷ uses) absent = by (bytes_eq (name_of u) n) absent (none_given n uses)
-  where
-    by : (b : Bool) → (b || is_given n uses) ≡ false → (is_given n uses ≡ false → text_given n uses ≡ None) → option_and_then text_of (cond b (Some u) (find (λ x. bytes_eq (name_of x) n) uses)) ≡ None
-    by true a go = absurd (true≢false a)
-    by false a go = go a
+none_given n uses absent = ap (option_and_then text_of) (found_nowhere (λ u. bytes_eq (name_of u) n) uses absent)
 
-in_same : (x n : Text) (names : List Text) → bytes_eq x n ≡ true → is_in x names ≡ true → is_in n names ≡ true
-in_same x n names e is = sym (ap (λ m. is_in m names) ((bytes_eq-Decides x n).0 e)) ∙ is
+-- a name among these is not one that is not
+not_among : (names : List Text) (m n : Text) → is_in m names ≡ true → is_in n names ≡ false → bytes_eq m n ≡ false
+not_among names m n is none = differs (λ x. not (is_in x names)) n m (ap not none) (ap not is)
 
 given_operand : (command : Syntax) (n : Text) (uses : List Use) → AreOf command uses → is_in n command.flags ≡ false → is_in n command.options ≡ false → is_given n uses ≡ true → is_in n (operand_names uses) ≡ true
 given_operand command n [] are no_flag no_option given = absurd (true≢false (sym given))
-given_operand command n (flag m ∷ uses) are no_flag no_option given = by (bytes_eq m n) refl given (given_operand command n uses are.1 no_flag no_option)
-  where
-    by : (b : Bool) → bytes_eq m n ≡ b → (b || is_given n uses) ≡ true → (is_given n uses ≡ true → is_in n (operand_names uses) ≡ true) → is_in n (operand_names uses) ≡ true
-    by true e g go = absurd (true≢false (sym (in_same m n command.flags e are.0) ∙ no_flag))
-    by false e g go = go g
-given_operand command n (valued m t ∷ uses) are no_flag no_option given = by (bytes_eq m n) refl given (given_operand command n uses are.1 no_flag no_option)
-  where
-    by : (b : Bool) → bytes_eq m n ≡ b → (b || is_given n uses) ≡ true → (is_given n uses ≡ true → is_in n (operand_names uses) ≡ true) → is_in n (operand_names uses) ≡ true
-    by true e g go = absurd (true≢false (sym (in_same m n command.options e are.0) ∙ no_option))
-    by false e g go = go g
-given_operand command n (operand m t ∷ uses) are no_flag no_option given = by (bytes_eq m n) given (given_operand command n uses are.1 no_flag no_option)
-  where
-    by : (b : Bool) → (b || is_given n uses) ≡ true → (is_given n uses ≡ true → is_in n (operand_names uses) ≡ true) → (b || is_in n (operand_names uses)) ≡ true
-    by true g go = refl
-    by false g go = go g
+given_operand command n (flag m ∷ uses) are no_flag no_option given =
+    given_operand command n uses are.1 no_flag no_option (ap (λ b. b || is_given n uses) (sym (not_among command.flags m n are.0 no_flag)) ∙ given)
+given_operand command n (valued m t ∷ uses) are no_flag no_option given =
+    given_operand command n uses are.1 no_flag no_option (ap (λ b. b || is_given n uses) (sym (not_among command.options m n are.0 no_option)) ∙ given)
+given_operand command n (operand m t ∷ uses) are no_flag no_option given = or_later (bytes_eq m n) _ _ (given_operand command n uses are.1 no_flag no_option) given
 
 apart_take : (xs : List Text) (k : ℕ) (n : Text) → are_apart xs ≡ true → slice_get xs k ≡ Some n → is_in n (take k xs) ≡ false
 apart_take [] k n apart is = absurd cc

@@ -9,4 +9,5 @@ pub mod SoundLemmas
 pub mod SpelledLemmas
 pub mod TextLemmas
 pub mod TurnLemmas
+pub mod UseLemmas
 pub mod WalkLemmas

@@ -19,9 +19,10 @@ use Rattle.command_words.specs.Reading.{is_stray, is_refused, count_operands, lo
 use Rattle.command_words.proofs.RuleLemmas.{app_is}
 use Rattle.command_words.proofs.SoundLemmas.{option_apart, operand_not, slice_in}
 use Rattle.command_words.proofs.DefaultLemmas.{Fits}
-use Rattle.command_words.proofs.WalkLemmas.{Plain, operand_count}
+use Rattle.command_words.proofs.WalkLemmas.{Plain}
+use Rattle.command_words.proofs.UseLemmas.{operand_count, operands_append}
 use Rattle.command_words.proofs.FaultLemmas.{simple, simple_and_free, matches_say, refusals_say}
-use Rattle.command_words.proofs.SpelledLemmas.{long_is, plain_is, operands_more, of_more, given_in, apart_more, take_more}
+use Rattle.command_words.proofs.SpelledLemmas.{long_is, plain_is, of_more, given_in, apart_more, take_more}
 
 pub plain_words : (words : List Text) → list_any is_refused words ≡ false → Plain words
 plain_words [] none = tt
@@ -59,14 +60,14 @@ module _ (command : Syntax) (sound : is_sound command ≡ true) where
   -- a use that is no operand leaves the operands
   same_turn : (uses : List Use) (u : Use) → Fine command uses → operand_names (u ∷ []) ≡ [] → operand_names (uses ++ u ∷ []) ≡ take (count_operands (uses ++ u ∷ [])) command.operands
   same_turn uses u fine none =
-      let same : operand_names (uses ++ u ∷ []) ≡ operand_names uses = operands_more uses u ∙ ap (λ l. operand_names uses ++ l) none ∙ append-nil (operand_names uses) in
+      let same : operand_names (uses ++ u ∷ []) ≡ operand_names uses = operands_append uses (u ∷ []) ∙ ap (λ l. operand_names uses ++ l) none ∙ append-nil (operand_names uses) in
       same ∙ fine.turn ∙ ap (λ l. take (length l) command.operands) (sym same)
 
   next_turn : (uses : List Use) (name text : Text) → Fine command uses → slice_get command.operands (count_operands uses) ≡ Some name
       → operand_names (uses ++ operand name text ∷ []) ≡ take (count_operands (uses ++ operand name text ∷ [])) command.operands
   next_turn uses name text fine is =
       let grown : operand_names (uses ++ operand name text ∷ []) ≡ take (suc (count_operands uses)) command.operands =
-      operands_more uses (operand name text) ∙ ap (λ l. l ++ name ∷ []) fine.turn ∙ take_more command.operands (count_operands uses) name is in
+      operands_append uses (operand name text ∷ []) ∙ ap (λ l. l ++ name ∷ []) fine.turn ∙ take_more command.operands (count_operands uses) name is in
       grown ∙ ap (λ n. take n command.operands) (sym (operand_count uses name text))
 
   -- the words of one use, and those after it

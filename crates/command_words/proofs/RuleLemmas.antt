@@ -28,13 +28,11 @@ operand_args i (name ∷ names) = operand_arg i name ∷ operand_args (suc i) na
 abbrev pub rules_for : Syntax → List Rule
 rules_for command = map flag_arg command.flags ++ (map option_arg command.options ++ operand_args 1 command.operands)
 
-flags_filled : (names : List Text) (rest : List Rule) → filled_from 1 (map flag_rule names ++ rest) ≡ map flag_arg names ++ filled_from 1 rest
-flags_filled [] rest = refl
-flags_filled (name ∷ names) rest = ap (λ rs. flag_arg name ∷ rs) (flags_filled names rest)
-
-options_filled : (names : List Text) (rest : List Rule) → filled_from 1 (map option_rule names ++ rest) ≡ map option_arg names ++ filled_from 1 rest
-options_filled [] rest = refl
-options_filled (name ∷ names) rest = ap (λ rs. option_arg name ∷ rs) (options_filled names rest)
+-- what building makes of arguments with a long name, which have no place
+named_filled : (rule arg : Text → Rule) → ((name : Text) (rest : List Rule) → filled_from 1 (rule name ∷ rest) ≡ arg name ∷ filled_from 1 rest) → (names : List Text) (rest : List Rule)
+    → filled_from 1 (map rule names ++ rest) ≡ map arg names ++ filled_from 1 rest
+named_filled rule arg one [] rest = refl
+named_filled rule arg one (name ∷ names) rest = one name (map rule names ++ rest) ∙ ap (λ rs. arg name ∷ rs) (named_filled rule arg one names rest)
 
 operands_filled : (i : ℕ) (names : List Text) → i + length names < usize_max → filled_from i (map operand_rule names) ≡ operand_args i names
 operands_filled i [] few = refl
@@ -63,5 +61,6 @@ app_is command =
 
 pub rules_are : (command : Syntax) → length command.operands < 10 → filled_from 1 (raw_rules command) ≡ rules_for command
 rules_are command few =
-    flags_filled command.flags _ ∙ ap (λ rs. map flag_arg command.flags ++ rs) (options_filled command.options _
+    named_filled flag_rule flag_arg (λ n r. refl) command.flags _
+    ∙ ap (λ rs. map flag_arg command.flags ++ rs) (named_filled option_rule option_arg (λ n r. refl) command.options _
     ∙ ap (λ rs. map option_arg command.options ++ rs) (operands_filled 1 command.operands (omega (arith, few))))

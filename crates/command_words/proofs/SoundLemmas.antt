@@ -1,6 +1,7 @@
 -- Names that are apart, and what holds of a sound syntax.
-use Rattle.std.proofs.Common.{◌≡◌, ℕ, suc, zero, ◌<◌, Bool, true, false, List, [], ◌∷◌, ◌++◌, length, Some, refl, sym, ap, ◌∙◌, ◌||◌, ◌&&◌, true≢false, subst, ltb-true}
-use Rattle.std.specs.List.{list_all}
+use Rattle.std.proofs.Common.{◌≡◌, ℕ, suc, zero, ◌<◌, Bool, true, false, List, [], ◌∷◌, ◌++◌, length, Option, Some, None, refl, sym, ap, ◌∙◌, ◌||◌, ◌&&◌, true≢false, cond, find, subst, ltb-true}
+use Rattle.std.specs.List.{list_all, list_any}
+use Rattle.std.specs.Option.{is_some}
 use Rattle.std.specs.Prelude.{nat_lt, slice_get}
 use Rattle.std.specs.Str.{bytes_eq}
 use Rattle.std.proofs.lemmas.Bool.{and_parts, or_parts, or_right, not-true, false_from_ne_true}
@@ -17,6 +18,25 @@ differs test x y is none = false_from_ne_true (bytes_eq y x) (λ e. true≢false
 
 pub bytes_apart : (x y : Text) → bytes_eq x y ≡ false → bytes_eq y x ≡ false
 bytes_apart x y apart = differs (bytes_eq x) x y (bytes_same x) apart
+
+pub found_there : {X : Type 0} (p : X → Bool) (xs : List X) → is_some (find p xs) ≡ list_any p xs
+found_there p [] = refl
+found_there p (x ∷ xs) = by (p x) (found_there p xs)
+  where
+    by : (b : Bool) → is_some (find p xs) ≡ list_any p xs → is_some (cond b (Some x) (find p xs)) ≡ (b || list_any p xs)
+    by true e = refl
+    by false e = e
+
+pub found_nowhere : {X : Type 0} (p : X → Bool) (xs : List X) → list_any p xs ≡ false → find p xs ≡ None
+found_nowhere {X} p xs none = by (find p xs) (found_there p xs ∙ none)
+  where
+    by : (found : Option X) → is_some found ≡ false → found ≡ None
+    by (Some x) e = absurd (true≢false e)
+    by None e = refl
+
+pub or_later : (a b c : Bool) → (b ≡ true → c ≡ true) → (a || b) ≡ true → (a || c) ≡ true
+or_later true b c gives is = refl
+or_later false b c gives is = gives is
 
 pub in_append : (name : Text) (xs ys : List Text) → is_in name (xs ++ ys) ≡ (is_in name xs || is_in name ys)
 in_append name xs ys = list_any-append (λ n. bytes_eq n name) xs ys

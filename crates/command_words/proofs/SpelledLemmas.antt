@@ -8,7 +8,7 @@ use Rattle.std.proofs.lemmas.Bool.Decides.{nat_tests}
 use Rattle.clap.proofs.CutLemmas.{Lacks}
 use Rattle.clap.proofs.LexerLemmas.{name_and_value-at, name_and_value-without}
 use Rattle.command_words.specs.Syntax.{Text, Syntax, is_in, dashed, are_apart}
-use Rattle.command_words.specs.Spelling.{Use, flag, valued, operand, name_of, is_plain, IsOf, AreOf, operand_names}
+use Rattle.command_words.specs.Spelling.{Use, name_of, is_plain, IsOf, AreOf}
 use Rattle.command_words.specs.Arguments.{is_given}
 use Rattle.command_words.specs.Reading.{is_stray, is_stray_rest, long_of, long_of_rest, strip_hyphen, name_and_value}
 use Rattle.command_words.proofs.SoundLemmas.{bytes_apart, in_append}
@@ -90,12 +90,6 @@ plain_is (b ∷ bs) plain none = by (b == 45) plain none
     by false p n = refl
 
 -- ---- uses, one more at the end
-
-pub operands_more : (uses : List Use) (u : Use) → operand_names (uses ++ u ∷ []) ≡ operand_names uses ++ operand_names (u ∷ [])
-operands_more [] u = refl
-operands_more (flag n ∷ uses) u = operands_more uses u
-operands_more (valued n t ∷ uses) u = operands_more uses u
-operands_more (operand n t ∷ uses) u = ap (λ l. n ∷ l) (operands_more uses u)
 
 pub of_more : (command : Syntax) (uses : List Use) (u : Use) → AreOf command uses → IsOf command u → AreOf command (uses ++ u ∷ [])
 of_more command [] u are is = (is, tt)

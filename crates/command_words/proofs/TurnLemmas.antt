@@ -8,7 +8,7 @@ use Rattle.clap.specs.Faults.{turn_fault, flag_word_fault, step_fault, settle_fa
 use Rattle.clap.specs.Kinds.{Kinds, or_else}
 use Rattle.clap.specs.Lexer.{short_of, short_of_rest}
 use Rattle.clap.specs.Simple.{Shape, built}
-use Rattle.clap.specs.Walk.{Held, Row, Rule, Waiting, Walk, idle, option, arg_by_long, after_step, after_flag, long_met, long_or_other, walked, settled}
+use Rattle.clap.specs.Walk.{Held, Row, Rule, Waiting, Walk, idle, option, after_step, after_flag, long_met, long_or_other, walked, settled}
 use Rattle.command_words.specs.Syntax.{Text}
 use Rattle.command_words.specs.Reading.{long_of, is_stray, is_stray_rest}
 use Rattle.command_words.proofs.RuleLemmas.{with_rules}
@@ -85,10 +85,6 @@ module _ (rules : List Rule) where
   pub turned_waits : (words : List Text) (h : Held) (place : ℕ) (id word : Text) → bytes_eq word (45 ∷ 45 ∷ []) ≡ false
       → outcome (word ∷ words) (at h (option id) place) ≡ turned words h (option id) place (long_of word) word
   turned_waits words h place id word other = stepped (at h (option id) place) word words ∙ rw (turn_waits h place id word other, walked_waits h place id word other) refl
-
-  pub turned_long : (words : List Text) (h : Held) (waiting : Waiting) (place : ℕ) (name : Text) (v : Option Text) (word : Text)
-      → turned words h waiting place (Some (name, v)) word ≡ turned_arg words h waiting place (arg_by_long rules name) v word
-  turned_long words h waiting place name v word = refl
 
   pub outcome_nil : (w : Walk) → outcome [] w ≡ ended w.held
   unfolding walk_fault

@@ -16,6 +16,7 @@ use Rattle.command_words.specs.Reading.{is_stray, long_of, with_use, count_opera
 use Rattle.command_words.proofs.RuleLemmas.{flag_arg, text_arg, option_arg, operand_arg}
 use Rattle.command_words.proofs.LookupLemmas.{Finds}
 use Rattle.command_words.proofs.SoundLemmas.{bytes_same}
+use Rattle.command_words.proofs.UseLemmas.{flag_count, valued_count, operand_count}
 use Rattle.command_words.proofs.RowLemmas.{row_for, row_of_text, used_flag, used_text, rows_given, rows_more}
 use Rattle.command_words.proofs.TurnLemmas.{at, Long, outcome, turned, turned_arg, turned_is, turned_waits, outcome_nil, stray_dashes, stray_short}
 
@@ -23,24 +24,6 @@ use Rattle.command_words.proofs.TurnLemmas.{at, Long, outcome, turned, turned_ar
 abbrev pub Plain : List Text → Type 0
 Plain [] = ⊤
 Plain (word ∷ words) = (is_stray word ≡ false) × Plain words
-
-flag_count : (uses : List Use) (name : Text) → count_operands (uses ++ flag name ∷ []) ≡ count_operands uses
-flag_count [] name = refl
-flag_count (flag n ∷ uses) name = flag_count uses name
-flag_count (valued n t ∷ uses) name = flag_count uses name
-flag_count (operand n t ∷ uses) name = ap suc (flag_count uses name)
-
-valued_count : (uses : List Use) (name text : Text) → count_operands (uses ++ valued name text ∷ []) ≡ count_operands uses
-valued_count [] name text = refl
-valued_count (flag n ∷ uses) name text = valued_count uses name text
-valued_count (valued n t ∷ uses) name text = valued_count uses name text
-valued_count (operand n t ∷ uses) name text = ap suc (valued_count uses name text)
-
-pub operand_count : (uses : List Use) (name text : Text) → count_operands (uses ++ operand name text ∷ []) ≡ suc (count_operands uses)
-operand_count [] name text = refl
-operand_count (flag n ∷ uses) name text = operand_count uses name text
-operand_count (valued n t ∷ uses) name text = operand_count uses name text
-operand_count (operand n t ∷ uses) name text = ap suc (operand_count uses name text)
 
 abbrev pub rows_in : Option (List Use) → Option (List Row)
 rows_in found = option_map (map row_for) found
