@@ -118,7 +118,7 @@ closed_tables_are_closed_lists net table for sound closed =
     }
 
 -- every edge of a closure is derivable
-closure_derivable : (net : Plan) (table : Graph) → IsClosure net table → HoldsDerivable net table
+pub closure_derivable : (net : Plan) (table : Graph) → IsClosure net table → HoldsDerivable net table
 closure_derivable net table closure edge has =
     let key = key_of edge in
     let least : IsLeastDerivable net key edge.weight = MatchOption-at_some ((weight : ℤ) → ¬ IsDerivableFor net key weight) (IsLeastDerivable net key) edge.weight has (closure.weights key) in

@@ -6,7 +6,8 @@ use Rattle.net_model.specs.declared.ids.PointId.{PointId}
 use Rattle.net_model.specs.declared.part.Edge.{Edge}
 use Rattle.closure_model.specs.Tables.{Graph, edges_of, IsFor, IsClosed, IsGraph}
 use Rattle.closure_model.specs.Derivable.{IsDerivable}
-use Rattle.closure_model.specs.Closure.{IsClosure}
+use Rattle.closure_model.specs.Closure.{IsClosure, HoldsDerivable}
+use Rattle.closure_model.specs.Orders as orders
 use Rattle.strategy_model.specs.Situations.{IsSituation}
 use Rattle.strategy_model.specs.Plays.{IsInstant}
 use Rattle.strategy_model.specs.Control.{Controls, IsControllable, IsEarliest}
@@ -33,6 +34,14 @@ ClosuresAreClosedLists = (net : Plan) (table : Graph) → IsPlan net → IsClosu
 -- a network is controllable exactly where its closure has no cycle of negative ordinary edges
 abbrev pub ClosuresDecide : Type 0
 ClosuresDecide = (net : Plan) (table : Graph) → IsInstant net → IsClosure net table → (IsControllable net ↔ HasNoNegativeCycle (edges_of table))
+
+-- so it is controllable where its closure has an order
+abbrev pub OrderedClosuresAreControllable : Type 0
+OrderedClosuresAreControllable = (net : Plan) (table : Graph) (order : List PointId) → IsInstant net → IsClosure net table → orders.IsOrder table order → IsControllable net
+
+-- and it is not where a table of derivable edges, closed or not, has a cycle
+abbrev pub CyclesOfTablesExclude : Type 0
+CyclesOfTablesExclude = (net : Plan) (table : Graph) (cycle : List PointId) → IsInstant net → HoldsDerivable net table → orders.IsCycle table cycle → IsControllable net → ⊥
 
 -- a schedule is the earliest of a situation exactly where it is that of the lower bounds and waits of the closure
 abbrev pub ClosuresDispatchEarliest : Type 0

@@ -1,6 +1,6 @@
 //! Laws about derivable edges, closed tables and the closure, each the contract of a function without parameters.
 
-ghost use Rattle.controllability.specs.Laws.{DerivableAreTrue, DerivableCyclesExclude, ClosedTablesAreClosedLists, ClosuresAreClosedLists, ClosuresDecide, ClosuresDispatchEarliest};
+ghost use Rattle.controllability.specs.Laws.{DerivableAreTrue, DerivableCyclesExclude, ClosedTablesAreClosedLists, ClosuresAreClosedLists, ClosuresDecide, OrderedClosuresAreControllable, CyclesOfTablesExclude, ClosuresDispatchEarliest};
 
 /// Every derivable edge is true of every strategy that controls the network.
 pub fn derivable_are_true()
@@ -25,6 +25,16 @@ pub fn closures_are_closed_lists()
 /// A network is controllable exactly where its closure has no cycle of negative ordinary edges.
 pub fn closures_decide()
     ensures { ClosuresDecide }
+{}
+
+/// A network whose closure has an order is controllable.
+pub fn ordered_closures_are_controllable()
+    ensures { OrderedClosuresAreControllable }
+{}
+
+/// A network is not controllable where a table of derivable edges has a cycle of negative ordinary edges.
+pub fn cycles_of_tables_exclude()
+    ensures { CyclesOfTablesExclude }
 {}
 
 /// A schedule is the earliest of a situation exactly where it is that of the lower bounds and waits of the closure.

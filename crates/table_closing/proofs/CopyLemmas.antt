@@ -1,0 +1,202 @@
+-- Tables that are lowered to the edges of one another.
+use Rattle.std.proofs.Common.{◌≡◌, ℕ, ◌+◌, ◌<◌, ◌≤◌, ℤ, ◌==◌, ◌⊎◌, Bool, true, false, List, [], ◌∷◌, length, take, get_or, filter, cond, Option, Some, None, IfSome, refl, ap, sym, subst, ◌∙◌, inl, inr, arith}
+use Rattle.std.specs.Prelude.{MatchOption, slice_get}
+use Rattle.std.specs.List.{All, Contains}
+use Rattle.std.proofs.lemmas.Bool.Decides.{nat_tests}
+use Rattle.std.proofs.lemmas.List.{take_more}
+use Rattle.std.proofs.lemmas.List.Elements.{All-contains, Contains-append_cases}
+use Rattle.net_model.specs.Network.{Plan, IsPlan}
+use Rattle.net_model.specs.Rules.{Follows}
+use Rattle.net_model.specs.declared.ids.LinkId.{LinkId}
+use Rattle.net_model.specs.declared.ids.PointId.{PointId}
+use Rattle.net_model.specs.declared.part.Edge.{Edge}
+use Rattle.net_model.specs.declared.part.Link.{Link}
+use Rattle.closure_model.specs.Closure.{IsClosure, HoldsDerivable}
+use Rattle.closure_model.specs.Derivable.{IsDerivable, IsDerivableFor, IsLeastDerivable}
+use Rattle.closure_model.specs.Keys.{shape_of, key_of}
+use Rattle.closure_model.specs.Tables.{Graph, weight_of, HasEdge, HasAtMost, IsAtMost, base_edges, edges_of, row_of, no_edges, lowered}
+use Rattle.closure_model.proofs.BaseLemmas.{all_contained}
+use Rattle.closure_model.proofs.LawProofs.{rules_keep_derivable, closed_and_derivable_is_closure}
+use Rattle.closure_model.proofs.Lists.{Contains-cases, Contains-none, Contains-head, Contains-tail}
+use Rattle.closure_model.proofs.TableLemmas.{listed_edge, edge_listed, no_edges-has_none, lowered-at_most, lowered-cases, lowered-shape, lowered-has, at_most_below, at_most_from, IsAtMost-itself, IsAtMost-trans}
+use Rattle.table_closing.proofs.GivingLemmas.{held_one, label_known, labelled_end}
+use Rattle.table_closing.proofs.WayLemmas.{derivable_is}
+use Rattle.table_closing.specs.Closing.{IsOnWay, IsOfDerivable, IsLoweredTo, IsEdgeInto, IsHeld}
+
+-- ---- a table that was lowered
+pub lowered_none : (net : Plan) (table : Graph) (among : Edge → Type 0) → IsOfDerivable net table → ((edge : Edge) → among edge → ⊥) → IsLoweredTo net among table table
+lowered_none net table among of nothing = record { of_derivable = of; at_most = IsAtMost-itself table; has = λ edge inside. absurd (nothing edge inside) }
+
+-- first to some edges, then to others
+pub lowered_then : (net : Plan) (old middle new : Graph) (first second both : Edge → Type 0) → IsLoweredTo net first old middle → IsLoweredTo net second middle new → ((edge : Edge) → both edge → first edge ⊎ second edge) → IsLoweredTo net both old new
+lowered_then net old middle new first second both one two either = record { of_derivable = two.of_derivable; at_most = IsAtMost-trans new middle old two.at_most one.at_most; has = λ edge inside. by edge (either edge inside) }
+  where
+    by : (edge : Edge) → first edge ⊎ second edge → HasAtMost new edge
+    by edge (inl before) = at_most_below new middle edge two.at_most (one.has edge before)
+    by edge (inr here) = two.has edge here
+
+pub lowered_among : (net : Plan) (old new : Graph) (among all : Edge → Type 0) → IsLoweredTo net among old new → ((edge : Edge) → all edge → among edge) → IsLoweredTo net all old new
+lowered_among net old new among all lower each = record { of_derivable = lower.of_derivable; at_most = lower.at_most; has = λ edge inside. lower.has edge (each edge inside) }
+
+pub lowered_to_one : (net : Plan) (old new : Graph) (edge : Edge) → IsOfDerivable net old → IsDerivable net edge → new ≡ lowered old edge → IsLoweredTo net (λ other. Some edge ≡ Some other) old new
+lowered_to_one net old new edge of derivable is = subst (λ (table : Graph). IsLoweredTo net (λ other. Some edge ≡ Some other) old table) (sym is) (record {
+  of_derivable = record { plan = of.plan; fits = lowered-shape old edge ∙ of.fits; derivable = λ other has. by other (lowered-cases old edge other has) };
+  at_most = lowered-at_most old edge;
+  has = λ other same. subst (HasAtMost (lowered old edge)) (edge_is other same) (lowered-has old edge);
+})
+  where
+    by : (other : Edge) → (other ≡ edge) ⊎ HasEdge old other → IsDerivable net other
+    by other (inl same) = subst (IsDerivable net) (sym same) derivable
+    by other (inr has) = of.derivable other has
+
+    edge_is : (other : Edge) → Some edge ≡ Some other → edge ≡ other
+    edge_is other same = cc
+
+-- ---- tables on their way
+pub way_is_of_derivable : (net : Plan) (table : Graph) → IsOnWay net table → IsOfDerivable net table
+way_is_of_derivable net table way = record { plan = way.plan; fits = way.fits; derivable = way.derivable }
+
+pub way_by : (net : Plan) (table other : Graph) → IsOnWay net other → IsOfDerivable net table → IsAtMost table other → IsOnWay net table
+way_by net table other way of less = record {
+  plan = of.plan;
+  fits = of.fits;
+  base = all_contained (HasAtMost table) (base_edges net) (λ edge inside. at_most_below table other edge less (All-contains (HasAtMost other) (base_edges net) edge way.base inside));
+  derivable = of.derivable;
+}
+
+pub no_edges_of_derivable : (net : Plan) (table : Graph) → IsPlan net → table ≡ no_edges (shape_of net) → IsOfDerivable net table
+no_edges_of_derivable net table plan is = record { plan = plan; fits = ap (λ (g : Graph). g.shape) is; derivable = λ edge has. absurd (no_edges-has_none (shape_of net) edge (subst (λ (g : Graph). HasEdge g edge) is has)) }
+
+-- ---- rows
+filter_keeps : (test : Edge → Bool) (edges : List Edge) (edge : Edge) → Contains edges edge → test edge ≡ true → Contains (filter test edges) edge
+filter_keeps test [] edge inside holds = absurd (Contains-none edge inside)
+filter_keeps test (first ∷ edges) edge inside holds = by (λ later. filter_keeps test edges edge later holds) (test first) refl (Contains-cases first edges edge inside)
+  where
+    by : (Contains edges edge → Contains (filter test edges) edge) → (b : Bool) → test first ≡ b → (first ≡ edge) ⊎ Contains edges edge → Contains (cond b (first ∷ filter test edges) (filter test edges)) edge
+    by rest true is (inl same) = subst (Contains (first ∷ filter test edges)) same (Contains-head first (filter test edges))
+    by rest true is (inr later) = Contains-tail first (filter test edges) edge (rest later)
+    by rest false is (inl same) = let both : true ≡ false = sym holds ∙ ap test (sym same) ∙ is in absurd cc
+    by rest false is (inr later) = rest later
+
+filter_from : (test : Edge → Bool) (edges : List Edge) (edge : Edge) → Contains (filter test edges) edge → Contains edges edge
+filter_from test [] edge inside = absurd (Contains-none edge inside)
+filter_from test (first ∷ edges) edge inside = by (filter_from test edges edge) (test first) inside
+  where
+    by : (Contains (filter test edges) edge → Contains edges edge) → (b : Bool) → Contains (cond b (first ∷ filter test edges) (filter test edges)) edge → Contains (first ∷ edges) edge
+    by rest true here = at (Contains-cases first (filter test edges) edge here)
+      where
+        at : (first ≡ edge) ⊎ Contains (filter test edges) edge → Contains (first ∷ edges) edge
+        at (inl same) = subst (Contains (first ∷ edges)) same (Contains-head first edges)
+        at (inr later) = Contains-tail first edges edge (rest later)
+    by rest false here = Contains-tail first edges edge (rest here)
+
+pub in_row : (table : Graph) (to : PointId) (edge : Edge) → HasEdge table edge → edge.to.0 ≡ to.0 → Contains (row_of table to) edge
+in_row table to edge has ends = filter_keeps (λ (e : Edge). e.to.0 == to.0) (edges_of table) edge (edge_listed table edge has) (grind (arith, nat_tests))
+
+pub row_derivable : (net : Plan) (table : Graph) (to : PointId) (row : List Edge) → row ≡ row_of table to → HoldsDerivable net table → All (IsDerivable net) row
+row_derivable net table to row is derivable = subst (All (IsDerivable net)) (sym is) (all_contained (IsDerivable net) (row_of table to) (λ edge inside. derivable edge (listed_edge table edge (filter_from (λ (e : Edge). e.to.0 == to.0) (edges_of table) edge inside))))
+
+-- ---- one edge, row or label more
+cases_below : (k n : ℕ) → k < n + 1 → (k < n) ⊎ (k ≡ n)
+cases_below k n below = grind arith
+
+pub row_more : (row : List Edge) (place : ℕ) (d edge : Edge) → place < length row → Contains (take (place + 1) row) edge → Contains (take place row) edge ⊎ (Some (get_or row place d) ≡ Some edge)
+row_more row place d edge inside among = by (Contains-append_cases (take place row) (get_or row place d ∷ []) edge (subst (λ (edges : List Edge). Contains edges edge) (take_more row place d inside) among))
+  where
+    by : Contains (take place row) edge ⊎ Contains (get_or row place d ∷ []) edge → Contains (take place row) edge ⊎ (Some (get_or row place d) ≡ Some edge)
+    by (inl before) = inl before
+    by (inr here) = at (Contains-cases (get_or row place d) [] edge here)
+      where
+        at : (get_or row place d ≡ edge) ⊎ Contains [] edge → Contains (take place row) edge ⊎ (Some (get_or row place d) ≡ Some edge)
+        at (inl same) = inr (ap Some same)
+        at (inr none) = absurd (Contains-none edge none)
+
+abbrev pub IsBelow : Graph → ℕ → Edge → Type 0
+IsBelow table end edge = HasEdge table edge × (edge.to.0 < end)
+
+pub target_more : (table : Graph) (to : PointId) (row : List Edge) (edge : Edge) → row ≡ row_of table to → IsBelow table (to.0 + 1) edge → IsBelow table to.0 edge ⊎ Contains row edge
+target_more table to row edge is below = by (cases_below edge.to.0 to.0 below.1)
+  where
+    by : (edge.to.0 < to.0) ⊎ (edge.to.0 ≡ to.0) → IsBelow table to.0 edge ⊎ Contains row edge
+    by (inl less) = inl (below.0, less)
+    by (inr same) = inr (subst (λ (edges : List Edge). Contains edges edge) (sym is) (in_row table to edge below.0 same))
+
+pub found_more : (dense : Graph) (place : ℕ) (to : PointId) (label : Option LinkId) (found : Option Edge) → MatchOption found (weight_of dense (record { to = to; from = record { 0 = place }; label = label }) ≡ None) (IsHeld dense (record { 0 = place }) to label)
+    → (edge : Edge) → IsEdgeInto dense to label edge × (edge.from.0 < place + 1) → (IsEdgeInto dense to label edge × (edge.from.0 < place)) ⊎ (found ≡ Some edge)
+found_more dense place to label found held edge into = by (cases_below edge.from.0 place into.1)
+  where
+    it_is : (o : Option Edge) → MatchOption o (weight_of dense (record { to = to; from = record { 0 = place }; label = label }) ≡ None) (IsHeld dense (record { 0 = place }) to label) → edge.from ≡ record { 0 = place } → o ≡ Some edge
+    it_is None none begins =
+        let keys : key_of edge ≡ record { to = to; from = record { 0 = place }; label = label } = λ i. record { to = into.0.to_is i; from = begins i; label = into.0.label_is i } in
+        let both : None ≡ Some edge.weight = sym none ∙ (ap (weight_of dense) (sym keys) ∙ into.0.has) in
+        absurd cc
+    it_is (Some one) is begins = ap Some (held_one dense (record { 0 = place }) to label one edge is into.0.has begins into.0.to_is into.0.label_is)
+
+    by : (edge.from.0 < place) ⊎ (edge.from.0 ≡ place) → (IsEdgeInto dense to label edge × (edge.from.0 < place)) ⊎ (found ≡ Some edge)
+    by (inl less) = inl (into.0, less)
+    by (inr same) = inr (it_is found held (ap (λ (k : ℕ). record { 0 = k }) same))
+
+module _ (net : Plan) (dense : Graph) (way : IsOnWay net dense) where
+  pub within_points : (end : ℕ) → length net.points ≤ end → (edge : Edge) → HasEdge dense edge → edge.from.0 < end
+  within_points end done edge has = let begins = (derivable_is net way.plan edge (way.derivable edge has)).from_point in omega (arith, begins, done)
+
+  pub into_more : (place : ℕ) (edge : Edge) → HasEdge dense edge × (edge.label ≡ None) × (edge.to.0 < place + 1) → (HasEdge dense edge × (edge.label ≡ None) × (edge.to.0 < place)) ⊎ IsEdgeInto dense (record { 0 = place }) None edge
+  into_more place edge inside = by (cases_below edge.to.0 place inside.2)
+    where
+      by : (edge.to.0 < place) ⊎ (edge.to.0 ≡ place) → (HasEdge dense edge × (edge.label ≡ None) × (edge.to.0 < place)) ⊎ IsEdgeInto dense (record { 0 = place }) None edge
+      by (inl less) = inl (inside.0, inside.1, less)
+      by (inr same) = inr (record { has = inside.0; to_is = ap (λ (k : ℕ). record { 0 = k }) same; label_is = inside.1 })
+
+  pub ordinary_first : (end : ℕ) → length net.points ≤ end → (edge : Edge) → HasEdge dense edge × IfSome edge.label (λ (name : LinkId). name.0 < 0) → HasEdge dense edge × (edge.label ≡ None) × (edge.to.0 < end)
+  ordinary_first end done edge inside = (inside.0, by edge.label refl inside.1, let ends = (derivable_is net way.plan edge (way.derivable edge inside.0)).to_point in omega (arith, ends, done))
+    where
+      by : (label : Option LinkId) → edge.label ≡ label → IfSome label (λ (name : LinkId). name.0 < 0) → edge.label ≡ None
+      by None is below = is
+      by (Some name) is below = absurd (omega (arith, below))
+
+  pub labelled_more : (place : ℕ) (link : Link) → slice_get net.links place ≡ Some link → (edge : Edge) → HasEdge dense edge × IfSome edge.label (λ (name : LinkId). name.0 < place + 1)
+      → (HasEdge dense edge × IfSome edge.label (λ (name : LinkId). name.0 < place)) ⊎ IsEdgeInto dense link.from (Some (record { 0 = place })) edge
+  labelled_more place link declared edge inside = by edge.label refl inside.1
+    where
+      by : (label : Option LinkId) → edge.label ≡ label → IfSome label (λ (name : LinkId). name.0 < place + 1) → (HasEdge dense edge × IfSome edge.label (λ (name : LinkId). name.0 < place)) ⊎ IsEdgeInto dense link.from (Some (record { 0 = place })) edge
+      by None is below = inl (inside.0, subst (λ (o : Option LinkId). IfSome o (λ (name : LinkId). name.0 < place)) (sym is) tt)
+      by (Some name) is below = at (cases_below name.0 place below)
+        where
+          at : (name.0 < place) ⊎ (name.0 ≡ place) → (HasEdge dense edge × IfSome edge.label (λ (name : LinkId). name.0 < place)) ⊎ IsEdgeInto dense link.from (Some (record { 0 = place })) edge
+          at (inl less) = inl (inside.0, subst (λ (o : Option LinkId). IfSome o (λ (name : LinkId). name.0 < place)) (sym is) less)
+          at (inr same) =
+              let label_is : edge.label ≡ Some (record { 0 = place }) = is ∙ ap (λ (k : ℕ). Some (record { 0 = k })) same in
+              inr (record { has = inside.0; to_is = labelled_end net dense way link (record { 0 = place }) declared edge inside.0 label_is; label_is = label_is })
+
+  pub all_labelled : (end : ℕ) → length net.links ≤ end → (edge : Edge) → HasEdge dense edge → HasEdge dense edge × IfSome edge.label (λ (name : LinkId). name.0 < end)
+  all_labelled end done edge has = (has, by edge.label (label_known net way.plan edge (way.derivable edge has)))
+    where
+      by : (label : Option LinkId) → IfSome label (λ (name : LinkId). name.0 < length net.links) → IfSome label (λ (name : LinkId). name.0 < end)
+      by None known = tt
+      by (Some name) known = omega (arith, known, done)
+
+pub lowered_itself : (net : Plan) (old new : Graph) (among all : Edge → Type 0) → IsLoweredTo net among old new → ((edge : Edge) → all edge → among edge) → IsLoweredTo net all new new
+lowered_itself net old new among all lower each = record { of_derivable = lower.of_derivable; at_most = IsAtMost-itself new; has = λ edge inside. lower.has edge (each edge inside) }
+
+-- the dense table of a table on its way is on it
+pub way_below : (net : Plan) (table dense : Graph) (end : ℕ) → IsOnWay net table → length net.points ≤ end → IsLoweredTo net (IsBelow table end) (no_edges (shape_of net)) dense → IsOnWay net dense
+way_below net table dense end way done lower = way_by net dense table way lower.of_derivable (λ edge has. lower.has edge (has, let ends = (derivable_is net way.plan edge (way.derivable edge has)).to_point in omega (arith, ends, done)))
+
+-- ---- a table that was lowered to a closure is the closure
+pub still_on_way : (net : Plan) (among : Edge → Type 0) (old new : Graph) → IsOnWay net old → IsLoweredTo net among old new → IsOnWay net new
+still_on_way net among old new way lower = way_by net new old way lower.of_derivable lower.at_most
+
+closure_has : (net : Plan) (closure : Graph) → IsClosure net closure → (edge : Edge) → IsDerivable net edge → HasAtMost closure edge
+closure_has net closure is edge derivable = by (weight_of closure (key_of edge)) refl (is.weights (key_of edge))
+  where
+    by : (o : Option ℤ) → weight_of closure (key_of edge) ≡ o → MatchOption o ((w : ℤ) → ¬ IsDerivableFor net (key_of edge) w) (IsLeastDerivable net (key_of edge)) → HasAtMost closure edge
+    by None none never = absurd (never edge.weight derivable)
+    by (Some least) some is_least = at_most_from closure edge least some (is_least.least edge.weight derivable)
+
+pub lowered_to_closure : (net : Plan) (closure old table : Graph) → IsClosure net closure → IsLoweredTo net (HasEdge closure) old table → IsClosure net table
+lowered_to_closure net closure old table is lower = closed_and_derivable_is_closure net table lower.of_derivable.fits closes lower.of_derivable.derivable
+  where
+    closes : (edge : Edge) → Follows net (edges_of table) edge → HasAtMost table edge
+    closes edge follows =
+        at_most_below table closure edge lower.has
+        (closure_has net closure is edge (rules_keep_derivable net (edges_of table) edge (all_contained (IsDerivable net) (edges_of table) (λ other inside. lower.of_derivable.derivable other (listed_edge table other inside))) follows))

@@ -1,0 +1,6 @@
+pub mod CopyLemmas
+pub mod DenseLemmas
+pub mod GivingLemmas
+pub mod VerdictLemmas
+pub mod WayLemmas
+pub mod WordLemmas

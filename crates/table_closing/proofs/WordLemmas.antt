@@ -1,0 +1,66 @@
+-- What words hold, one by one and in rows.
+use Rattle.std.proofs.Common.{◌≡◌, ◌+◌, ◌||◌, ℕ, zero, suc, ℤ, pos, ◌+ℤ◌, ◌≤ℤ◌, ◌<ℤ◌, ◌<◌, ◌≤◌, ◌⊎◌, inl, inr, Bool, true, false, length, get_or, sym, subst, cond, List, [], ◌∷◌, map, replicate, Option, Some, None, refl, ap, ◌∙◌, arith}
+use Rattle.std.specs.List.{slice_set}
+use Rattle.std.specs.Prelude.{IsSomeAnd}
+use Rattle.std.specs.Int.{int_max}
+use Rattle.std.specs.Ordering.{int_eq}
+use Rattle.std.proofs.lemmas.Int.{ints, int_max_is}
+use Rattle.table_closing.specs.Words.{absent, held, FitsWord, MeetsHeld}
+
+-- a word of a weight that it may hold is that weight
+held-weight : (weight : ℤ) → FitsWord weight → held weight ≡ Some weight
+held-weight weight small = let test : int_eq weight absent ≡ false = grind (arith, ints) in ap (λ b. cond b None (Some weight)) test
+
+map_held-set : (words : List ℤ) (place : ℕ) (word : ℤ) → map held (slice_set words place word) ≡ slice_set (map held words) place (held word)
+map_held-set [] place word = refl
+map_held-set (w ∷ words) zero word = refl
+map_held-set (w ∷ words) (suc place) word = ap (λ row. held w ∷ row) (map_held-set words place word)
+
+pub absent_row : (points : ℕ) (words : List ℤ) → words ≡ replicate points absent → map held words ≡ replicate points None
+absent_row points words is = ap (map held) is ∙ by points
+  where
+    by : (n : ℕ) → map held (replicate n absent) ≡ replicate n None
+    by zero = refl
+    by (suc n) = ap (λ row. None ∷ row) (by n)
+
+pub row_with : (words : List ℤ) (row : List (Option ℤ)) (place : ℕ) (word weight : ℤ) → map held words ≡ row → word ≡ weight → FitsWord weight → map held (slice_set words place word) ≡ slice_set row place (Some weight)
+row_with words row place word weight view same small = map_held-set words place word ∙ (λ i. slice_set (view i) place ((ap held same ∙ held-weight weight small) i))
+
+-- ---- what does not fall
+pub meets_absent : (first there weight : ℤ) → first ≡ absent → MeetsHeld (held first) (held there) weight
+meets_absent first there weight gone = let none : int_eq first absent ≡ true = grind (arith, ints) in subst (λ (b : Bool). MeetsHeld (cond b None (Some first)) (held there) weight) (sym none) tt
+
+pub meets_present : (first there weight : ℤ) → weight <ℤ pos 0 → first <ℤ absent → there ≤ℤ (int_max first (pos 0) +ℤ weight) → MeetsHeld (held first) (held there) weight
+meets_present first there weight negative below met =
+    let some : int_eq first absent ≡ false = grind (arith, ints) in
+    let lower : int_eq there absent ≡ false = grind (arith, ints, int_max_is) in
+    subst (λ (b : Bool). MeetsHeld (cond b None (Some first)) (held there) weight) (sym some)
+    (subst (λ (b : Bool). IsSomeAnd (cond b None (Some there)) (λ (u : ℤ). u ≤ℤ (int_max first (pos 0) +ℤ weight))) (sym lower) met)
+
+pub held_at : (words : List ℤ) (k : ℕ) → k < length words → get_or (map held words) k None ≡ held (get_or words k (pos 0))
+held_at [] k below = absurd (omega (arith, below))
+held_at (w ∷ words) zero below = refl
+held_at (w ∷ words) (suc k) below = held_at words k (omega (arith, below))
+
+pub row_meets : (firsts there : List ℤ) (row other : List (Option ℤ)) (from end : ℕ) (weight : ℤ) → map held firsts ≡ row → map held there ≡ other → end ≤ length firsts → end ≤ length there
+    → ((k : ℕ) → from ≤ k → k < end → MeetsHeld (held (get_or firsts k (pos 0))) (held (get_or there k (pos 0))) weight) → (k : ℕ) → from ≤ k → k < end → MeetsHeld (get_or row k None) (get_or other k None) weight
+row_meets firsts there row other from end weight one two few fewer meets k after below =
+    subst (λ (r : List (Option ℤ)). MeetsHeld (get_or r k None) (get_or other k None) weight) one
+    (subst (λ (r : List (Option ℤ)). MeetsHeld (get_or (map held firsts) k None) (get_or r k None) weight) two
+    (subst (λ (o : Option ℤ). MeetsHeld o (get_or (map held there) k None) weight) (sym (held_at firsts k (omega (arith, below, few))))
+    (subst (λ (o : Option ℤ). MeetsHeld (held (get_or firsts k (pos 0))) o weight) (sym (held_at there k (omega (arith, below, fewer)))) (meets k after below))))
+
+abbrev pub AreMet : (firsts there : List ℤ) (from end : ℕ) (weight : ℤ) → Type 0
+AreMet firsts there from end weight = (k : ℕ) → from ≤ k → k < end → MeetsHeld (held (get_or firsts k (pos 0))) (held (get_or there k (pos 0))) weight
+
+pub one_more : (firsts there : List ℤ) (from place : ℕ) (weight : ℤ) (before one : Bool) → (before ≡ false → AreMet firsts there from place weight)
+    → (one ≡ false → MeetsHeld (held (get_or firsts place (pos 0))) (held (get_or there place (pos 0))) weight) → (before || one) ≡ false → AreMet firsts there from (place + 1) weight
+one_more firsts there from place weight true one all here none k after below = absurd cc
+one_more firsts there from place weight false one all here none k after below = by (cases k place below)
+  where
+    cases : (k n : ℕ) → k < n + 1 → (k < n) ⊎ (k ≡ n)
+    cases k n below = grind arith
+
+    by : (k < place) ⊎ (k ≡ place) → MeetsHeld (held (get_or firsts k (pos 0))) (held (get_or there k (pos 0))) weight
+    by (inl less) = all refl k after less
+    by (inr same) = subst (λ (n : ℕ). MeetsHeld (held (get_or firsts n (pos 0))) (held (get_or there n (pos 0))) weight) (sym same) (here none)

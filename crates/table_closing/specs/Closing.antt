@@ -1,0 +1,100 @@
+-- A table on its way to the closure: it is lowered by derivable edges until every edge that follows is met. This project's own choice.
+use Rattle.std.specs.Prelude.{◌≡◌, IfSome, MatchOption, List, Option, Some, false}
+use Rattle.net_model.specs.Network.{Plan, IsPlan}
+use Rattle.net_model.specs.Rules.{no_case, upper_case, lower_case, cross_case, removal}
+use Rattle.net_model.specs.declared.ids.LinkId.{LinkId}
+use Rattle.net_model.specs.declared.ids.PointId.{PointId}
+use Rattle.net_model.specs.declared.part.Edge.{Edge}
+use Rattle.closure_model.specs.Closure.{IsClosure, HoldsDerivable}
+use Rattle.closure_model.specs.Derivable.{IsDerivable}
+use Rattle.closure_model.specs.Orders.{IsOrder, IsCycle, placed_points}
+use Rattle.closure_model.specs.Tables.{Graph, HasEdge, HasAtMost, HasBase, IsAtMost, IsFor, has_at_most}
+use Rattle.table_closing.specs.declared.closing.Closed.{Closed}
+
+-- a table is on its way to the closure of a network: it is one of the network, has the base edges, and all its edges are derivable
+pub record IsOnWay (net : Plan) (table : Graph) : Type 0 where
+  pub plan : IsPlan net
+  pub fits : IsFor net table
+  pub base : HasBase net table
+  pub derivable : HoldsDerivable net table
+
+-- a table of a network whose edges are all derivable
+pub record IsOfDerivable (net : Plan) (table : Graph) : Type 0 where
+  pub plan : IsPlan net
+  pub fits : IsFor net table
+  pub derivable : HoldsDerivable net table
+
+-- a table of derivable edges is another that was lowered to each of some edges
+pub record IsLoweredTo (net : Plan) (among : Edge → Type 0) (old new : Graph) : Type 0 where
+  pub of_derivable : IsOfDerivable net new
+  pub at_most : IsAtMost new old
+  pub has : (edge : Edge) → among edge → HasAtMost new edge
+
+-- an edge of a table, of a target and a label
+pub record IsEdgeInto (table : Graph) (to : PointId) (label : Option LinkId) (edge : Edge) : Type 0 where
+  pub has : HasEdge table edge
+  pub to_is : edge.to ≡ to
+  pub label_is : edge.label ≡ label
+
+-- a table meets whatever follows from an edge by the removal of its label, over a link, or with an edge of the table before it
+abbrev pub MeetsRemoval : Plan → Graph → Edge → Type 0
+MeetsRemoval net table edge = (gives : Edge) → removal net edge ≡ Some gives → HasAtMost table gives
+
+pub record MeetsOverLinks (net : Plan) (table : Graph) (edge : Edge) : Type 0 where
+  pub lower_case : (name : LinkId) (gives : Edge) → lower_case net name edge ≡ Some gives → HasAtMost table gives
+  pub cross_case : (name : LinkId) (gives : Edge) → cross_case net name edge ≡ Some gives → HasAtMost table gives
+
+pub record MeetsAfter (table : Graph) (first edge : Edge) : Type 0 where
+  pub no_case : (gives : Edge) → no_case first edge ≡ Some gives → HasAtMost table gives
+  pub upper_case : (gives : Edge) → upper_case first edge ≡ Some gives → HasAtMost table gives
+
+pub record MeetsAll (net : Plan) (table : Graph) (edge : Edge) : Type 0 where
+  pub removal : MeetsRemoval net table edge
+  pub over_links : MeetsOverLinks net table edge
+  pub firsts : (first : Edge) → HasEdge table first → MeetsAfter table first edge
+
+-- a table meets whatever follows from its edge of a source, a target and a label
+abbrev pub MeetsAt : Plan → Graph → (from : PointId) → (to : PointId) → Option LinkId → Type 0
+MeetsAt net table from to label = (edge : Edge) → HasEdge table edge → edge.from ≡ from → edge.to ≡ to → edge.label ≡ label → MeetsAll net table edge
+
+-- what follows from an edge over a link
+pub record IsOverLinks (net : Plan) (edge : Edge) (given : Option Edge) : Type 0 where
+  pub derivable : IfSome given (IsDerivable net)
+  pub lower_case : (name : LinkId) (gives : Edge) → lower_case net name edge ≡ Some gives → given ≡ Some gives
+  pub cross_case : (name : LinkId) (gives : Edge) → cross_case net name edge ≡ Some gives → given ≡ Some gives
+
+-- what follows with an edge before it
+pub record IsAfter (net : Plan) (first edge : Edge) (given : Option Edge) : Type 0 where
+  pub derivable : IfSome given (IsDerivable net)
+  pub no_case : (gives : Edge) → no_case first edge ≡ Some gives → given ≡ Some gives
+  pub upper_case : (gives : Edge) → upper_case first edge ≡ Some gives → given ≡ Some gives
+
+-- an edge of a table, of a source, a target and a label
+pub record IsHeld (table : Graph) (from : PointId) (to : PointId) (label : Option LinkId) (edge : Edge) : Type 0 where
+  pub has : HasEdge table edge
+  pub from_is : edge.from ≡ from
+  pub to_is : edge.to ≡ to
+  pub label_is : edge.label ≡ label
+
+-- an edge is derivable, and the table has not its key, or at a greater weight
+pub record IsUnmet (net : Plan) (table : Graph) (edge : Edge) : Type 0 where
+  pub derivable : IsDerivable net edge
+  pub missed : has_at_most table edge ≡ false
+
+-- a network has derivable edges that are a cycle of negative ordinary edges
+pub record HasDerivableCycle (net : Plan) : Type 0 where
+  pub table : Graph
+  pub cycle : List PointId
+  pub derivable : HoldsDerivable net table
+  pub fits : IsFor net table
+  pub is : IsCycle table cycle
+
+-- the closure of a network, and its order
+pub record IsClosedBy (net : Plan) (closed : Closed) : Type 0 where
+  pub closure : IsClosure net closed.table
+  pub order : IsOrder closed.table closed.order
+  pub placed : closed.order ≡ placed_points closed.table
+
+-- what closing a network comes to: its closure and its order, or a cycle of negative ordinary edges
+abbrev pub ClosesTo : Plan → Option Closed → Type 0
+ClosesTo net closed = MatchOption closed (HasDerivableCycle net) (IsClosedBy net)

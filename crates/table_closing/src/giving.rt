@@ -1,0 +1,105 @@
+ghost use Rattle.std.specs.Prelude.{◌≡◌, ◌<◌, length, None, Some, IfSome, MatchOption, slice_get};
+ghost use Rattle.net_model.specs.Network.{activation};
+ghost use Rattle.net_model.specs.Rules.{removal};
+ghost use Rattle.closure_model.specs.Derivable.{IsDerivable};
+ghost use Rattle.closure_model.specs.Keys.{ordinary_key, labelled_key};
+ghost use Rattle.closure_model.specs.Tables.{weight_of, HasEdge};
+ghost use Rattle.table_closing.specs.Closing.{IsOnWay, IsOverLinks, IsAfter, IsHeld};
+
+use crate::dense::DenseTable;
+use net_model::{Edge, LinkId, Network, PointId};
+use reduction_rules::{cross_case, lower_case, no_case, removal, upper_case};
+
+/// An edge without its label, if it has one.
+pub(crate) fn freed(net: &Network, edge: &Edge) -> Option<Edge>
+    requires { IsDerivable net.now edge.now }
+    ensures exact { result ≡ removal net.now edge.now }
+    ensures derivable { IfSome result (IsDerivable net.now) }
+{
+    // The proof reads here that the network is sound.
+    let _ = net.points();
+    removal(net, edge)
+}
+
+/// What follows from an edge over the link that ends where it begins.
+pub(crate) fn over_link(net: &Network, edge: &Edge) -> Option<Edge>
+    requires { IsDerivable net.now edge.now }
+    ensures { IsOverLinks net.now edge.now result }
+{
+    // The proof reads here that the network is sound.
+    let _ = net.points();
+    match net.activation(edge.from) {
+        None => None,
+        Some(link) => over_this_link(net, link, edge),
+    }
+}
+
+fn over_this_link(net: &Network, link: LinkId, edge: &Edge) -> Option<Edge>
+    requires edge { IsDerivable net.now edge.now }
+    requires link { activation net.now edge.now.from ≡ Some link }
+    ensures { IsOverLinks net.now edge.now result }
+{
+    // The proof reads here that the network is sound.
+    let _ = net.points();
+    match edge.label {
+        None => lower_case(net, link, edge),
+        Some(_) => cross_case(net, link, edge),
+    }
+}
+
+/// What follows from two edges in a row.
+pub(crate) fn after(net: &Network, first: &Edge, edge: &Edge) -> Option<Edge>
+    requires first { IsDerivable net.now first.now }
+    requires edge { IsDerivable net.now edge.now }
+    ensures { IsAfter net.now first.now edge.now result }
+{
+    // The proof reads here that the network is sound.
+    let _ = net.points();
+    match edge.label {
+        None => no_case(first, edge),
+        Some(_) => upper_case(first, edge),
+    }
+}
+
+/// The ordinary edge of a table from one point to another, if there is one.
+pub(crate) fn ordinary(
+    table: &DenseTable,
+    net: &Network,
+    from: PointId,
+    to: PointId,
+) -> Option<Edge>
+    requires way { IsOnWay net.now table.now }
+    requires from_point { from.0 < length net.now.points }
+    requires to_point { to.0 < length net.now.points }
+    ensures { MatchOption result (weight_of table.now (ordinary_key from to) ≡ None) (IsHeld table.now from to None) }
+{
+    let weight = table.weight(from, to)?;
+    Some(Edge {
+        from,
+        to,
+        label: None,
+        weight,
+    })
+}
+
+/// The edge of a table from a point that is labelled by a link that begins in another, if there is one.
+pub(crate) fn labelled(
+    table: &DenseTable,
+    net: &Network,
+    from: PointId,
+    to: PointId,
+    link: LinkId,
+) -> Option<Edge>
+    requires way { IsOnWay net.now table.now }
+    requires from_point { from.0 < length net.now.points }
+    requires link { slice_get table.now.shape.activations link.0 ≡ Some to }
+    ensures { MatchOption result (weight_of table.now (labelled_key from to link) ≡ None) (IsHeld table.now from to (Some link)) }
+{
+    let weight = table.upper(from, link)?;
+    Some(Edge {
+        from,
+        to,
+        label: Some(link),
+        weight,
+    })
+}
