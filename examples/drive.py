@@ -1,38 +1,25 @@
 #!/usr/bin/env python3
 """Drives a simulated day by `stnu run`.
 
-    examples/drive.py STNU PLAN [SEED]
-
-STNU is the program, such as ./stnu, and PLAN the file of a plan that can be kept. Nature's durations are drawn from SEED (1). Prints
-what comes at which moment, and ends with status 0 where every bound and every link of the plan is kept in the end.
+Nature's durations are drawn from a seed. Prints what comes at which moment. Status: 0 where every bound and every link of the plan is kept
+in the end, 1 where not or where the program has no more to say, 2 for wrong words.
 """
 
+import argparse
 import random
 import subprocess
 import sys
 
-
-class Plan:
-    def __init__(self, text):
-        lines = [line.split() for line in text.splitlines()]
-        self.points = [words[1] for words in lines if words[:1] == ["point"]]
-        self.bounds = [(words[1], words[2], words[3], int(words[4])) for words in lines if words[:1] == ["bound"]]
-        self.links = [(words[1], int(words[2]), int(words[3]), words[4]) for words in lines if words[:1] == ["link"]]
-
-    def broken(self, schedule):
-        """The points that have no moment; else the bounds and links that are not kept."""
-        missing = [point for point in self.points if point not in schedule]
-        if missing:
-            return missing
-        bounds = [name for name, start, end, most in self.bounds if schedule[end] - schedule[start] > most]
-        return bounds + [end for start, low, high, end in self.links if not low <= schedule[end] - schedule[start] <= high]
+from plan import Plan, check, read
 
 
 class Dispatcher:
     """The program, over two pipes. It answers each line before it reads the next, so each answer is read before the next is sent."""
 
     def __init__(self, program):
-        self.child = subprocess.Popen([program, "run"], stdin=subprocess.PIPE, stdout=subprocess.PIPE, text=True)
+        self.child = subprocess.Popen(
+            [program, "run"], stdin=subprocess.PIPE, stdout=subprocess.PIPE, encoding="utf-8", errors="surrogateescape"
+        )
 
     def send(self, text):
         """Sends a line, or a plan, and returns the acts of the answer and the moment that is due, or None."""
@@ -51,8 +38,8 @@ class Dispatcher:
                 case ["due", moment]:
                     return acts, int(moment)
                 case _:
-                    # The plan can't be kept, or an event is refused: from here on nothing is promised, and somebody has to decide.
-                    sys.exit(f"drive: the program says: {' '.join(words)}")
+                    # An event is refused, or the program has ended: from here on nothing is promised, and somebody has to decide.
+                    sys.exit(f"the program says: {' '.join(words) or 'nothing'}")
 
 
 class Day:
@@ -90,11 +77,17 @@ def drive(dispatcher, day, text):
 
 
 def main():
-    with open(sys.argv[2], encoding="ascii") as file:
-        text = file.read()
+    parser = argparse.ArgumentParser(description=__doc__, formatter_class=argparse.RawDescriptionHelpFormatter)
+    parser.add_argument("stnu", help="the program, such as ./stnu")
+    parser.add_argument("plan", help="the file of a plan")
+    parser.add_argument("seed", nargs="?", type=int, default=1, help="from which nature's durations are drawn (1)")
+    words = parser.parse_args()
+    text = read(words.plan)
+    if check(words.stnu, text)[0] != "controllable":
+        sys.exit("the plan cannot be kept; narrow.py says why")
     plan = Plan(text)
-    day = Day(plan, int(sys.argv[3]) if len(sys.argv) > 3 else 1)
-    drive(Dispatcher(sys.argv[1]), day, text)
+    day = Day(plan, words.seed)
+    drive(Dispatcher(words.stnu), day, plan.text())
     broken = plan.broken(day.schedule)
     print(f"not kept: {' '.join(broken)}" if broken else "every bound and link is kept")
     sys.exit(1 if broken else 0)
