@@ -1,3 +1,4 @@
-pub mod WordLemmas
-pub mod DenseLemmas
-pub mod LoopLemmas
+mod RowLemmas
+mod StoredLemmas
+mod ListedLemmas
+mod LoopLemmas

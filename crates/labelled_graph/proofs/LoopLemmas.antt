@@ -1,27 +1,18 @@
 -- One step of each loop over a table, over plain variables.
-use Rattle.std.proofs.Common.{◌≡◌, ℕ, ◌+◌, ◌-◌, ◌==◌, ℤ, ◌≤◌, ◌<◌, Bool, true, false, cond, List, [], ◌∷◌, ◌++◌, map, filter, fold, length, take, get_or, Option, Some, None, append_assoc, refl, ap, sym, subst, ◌∙◌, arith}
-use Rattle.std.specs.Prelude.{slice_get}
-use Rattle.std.specs.Option.{option_map}
-use Rattle.std.specs.List.{All, Contains, cons_option, enumerate_from, flat_map, range_with_len}
-use Rattle.std.proofs.lemmas.Grind.{common_steps, flat_map-append}
-use Rattle.std.proofs.lemmas.List.{take_more, take_all, append-nil, map-append}
+use Rattle.std.proofs.Common.{◌≡◌, ℕ, ◌+◌, ◌<◌, List, [], ◌∷◌, ◌++◌, map, fold, length, take, get_or, ap, sym, subst, ◌∙◌, arith}
+use Rattle.std.specs.List.{All, enumerate_from}
+use Rattle.std.proofs.lemmas.Grind.{common_steps}
+use Rattle.std.proofs.lemmas.List.{take_more, map-append}
 use Rattle.std.proofs.lemmas.List.Sums.{fold-append}
-use Rattle.std.proofs.lemmas.List.Elements.{filter-append, filter_map-append, Contains-get_or}
-use Rattle.std.proofs.lemmas.List.FromFn.{map-range_with_len_more, get_or-enumerate_from, length-enumerate_from}
-use Rattle.std.proofs.lemmas.Option.{slice_get_within}
+use Rattle.std.proofs.lemmas.List.FromFn.{get_or-enumerate_from, length-enumerate_from}
 use Rattle.net_model.specs.Network.{Plan, IsPlan}
 use Rattle.net_model.specs.Rules.{bound_edge, link_edge}
-use Rattle.net_model.specs.declared.ids.PointId.{PointId}
-use Rattle.net_model.specs.declared.ids.LinkId.{LinkId}
 use Rattle.net_model.specs.declared.part.Bound.{Bound}
 use Rattle.net_model.specs.declared.part.Edge.{Edge}
 use Rattle.net_model.specs.declared.part.Link.{Link}
-use Rattle.closure_model.specs.Keys.{Key, Shape, edge_of, ordinary_key, labelled_key, labels_at, keys_between, shape_of}
-use Rattle.closure_model.specs.Tables.{Graph, weight_of, lowered, edges_at, row_of, no_edges, base_table, IsGraph}
+use Rattle.closure_model.specs.Keys.{Shape, shape_of}
+use Rattle.closure_model.specs.Tables.{Graph, lowered, no_edges, base_table}
 use Rattle.closure_model.proofs.BaseLemmas.{bound_edges_sound, link_edges_sound}
-use Rattle.closure_model.proofs.KeyLists.{labels_sound}
-use Rattle.closure_model.proofs.Listed.{row_listed}
-use Rattle.closure_model.proofs.Lists.{each-contained}
 use Rattle.closure_model.proofs.TableLemmas.{all_lowered-shape}
 use Rattle.labelled_graph.specs.Changes.{IsEdgeFor}
 
@@ -52,88 +43,6 @@ links_lowered-more before now after links k d inside held step =
     let last : Edge = link_edge (record { 0 = k }) (get_or links k d) in
     let split : map f (enumerate_from 0 (take (k + 1) links)) ≡ map f (enumerate_from 0 (take k links)) ++ last ∷ [] = ap (map f) (numbered-more k links d inside) ∙ map-append f (enumerate_from 0 (take k links)) ((k, get_or links k d) ∷ []) in
     step ∙ ap (λ g. lowered g last) held ∙ sym (fold-append lowered before (map f (enumerate_from 0 (take k links))) (last ∷ [])) ∙ sym (ap (fold lowered before) split)
-
--- ---- the links that begin in a point
-abbrev pub beginning : ℕ → List PointId → List LinkId
-beginning point begins = map (λ (e : ℕ × PointId). record { 0 = e.0 }) (filter (λ (e : ℕ × PointId). e.1.0 == point) (enumerate_from 0 begins))
-
-module _ (point place : ℕ) (begins : List PointId) (d : PointId) (inside : place < length begins) where
-  beginning_more : beginning point (take (place + 1) begins) ≡ beginning point (take place begins) ++ map (λ (e : ℕ × PointId). record { 0 = e.0 }) (filter (λ (e : ℕ × PointId). e.1.0 == point) ((place, get_or begins place d) ∷ []))
-  beginning_more =
-      ap (λ es. map (λ (e : ℕ × PointId). record { 0 = e.0 }) (filter (λ (e : ℕ × PointId). e.1.0 == point) es)) (numbered-more place begins d inside)
-      ∙ ap (map (λ (e : ℕ × PointId). record { 0 = e.0 })) (filter-append (λ (e : ℕ × PointId). e.1.0 == point) (enumerate_from 0 (take place begins)) ((place, get_or begins place d) ∷ []))
-      ∙ map-append (λ (e : ℕ × PointId). record { 0 = e.0 }) (filter (λ (e : ℕ × PointId). e.1.0 == point) (enumerate_from 0 (take place begins))) (filter (λ (e : ℕ × PointId). e.1.0 == point) ((place, get_or begins place d) ∷ []))
-
-  pub beginning_more_yes : (get_or begins place d).0 == point ≡ true → beginning point (take (place + 1) begins) ≡ beginning point (take place begins) ++ record { 0 = place } ∷ []
-  beginning_more_yes is = beginning_more ∙ ap (λ (t : Bool). beginning point (take place begins) ++ map (λ (e : ℕ × PointId). record { 0 = e.0 }) (cond t ((place, get_or begins place d) ∷ []) [])) is
-
-  pub beginning_more_no : (get_or begins place d).0 == point ≡ false → beginning point (take (place + 1) begins) ≡ beginning point (take place begins)
-  beginning_more_no other = beginning_more ∙ ap (λ (t : Bool). beginning point (take place begins) ++ map (λ (e : ℕ × PointId). record { 0 = e.0 }) (cond t ((place, get_or begins place d) ∷ []) [])) other ∙ append-nil _
-
-pub label_begins : (shape : Shape) (to : PointId) (labels : List LinkId) → labels ≡ labels_at shape to → (k : ℕ) (d : LinkId) → k < length labels → slice_get shape.activations (get_or labels k d).0 ≡ Some to
-label_begins shape to labels is k d inside =
-    let begins = each-contained (λ (l : LinkId). (0 ≤ l.0) × (slice_get shape.activations (l.0 - 0) ≡ Some to)) (labels_at shape to) (get_or labels k d) (labels_sound to 0 shape.activations)
-    (subst (λ ls. Contains ls (get_or labels k d)) is (Contains-get_or labels k d inside)) in
-    let same : (get_or labels k d).0 - 0 ≡ (get_or labels k d).0 = omega arith in
-    ap (slice_get shape.activations) (sym same) ∙ begins.1
-
-pub label_inside : (shape : Shape) (to : PointId) (labels : List LinkId) → labels ≡ labels_at shape to → (k : ℕ) (d : LinkId) → k < length labels → (get_or labels k d).0 < length shape.activations
-label_inside shape to labels is k d inside = slice_get_within shape.activations (get_or labels k d).0 to (label_begins shape to labels is k d inside)
-
--- ---- the edges at more keys
-pub edges_at-append : (graph : Graph) (keys more : List Key) → edges_at graph (keys ++ more) ≡ edges_at graph keys ++ edges_at graph more
-edges_at-append graph keys more = filter_map-append (λ key. option_map (edge_of key) (weight_of graph key)) keys more
-
-pub label_edges-more : (graph : Graph) (from to : PointId) (labels : List LinkId) (k : ℕ) (d : LinkId) → k < length labels
-    → edges_at graph (map (labelled_key from to) (take (k + 1) labels)) ≡ edges_at graph (map (labelled_key from to) (take k labels)) ++ cons_option (option_map (edge_of (labelled_key from to (get_or labels k d))) (weight_of graph (labelled_key from to (get_or labels k d)))) []
-label_edges-more graph from to labels k d inside =
-    ap (λ ls. edges_at graph (map (labelled_key from to) ls)) (take_more labels k d inside)
-    ∙ ap (edges_at graph) (map-append (labelled_key from to) (take k labels) (get_or labels k d ∷ []))
-    ∙ edges_at-append graph (map (labelled_key from to) (take k labels)) (labelled_key from to (get_or labels k d) ∷ [])
-
-pub edges_between : (graph : Graph) (from to : PointId) (row : List Edge)
-    → (row ++ cons_option (option_map (edge_of (ordinary_key from to)) (weight_of graph (ordinary_key from to))) []) ++ edges_at graph (map (labelled_key from to) (labels_at graph.shape to)) ≡ row ++ edges_at graph (keys_between graph.shape to from)
-edges_between graph from to row = append_assoc row _ _ ∙ ap (λ es. row ++ es) (by (weight_of graph (ordinary_key from to)))
-  where
-    by : (o : Option ℤ) → cons_option (option_map (edge_of (ordinary_key from to)) o) [] ++ edges_at graph (map (labelled_key from to) (labels_at graph.shape to))
-        ≡ cons_option (option_map (edge_of (ordinary_key from to)) o) (edges_at graph (map (labelled_key from to) (labels_at graph.shape to)))
-    by None = refl
-    by (Some w) = refl
-
-pub row_edges-more : (graph : Graph) (to : PointId) (k : ℕ) → edges_at graph (flat_map (keys_between graph.shape to) (map (λ n. record { 0 = n }) (range_with_len 0 (k + 1))))
-    ≡ edges_at graph (flat_map (keys_between graph.shape to) (map (λ n. record { 0 = n }) (range_with_len 0 k))) ++ edges_at graph (keys_between graph.shape to (record { 0 = k }))
-row_edges-more graph to k =
-    ap (λ ps. edges_at graph (flat_map (keys_between graph.shape to) ps)) (map-range_with_len_more (λ (n : ℕ). let p : PointId = record { 0 = n } in p) 0 k k (omega arith))
-    ∙ ap (edges_at graph) (flat_map-append (keys_between graph.shape to) (map (λ n. record { 0 = n }) (range_with_len 0 k)) (record { 0 = k } ∷ []) ∙ ap (λ ks. flat_map (keys_between graph.shape to) (map (λ n. record { 0 = n }) (range_with_len 0 k)) ++ ks) (append-nil (keys_between graph.shape to (record { 0 = k }))))
-    ∙ edges_at-append graph (flat_map (keys_between graph.shape to) (map (λ n. record { 0 = n }) (range_with_len 0 k))) (keys_between graph.shape to (record { 0 = k }))
-
--- ---- rows that were pushed
-pub label_pushed : (graph : Graph) (from to : PointId) (labels : List LinkId) (k : ℕ) (d : LinkId) (before row after : List Edge) (w : Option ℤ) → k < length labels
-    → row ≡ before ++ edges_at graph (map (labelled_key from to) (take k labels))
-    → after ≡ row ++ cons_option (option_map (edge_of (labelled_key from to (get_or labels k d))) w) []
-    → w ≡ weight_of graph (labelled_key from to (get_or labels k d))
-    → after ≡ before ++ edges_at graph (map (labelled_key from to) (take (k + 1) labels))
-label_pushed graph from to labels k d before row after w inside held pushed is =
-    pushed
-    ∙ (λ i. held i ++ cons_option (option_map (edge_of (labelled_key from to (get_or labels k d))) (is i)) [])
-    ∙ append_assoc before _ _
-    ∙ ap (λ es. before ++ es) (sym (label_edges-more graph from to labels k d inside))
-
-pub between_pushed : (graph : Graph) (from to : PointId) (labels : List LinkId) (k : ℕ) (before middle after : List Edge) (w : Option ℤ) → labels ≡ labels_at graph.shape to → length labels ≤ k
-    → middle ≡ before ++ cons_option (option_map (edge_of (ordinary_key from to)) w) []
-    → w ≡ weight_of graph (ordinary_key from to)
-    → after ≡ middle ++ edges_at graph (map (labelled_key from to) (take k labels))
-    → after ≡ before ++ edges_at graph (keys_between graph.shape to from)
-between_pushed graph from to labels k before middle after w is done pushed weight held =
-    held
-    ∙ ap (λ ls. middle ++ edges_at graph (map (labelled_key from to) ls)) (take_all k labels done ∙ is)
-    ∙ ap (λ es. es ++ edges_at graph (map (labelled_key from to) (labels_at graph.shape to))) (pushed ∙ ap (λ o. before ++ cons_option (option_map (edge_of (ordinary_key from to)) o) []) weight)
-    ∙ edges_between graph from to before
-
-pub row_pushed : (graph : Graph) → IsGraph graph → (to : PointId) → to.0 < graph.shape.points → (k : ℕ) → k ≡ graph.shape.points → (row : List Edge)
-    → row ≡ edges_at graph (flat_map (keys_between graph.shape to) (map (λ n. record { 0 = n }) (range_with_len 0 k))) → row ≡ row_of graph to
-row_pushed graph sound to inside k done row held =
-    held ∙ ap (λ n. edges_at graph (flat_map (keys_between graph.shape to) (map (λ m. record { 0 = m }) (range_with_len 0 n)))) done ∙ sym (row_listed graph sound to inside)
 
 -- ---- the base table, by bounds and then by links
 pub base_made : (net : Plan) (start middle done : Graph) (bounds : List Bound) (links : List Link) → start ≡ no_edges (shape_of net) → middle ≡ fold lowered start (map bound_edge bounds) → bounds ≡ net.bounds

@@ -1,3 +1,4 @@
-pub mod Words
-pub mod Dense
+pub mod Entries
+pub mod Rows
+pub mod Stored
 pub mod Changes

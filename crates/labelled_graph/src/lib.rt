@@ -1,7 +1,9 @@
 //! The table of the labelled distance graph: for each key its least weight so far.
 #![tactic(auto)]
 
+mod entry;
 mod row;
 mod table;
 
+pub use entry::Entry;
 pub use table::Table;

@@ -1,12 +1,15 @@
-ghost use Rattle.std.specs.Prelude.{◌≡◌, ◌<◌, ◌≤◌, ◌++◌, ◌-ℤ◌, ℕ, pos, [], not, length, fold, map, IfOk, IfSome, IsSome, OnOk, OnErr, None, Some, slice_get, replicate};
-ghost use Rattle.std.specs.List.{All, enumerate_from, cons_option};
-ghost use Rattle.std.specs.Option.{option_map};
+ghost use Rattle.std.specs.Prelude.{◌≡◌, ◌<◌, ◌≤◌, ◌-ℤ◌, pos, not, length, fold, map, filter, IfOk, IsSome, OnOk, OnErr, Some, slice_get};
+ghost use Rattle.std.specs.List.{All, enumerate_from, range_with_len};
 ghost use Rattle.net_model.specs.Limits.{most_links};
 ghost use Rattle.net_model.specs.Rules.{bound_edge, link_edge};
-ghost use Rattle.closure_model.specs.Keys.{IsKey, shape_of, key_of, edge_of, ordinary_key, labelled_key, labels_at, keys_between};
-ghost use Rattle.closure_model.specs.Tables.{weight_of, row_of, edges_at, with_edge, without_key, no_edges, has_at_most, lowered, base_table, IsFor, IsWeight, IsGraph};
-ghost use Rattle.labelled_graph.specs.Changes.{with_weight, IsEdgeFor};
+ghost use Rattle.closure_model.specs.Keys.{IsKey, shape_of, key_of, ordinary_key, labelled_key};
+ghost use Rattle.closure_model.specs.ReferenceRow.{ordinary_into};
+ghost use Rattle.closure_model.specs.Tables.{weight_of, row_of, with_edge, without_key, no_edges, has_at_most, lowered, base_table, IsFor, IsWeight, IsGraph};
+ghost use Rattle.labelled_graph.specs.Changes.{IsEdgeFor};
+ghost use Rattle.labelled_graph.specs.Entries.{edge_into, is_ordinary};
+ghost use Rattle.labelled_graph.specs.Rows.{empty_row};
 
+use crate::entry::Entry;
 use crate::row::Row;
 use net_model::{Bound, Edge, Link, LinkId, Network, PointId, Weight};
 use std::alloc::{AllocError, Global};
@@ -14,11 +17,11 @@ use std::marker::Model;
 
 /// A table of the labelled distance graph (Morris and Muscettola 2005, in this project's form): a finite map from keys to weights,
 /// where a key is a source and a target, or a source and a label. Contracts see it as that map with the points and links that it is
-/// for. It is dense: each key has a word of eight bytes.
+/// for. For each point it keeps the keys that have a weight and whose edges end there, in their order, in 16 bytes each and at most 24
+/// with the room that is kept free; a point without such keys takes the room of an empty list.
 #[derive(Debug, Drop)]
 pub struct Table {
-    ordinary: Vec<Row>,
-    labelled: Vec<Row>,
+    rows: Vec<Row>,
     activations: Vec<PointId>,
 }
 
@@ -30,11 +33,11 @@ impl Model for Table {
 
     ghost coded = { graph_code };
 
-    ghost use Rattle.labelled_graph.specs.Dense.{graph_of, IsDense};
+    ghost use Rattle.labelled_graph.specs.Stored.{graph_of, IsStored};
 
     ghost view = { graph_of };
 
-    ghost invariant = { IsDense };
+    ghost invariant = { IsStored };
 }
 
 impl Table {
@@ -46,8 +49,8 @@ impl Table {
         ensures sound { IfOk result IsGraph }
     {
         let mut table = Table::without_edges(alloc, net)?;
-        table.lower_to_bounds(net.bounds());
-        table.lower_to_links(net.links());
+        table.lower_to_bounds(net.bounds())?;
+        table.lower_to_links(net.links())?;
         Ok(table)
     }
 
@@ -58,8 +61,8 @@ impl Table {
         ensures weight { result ≡ weight_of self.now (ordinary_key from to) }
         ensures sound { IsGraph self.now }
     {
-        let row = &self.ordinary[to.0 as usize];
-        row.get(from)
+        let row = &self.rows[to.0 as usize];
+        row.get(from, None)
     }
 
     /// The weight of the edge from a point that is labelled by a link, if there is one. It ends in the point in which the link
@@ -70,8 +73,9 @@ impl Table {
         ensures weight { (to : PointId) → slice_get self.now.shape.activations link.0 ≡ Some to → result ≡ weight_of self.now (labelled_key from to link) }
         ensures sound { IsGraph self.now }
     {
-        let row = &self.labelled[link.0 as usize];
-        row.get(from)
+        let to = self.activations[link.0 as usize];
+        let row = &self.rows[to.0 as usize];
+        row.get(from, Some(link))
     }
 
     /// Gives the key of an edge its weight where the key has none or a greater one, and says whether it did. Nothing else changes.
@@ -82,7 +86,12 @@ impl Table {
         ensures lowered { IfOk result (λ fell. (fell ≡ not (has_at_most self.old edge.now)) × (self.new ≡ lowered self.old edge.now)) }
         ensures unchanged { OnErr result (self.new ≡ self.old) }
     {
-        Ok(self.lower(edge))
+        if self.has_at_most(edge) {
+            return Ok(false);
+        }
+        let row = &mut self.rows[edge.to.0 as usize];
+        row.set(edge)?;
+        Ok(true)
     }
 
     /// Sets the weight of a key that has one. Nothing else changes.
@@ -91,9 +100,8 @@ impl Table {
         requires weight { IsWeight edge.now.weight }
         ensures { self.new ≡ with_edge self.old edge.now }
     {
-        // The proof reads here that a key with a weight is one that there is.
-        let _ = &self.ordinary;
-        self.put(edge, Some(edge.weight));
+        let row = &mut self.rows[edge.to.0 as usize];
+        row.replace(edge);
     }
 
     /// Takes away the weight of a key that has one. Nothing else changes.
@@ -101,21 +109,31 @@ impl Table {
         requires { IsSome (weight_of self.old (key_of edge.now)) }
         ensures { self.new ≡ without_key self.old (key_of edge.now) }
     {
-        // The proof reads here that a key with a weight is one that there is.
-        let _ = &self.ordinary;
-        self.put(edge, None);
+        let row = &mut self.rows[edge.to.0 as usize];
+        row.remove(edge);
     }
 
-    /// The edges that end in a point, in the order of their keys: by the number of the point in which they begin, the ordinary edge
-    /// before the labelled ones, those by the number of their label. `AllocError` comes only for want of memory.
+    /// The entries of the edges that end in a point, in the order of their keys: by the number of the point in which they begin, the
+    /// ordinary edge before the labelled ones, those by the number of their label. It takes no memory.
+    pub fn entries(&self, to: PointId) -> &[Entry]
+        requires { to.0 < self.now.shape.points }
+        ensures row { map (edge_into to) result.now ≡ row_of self.now to }
+        ensures ordinary { map (edge_into to) (filter is_ordinary result.now) ≡ ordinary_into self.now to }
+        ensures sound { IsGraph self.now }
+    {
+        let row = &self.rows[to.0 as usize];
+        row.entries()
+    }
+
+    /// The edges that end in a point, in the order of their keys, as `entries` has them. `AllocError` comes only for want of memory.
     pub fn row_into(&self, alloc: Global, target: PointId) -> Result<Vec<Edge>, AllocError>
         requires { target.0 < self.now.shape.points }
         ensures { IfOk result (λ row. row.items ≡ row_of self.now target) }
     {
-        let labels = labels_at(alloc, self.activations.as_slice(), target)?;
+        let entries = self.entries(target);
         let mut row = Vec::new(alloc);
-        for from in 0..self.ordinary.len() as u32 {
-            self.push_between(&mut row, PointId(from), target, labels.as_slice())?;
+        for entry in entries {
+            row.push(entry.edge_into(target))?;
         }
         Ok(row)
     }
@@ -124,51 +142,54 @@ impl Table {
     pub fn copy(&self, alloc: Global) -> Result<Table, AllocError>
         ensures { IfOk result (λ table. table ≡ self.now) }
     {
-        let ordinary = copied_rows(alloc, self.ordinary.as_slice())?;
-        let labelled = copied_rows(alloc, self.labelled.as_slice())?;
+        let rows = copied_rows(alloc, self.rows.as_slice())?;
         let mut activations = Vec::new(alloc);
         activations.extend_from_slice(self.activations.as_slice())?;
-        Ok(Table {
-            ordinary,
-            labelled,
-            activations,
-        })
+        Ok(Table { rows, activations })
     }
 
     /// The table of a network without edges.
     fn without_edges(alloc: Global, net: &Network) -> Result<Table, AllocError>
         ensures { IfOk result (λ table. table ≡ no_edges (shape_of net.now)) }
     {
-        let points = net.points().len();
+        let points = net.points();
         let links = net.links();
         let mut activations = Vec::new(alloc);
         for link in links {
             activations.push(link.from)?;
         }
-        Ok(Table {
-            ordinary: absent_rows(alloc, points, points)?,
-            labelled: absent_rows(alloc, links.len(), points)?,
-            activations,
-        })
+        let rows = empty_rows(alloc, points.len() as u32)?;
+        Ok(Table { rows, activations })
     }
 
-    fn lower_to_bounds(&mut self, bounds: &[Bound])
+    fn lower_to_bounds(&mut self, bounds: &[Bound]) -> Result<(), AllocError>
         requires { All (λ bound. IsEdgeFor self.old.shape (bound_edge bound)) bounds.now }
-        ensures { self.new ≡ fold lowered self.old (map bound_edge bounds.now) }
+        ensures { OnOk result (self.new ≡ fold lowered self.old (map bound_edge bounds.now)) }
     {
         for bound in bounds {
-            self.lower(&edge_of_bound(bound));
+            self.lower_to(&edge_of_bound(bound))?;
         }
+        Ok(())
     }
 
-    fn lower_to_links(&mut self, links: &[Link])
+    fn lower_to_links(&mut self, links: &[Link]) -> Result<(), AllocError>
         requires sound { All (λ e. IsEdgeFor self.old.shape (link_edge (record { 0 = e.0 }) e.1)) (enumerate_from 0 links.now) }
         requires few { length links.now ≤ most_links }
-        ensures { self.new ≡ fold lowered self.old (map (λ e. link_edge (record { 0 = e.0 }) e.1) (enumerate_from 0 links.now)) }
+        ensures { OnOk result (self.new ≡ fold lowered self.old (map (λ e. link_edge (record { 0 = e.0 }) e.1) (enumerate_from 0 links.now))) }
     {
         for (place, link) in links.iter().enumerate() {
-            self.lower(&edge_of_link(LinkId(place as u32), link));
+            self.lower_to(&edge_of_link(LinkId(place as u32), link))?;
         }
+        Ok(())
+    }
+
+    /// Whether the key of an edge has a weight that is no greater.
+    fn has_at_most(&self, edge: &Edge) -> bool
+        requires { IsKey self.now.shape (key_of edge.now) }
+        ensures { result ≡ has_at_most self.now edge.now }
+    {
+        self.weight_at(edge)
+            .is_some_and(|weight| weight <= edge.weight)
     }
 
     /// The weight of the key of an edge, if it has one.
@@ -181,100 +202,6 @@ impl Table {
             Some(label) => self.upper(edge.from, label),
         }
     }
-
-    fn lower(&mut self, edge: &Edge) -> bool
-        requires key { IsKey self.old.shape (key_of edge.now) }
-        requires weight { IsWeight edge.now.weight }
-        ensures fell { result ≡ not (has_at_most self.old edge.now) }
-        ensures lowered { self.new ≡ lowered self.old edge.now }
-    {
-        let has_at_most = self
-            .weight_at(edge)
-            .is_some_and(|weight| weight <= edge.weight);
-        if !has_at_most {
-            self.put(edge, Some(edge.weight));
-        }
-        !has_at_most
-    }
-
-    /// Sets the weight of the key of an edge, or takes it away.
-    fn put(&mut self, edge: &Edge, weight: Option<Weight>)
-        requires key { IsKey self.old.shape (key_of edge.now) }
-        requires weight { IfSome weight IsWeight }
-        ensures { self.new ≡ with_weight self.old (key_of edge.now) weight }
-    {
-        match edge.label {
-            None => {
-                let row = &mut self.ordinary[edge.to.0 as usize];
-                row.set(edge.from, weight);
-            }
-            Some(label) => {
-                let row = &mut self.labelled[label.0 as usize];
-                row.set(edge.from, weight);
-            }
-        }
-    }
-
-    /// Pushes the edges from one point to another, the ordinary one before the labelled ones.
-    fn push_between(
-        &self,
-        row: &mut Vec<Edge>,
-        from: PointId,
-        to: PointId,
-        labels: &[LinkId],
-    ) -> Result<(), AllocError>
-        requires from_point { from.0 < self.now.shape.points }
-        requires to_point { to.0 < self.now.shape.points }
-        requires labels { labels.now ≡ labels_at self.now.shape to }
-        ensures { OnOk result (row.new.items ≡ row.old.items ++ edges_at self.now (keys_between self.now.shape to from)) }
-    {
-        let weight = self.weight(from, to);
-        push_edge(row, from, to, None, weight)?;
-        for label in labels {
-            let weight = self.upper(from, *label);
-            push_edge(row, from, to, Some(*label), weight)?;
-        }
-        Ok(())
-    }
-}
-
-/// The links that begin in a point, in order.
-fn labels_at(
-    alloc: Global,
-    activations: &[PointId],
-    target: PointId,
-) -> Result<Vec<LinkId>, AllocError>
-    requires { length activations.now ≤ most_links }
-    ensures { IfOk result (λ labels. (n : ℕ) → labels.items ≡ labels_at (record { points = n; activations = activations.now }) target) }
-{
-    let mut labels = Vec::new(alloc);
-    for (place, begins) in activations.iter().enumerate() {
-        if *begins == target {
-            labels.push(LinkId(place as u32))?;
-        }
-    }
-    Ok(labels)
-}
-
-/// Pushes the edge of a key and a weight, where there is a weight.
-fn push_edge(
-    row: &mut Vec<Edge>,
-    from: PointId,
-    to: PointId,
-    label: Option<LinkId>,
-    weight: Option<Weight>,
-) -> Result<(), AllocError>
-    ensures { OnOk result (row.new.items ≡ row.old.items ++ cons_option (option_map (edge_of (record { to = to; from = from; label = label })) weight) []) }
-{
-    if let Some(weight) = weight {
-        row.push(Edge {
-            from,
-            to,
-            label,
-            weight,
-        })?;
-    }
-    Ok(())
 }
 
 fn edge_of_bound(bound: &Bound) -> Edge
@@ -300,13 +227,13 @@ fn edge_of_link(name: LinkId, link: &Link) -> Edge
     }
 }
 
-/// Rows without weights.
-fn absent_rows(alloc: Global, count: usize, points: usize) -> Result<Vec<Row>, AllocError>
-    ensures { IfOk result (λ rows. rows.items ≡ replicate count (replicate points None)) }
+/// The rows of so many points, without edges.
+fn empty_rows(alloc: Global, points: u32) -> Result<Vec<Row>, AllocError>
+    ensures { IfOk result (λ rows. rows.items ≡ map empty_row (range_with_len 0 points)) }
 {
     let mut rows = Vec::new(alloc);
-    for _row in 0..count {
-        rows.push(Row::absent(alloc, points)?)?;
+    for point in 0..points {
+        rows.push(Row::empty(alloc, PointId(point)))?;
     }
     Ok(rows)
 }

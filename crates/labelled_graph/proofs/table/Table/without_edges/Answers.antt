@@ -1,12 +1,8 @@
-use Rattle.labelled_graph.proofs.DenseLemmas.{absent_made}
+use Rattle.labelled_graph.proofs.StoredLemmas.{empty_made}
 use Rattle.labelled_graph.proofs.table.Table.without_edges.Goals as goal
 
 pub invariant_of-result : goal.invariant_of-result
-invariant_of-result c =
-    (absent_made c.args.net.now c.points-points.ensures.sound (record { ordinary = c.in_ok-absent_rows.field-0; labelled = c.in_ok-absent_rows-2.field-0; activations = c.loop-link.activations }) c.points-points.result.now c.links-links.result.now
-    c.loop-link.link-index c.points-points.ensures.points c.links-links.ensures.links c.loop-link-test.false c.loop-link.invariant c.in_ok-absent_rows.ensures c.in_ok-absent_rows-2.ensures).0
+invariant_of-result c = (empty_made c.args.net.now c.points-points.ensures.sound c.points-points.result.now c.links-links.result.now c.loop-link.link-index c.points-points.ensures.points c.links-links.ensures.links c.loop-link-test.false c.in_ok-rows.rows.items c.loop-link.activations.items c.in_ok-rows.ensures c.loop-link.invariant).0
 
 pub returns : goal.returns
-returns c =
-    (absent_made c.args.net.now c.points-points.ensures.sound (record { ordinary = c.in_ok-absent_rows.field-0; labelled = c.in_ok-absent_rows-2.field-0; activations = c.loop-link.activations }) c.points-points.result.now c.links-links.result.now
-    c.loop-link.link-index c.points-points.ensures.points c.links-links.ensures.links c.loop-link-test.false c.loop-link.invariant c.in_ok-absent_rows.ensures c.in_ok-absent_rows-2.ensures).1
+returns c = (empty_made c.args.net.now c.points-points.ensures.sound c.points-points.result.now c.links-links.result.now c.loop-link.link-index c.points-points.ensures.points c.links-links.ensures.links c.loop-link-test.false c.in_ok-rows.rows.items c.loop-link.activations.items c.in_ok-rows.ensures c.loop-link.invariant).1
