@@ -27,5 +27,8 @@ pub mod CourseLemmas
 pub mod DueLemmas
 pub mod DayLemmas
 pub mod RunLemmas
-pub mod OptionLemmas
+pub mod PlaceLemmas
+pub mod UseLemmas
 pub mod WorkersLemmas
+pub mod SameLemmas
+pub mod NothingLemmas

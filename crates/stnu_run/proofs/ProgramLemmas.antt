@@ -13,8 +13,7 @@ use Rattle.commands.specs.declared.phases.Planned.{Planned}
 use Rattle.commands.proofs.AskedLemmas.{asked_single}
 use Rattle.commands.proofs.PhaseLemmas.{planned_single}
 use Rattle.commands.proofs.SingleLemmas.{runs_same}
-use Rattle.stnu_run.specs.DefinedRuns.{program_named, program_for, program_of, request_of, when◌run◌else◌}
-use Rattle.stnu_run.specs.Options.{Options}
+use Rattle.stnu_run.specs.DefinedRuns.{program_named, program_for, program_of, command_of, when◌run◌else◌}
 use Rattle.stnu_run.specs.Programs.{Program, Promise, serves, tells, told_number, DefinesOne, EachDefinesOne}
 use Rattle.stnu_run.specs.Requests.{RefusesWords, refuses_words, program_asked}
 use Rattle.stnu_run.specs.declared.telling.TellingEnd.{TellingEnd}
@@ -61,10 +60,10 @@ chosen_defines_one true one other first second = first
 chosen_defines_one false one other first second = second
 
 -- whatever the words name
-request_defines_one : ((command : List ℕ) (options : Options) → DefinesOne (program_named command options)) → (request : Option (List ℕ × Options)) → DefinesOne (program_for request)
-request_defines_one each (Some (command, options)) = each command options
-request_defines_one each None = refused_defines_one
+named_defines_one : ((command : List ℕ) (words : List (List ℕ)) → DefinesOne (program_named command words)) → (named : Option (List ℕ × List (List ℕ))) → DefinesOne (program_for named)
+named_defines_one each (Some (command, words)) = each command words
+named_defines_one each None = refused_defines_one
 
 -- whatever the words are
-pub words_define_one : ((command : List ℕ) (options : Options) → DefinesOne (program_named command options)) → (words : List (List ℕ)) → DefinesOne (program_of words)
-words_define_one each words = request_defines_one each (request_of words)
+pub words_define_one : ((command : List ℕ) (words : List (List ℕ)) → DefinesOne (program_named command words)) → (words : List (List ℕ)) → DefinesOne (program_of words)
+words_define_one each words = named_defines_one each (command_of words)

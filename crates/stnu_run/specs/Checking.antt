@@ -1,5 +1,5 @@
 -- The command `check`: a plan, and then whether the network that it declares is controllable. This project's own choice.
-use Rattle.std.specs.Prelude.{◌≡◌, ◌⊎◌, ℕ, List, [], ◌∷◌, ◌++◌, codes}
+use Rattle.std.specs.Prelude.{◌≡◌, ◌⊎◌, ℕ, List, [], ◌∷◌, ◌++◌, codes, Option}
 use Rattle.texts.specs.Printing.{printed_line}
 use Rattle.net_model.specs.Network.{Plan}
 use Rattle.net_model.specs.declared.ids.PointId.{PointId}
@@ -10,8 +10,11 @@ use Rattle.closure_model.specs.declared.derivation.NodeId.{NodeId}
 use Rattle.cert_format.specs.CertificateWords.{printed_certificate}
 use Rattle.cert_format.specs.declared.certificate.Certificate.{Certificate}
 use Rattle.refutations.specs.Certifying.{certificate_by}
+use Rattle.command_words.specs.Arguments.{Arguments, option_at}
+use Rattle.command_words.specs.Syntax.{Syntax}
 use Rattle.commands.specs.declared.endings.End.{End}
 use Rattle.commands.specs.declared.endings.End.TheVariants.{Done, Refused}
+use Rattle.stnu_run.specs.Workers.{has_workers, workers_name}
 
 -- the line `controllable`
 abbrev pub controllable_line : List ℕ
@@ -49,3 +52,10 @@ pub record IsCertificateOf (net : Plan) (cert : Certificate) : Type 0 where
 abbrev pub check_answers : Unit {0} → Plan → List ℕ → End → Type 0
 check_answers question net answer end =
     (RoundsClose net × PutsControllable answer end) ⊎ ((cert : Certificate) × IsCertificateOf net cert × PutsRefuted cert answer end)
+
+-- `check` takes a number of workers, which decides nothing of what is asked
+abbrev pub check_syntax : Syntax
+check_syntax = record { flags = []; options = workers_name ∷ []; operands = [] }
+
+abbrev pub check_asked : Arguments → Option (Unit {0})
+check_asked arguments = has_workers (option_at 0 arguments)

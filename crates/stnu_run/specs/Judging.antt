@@ -1,5 +1,5 @@
 -- The command `judge`: a plan, and after it a certificate, which is judged. This project's own choice.
-use Rattle.std.specs.Prelude.{◌≡◌, ℕ, List, [], ◌∷◌}
+use Rattle.std.specs.Prelude.{◌≡◌, ℕ, List, [], ◌∷◌, Option, Some}
 use Rattle.texts.specs.Printing.{printed_line}
 use Rattle.net_model.specs.Network.{Plan}
 use Rattle.cert_format.specs.declared.certificate.Certificate.{Certificate}
@@ -7,6 +7,8 @@ use Rattle.cert_checker.specs.Judgement.{judgement_of}
 use Rattle.cert_checker.specs.JudgementText.{judgement_text}
 use Rattle.cert_checker.specs.declared.judgement.Judgement.{Judgement}
 use Rattle.cert_checker.specs.declared.judgement.Judgement.TheVariants.{Accepted, Refused}
+use Rattle.command_words.specs.Arguments.{Arguments}
+use Rattle.command_words.specs.Syntax.{Syntax}
 use Rattle.commands.specs.Machine.{Machine}
 use Rattle.commands.specs.Asked.{asked_machine}
 use Rattle.commands.specs.Pairs.{then_reader}
@@ -35,6 +37,13 @@ judgement_end (Refused line why) = end.Refused
 abbrev pub judge_answers : Judge → Plan × Certificate → List ℕ → End → Type 0
 judge_answers question value answer end =
     (answer ≡ judgement_line (judgement_of value.0 value.1)) × (end ≡ judgement_end (judgement_of value.0 value.1))
+
+-- `judge` takes no words
+abbrev pub judge_syntax : Syntax
+judge_syntax = record { flags = []; options = []; operands = [] }
+
+abbrev pub judge_asked : Arguments → Option Judge
+judge_asked arguments = Some (record {})
 
 -- how far the input of `judge` was read
 abbrev pub Judging : Type 0

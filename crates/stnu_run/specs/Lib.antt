@@ -20,5 +20,5 @@ pub mod Due
 pub mod Day
 pub mod EventFaults
 pub mod RunPromise
-pub mod Options
-pub mod OptionLaws
+pub mod Workers
+pub mod WordLaws

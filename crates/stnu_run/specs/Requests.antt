@@ -1,9 +1,11 @@
 -- What the words ask of a command, and the program of it. This project's own choice.
-use Rattle.std.specs.Prelude.{◌≡◌, ℕ, List, [], ◌∷◌, codes, Option, Some, None, if◌then◌else◌}
+use Rattle.std.specs.Prelude.{◌≡◌, ℕ, List, [], ◌∷◌, codes, Option, Some, None}
+use Rattle.std.specs.Option.{option_and_then}
 use Rattle.texts.specs.Printing.{printed_line}
-use Rattle.commands.specs.Machine.{Machine}
-use Rattle.stnu_run.specs.Options.{Options, has_none}
-use Rattle.stnu_run.specs.Programs.{Program, Promise, serves, tells}
+use Rattle.command_words.specs.Arguments.{Arguments}
+use Rattle.command_words.specs.Reading.{arguments_of}
+use Rattle.command_words.specs.Syntax.{Syntax, Text}
+use Rattle.stnu_run.specs.Programs.{Program, tells}
 use Rattle.stnu_run.specs.declared.telling.TellingEnd.{TellingEnd}
 use Rattle.stnu_run.specs.declared.telling.TellingEnd.TheVariants.{WordsRefused}
 
@@ -20,10 +22,11 @@ abbrev pub program_asked : {A : Type 0} → (A → Program) → Option A → Pro
 program_asked program (Some asked) = program asked
 program_asked program None = refuses_words
 
--- that of a command which is served from its start, by what it promises
-abbrev pub serves_asked : {A C : Type 0} → Machine C → (A → C) → (A → Promise) → Option A → Program
-serves_asked machine start promise asked = program_asked (λ a. serves machine (start a) (promise a)) asked
+-- What the words after that of a command ask of it, by its syntax and what its arguments ask. Nothing is asked where the words are not those of
+-- the command, or a value is none that it takes.
+abbrev pub asked_by : {A : Type 0} → Syntax → (Arguments → Option A) → List Text → Option A
+asked_by command asked words = option_and_then asked (arguments_of command words)
 
--- the request of a command that takes no options
-abbrev pub without_options : {A : Type 0} → A → Options → Option A
-without_options request options = if has_none options then Some request else None
+-- the program of the words after that of a command
+abbrev pub program_by : {A : Type 0} → Syntax → (Arguments → Option A) → (A → Program) → List Text → Program
+program_by command asked program words = program_asked program (asked_by command asked words)

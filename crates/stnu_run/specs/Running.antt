@@ -1,5 +1,5 @@
 -- The command `run`: a plan, and after it lines of events, over which its network is executed. This project's own choice.
-use Rattle.std.specs.Prelude.{◌≡◌, ◌⊎◌, ℕ, List, [], ◌++◌, length, Option}
+use Rattle.std.specs.Prelude.{◌≡◌, ◌⊎◌, ℕ, List, [], ◌∷◌, ◌++◌, length, Option}
 use Rattle.net_model.specs.Network.{Plan}
 use Rattle.cert_format.specs.CertificateWords.{printed_certificate, HasWeights}
 use Rattle.cert_format.specs.declared.certificate.Certificate.{Certificate}
@@ -8,6 +8,8 @@ use Rattle.dispatch_net.specs.Dispatchable.{dispatchable}
 use Rattle.execution_model.specs.Feeding.{Execution, started, IsDueAnswer}
 use Rattle.execution_model.specs.Laws.{setting_of}
 use Rattle.live_executor.specs.Sound.{IsDispatchOf}
+use Rattle.command_words.specs.Arguments.{Arguments, option_at}
+use Rattle.command_words.specs.Syntax.{Syntax}
 use Rattle.commands.specs.Machine.{Machine}
 use Rattle.commands.specs.Phases.{planned_machine}
 use Rattle.commands.specs.declared.endings.End.TheVariants.{Refused}
@@ -21,6 +23,7 @@ use Rattle.stnu_run.specs.EventAnswers.{due_line}
 use Rattle.stnu_run.specs.Executing.{executing_machine}
 use Rattle.stnu_run.specs.Faults.{refusing}
 use Rattle.stnu_run.specs.PlanText.{plan_begun, plan_reader}
+use Rattle.stnu_run.specs.Workers.{has_workers, workers_name}
 use Rattle.stnu_run.specs.declared.running.Examined.{Examined}
 use Rattle.stnu_run.specs.declared.running.Examined.TheVariants.{Controllable, Refuted}
 use Rattle.stnu_run.specs.declared.plan_text.PlanText.{PlanText}
@@ -60,6 +63,13 @@ IsExamined net (Refuted certificate) = IsCertificateOf net certificate × HasWei
 
 abbrev pub run_begins : Unit {0} → Plan → List ℕ → Onward Course → Type 0
 run_begins start net answer onward = BeginsExecution net answer onward ⊎ BeginsRefuted net answer onward
+
+-- `run` takes a number of workers, which decides nothing of what is asked
+abbrev pub run_syntax : Syntax
+run_syntax = record { flags = []; options = workers_name ∷ []; operands = [] }
+
+abbrev pub run_asked : Arguments → Option (Unit {0})
+run_asked arguments = has_workers (option_at 0 arguments)
 
 -- how far the input of `run` was read; nothing is seen of how it begins, in which the number of workers stands
 abbrev pub Running : Type 0

@@ -1,6 +1,6 @@
 //! The command `check`: a plan, and then whether the network that it declares is controllable.
 
-ghost use Rattle.std.specs.Prelude.{◌≡◌, [], Some, IfOk};
+ghost use Rattle.std.specs.Prelude.{◌≡◌, [], IfOk};
 ghost use Rattle.closure_model.specs.Derivations.{StandsOn, base_support};
 ghost use Rattle.closure_model.specs.Orders.{IsCycle};
 ghost use Rattle.cert_format.specs.CertificateWords.{HasWeights};
@@ -8,9 +8,8 @@ ghost use Rattle.cert_format.specs.declared.certificate.Certificate.{Certificate
 ghost use Rattle.refutations.specs.Certifying.{IsCertificateBy};
 ghost use Rattle.parallel_rounds.specs.Propagated.{IsPropagated};
 ghost use Rattle.stnu_run.specs.CheckPromise.{CheckPromise, PutsVerdict};
-ghost use Rattle.stnu_run.specs.Checking.{check_answers, PutsControllable, PutsRefuted};
+ghost use Rattle.stnu_run.specs.Checking.{check_answers, check_asked, check_syntax, PutsControllable, PutsRefuted};
 
-use crate::options::Options;
 use crate::plan_asking::PlanQuestion;
 use crate::plan_text::PlanText;
 use crate::requests::Request;
@@ -19,6 +18,7 @@ use cert_checker::laws::accepted_excludes;
 use cert_format::{Certificate, print_certificate};
 use closure_model::laws::base_stands;
 use closure_model::{order_laws, round_laws};
+use command_words::{Arguments, Syntax};
 use commands::{Answer, Asked, End, Question, Word};
 use controllability::laws::closures_decide;
 use derivation_dag::Plain;
@@ -58,12 +58,24 @@ impl Question<Network> for Check {
 }
 
 impl Request for Check {
-    ghost asked = { λ options. Some tt };
+    ghost syntax = { check_syntax };
 
-    fn of(options: &Options) -> Option<Check> {
-        let workers = Workers::new(options.workers());
+    ghost asked = { check_asked };
+
+    fn words() -> Syntax<'static> {
+        Syntax {
+            flags: &[],
+            options: &["workers"],
+            operands: &[],
+        }
+    }
+
+    fn of(arguments: &Arguments<'_>) -> Option<Check> {
+        let workers = Workers::of(arguments.option(0))?;
         Some(Check { workers })
     }
+
+    fn workers_decide_nothing() {}
 }
 
 /// The command: how far its input was read.

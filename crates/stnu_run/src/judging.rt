@@ -3,18 +3,17 @@
 ghost use Rattle.std.specs.Prelude.{◌≡◌, OnOk, ◌++◌};
 ghost use Rattle.cert_checker.specs.Judgement.{judgement_of};
 ghost use Rattle.stnu_run.specs.JudgePromise.{JudgePromise};
-ghost use Rattle.stnu_run.specs.Judging.{judge_answers, judgement_line, judgement_end, judge_start};
+ghost use Rattle.stnu_run.specs.Judging.{judge_answers, judge_asked, judge_start, judge_syntax, judgement_line, judgement_end};
 ghost use Rattle.stnu_run.specs.Programs.{or_nothing};
-ghost use Rattle.stnu_run.specs.Requests.{without_options};
 
 use crate::certificate_text::CertificateText;
-use crate::options::Options;
 use crate::plan_text::PlanText;
 use crate::promising::Promising;
 use crate::requests::Request;
 use cert_checker::laws::accepted_excludes;
 use cert_checker::{Judgement, judge};
 use cert_format::Certificate;
+use command_words::{Arguments, Syntax};
 use commands::{Answer, Asked, End, Question, Then, Word};
 use net_model::Network;
 use std::alloc::{AllocError, Global};
@@ -42,15 +41,23 @@ impl Question<(Network, Certificate)> for Judge {
 }
 
 impl Request for Judge {
-    ghost asked = { without_options (record {}) };
+    ghost syntax = { judge_syntax };
 
-    fn of(options: &Options) -> Option<Judge> {
-        if options.are_none() {
-            Some(Judge)
-        } else {
-            None
+    ghost asked = { judge_asked };
+
+    fn words() -> Syntax<'static> {
+        Syntax {
+            flags: &[],
+            options: &[],
+            operands: &[],
         }
     }
+
+    fn of(_arguments: &Arguments<'_>) -> Option<Judge> {
+        Some(Judge)
+    }
+
+    fn workers_decide_nothing() {}
 }
 
 /// The command: how far its input was read.

@@ -1,15 +1,21 @@
 //! Laws about the program, each the contract of a function without parameters.
 
-ghost use Rattle.std.specs.Prelude.{◌≡◌, ◌↔◌, ℕ, List, [], ◌∷◌, Some};
+ghost use Rattle.std.specs.Prelude.{◌≡◌, ◌↔◌, ℕ, List, [], ◌∷◌, ◌++◌, Some};
+ghost use Rattle.stnu_run.specs.Checking.{check_asked, check_syntax};
 ghost use Rattle.stnu_run.specs.DefinedRuns.{DefinedRun, program_named};
-ghost use Rattle.stnu_run.specs.OptionLaws.{SameRuns, TakesWorkers};
-ghost use Rattle.stnu_run.specs.Options.{Options, Gives, Spells, options_of, workers};
-ghost use Rattle.stnu_run.specs.Programs.{DefinesOne};
+ghost use Rattle.stnu_run.specs.Judging.{judge_asked, judge_syntax};
+ghost use Rattle.stnu_run.specs.Programs.{DefinesOne, EachDefinesOne, serves};
+ghost use Rattle.stnu_run.specs.Requests.{asked_by};
+ghost use Rattle.stnu_run.specs.Running.{run_asked, run_syntax};
+ghost use Rattle.stnu_run.specs.WordLaws.{AreTaken, DefineSame, DefineSameWhereTaken, SameRuns};
+ghost use Rattle.stnu_run.specs.Workers.{SayWithWorkers, SpellsWorkers, WorkersDecideNothing};
+ghost use Rattle.stnu_run.specs.declared.judging.Judge.{Judge};
 ghost use Rattle.stnu_run.specs.declared.status.Status.{Status};
 
 use crate::checking::Checking;
 use crate::judging::Judging;
 use crate::promising::Promising;
+use crate::requests::Request;
 use crate::running::Running;
 
 /// For given words and a given input at most one pair of bytes and status stands in the defined run.
@@ -17,30 +23,58 @@ pub fn defined_run_is_one()
     ensures { (words : List (List ℕ)) (input a b : List ℕ) (x y : Status)
         → DefinedRun words input a x → DefinedRun words input b y → (a ≡ b) × (x ≡ y) }
 {
-    each_defines_one();
+    each_is_lawful();
 }
 
-/// Words are read as options exactly where they spell them: each by its name and then its value, or as one word with `=` between, in any
-/// order, and each at most once.
-pub fn options_are_those_spelled()
-    ensures { (words : List (List ℕ)) (options : Options) → options_of words ≡ Some options ↔ Gives words options }
+/// The words after `judge` are its own exactly where there are none.
+pub fn judge_is_read_exactly()
+    ensures { (words : List (List ℕ)) (judge : Judge) → asked_by judge_syntax judge_asked words ≡ Some judge ↔ words ≡ [] }
 {}
 
-/// The number of workers changes nothing: the defined run of words with the option `--workers`, in either spelling, is that of the words
-/// without it, where the command takes the option, and that of the words with another number.
+/// The words after `check` are its own exactly where they spell its uses, and the number of workers, where it is given, is one from 1 to 64.
+pub fn check_is_read_exactly()
+    ensures { (words : List (List ℕ)) → asked_by check_syntax check_asked words ≡ Some tt ↔ SayWithWorkers check_syntax words }
+{}
+
+/// The words after `run` are its own exactly where they spell its uses, and the number of workers, where it is given, is one from 1 to 64.
+pub fn run_is_read_exactly()
+    ensures { (words : List (List ℕ)) → asked_by run_syntax run_asked words ≡ Some tt ↔ SayWithWorkers run_syntax words }
+{}
+
+/// The number of workers changes nothing, in either spelling, and wherever it stands after the word of a command: the defined run of words with
+/// it is that of the words with another number, and, where words with it are not refused, that of the words without it.
 pub fn workers_change_nothing()
-    ensures without { (program command : List ℕ) (words : List (List ℕ)) (count : ℕ)
-        → TakesWorkers command → Spells (workers count) words → SameRuns (program ∷ command ∷ words) (program ∷ command ∷ []) }
-    ensures other { (program command : List ℕ) (words others : List (List ℕ)) (count number : ℕ)
-        → Spells (workers count) words → Spells (workers number) others → SameRuns (program ∷ command ∷ words) (program ∷ command ∷ others) }
-{}
-
-/// Whatever the command is, for an input it defines at most one pair of bytes and status: one line for each command of the
-/// program.
-fn each_defines_one()
-    ensures { (command : List ℕ) (options : Options) → DefinesOne (program_named command options) }
+    ensures other { (program command : List ℕ) (front spelled others back : List (List ℕ)) (count number : ℕ)
+        → SpellsWorkers count spelled → SpellsWorkers number others
+        → SameRuns (program ∷ command ∷ (front ++ (spelled ++ back))) (program ∷ command ∷ (front ++ (others ++ back))) }
+    ensures without { (program command : List ℕ) (front spelled back : List (List ℕ)) (count : ℕ)
+        → SpellsWorkers count spelled → AreTaken (program ∷ command ∷ (front ++ (spelled ++ back)))
+        → SameRuns (program ∷ command ∷ (front ++ (spelled ++ back))) (program ∷ command ∷ (front ++ back)) }
 {
-    Judging::defines_one();
-    Checking::defines_one();
-    Running::defines_one();
+    each_is_lawful();
+}
+
+/// Whatever the command is, for an input it defines at most one pair of bytes and status, and the number of workers changes nothing: one line
+/// for each command of the program.
+fn each_is_lawful()
+    ensures one { (command : List ℕ) (words : List (List ℕ)) → DefinesOne (program_named command words) }
+    ensures other { (command : List ℕ) (front spelled others back : List (List ℕ)) (count number : ℕ)
+        → SpellsWorkers count spelled → SpellsWorkers number others
+        → DefineSame (program_named command (front ++ (spelled ++ back))) (program_named command (front ++ (others ++ back))) }
+    ensures without { (command : List ℕ) (front spelled back : List (List ℕ)) (count : ℕ)
+        → SpellsWorkers count spelled
+        → DefineSameWhereTaken (program_named command (front ++ (spelled ++ back))) (program_named command (front ++ back)) }
+{
+    is_lawful::<Judging>();
+    is_lawful::<Checking>();
+    is_lawful::<Running>();
+}
+
+/// The laws that a command keeps whatever is asked of it.
+fn is_lawful<C: Promising>()
+    ensures one { EachDefinesOne (λ asked. serves C.machine (C.start asked) (C.promise asked)) }
+    ensures workers { WorkersDecideNothing C.Request.syntax C.Request.asked }
+{
+    C::defines_one();
+    C::Request::workers_decide_nothing();
 }

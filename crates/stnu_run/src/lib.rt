@@ -9,7 +9,6 @@ mod executing;
 mod faults;
 mod judging;
 mod laws;
-mod options;
 mod plan_asking;
 mod plan_text;
 mod promising;
@@ -20,5 +19,8 @@ mod telling;
 mod workers;
 
 pub use dispatch::run;
-pub use laws::{defined_run_is_one, options_are_those_spelled, workers_change_nothing};
+pub use laws::{
+    check_is_read_exactly, defined_run_is_one, judge_is_read_exactly, run_is_read_exactly,
+    workers_change_nothing,
+};
 pub use status::Status;

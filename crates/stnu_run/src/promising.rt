@@ -1,19 +1,18 @@
 //! A command of the program: where it begins, what it promises, and how it is served.
 
-ghost use Rattle.std.specs.Prelude.{◌≡◌, ◌⊎◌, ◌≤◌, ℕ, List, []};
+ghost use Rattle.std.specs.Prelude.{◌≡◌, ◌⊎◌, ◌≤◌, ℕ, List, [], map, string_bytes};
 ghost use Rattle.plan_port.specs.Talk.{Piece};
 ghost use Rattle.commands.specs.Breaks.{BreaksForMemory};
 ghost use Rattle.commands.specs.Limits.{least_room};
 ghost use Rattle.stnu_run.specs.Programs.{Promise, PromiseHolds, EachDefinesOne, ServesProgram, KeepsPromise, HasCauses, KeepsWithoutMemory, serves};
-ghost use Rattle.stnu_run.specs.Requests.{serves_asked};
+ghost use Rattle.stnu_run.specs.Requests.{program_by};
 
-use crate::options::Options;
-use crate::requests::Request;
+use crate::requests::{Request, request_in};
 use crate::status::Status;
 use crate::telling::{RefusedWords, tell};
 use commands::{Command, serve};
 use plan_port::Port;
-use std::alloc::Global;
+use std::alloc::{AllocError, Global};
 use std::thread::Threads;
 
 /// A command of the program, with what it promises of what it puts for an input. Both where it begins and what it promises depend on
@@ -47,21 +46,23 @@ pub trait Promising: Command {
         ensures { EachDefinesOne (λ asked. serves Self.machine (start asked) (promise asked)) };
 }
 
-/// Serves a command over a port as options ask, or refuses the words where it does not take the options.
+/// Serves a command over a port as the words after that of the command ask, or refuses the words. Where there is no memory to read them,
+/// nothing is taken or put.
 pub fn serve_asked<R: Threads + Sync, C: Promising, P: Port>(
     rt: &R,
     alloc: Global,
-    options: &Options,
+    words: &[String],
     port: &mut P,
 ) -> Status
-    ensures served { ServesProgram (serves_asked C.machine C.start C.promise (C.Request.asked options.now)) result (P.seen port.old) (P.seen port.new) }
-    ensures kept { KeepsPromise (serves_asked C.machine C.start C.promise (C.Request.asked options.now)) result (P.seen port.old) (P.seen port.new) }
-    ensures causes { HasCauses (serves_asked C.machine C.start C.promise (C.Request.asked options.now)) result (P.seen port.old) (P.seen port.new) }
-    ensures memory { KeepsWithoutMemory (serves_asked C.machine C.start C.promise (C.Request.asked options.now)) result (P.seen port.old) (P.seen port.new) }
+    ensures served { ServesProgram (program_by C.Request.syntax C.Request.asked (λ asked. serves C.machine (C.start asked) (C.promise asked)) (map string_bytes words.now)) result (P.seen port.old) (P.seen port.new) }
+    ensures kept { KeepsPromise (program_by C.Request.syntax C.Request.asked (λ asked. serves C.machine (C.start asked) (C.promise asked)) (map string_bytes words.now)) result (P.seen port.old) (P.seen port.new) }
+    ensures causes { HasCauses (program_by C.Request.syntax C.Request.asked (λ asked. serves C.machine (C.start asked) (C.promise asked)) (map string_bytes words.now)) result (P.seen port.old) (P.seen port.new) }
+    ensures memory { KeepsWithoutMemory (program_by C.Request.syntax C.Request.asked (λ asked. serves C.machine (C.start asked) (C.promise asked)) (map string_bytes words.now)) result (P.seen port.old) (P.seen port.new) }
 {
-    match C::Request::of(options) {
-        Some(request) => serve_command::<R, C, P>(rt, alloc, request, port),
-        None => tell(rt, alloc, RefusedWords, port),
+    match request_in::<C::Request>(alloc, words) {
+        Ok(Some(request)) => serve_command::<R, C, P>(rt, alloc, request, port),
+        Ok(None) => tell(rt, alloc, RefusedWords, port),
+        Err(AllocError) => Status(8),
     }
 }
 

@@ -1,6 +1,6 @@
 //! The command `run`: a plan, and then the execution of its network over lines of events.
 
-ghost use Rattle.std.specs.Prelude.{◌≡◌, ◌≤◌, [], length, Some, IfOk, OnOk};
+ghost use Rattle.std.specs.Prelude.{◌≡◌, ◌≤◌, [], length, IfOk, OnOk};
 ghost use Rattle.closure_model.specs.Derivations.{base_support};
 ghost use Rattle.parallel_rounds.specs.Propagated.{IsPropagated};
 ghost use Rattle.commands.specs.Machine.{HasRoom};
@@ -9,12 +9,11 @@ ghost use Rattle.live_executor.specs.Sound.{IsDispatchOf};
 ghost use Rattle.stnu_run.specs.Executing.{executing_machine, answer_room};
 ghost use Rattle.stnu_run.specs.Programs.{or_nothing};
 ghost use Rattle.stnu_run.specs.RunPromise.{RunPromise};
-ghost use Rattle.stnu_run.specs.Running.{run_begins, run_start, IsExamined, PutsBegun, GoesOnFrom};
+ghost use Rattle.stnu_run.specs.Running.{run_asked, run_begins, run_start, run_syntax, IsExamined, PutsBegun, GoesOnFrom};
 
 use crate::checking::put_refuted;
 use crate::event_answers::put_due;
 use crate::executing::Executing;
-use crate::options::Options;
 use crate::plan_text::PlanText;
 use crate::promising::Promising;
 use crate::requests::Request;
@@ -23,6 +22,7 @@ use cert_checker::laws::accepted_excludes;
 use cert_format::Certificate;
 use closure_model::laws::base_stands;
 use closure_model::{order_laws, round_laws};
+use command_words::{Arguments, Syntax};
 use commands::{Answer, Begin, Onward, Planned, Word};
 use controllability::laws::closures_decide;
 use derivation_dag::{Plain, Supports};
@@ -53,12 +53,24 @@ impl Model for Run {
 }
 
 impl Request for Run {
-    ghost asked = { λ options. Some tt };
+    ghost syntax = { run_syntax };
 
-    fn of(options: &Options) -> Option<Run> {
-        let workers = Workers::new(options.workers());
+    ghost asked = { run_asked };
+
+    fn words() -> Syntax<'static> {
+        Syntax {
+            flags: &[],
+            options: &["workers"],
+            operands: &[],
+        }
+    }
+
+    fn of(arguments: &Arguments<'_>) -> Option<Run> {
+        let workers = Workers::of(arguments.option(0))?;
         Some(Run { workers })
     }
+
+    fn workers_decide_nothing() {}
 }
 
 /// The command: how far its input was read.

@@ -1,16 +1,20 @@
 //! The workers that make the rows of a round.
 
-ghost use Rattle.std.specs.Prelude.{◌≡◌, ◌≤◌, IfOk};
+ghost use Rattle.std.specs.Prelude.{◌≡◌, ◌≤◌, option_map, IfOk, IfSome};
 ghost use Rattle.closure_model.specs.Derivations.{StandsOn};
 ghost use Rattle.parallel_rounds.specs.Propagated.{IsPropagated};
-ghost use Rattle.stnu_run.specs.Options.{most_workers};
+ghost use Rattle.stnu_run.specs.Workers.{count_of, has_workers, most_workers};
 
 use derivation_dag::Supports;
 use net_model::Network;
+use net_model::text::natural;
 use parallel_rounds::{NoGate, Outcome, propagate};
 use std::alloc::{AllocError, Global};
 use std::marker::Model;
 use std::thread::Threads;
+
+/// How many workers there may be.
+const MOST_WORKERS: u64 = 64;
 
 /// The workers that make the rows of a round, from 1 to 64. Contracts do not see how many they are: no answer depends on it.
 #[derive(Drop)]
@@ -20,7 +24,7 @@ pub struct Workers {
 
 impl Model for Workers {
     ghost use Rattle.std.specs.Prelude.{◌≤◌};
-    ghost use Rattle.stnu_run.specs.Options.{most_workers};
+    ghost use Rattle.stnu_run.specs.Workers.{most_workers};
 
     ghost Value = { Unit {0} };
 
@@ -30,11 +34,17 @@ impl Model for Workers {
 }
 
 impl Workers {
-    /// So many workers.
-    pub(crate) fn new(count: u32) -> Workers
-        requires { (1 ≤ count) × (count ≤ most_workers) }
+    /// So many workers as the value of the option `--workers` says, or one where it is not given; `None` where the value is no number from 1 to
+    /// 64.
+    pub(crate) fn of(value: Option<&str>) -> Option<Workers>
+        ensures { result ≡ has_workers (option_map (λ text. text.now) value.entry) }
     {
-        Workers { count }
+        match value {
+            None => Some(Workers { count: 1 }),
+            Some(word) => Some(Workers {
+                count: count_of(word.as_bytes())?,
+            }),
+        }
     }
 
     /// Makes rounds until the table of a store is closed, or until it has a cycle of negative ordinary edges. `AllocError` comes only for
@@ -50,5 +60,17 @@ impl Workers {
         ensures { IfOk result (IsPropagated net.now (S.support store.old) (S.support store.new)) }
     {
         propagate(rt, alloc, net, store, self.count, &NoGate)
+    }
+}
+
+/// The number of workers that a word is: from 1 to 64, with no sign and no zero in front.
+fn count_of(word: &[u8]) -> Option<u32>
+    ensures value { result ≡ count_of word.now }
+    ensures within { IfSome result (λ count. (1 ≤ count) × (count ≤ most_workers)) }
+{
+    match natural(word, MOST_WORKERS) {
+        Ok(0) => None,
+        Ok(count) => Some(count as u32),
+        Err(_) => None,
     }
 }

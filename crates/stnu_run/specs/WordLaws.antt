@@ -1,0 +1,21 @@
+-- What the laws of words speak of. This project's own choice.
+use Rattle.std.specs.Prelude.{◌≡◌, ◌↔◌, ℕ, List}
+use Rattle.stnu_run.specs.DefinedRuns.{DefinedRun}
+use Rattle.stnu_run.specs.Programs.{Program, Defines}
+use Rattle.stnu_run.specs.declared.status.Status.{Status}
+
+-- the words are not refused: no run of theirs ends with 2
+abbrev pub AreTaken : (words : List (List ℕ)) → Type 0
+AreTaken words = (input put : List ℕ) (status : Status) → DefinedRun words input put status → ¬ (status.0 ≡ 2)
+
+-- the defined runs of these words are those of the others
+abbrev pub SameRuns : (words others : List (List ℕ)) → Type 0
+SameRuns words others = (input put : List ℕ) (status : Status) → DefinedRun words input put status ↔ DefinedRun others input put status
+
+-- two programs define the same
+pub record DefineSame (program other : Program) : Type 0 where
+  pub same : (input put : List ℕ) (status : Status) → Defines program input put status ↔ Defines other input put status
+
+-- where no run of a program ends with 2, another defines the same
+pub record DefineSameWhereTaken (program other : Program) : Type 0 where
+  pub same : ((input put : List ℕ) (status : Status) → Defines program input put status → ¬ (status.0 ≡ 2)) → DefineSame program other
