@@ -1,43 +1,37 @@
 -- The loops that find what a row begins with.
-use Rattle.std.proofs.Common.{◌≡◌, ◌≢◌, ℕ, zero, suc, ◌+◌, ◌*◌, ◌<◌, ◌≤◌, ℤ, pos, ◌==◌, ◌&&◌, ◌||◌, Bool, true, false, ◌⊎◌, List, [], ◌∷◌, ◌^◌, length, get_or, IsTrue, Option, Some, None, refl, ap, sym, subst, ◌∙◌, inl, inr, arith, is_some, IsPermutation}
-use Rattle.std.specs.Prelude.{slice_get, int_lt, MatchOption}
+use Rattle.std.proofs.Common.{◌≡◌, ◌≢◌, ℕ, zero, suc, ◌+◌, ◌*◌, ◌<◌, ◌≤◌, ℤ, pos, ◌==◌, ◌||◌, ◌%◌, Bool, true, false, not, ◌⊎◌, List, [], ◌∷◌, ◌++◌, ◌^◌, length, map, take, get_or, Option, Some, None, refl, ap, sym, subst, ◌∙◌, inl, inr, arith, is_some, IsPermutation}
+use Rattle.std.specs.Prelude.{slice_get, int_lt, int_le, MatchOption}
 use Rattle.std.specs.Option.{option_map, option_map_or}
-use Rattle.std.specs.List.{Contains}
-use Rattle.std.proofs.lemmas.Option.{same_Some, slice_get-map, slice_get-get_or, slice_get_within}
+use Rattle.std.specs.List.{All, AllByRecursion, Contains, list_any}
+use Rattle.std.proofs.lemmas.Option.{same_Some, slice_get-map, slice_get-get_or, slice_get_within, get_or_from_slice_get}
 use Rattle.std.proofs.lemmas.Bool.{eqb-true}
 use Rattle.std.proofs.lemmas.Bool.Decides.{nat_tests}
-use Rattle.std.proofs.lemmas.Nat.{mul-le}
+use Rattle.std.proofs.lemmas.Int.{ints}
+use Rattle.std.proofs.lemmas.List.{take_more, take_all, map_push}
+use Rattle.std.proofs.lemmas.List.Folds.{list_any-append}
 use Rattle.std.proofs.lemmas.List.Sorted.{Contains-permutation, IsPermutation-sym}
 use Rattle.net_model.specs.declared.ids.LinkId.{LinkId}
 use Rattle.net_model.specs.declared.ids.PointId.{PointId}
 use Rattle.net_model.specs.declared.part.Edge.{Edge}
-use Rattle.closure_model.specs.Keys.{Key, Shape, key_of, IsLabelAt, labels_at, row_keys}
-use Rattle.closure_model.specs.ReferenceRow.{edge_in, first_slot, first_slots}
+use Rattle.closure_model.specs.Keys.{Key, key_of, IsKey, all_keys, all_points, row_keys}
+use Rattle.net_model.specs.Rules.{joined_weight}
+use Rattle.closure_model.specs.ReferenceRow.{edge_in, first_slot, first_slots, has_above}
 use Rattle.closure_model.specs.Tables.{Graph, HasEdge, IsGraph, weight_of}
 use Rattle.closure_model.specs.declared.rows.Slot.{Slot}
 use Rattle.closure_model.specs.declared.rows.Why.{Why}
-use Rattle.closure_model.proofs.Lists.{Contains-head, Contains-tail, Contains-cases, Contains-none}
+use Rattle.closure_model.proofs.Lists.{Contains-head, Contains-tail, Contains-cases, Contains-none, Contains-flat_map, each-contained}
+use Rattle.closure_model.proofs.Consequences.{all_points_stand}
+use Rattle.closure_model.proofs.KeyLists.{all_keys_sound, row_keys_owned}
 use Rattle.closure_model.proofs.Slots.{some_of_map}
 use Rattle.closure_model.proofs.Weights.{same_weight, le_of_same}
 use Rattle.closure_model.specs.LeanRows.{is_live}
-use Rattle.closure_model.specs.FreshEdges.{fresh_at}
-use Rattle.back_propagation.specs.Begun.{is_begun_by, is_begun_with, begun, IsBegunTo}
+use Rattle.closure_model.specs.FreshEdges.{AreOfTable}
+use Rattle.back_propagation.specs.Begun.{improves, is_begun_with, begun, IsBegunTo, IsFirstRow}
 use Rattle.back_propagation.specs.Offering.{place_of, width_of, HasColumn}
 use Rattle.back_propagation.specs.Queued.{IsWaiting, IsQueued, IsPut}
+use Rattle.back_propagation.proofs.BegunSteps.{fresh_is, fresh_of_table}
 use Rattle.back_propagation.proofs.OfferSteps.{place_under}
-use Rattle.back_propagation.proofs.RowPlaces.{row_at, at_column, column_inside, length-row_keys, label_known, source_of_place}
-
--- a row begins with no slot without an edge before it
-nothing_before : (table : Graph) (to : PointId) (firsts : List Edge) (slot : Slot) → firsts ≡ [] → is_begun_by table to firsts slot ≡ false
-nothing_before table to firsts slot none = ap (λ (list : List Edge). is_begun_by table to list slot) none ∙ by slot.weight
-  where
-    and_false : (b : Bool) → (b && false) ≡ false
-    and_false true = refl
-    and_false false = refl
-
-    by : (o : Option ℤ) → option_map_or (λ (w : ℤ). int_lt w (pos 0) && false) o false ≡ false
-    by None = refl
-    by (Some w) = and_false (int_lt w (pos 0))
+use Rattle.back_propagation.proofs.RowPlaces.{row_at, at_column, column_inside, column_of_place}
 
 module _ (table : Graph) (to : PointId) (fresh : List (List Edge)) where
   pub to_none : (items : List (ℤ × ℕ)) → items ≡ [] → IsBegunTo table to fresh 0 items
@@ -110,38 +104,19 @@ module _ (table : Graph) (to : PointId) (fresh : List (List Edge)) where
         by true begins = by_weight begins slot.weight refl (put begins)
         by false out = subst (IsBegunTo table to fresh (place + 1)) (sym (kept out)) (to_passed (λ weight has. out))
 
-  -- a source in which no fresh edge ends
-  pub to_next_source : (from : PointId) (width : ℕ) (items : List (ℤ × ℕ)) → width ≡ width_of table.shape to → fresh_at fresh from ≡ [] → IsBegunTo table to fresh (from.0 * width) items → IsBegunTo table to fresh ((from.0 + 1) * width) items
-  to_next_source from width items wide none before_it = subst (λ (n : ℕ). IsBegunTo table to fresh ((from.0 + 1) * n) items) (sym wide) (record { covers = covers; sound = was.sound })
-    where
-      was : IsBegunTo table to fresh (from.0 * width_of table.shape to) items
-      was = subst (λ (n : ℕ). IsBegunTo table to fresh (from.0 * n) items) wide before_it
-
-      covers : (place : ℕ) (slot : Slot) (weight : ℤ) → place < (from.0 + 1) * width_of table.shape to → slice_get (first_slots table to) place ≡ Some slot → is_begun_with table to fresh slot ≡ true → slot.weight ≡ Some weight → Contains items (weight, place)
-      covers place slot weight before at is has = by (source_of_place table.shape to place from.0 before)
-        where
-          by : (place < from.0 * width_of table.shape to) ⊎ ((key : Key) → slice_get (row_keys table.shape to) place ≡ Some key → key.from.0 ≡ from.0) → Contains items (weight, place)
-          by (inl earlier) = was.covers place slot weight earlier at is has
-          by (inr mine) =
-              let (key, there, made) = some_of_map (first_slot table) (slice_get (row_keys table.shape to) place) slot (sym (slice_get-map (first_slot table) (row_keys table.shape to) place) ∙ at) in
-              let source : slot.from.0 ≡ from.0 = ap (λ (s : Slot). s.from.0) (sym made) ∙ mine key there in
-              let empty : fresh_at fresh slot.from ≡ [] = ap (λ (k : ℕ). fresh_at fresh (record { 0 = k })) source ∙ none in
-              let out : is_begun_with table to fresh slot ≡ false = nothing_before table to (fresh_at fresh slot.from) slot empty in absurd cc
-
   -- all were gone through
-  pub to_all : (width count : ℕ) (items : List (ℤ × ℕ)) → width ≡ width_of table.shape to → table.shape.points ≤ count → IsBegunTo table to fresh (count * width) items → IsQueued (begun table to fresh) (first_slots table to) items
-  to_all width count items wide past was = record { covers = covers; sound = was.sound }
+  pub to_all : (slots : List Slot) (count : ℕ) (items : List (ℤ × ℕ)) → slots ≡ first_slots table to → length slots ≤ count → IsBegunTo table to fresh count items → IsQueued (begun table to fresh) slots items
+  to_all slots count items is past was = subst (λ (list : List Slot). IsQueued (begun table to fresh) list items) (sym is) (record { covers = covers; sound = was.sound })
     where
       covers : (place : ℕ) (slot : Slot) (weight : ℤ) → slice_get (first_slots table to) place ≡ Some slot → is_live (begun table to fresh) place slot ≡ true → slot.settled ≡ false → slot.weight ≡ Some weight → Contains items (weight, place)
       covers place slot weight at live is_open has =
           let (key, there, made) = some_of_map (first_slot table) (slice_get (row_keys table.shape to) place) slot (sym (slice_get-map (first_slot table) (row_keys table.shape to) place) ∙ at) in
-          let inside = slice_get_within (row_keys table.shape to) place key there in
+          let inside : place < length (first_slots table to) = slice_get_within (first_slots table to) place slot at in
+          let long : length slots ≡ length (first_slots table to) = ap length is in
           let absent : slot.why ≡ None = ap (λ (s : Slot). s.why) (sym made) in
           let begins : begun table to fresh place ≡ true = sym (ap (λ (o : Option Why). is_some o || begun table to fresh place) absent) ∙ live in
-          let is : is_begun_with table to fresh slot ≡ true = sym (ap (λ (o : Option Slot). option_map_or (is_begun_with table to fresh) o false) at) ∙ begins in
-          let within : place < table.shape.points * width = subst (λ (n : ℕ). place < n) (length-row_keys table.shape to ∙ ap (λ (n : ℕ). table.shape.points * n) (sym wide)) inside in
-          let more : table.shape.points * width ≤ count * width = mul-le table.shape.points width count width past (omega arith) in
-          was.covers place slot weight (omega (arith, within, more)) at is has
+          let begun_is : is_begun_with table to fresh slot ≡ true = sym (ap (λ (o : Option Slot). option_map_or (is_begun_with table to fresh) o false) at) ∙ begins in
+          was.covers place slot weight (omega (arith, inside, long, past)) at begun_is has
 
 -- the slot of a key
 slot_here : (table : Graph) (to : PointId) (key : Key) (column : ℕ) → key.to ≡ to → key.from.0 < table.shape.points → HasColumn table.shape to key.label column → slice_get (first_slots table to) (place_of (width_of table.shape to) key.from column) ≡ Some (first_slot table key)
@@ -150,41 +125,93 @@ slot_here table to key column ends inside is =
     row_at table.shape to key.from column inside (column_inside table.shape to key.label column is) ∙ at_column table.shape to key.from key.label column is in
     slice_get-map (first_slot table) (row_keys table.shape to) (place_of (width_of table.shape to) key.from column) ∙ (ap (option_map (first_slot table)) there ∙ ap (λ (p : PointId). Some (first_slot table (record { to = p; from = key.from; label = key.label }))) (sym ends))
 
--- ---- keys
-pub column_of_label : (shape : Shape) (to : PointId) (labels : List LinkId) (k : ℕ) (d : LinkId) → labels ≡ labels_at shape to → k < length labels → HasColumn shape to (Some (get_or labels k d)) (1 + k)
-column_of_label shape to labels k d are inside = (k, omega arith, ap (λ (list : List LinkId). slice_get list k) (sym are) ∙ slice_get-get_or labels k d inside)
+-- ---- the slots of the table
+module _ (table : Graph) (to : PointId) (slots : List Slot) (width : ℕ) (row : IsFirstRow table to slots width) where
+  -- what a slot that was read is
+  module _ (place : ℕ) (d slot : Slot) (inside : place < length slots) (read : slot ≡ get_or slots place d) where
+    pub slot_first : slice_get (first_slots table to) place ≡ Some slot
+    slot_first = ap (λ (list : List Slot). slice_get list place) (sym row.first) ∙ (slice_get-get_or slots place d inside ∙ ap Some (sym read))
 
-pub column_label : (shape : Shape) (to : PointId) (label : Option LinkId) (column : ℕ) → to.0 < shape.points → HasColumn shape to label column → IsLabelAt shape to label
-column_label shape to None column inside is = tt
-column_label shape to (Some label) column inside (k, at, here) = label_known shape to label inside (contained_at (labels_at shape to) k label here)
+    key_of_it : (key : Key) × (slice_get (row_keys table.shape to) place ≡ Some key) × (first_slot table key ≡ slot)
+    key_of_it = some_of_map (first_slot table) (slice_get (row_keys table.shape to) place) slot (sym (slice_get-map (first_slot table) (row_keys table.shape to) place) ∙ slot_first)
+
+    known : to.0 < table.shape.points → IsKey table.shape key_of_it.0
+    known within =
+        let among : Contains (row_keys table.shape to) key_of_it.0 = contained_at (row_keys table.shape to) place key_of_it.0 key_of_it.1 in
+        let all : Contains (all_keys table.shape) key_of_it.0 = Contains-flat_map (row_keys table.shape) (all_points table.shape) to key_of_it.0 (all_points_stand table.shape to within) among in
+        each-contained (IsKey table.shape) (all_keys table.shape) key_of_it.0 (all_keys_sound table.shape) all
+      where
+        contained_at : (xs : List Key) (k : ℕ) (x : Key) → slice_get xs k ≡ Some x → Contains xs x
+        contained_at [] k x at = absurd cc
+        contained_at (y ∷ ys) zero x at = (0, omega arith, same_Some y x at)
+        contained_at (y ∷ ys) (suc k) x at = Contains-tail y ys x (contained_at ys k x at)
+
+    pub slot_from : to.0 < table.shape.points → slot.from.0 < table.shape.points
+    slot_from within = subst (λ (s : Slot). s.from.0 < table.shape.points) key_of_it.2 (known within).from_point
+
+    pub slot_column : HasColumn table.shape to slot.label (place % width)
+    slot_column =
+        let column : HasColumn table.shape to key_of_it.0.label (place % width_of table.shape to) = column_of_place table.shape to place key_of_it.0 key_of_it.1 in
+        subst (λ (s : Slot). HasColumn table.shape to s.label (place % width)) key_of_it.2 (subst (λ (n : ℕ). HasColumn table.shape to key_of_it.0.label (place % n)) (sym row.wide) column)
+
+    pub slot_held : (weight : ℤ) → slot.weight ≡ Some weight → HasEdge table (edge_in to slot weight)
+    slot_held weight has =
+        let owner : key_of_it.0.to ≡ to = owned (row_keys table.shape to) place key_of_it.0 (row_keys_owned table.shape to) key_of_it.1 in
+        let same : key_of (edge_in to slot weight) ≡ key_of_it.0 = λ i. record { to = sym owner i; from = (sym key_of_it.2 i).from; label = (sym key_of_it.2 i).label } in
+        ap (weight_of table) same ∙ (ap (λ (s : Slot). s.weight) key_of_it.2 ∙ has)
+      where
+        owned : (keys : List Key) (k : ℕ) (key : Key) → AllByRecursion (λ k. k.to ≡ to) keys → slice_get keys k ≡ Some key → key.to ≡ to
+        owned [] k key each at = absurd cc
+        owned (x ∷ xs) zero key (one, more) at = subst (λ (k : Key). k.to ≡ to) (same_Some x key at) one
+        owned (x ∷ xs) (suc k) key (one, more) at = owned xs k key more at
+
+  -- the slot between a point and the target, in the column of a label
+  module _ (from : PointId) (label : Option LinkId) (column : ℕ) (inside : from.0 < table.shape.points) (has : HasColumn table.shape to label column) where
+    pub between : slice_get slots (place_of width from column) ≡ Some (first_slot table (record { to = to; from = from; label = label }))
+    between =
+        ap (λ (list : List Slot). slice_get list (place_of width from column)) row.first
+        ∙ (ap (λ (n : ℕ). slice_get (first_slots table to) (place_of n from column)) row.wide ∙ slot_here table to (record { to = to; from = from; label = label }) column refl inside has)
+
+    pub between_fits : place_of width from column < 2 ^ 64
+    between_fits = let within = column_inside table.shape to label column has in let wide = row.wide in place_under table to width row.sound row.wide from column inside (omega (arith, within, wide))
+
+    pub between_inside : place_of width from column < length slots
+    between_inside = slice_get_within slots (place_of width from column) _ between
+
+below_is : (w old : ℤ) → int_lt w old ≡ not (int_le old w)
+below_is w old = by (int_lt w old) refl (int_le old w) refl
   where
-    contained_at : (xs : List LinkId) (k : ℕ) (x : LinkId) → slice_get xs k ≡ Some x → Contains xs x
-    contained_at [] k x at = absurd cc
-    contained_at (y ∷ ys) zero x at = (0, omega arith, same_Some y x at)
-    contained_at (y ∷ ys) (suc k) x at = Contains-tail y ys x (contained_at ys k x at)
+    by : (a : Bool) → int_lt w old ≡ a → (b : Bool) → int_le old w ≡ b → a ≡ not b
+    by true one false two = refl
+    by false one true two = refl
+    by true one true two = absurd (grind (arith, ints))
+    by false one false two = absurd (grind (arith, ints))
 
-pub place_small : (table : Graph) (to from : PointId) (width column : ℕ) (label : Option LinkId) → IsGraph table → width ≡ width_of table.shape to → from.0 < table.shape.points → HasColumn table.shape to label column → place_of width from column < 2 ^ 64
-place_small table to from width column label sound wide inside is = let within = column_inside table.shape to label column is in place_under table to width sound wide from column inside (omega arith)
+-- the slot says whether the way over two edges improves the table
+pub passes_improves : (table : Graph) (edge first : Edge) (slots : List Slot) (place : ℕ) (d : Slot) (b : Bool) → slice_get slots place ≡ Some (first_slot table (record { to = edge.to; from = first.from; label = edge.label })) → b ≡ has_above (get_or slots place d) (joined_weight first edge)
+    → b ≡ improves table edge first
+passes_improves table edge first slots place d b here is =
+    let slot : get_or slots place d ≡ first_slot table (record { to = edge.to; from = first.from; label = edge.label }) = get_or_from_slice_get slots place (first_slot table (record { to = edge.to; from = first.from; label = edge.label })) d here in
+    is ∙ (ap (λ (s : Slot). has_above s (joined_weight first edge)) slot ∙ by (weight_of table (record { to = edge.to; from = first.from; label = edge.label })))
+  where
+    by : (o : Option ℤ) → option_map_or (λ (old : ℤ). int_lt (joined_weight first edge) old) o true ≡ not (option_map_or (λ (old : ℤ). int_le old (joined_weight first edge)) o false)
+    by None = refl
+    by (Some old) = below_is (joined_weight first edge) old
 
-pub slot_held : (table : Graph) (to from : PointId) (label : Option LinkId) (slot : Slot) (weight : Option ℤ) → slot ≡ record { from = from; label = label; weight = weight; why = None; settled = false } → weight ≡ weight_of table (record { to = to; from = from; label = label })
-    → slot ≡ first_slot table (record { to = to; from = from; label = label })
-slot_held table to from label slot weight is held = is ∙ ap (λ (w : Option ℤ). record { from = from; label = label; weight = w; why = None; settled = false }) held
+-- ---- whether any edge of a row passes a test, entry by entry
+module _ {X Y : Type 0} (p : Y → Bool) (f : X → Y) (xs : List X) (ys : List Y) (are : map f xs ≡ ys) where
+  pub any_found : (i : ℕ) (d : X) → i < length xs → p (f (get_or xs i d)) ≡ true → list_any p ys ≡ true
+  any_found i d inside is = subst (λ (list : List Y). list_any p list ≡ true) are (found xs i inside is)
+    where
+      found : (list : List X) (i : ℕ) → i < length list → p (f (get_or list i d)) ≡ true → list_any p (map f list) ≡ true
+      found [] i inside is = absurd (omega arith)
+      found (x ∷ rest) zero inside is = ap (λ (b : Bool). b || list_any p (map f rest)) is
+      found (x ∷ rest) (suc i) inside is = or_true (p (f x)) (list_any p (map f rest)) (found rest i (omega arith) is)
+        where
+          or_true : (a b : Bool) → b ≡ true → (a || b) ≡ true
+          or_true true b is = refl
+          or_true false b is = is
 
-pub held_edge : (table : Graph) (to : PointId) (key : Key) (slot : Slot) (weight : ℤ) → key.to ≡ to → slot ≡ first_slot table key → slot.weight ≡ Some weight → HasEdge table (edge_in to slot weight)
-held_edge table to key slot weight ends is has =
-    let same : key_of (edge_in to slot weight) ≡ key = λ i. record { to = sym ends i; from = (is i).from; label = (is i).label } in
-    ap (weight_of table) same ∙ (sym (ap (λ (s : Slot). s.weight) is) ∙ has)
-
-pub empty_is : (list : List Edge) (b : Bool) → (list ≢ [] → IsTrue b) → b ≡ false → list ≡ []
-empty_is [] b test out = refl
-empty_is (x ∷ xs) b test out = let some : x ∷ xs ≢ [] = λ is. absurd cc in let in_ = test some in absurd cc
-
--- the slot of a key that was read stands at its place
-pub slot_there : (table : Graph) (to from : PointId) (label : Option LinkId) (column width : ℕ) (slot : Slot) → slot ≡ first_slot table (record { to = to; from = from; label = label }) → width ≡ width_of table.shape to → from.0 < table.shape.points → HasColumn table.shape to label column
-    → slice_get (first_slots table to) (place_of width from column) ≡ Some slot
-slot_there table to from label column width slot is wide inside has =
-    ap (λ (n : ℕ). slice_get (first_slots table to) (place_of n from column)) wide ∙ (slot_here table to (record { to = to; from = from; label = label }) column refl inside has ∙ ap Some (sym is))
-
--- the row begins with a slot by the edges that were read
-pub begun_same : (table : Graph) (to from : PointId) (fresh : List (List Edge)) (firsts : List Edge) (slot : Slot) (b : Bool) → slot.from ≡ from → firsts ≡ fresh_at fresh from → b ≡ is_begun_by table to firsts slot → is_begun_with table to fresh slot ≡ b
-begun_same table to from fresh firsts slot b source are is = sym (is ∙ ap (λ (list : List Edge). is_begun_by table to list slot) (are ∙ ap (fresh_at fresh) (sym source)))
+-- the edges before one are edges of the table
+pub all_of_table : (table : Graph) (fresh : List (List Edge)) (point : PointId) (list read : List Edge) → AreOfTable table fresh → point.0 < length fresh → read ≡ get_or fresh point.0 read → list ≡ read → All (HasEdge table) list
+all_of_table table fresh point list read of_table inside is same = λ k d within. fresh_of_table table fresh point list k d of_table (fresh_is fresh point list read inside is same) within

@@ -1,11 +1,12 @@
 -- A row that begins with what can still change it.
-use Rattle.std.proofs.Common.{◌≡◌, ℕ, suc, zero, ◌+◌, ◌<◌, ℤ, pos, ◌≤ℤ◌, ◌||◌, ◌&&◌, ◌%◌, Bool, true, false, not, cond, ◌⊎◌, List, [], ◌∷◌, ◌++◌, length, map, fold, get_or, Option, Some, None, refl, ap, sym, subst, ◌∙◌, inl, inr, arith, is_some}
-use Rattle.std.specs.Prelude.{slice_get, slice_set, int_lt}
+use Rattle.std.proofs.Common.{◌≡◌, ℕ, suc, zero, ◌+◌, ◌<◌, ℤ, pos, ◌≤ℤ◌, ◌==◌, ◌||◌, ◌&&◌, ◌%◌, Bool, true, false, not, cond, ◌⊎◌, List, [], ◌∷◌, ◌++◌, length, map, fold, get_or, Option, Some, None, refl, ap, sym, subst, ◌∙◌, inl, inr, arith, is_some}
+use Rattle.std.specs.Prelude.{slice_get, slice_set, int_lt, filter}
 use Rattle.std.specs.Option.{option_map, option_map_or}
 use Rattle.std.specs.List.{Contains, flat_map, list_any}
 use Rattle.std.proofs.lemmas.Option.{same_Some, slice_get-map, get_or_from_slice_get}
 use Rattle.std.proofs.lemmas.List.Elements.{Contains-get_or, Contains-append_cases}
-use Rattle.closure_model.proofs.Lists.{Contains-cases, Contains-none, Contains-flat_map_from}
+use Rattle.closure_model.proofs.Lists.{Contains-head, Contains-tail, Contains-cases, Contains-none, Contains-flat_map_from}
+use Rattle.std.proofs.lemmas.Bool.Decides.{nat_tests}
 use Rattle.std.proofs.lemmas.Int.{ints}
 use Rattle.net_model.specs.Network.{Plan, IsPlan}
 use Rattle.net_model.specs.Rules.{no_case, upper_case, joined_weight}
@@ -15,7 +16,7 @@ use Rattle.net_model.specs.declared.part.Edge.{Edge}
 use Rattle.net_model.proofs.RuleLemmas.{no_case_gives, upper_case_gives}
 use Rattle.closure_model.specs.Keys.{Key, row_keys}
 use Rattle.closure_model.specs.ReferenceRow.{given, from_first, consequences, offered, edge_in, fell, first_slot, first_slots, reference_row}
-use Rattle.closure_model.specs.Tables.{Graph, HasEdge, HasAtMost, IsFor, IsGraph, has_at_most}
+use Rattle.closure_model.specs.Tables.{Graph, HasEdge, HasAtMost, IsFor, IsGraph, edges_of, has_at_most, row_of, weight_of}
 use Rattle.closure_model.specs.declared.rows.Made.{Made}
 use Rattle.closure_model.specs.declared.rows.Slot.{Slot}
 use Rattle.closure_model.specs.declared.rows.Why.{Why}
@@ -23,15 +24,14 @@ use Rattle.closure_model.specs.declared.rows.Why.TheVariants.{No, Up}
 use Rattle.closure_model.proofs.RowRun.{under_way_first, in_row_key, rows_stay_within}
 use Rattle.closure_model.proofs.RowSteps.{unsettled}
 use Rattle.closure_model.proofs.Slots.{some_of_map, key_in, map_set_kept, offered_one, offered_change, change_settled}
-use Rattle.closure_model.proofs.TableLemmas.{at_most_tested}
+use Rattle.closure_model.proofs.TableLemmas.{at_most_tested, edge_listed}
 use Rattle.closure_model.specs.LeanRows.{IsThinned, BeginsWithAll, IsNextLive, IsAllDone, lean_after}
 use Rattle.closure_model.proofs.ThinnedLemmas.{thinned_itself, thinned_all, thinned_on, given_is, heavy_all}
 use Rattle.closure_model.proofs.LeanRuns.{IsLean, lean_first, lean_step, lean_done, lean_derivable, lean_unfallen}
 use Rattle.closure_model.specs.FreshEdges.{fresh_at, AreOfTable, IsMetBut}
-use Rattle.back_propagation.specs.Begun.{joined, improves, is_begun_with, begun, what_follows}
+use Rattle.back_propagation.specs.Begun.{joined, improves, begins_with, is_begun_with, begun, what_follows}
 use Rattle.back_propagation.specs.Offering.{IsRowAgainst, IsOfRow, slot_key, HasColumn}
 use Rattle.back_propagation.specs.Queued.{IsQueued, IsFound}
-use Rattle.back_propagation.proofs.QueuedSteps.{none_waits}
 use Rattle.back_propagation.proofs.RowPlaces.{column_of_place}
 
 -- a lean row under way, on whatever it stands
@@ -51,6 +51,22 @@ none_holds p (y ∷ ys) x none inside = by (λ later less. none_holds p ys x les
     by rest here true is = let all : list_any p (y ∷ ys) ≡ true = ap (λ (b : Bool). b || list_any p ys) is in absurd cc
     by rest (inl same) false is = ap p (sym same) ∙ is
     by rest (inr later) false is = rest later (sym (ap (λ (b : Bool). b || list_any p ys) is) ∙ none)
+
+kept_by : {X : Type 0} (keep : X → Bool) (xs : List X) (x : X) → keep x ≡ true → Contains xs x → Contains (filter keep xs) x
+kept_by keep [] x is inside = absurd (Contains-none x inside)
+kept_by keep (y ∷ ys) x is inside = by (λ later. kept_by keep ys x is later) (Contains-cases y ys x inside) (keep y) refl
+  where
+    by : (Contains ys x → Contains (filter keep ys) x) → (y ≡ x) ⊎ Contains ys x → (b : Bool) → keep y ≡ b → Contains (cond b (y ∷ filter keep ys) (filter keep ys)) x
+    by rest (inl same) true test = subst (Contains (y ∷ filter keep ys)) same (Contains-head y (filter keep ys))
+    by rest (inl same) false test = let clash : keep y ≡ true = ap keep same ∙ is in absurd cc
+    by rest (inr later) true test = Contains-tail y (filter keep ys) x (rest later)
+    by rest (inr later) false test = rest later
+
+-- an edge of a table is one of its row
+in_row : (table : Graph) (to : PointId) (edge : Edge) → HasEdge table edge → edge.to ≡ to → Contains (row_of table to) edge
+in_row table to edge has ends =
+    let test : edge.to.0 == to.0 ≡ true = let same : edge.to.0 ≡ to.0 = ap (λ (p : PointId). p.0) ends in grind (arith, nat_tests) in
+    kept_by (λ (one : Edge). one.to.0 == to.0) (edges_of table) edge test (edge_listed table edge has)
 
 -- what follows with a first premise that improves nothing the table has
 first_met : (table : Graph) (edge first : Edge) (made : Made) → improves table edge first ≡ false → Contains (from_first edge first) made → HasAtMost table made.edge
@@ -77,8 +93,7 @@ begins_with_all net table to fresh plan fits sound met place slot weight here ou
     let row = ((under_way_first net table to).is plan fits sound).partly.row in
     let held : HasEdge table (edge_in to slot weight) = sym (row.unfallen place slot here (never_fell (row_keys table.shape to) place slot here)) ∙ has in
     let out_slot : is_begun_with table to fresh slot ≡ false = sym (ap (λ (o : Option Slot). option_map_or (is_begun_with table to fresh) o false) here) ∙ out in
-    let tested : (int_lt weight (pos 0) && list_any (improves table (edge_in to slot weight)) (fresh_at fresh slot.from)) ≡ false =
-    sym (ap (λ (o : Option ℤ). option_map_or (λ (w : ℤ). int_lt w (pos 0) && list_any (improves table (edge_in to slot w)) (fresh_at fresh slot.from)) o false) has) ∙ out_slot in
+    let tested : begins_with table fresh (edge_in to slot weight) ≡ false = sym (ap (λ (o : Option ℤ). option_map_or (λ (w : ℤ). begins_with table fresh (edge_in to slot w)) o false) has) ∙ out_slot in
     by (met (edge_in to slot weight) held refl) (int_lt weight (pos 0)) refl tested
   where
     never_fell : (keys : List Key) (place : ℕ) (slot : Slot) → slice_get (map (first_slot table) keys) place ≡ Some slot → slot.why ≡ None
@@ -183,12 +198,21 @@ module _ (net : Plan) (table : Graph) (to : PointId) (begins : ℕ → Bool) (sl
 pub lean_end : (net : Plan) (table : Graph) (to : PointId) (begins : ℕ → Bool) (slots : List Slot) (made : List Made) → IsPlan net → IsFor net table → IsGraph table → BeginsWithAll net table to begins → IsLeanWay net table to begins slots made → IsAllDone begins slots → made ≡ reference_row net table to
 lean_end net table to begins slots made plan fits sound dull way all = lean_done net table to begins plan fits sound dull slots made (way.is plan fits sound dull) all
 
--- where nothing waits nothing falls
-pub nothing_begun : (net : Plan) (table : Graph) (to : PointId) (fresh : List (List Edge)) (items : List (ℤ × ℕ)) → IsPlan net → IsFor net table → IsGraph table → IsMetBut net table to fresh → items ≡ [] → IsQueued (begun table to fresh) (first_slots table to) items
-    → [] ≡ reference_row net table to
-nothing_begun net table to fresh items plan fits sound met none was =
-    lean_end net table to (begun table to fresh) (first_slots table to) [] plan fits sound (begins_with_all net table to fresh plan fits sound met) (way_first net table to (begun table to fresh))
-    (none_waits (begun table to fresh) (first_slots table to) items none was)
+-- where a row begins with none of its edges nothing falls
+pub nothing_begun : (net : Plan) (table : Graph) (to : PointId) (fresh : List (List Edge)) → IsPlan net → IsFor net table → IsGraph table → IsMetBut net table to fresh → list_any (begins_with table fresh) (row_of table to) ≡ false → [] ≡ reference_row net table to
+nothing_begun net table to fresh plan fits sound met none =
+    lean_end net table to (begun table to fresh) (first_slots table to) [] plan fits sound (begins_with_all net table to fresh plan fits sound met) (way_first net table to (begun table to fresh)) done
+  where
+    done : IsAllDone (begun table to fresh) (first_slots table to)
+    done place slot w here live has =
+        let (key, at, is) = some_of_map (first_slot table) (slice_get (row_keys table.shape to) place) slot (sym (slice_get-map (first_slot table) (row_keys table.shape to) place) ∙ here) in
+        let absent : slot.why ≡ None = ap (λ (s : Slot). s.why) (sym is) in
+        let begins : begun table to fresh place ≡ true = sym (ap (λ (o : Option Why). is_some o || begun table to fresh place) absent) ∙ live in
+        let slot_begins : is_begun_with table to fresh slot ≡ true = sym (ap (λ (o : Option Slot). option_map_or (is_begun_with table to fresh) o false) here) ∙ begins in
+        let edge_begins : begins_with table fresh (edge_in to slot w) ≡ true = sym (ap (λ (o : Option ℤ). option_map_or (λ (v : ℤ). begins_with table fresh (edge_in to slot v)) o false) has) ∙ slot_begins in
+        let row = ((under_way_first net table to).is plan fits sound).partly.row in
+        let held : HasEdge table (edge_in to slot w) = sym (row.unfallen place slot here absent) ∙ has in
+        let out = none_holds (begins_with table fresh) (row_of table to) (edge_in to slot w) none (in_row table to (edge_in to slot w) held refl) in absurd cc
 
 -- ---- fresh edges
 other_default : {X : Type 0} (xs : List X) (i : ℕ) (d e : X) → i < length xs → get_or xs i d ≡ get_or xs i e

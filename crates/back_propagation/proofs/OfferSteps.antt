@@ -1,16 +1,15 @@
 -- What is offered to a row goes to one slot, and the slots keep their keys.
-use Rattle.std.proofs.Common.{◌≡◌, ℕ, zero, suc, ◌+◌, ◌*◌, ◌^◌, ◌<◌, ◌≤◌, ℤ, pos, ◌≤ℤ◌, ◌<ℤ◌, Bool, true, false, cond, List, [], ◌∷◌, ◌++◌, length, map, fold, get_or, Option, Some, None, IfSome, refl, ap, sym, subst, ◌∙◌, arith, ◌==◌}
+use Rattle.std.proofs.Common.{◌≡◌, ℕ, zero, suc, ◌+◌, ◌*◌, ◌^◌, ◌<◌, ◌≤◌, ℤ, pos, ◌≤ℤ◌, ◌<ℤ◌, Bool, true, false, cond, List, [], ◌∷◌, ◌++◌, length, map, take, fold, get_or, Option, Some, None, IfSome, refl, ap, sym, subst, ◌∙◌, arith, ◌==◌}
 use Rattle.std.specs.Prelude.{slice_get, position, slice_set, unsigned_abs, filter}
 use Rattle.std.specs.Option.{option_map, option_map_or}
-use Rattle.std.specs.List.{flat_map, filter_map, cons_option, range_with_len, enumerate_from}
+use Rattle.std.specs.List.{Contains, flat_map, enumerate_from}
 use Rattle.std.proofs.lemmas.Int.{ints}
 use Rattle.std.proofs.lemmas.Nat.{mul-add-lt, mul-le}
 use Rattle.std.proofs.lemmas.Option.{slice_get-map, same_Some, slice_get_within, get_or_from_slice_get}
-use Rattle.std.proofs.lemmas.List.Elements.{All-contains}
+use Rattle.std.proofs.lemmas.List.Elements.{All-contains, Contains-get_or}
+use Rattle.std.proofs.lemmas.List.{take_all}
 use Rattle.std.proofs.lemmas.List.Quantifiers.{position-Some}
-use Rattle.std.proofs.lemmas.List.Concat.{flat_map-append}
 use Rattle.std.proofs.lemmas.List.Sums.{fold-append}
-use Rattle.std.proofs.lemmas.List.FromFn.{map-range_with_len_more}
 use Rattle.std.proofs.Math.ListN.{length-map}
 use Rattle.net_model.specs.Limits.{most_points, most_links, most_weight}
 use Rattle.net_model.specs.Network.{Plan, IsPlan, IsLink, IsPoint, activation}
@@ -24,16 +23,20 @@ use Rattle.net_model.proofs.NetworkLemmas.{greatest-le}
 use Rattle.net_model.proofs.RuleLemmas.{no_case_gives, upper_case_gives, lower_case_gives, cross_case_gives, removal_gives}
 use Rattle.closure_model.specs.Keys.{Key, Shape, key_of, edge_of, ordinary_key, row_keys, labels_at, all_points, IsLabelAt}
 use Rattle.closure_model.specs.ReferenceRow.{given, is_slot_of, has_above, taken, offered, from_removal, over_link, from_link, from_first, ordinary_into, consequences, IsWithin}
-use Rattle.closure_model.specs.Tables.{Graph, HasEdge, weight_of, IsGraph}
+use Rattle.closure_model.specs.Tables.{Graph, HasEdge, edges_of, row_of, weight_of, IsGraph}
 use Rattle.closure_model.specs.declared.rows.Made.{Made}
 use Rattle.closure_model.specs.declared.rows.Slot.{Slot}
 use Rattle.closure_model.specs.declared.rows.Why.{Why}
 use Rattle.closure_model.specs.declared.rows.Why.TheVariants.{No, Up, Low, Cross}
+use Rattle.labelled_graph.specs.Entries.{edge_into, is_ordinary}
+use Rattle.labelled_graph.specs.declared.entry.Entry.{Entry}
 use Rattle.closure_model.proofs.KeyLists.{row_keys_rise}
+use Rattle.closure_model.proofs.Lists.{Contains-map, Contains-filter_from}
 use Rattle.closure_model.proofs.Nodes.{listed_at}
 use Rattle.closure_model.proofs.RowLaw.{only_place}
+use Rattle.closure_model.proofs.TableLemmas.{listed_edge}
 use Rattle.closure_model.proofs.Slots.{some_of_map, slot_of_key, key_of_slot, offered_keys}
-use Rattle.back_propagation.specs.Offering.{place_of, width_of, HasColumn, slot_key, IsSlotAt, after_point, IsRowAgainst, IsOfRow}
+use Rattle.back_propagation.specs.Offering.{place_of, width_of, HasColumn, slot_key, IsSlotAt, after_entry, IsRowAgainst, IsOfRow}
 use Rattle.back_propagation.proofs.RowPlaces.{row_at, at_column, column_inside}
 
 -- ---- one slot
@@ -229,43 +232,26 @@ pub two_given : (slots middle after : List Slot) (one two : Why) (first second :
 two_given slots middle after one two first second is_first is_second =
     is_second ∙ (ap (λ (s : List Slot). fold offered s (given two second)) is_first ∙ sym (fold-append offered slots (given one first) (given two second)))
 
-pub after_points : (table : Graph) (edge : Edge) (points : List PointId) → flat_map (from_first edge) (filter_map (λ from. option_map (edge_of (ordinary_key from edge.from)) (weight_of table (ordinary_key from edge.from))) points) ≡ flat_map (after_point table edge) points
-after_points table edge [] = refl
-after_points table edge (from ∷ points) = by (weight_of table (ordinary_key from edge.from)) (after_points table edge points)
+-- what follows with the entries of a row, those without a label
+pub entries_follow : (edge : Edge) (entries : List Entry) → flat_map (after_entry edge) entries ≡ flat_map (from_first edge) (map (edge_into edge.from) (filter is_ordinary entries))
+entries_follow edge [] = refl
+entries_follow edge (entry ∷ entries) = by (is_ordinary entry) (entries_follow edge entries)
   where
-    rest : List Edge
-    rest = filter_map (λ from. option_map (edge_of (ordinary_key from edge.from)) (weight_of table (ordinary_key from edge.from))) points
+    by : (b : Bool) → flat_map (after_entry edge) entries ≡ flat_map (from_first edge) (map (edge_into edge.from) (filter is_ordinary entries))
+        → cond b (from_first edge (edge_into edge.from entry)) [] ++ flat_map (after_entry edge) entries ≡ flat_map (from_first edge) (map (edge_into edge.from) (cond b (entry ∷ filter is_ordinary entries) (filter is_ordinary entries)))
+    by true rest = ap (λ (list : List Made). from_first edge (edge_into edge.from entry) ++ list) rest
+    by false rest = rest
 
-    by : (o : Option ℤ) → flat_map (from_first edge) (filter_map (λ from. option_map (edge_of (ordinary_key from edge.from)) (weight_of table (ordinary_key from edge.from))) points) ≡ flat_map (after_point table edge) points
-        → flat_map (from_first edge) (cons_option (option_map (edge_of (ordinary_key from edge.from)) o) (filter_map (λ from. option_map (edge_of (ordinary_key from edge.from)) (weight_of table (ordinary_key from edge.from))) points))
-        ≡ option_map_or (λ weight. from_first edge (edge_of (ordinary_key from edge.from) weight)) o [] ++ flat_map (after_point table edge) points
-    by None same = same
-    by (Some weight) same = ap (λ (list : List Made). from_first edge (edge_of (ordinary_key from edge.from) weight) ++ list) same
-
-pub point_more : (table : Graph) (edge : Edge) (from : ℕ) (slots before after : List Slot)
-    → before ≡ fold offered slots (flat_map (after_point table edge) (map (λ k. record { 0 = k }) (range_with_len 0 from)))
-    → after ≡ fold offered before (after_point table edge (record { 0 = from }))
-    → after ≡ fold offered slots (flat_map (after_point table edge) (map (λ k. record { 0 = k }) (range_with_len 0 (from + 1))))
-point_more table edge from slots before after was is =
-    let points : List PointId = map (λ k. record { 0 = k }) (range_with_len 0 from) in
-    let one : PointId = record { 0 = from } in
-    let more : map (λ k. record { 0 = k }) (range_with_len 0 (from + 1)) ≡ points ++ one ∷ [] = map-range_with_len_more (λ (k : ℕ). record { 0 = k }) 0 from from (omega arith) in
-    let lists : flat_map (after_point table edge) (points ++ one ∷ []) ≡ flat_map (after_point table edge) points ++ after_point table edge one =
-    flat_map-append (after_point table edge) points (one ∷ []) ∙ ap (λ (list : List Made). flat_map (after_point table edge) points ++ list) (append_nil (after_point table edge one)) in
-    is ∙ (ap (λ (s : List Slot). fold offered s (after_point table edge one)) was
-    ∙ (sym (fold-append offered slots (flat_map (after_point table edge) points) (after_point table edge one))
-    ∙ ap (fold offered slots) (sym (ap (flat_map (after_point table edge)) more ∙ lists))))
-  where
-    append_nil : (list : List Made) → list ++ [] ≡ list
-    append_nil [] = refl
-    append_nil (x ∷ xs) = ap (λ (ys : List Made). x ∷ ys) (append_nil xs)
-
-pub points_all : (table : Graph) (edge : Edge) (slots after : List Slot) (from count : ℕ) → count ≤ from → from ≤ count → count ≡ table.shape.points
-    → after ≡ fold offered slots (flat_map (after_point table edge) (map (λ k. record { 0 = k }) (range_with_len 0 from)))
+pub entries_all : (table : Graph) (edge : Edge) (entries : List Entry) (i : ℕ) (slots after : List Slot) → map (edge_into edge.from) (filter is_ordinary entries) ≡ ordinary_into table edge.from → length entries ≤ i → after ≡ fold offered slots (flat_map (after_entry edge) (take i entries))
     → after ≡ fold offered slots (flat_map (from_first edge) (ordinary_into table edge.from))
-points_all table edge slots after from count low high whole is =
-    let all : from ≡ table.shape.points = omega arith in
-    is ∙ (ap (λ (n : ℕ). fold offered slots (flat_map (after_point table edge) (map (λ k. record { 0 = k }) (range_with_len 0 n)))) all ∙ ap (fold offered slots) (sym (after_points table edge (all_points table.shape))))
+entries_all table edge entries i slots after are past is =
+    is ∙ ap (fold offered slots) (ap (flat_map (after_entry edge)) (take_all i entries past) ∙ (entries_follow edge entries ∙ ap (flat_map (from_first edge)) are))
+
+-- an edge of an entry is one of the table
+pub entry_held : (table : Graph) (to : PointId) (entries : List Entry) (i : ℕ) (d : Entry) → map (edge_into to) entries ≡ row_of table to → i < length entries → HasEdge table (edge_into to (get_or entries i d))
+entry_held table to entries i d are inside =
+    let among : Contains (map (edge_into to) entries) (edge_into to (get_or entries i d)) = Contains-map (edge_into to) entries (get_or entries i d) (Contains-get_or entries i d inside) in
+    listed_edge table (edge_into to (get_or entries i d)) (Contains-filter_from (λ (edge : Edge). edge.to.0 == to.0) (edges_of table) (edge_into to (get_or entries i d)) (subst (λ (list : List Edge). Contains list (edge_into to (get_or entries i d))) are among))
 
 -- an edge of weight 0 or more goes on over no link and after no edge
 not_negative : (edge : Edge) → pos 0 ≤ℤ edge.weight → (w : ℤ) → w ≡ edge.weight → w <ℤ pos 0 → ⊥

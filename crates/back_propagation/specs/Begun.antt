@@ -3,14 +3,15 @@ use Rattle.std.specs.Prelude.{◌≡◌, ◌&&◌, ◌<◌, ℕ, ℤ, pos, not, 
 use Rattle.std.specs.List.{Contains, flat_map, list_any}
 use Rattle.std.specs.Option.{option_map_or}
 use Rattle.net_model.specs.Network.{Plan}
-use Rattle.net_model.specs.Rules.{joined_weight}
+use Rattle.net_model.specs.Rules.{is_negative, joined_weight}
 use Rattle.net_model.specs.declared.ids.PointId.{PointId}
 use Rattle.net_model.specs.declared.part.Edge.{Edge}
 use Rattle.closure_model.specs.ReferenceRow.{from_first, consequences, edge_in, first_slots}
-use Rattle.closure_model.specs.Tables.{Graph, has_at_most}
+use Rattle.closure_model.specs.Tables.{Graph, IsGraph, has_at_most}
 use Rattle.closure_model.specs.declared.rows.Made.{Made}
 use Rattle.closure_model.specs.declared.rows.Slot.{Slot}
 use Rattle.closure_model.specs.FreshEdges.{fresh_at}
+use Rattle.back_propagation.specs.Offering.{width_of}
 use Rattle.back_propagation.specs.Queued.{IsWaiting}
 
 -- the way over two edges, with the label of the second
@@ -21,13 +22,13 @@ joined first second = record { from = first.from; to = second.to; label = second
 abbrev pub improves : Graph → Edge → Edge → Bool
 improves table edge first = not (has_at_most table (joined first edge))
 
--- a slot of a negative weight whose edge, with one of these before it, improves the table
-abbrev pub is_begun_by : Graph → PointId → List Edge → Slot → Bool
-is_begun_by table to firsts slot = option_map_or (λ weight. int_lt weight (pos 0) && list_any (improves table (edge_in to slot weight)) firsts) slot.weight false
+-- a row begins with a negative edge of it that, with a fresh edge before it, improves the table
+abbrev pub begins_with : Graph → List (List Edge) → Edge → Bool
+begins_with table fresh edge = is_negative edge && list_any (improves table edge) (fresh_at fresh edge.from)
 
--- a slot with which a row begins: the fresh edges that end in its source improve the table
+-- a slot with which a row begins
 abbrev pub is_begun_with : Graph → PointId → List (List Edge) → Slot → Bool
-is_begun_with table to fresh slot = is_begun_by table to (fresh_at fresh slot.from) slot
+is_begun_with table to fresh slot = option_map_or (λ weight. begins_with table fresh (edge_in to slot weight)) slot.weight false
 
 -- the places with which the row of a target begins
 abbrev pub begun : Graph → PointId → List (List Edge) → ℕ → Bool
@@ -37,6 +38,12 @@ begun table to fresh place = option_map_or (is_begun_with table to fresh) (slice
 pub record IsBegunTo (table : Graph) (to : PointId) (fresh : List (List Edge)) (count : ℕ) (items : List (ℤ × ℕ)) : Type 0 where
   pub covers : (place : ℕ) (slot : Slot) (weight : ℤ) → place < count → slice_get (first_slots table to) place ≡ Some slot → is_begun_with table to fresh slot ≡ true → slot.weight ≡ Some weight → Contains items (weight, place)
   pub sound : (item : ℤ × ℕ) → Contains items item → IsWaiting (begun table to fresh) (first_slots table to) item
+
+-- the slots of the row of a target as a table has it, so many for each source
+pub record IsFirstRow (table : Graph) (to : PointId) (slots : List Slot) (width : ℕ) : Type 0 where
+  pub sound : IsGraph table
+  pub first : slots ≡ first_slots table to
+  pub wide : width ≡ width_of table.shape to
 
 -- what is offered when a slot is settled: all that follows where it fell, and else what follows with the fresh edges
 abbrev pub what_follows : Plan → Graph → List (List Edge) → Bool → Edge → List Made

@@ -1,150 +1,47 @@
-ghost use Rattle.std.specs.Prelude.{◌≡◌, ◌≢◌, ◌<◌, ◌*◌, ◌+◌, ◌↔◌, ℤ, [], length, Some, IsTrue, IfOk, OnOk};
+ghost use Rattle.std.specs.Prelude.{◌≡◌, ◌<◌, ◌+◌, ℤ, length, Some, IfOk, OnOk};
 ghost use Rattle.std.specs.List.{All, list_any};
-ghost use Rattle.closure_model.specs.Keys.{IsKey, labels_at};
-ghost use Rattle.closure_model.specs.ReferenceRow.{first_slots, edge_in};
-ghost use Rattle.closure_model.specs.Tables.{HasEdge, IsGraph, weight_of};
+ghost use Rattle.closure_model.specs.Keys.{IsKey};
+ghost use Rattle.closure_model.specs.ReferenceRow.{edge_in};
+ghost use Rattle.closure_model.specs.Tables.{HasEdge, IsGraph, row_of, weight_of};
 ghost use Rattle.closure_model.specs.FreshEdges.{fresh_at, AreOfTable};
-ghost use Rattle.back_propagation.specs.Begun.{improves, is_begun_by, begun, IsBegunTo};
+ghost use Rattle.back_propagation.specs.Begun.{improves, begins_with, is_begun_with, begun, IsBegunTo, IsFirstRow};
 ghost use Rattle.back_propagation.specs.Queued.{IsQueued};
-ghost use Rattle.back_propagation.specs.Offering.{place_of, width_of, HasColumn};
+ghost use Rattle.back_propagation.specs.Offering.{HasColumn};
 
-use crate::offers::{Column, joined_weight, place_of};
+use crate::offers::{Column, has_above, joined_weight, place_of};
 use crate::queue::Queue;
 use crate::settling::queue_slot;
-use crate::slots::{edge_in, slot};
+use crate::slots::edge_in;
 use closure_model::rows::Slot;
 use labelled_graph::Table;
 use net_model::{Edge, Items, LinkId, PointId, Weight};
 use std::alloc::{AllocError, Global};
 
-/// The places with which the row of a target begins, by what is fresh.
-pub(crate) fn queue_begun(
-    alloc: Global,
-    table: &Table,
-    points: u32,
-    target: PointId,
-    labels: &[LinkId],
-    fresh: &[Items<Edge>],
-) -> Result<Queue, AllocError>
-    requires sound { IsGraph table.now }
-    requires points { points ≡ table.now.shape.points }
-    requires target { target.0 < points }
-    requires labels { labels.now ≡ labels_at table.now.shape target }
-    requires count { length fresh.now ≡ points }
-    requires fresh { AreOfTable table.now fresh.now }
-    ensures { IfOk result (IsQueued (begun table.now target fresh.now) (first_slots table.now target)) }
-{
-    let mut queue = Queue::new(alloc);
-    for from in 0..points {
-        queue_from(&mut queue, table, PointId(from), target, labels, fresh)?;
-    }
-    Ok(queue)
-}
-
-/// Puts those places of the slots of one source into the queue with which the row begins.
-fn queue_from(
-    queue: &mut Queue,
-    table: &Table,
-    from: PointId,
-    target: PointId,
-    labels: &[LinkId],
-    fresh: &[Items<Edge>],
-) -> Result<(), AllocError>
-    requires sound { IsGraph table.now }
-    requires from_point { from.0 < table.now.shape.points }
-    requires to_point { target.0 < table.now.shape.points }
-    requires labels { labels.now ≡ labels_at table.now.shape target }
+/// Whether the row of a target begins with any of its edges, by what is fresh. It takes no memory.
+pub(crate) fn begins(table: &Table, target: PointId, fresh: &[Items<Edge>]) -> bool
+    requires target { target.0 < table.now.shape.points }
     requires count { length fresh.now ≡ table.now.shape.points }
     requires fresh { AreOfTable table.now fresh.now }
-    requires before { IsBegunTo table.now target fresh.now (from.0 * (length labels.now + 1)) queue.old }
-    ensures { OnOk result (IsBegunTo table.now target fresh.now ((from.0 + 1) * (length labels.now + 1)) queue.new) }
+    ensures { result ≡ list_any (begins_with table.now fresh.now) (row_of table.now target) }
 {
-    if has_fresh(from, fresh) {
-        queue_keys(queue, table, from, target, labels, fresh)?;
-    }
-    Ok(())
-}
-
-fn has_fresh(point: PointId, fresh: &[Items<Edge>]) -> bool
-    requires { point.0 < length fresh.now }
-    ensures { IsTrue result ↔ (fresh_at fresh.now point ≢ []) }
-{
-    !fresh[point.0 as usize].as_slice().is_empty()
-}
-
-/// Goes through the keys of one source, the ordinary one before the labelled ones.
-fn queue_keys(
-    queue: &mut Queue,
-    table: &Table,
-    from: PointId,
-    target: PointId,
-    labels: &[LinkId],
-    fresh: &[Items<Edge>],
-) -> Result<(), AllocError>
-    requires sound { IsGraph table.now }
-    requires from_point { from.0 < table.now.shape.points }
-    requires to_point { target.0 < table.now.shape.points }
-    requires labels { labels.now ≡ labels_at table.now.shape target }
-    requires count { length fresh.now ≡ table.now.shape.points }
-    requires fresh { AreOfTable table.now fresh.now }
-    requires before { IsBegunTo table.now target fresh.now (from.0 * (length labels.now + 1)) queue.old }
-    ensures { OnOk result (IsBegunTo table.now target fresh.now ((from.0 + 1) * (length labels.now + 1)) queue.new) }
-{
-    let width = labels.len() + 1;
-    let ordinary = Column { width, column: 0 };
-    queue_key(queue, table, from, target, None, ordinary, fresh)?;
-    for (k, label) in labels.iter().enumerate() {
-        let labelled = Column {
-            width,
-            column: 1 + k,
-        };
-        queue_key(queue, table, from, target, Some(*label), labelled, fresh)?;
-    }
-    Ok(())
-}
-
-/// Puts the place of a key into the queue, if the row begins with its slot.
-fn queue_key(
-    queue: &mut Queue,
-    table: &Table,
-    from: PointId,
-    target: PointId,
-    label: Option<LinkId>,
-    at: Column,
-    fresh: &[Items<Edge>],
-) -> Result<(), AllocError>
-    requires sound { IsGraph table.now }
-    requires from_point { from.0 < table.now.shape.points }
-    requires to_point { target.0 < table.now.shape.points }
-    requires wide { at.width ≡ width_of table.now.shape target }
-    requires column { HasColumn table.now.shape target label at.column }
-    requires count { length fresh.now ≡ table.now.shape.points }
-    requires fresh { AreOfTable table.now fresh.now }
-    requires before { IsBegunTo table.now target fresh.now (place_of at.width from at.column) queue.old }
-    ensures { OnOk result (IsBegunTo table.now target fresh.now (place_of at.width from at.column + 1) queue.new) }
-{
-    let slot = slot(from, label, weight_at(table, from, target, label));
-    let firsts = fresh[from.0 as usize].as_slice();
-    if is_begun_by(table, target, &slot, firsts) {
-        queue_slot(queue, place_of(at.width, from, at.column), &slot)?;
-    }
-    Ok(())
-}
-
-/// Whether a row begins with a slot: it has a negative weight, and its edge, with one of these before it, improves the table.
-fn is_begun_by(table: &Table, target: PointId, slot: &Slot, firsts: &[Edge]) -> bool
-    requires sound { IsGraph table.now }
-    requires slot { (weight : ℤ) → slot.now.weight ≡ Some weight → HasEdge table.now (edge_in target slot.now weight) }
-    requires firsts { All (HasEdge table.now) firsts.now }
-    ensures { result ≡ is_begun_by table.now target firsts.now slot.now }
-{
-    match slot.weight {
-        None => false,
-        Some(weight) => {
-            let edge = edge_in(target, slot);
-            weight < 0 && improves_by_any(table, &edge, firsts)
+    for entry in table.entries(target) {
+        if begins_with(table, &entry.edge_into(target), fresh) {
+            return true;
         }
     }
+    false
+}
+
+/// Whether a row begins with an edge of it: the edge is negative and, with a fresh edge before it, improves the table.
+fn begins_with(table: &Table, edge: &Edge, fresh: &[Items<Edge>]) -> bool
+    requires sound { IsGraph table.now }
+    requires edge { HasEdge table.now edge.now }
+    requires count { length fresh.now ≡ table.now.shape.points }
+    requires fresh { AreOfTable table.now fresh.now }
+    ensures { result ≡ begins_with table.now fresh.now edge.now }
+{
+    let firsts = fresh[edge.from.0 as usize].as_slice();
+    edge.weight < 0 && improves_by_any(table, edge, firsts)
 }
 
 fn improves_by_any(table: &Table, edge: &Edge, firsts: &[Edge]) -> bool
@@ -179,4 +76,107 @@ fn weight_at(table: &Table, from: PointId, to: PointId, label: Option<LinkId>) -
         None => table.weight(from, to),
         Some(label) => table.upper(from, label),
     }
+}
+
+/// The places with which a row begins, by what is fresh; its slots are those of the table.
+pub(crate) fn queue_begun(
+    alloc: Global,
+    slots: &[Slot],
+    table: &Table,
+    target: PointId,
+    width: usize,
+    fresh: &[Items<Edge>],
+) -> Result<Queue, AllocError>
+    requires row { IsFirstRow table.now target slots.now width }
+    requires target { target.0 < table.now.shape.points }
+    requires count { length fresh.now ≡ table.now.shape.points }
+    requires fresh { AreOfTable table.now fresh.now }
+    ensures { IfOk result (IsQueued (begun table.now target fresh.now) slots.now) }
+{
+    let mut queue = Queue::new(alloc);
+    for place in 0..slots.len() {
+        queue_begun_slot(&mut queue, place, slots, table, target, width, fresh)?;
+    }
+    Ok(queue)
+}
+
+/// Puts a place into the queue, if the row begins with its slot.
+fn queue_begun_slot(
+    queue: &mut Queue,
+    place: usize,
+    slots: &[Slot],
+    table: &Table,
+    target: PointId,
+    width: usize,
+    fresh: &[Items<Edge>],
+) -> Result<(), AllocError>
+    requires row { IsFirstRow table.now target slots.now width }
+    requires target { target.0 < table.now.shape.points }
+    requires place { place < length slots.now }
+    requires count { length fresh.now ≡ table.now.shape.points }
+    requires fresh { AreOfTable table.now fresh.now }
+    requires before { IsBegunTo table.now target fresh.now place queue.old }
+    ensures { OnOk result (IsBegunTo table.now target fresh.now (place + 1) queue.new) }
+{
+    let slot = slots[place];
+    let at = Column {
+        width,
+        column: place % width,
+    };
+    if is_begun_with(slots, table, target, &slot, at, fresh) {
+        queue_slot(queue, place, &slot)?;
+    }
+    Ok(())
+}
+
+/// Whether a row begins with a slot, as `begins_with` says it of its edge; the table is read by the slots.
+fn is_begun_with(
+    slots: &[Slot],
+    table: &Table,
+    target: PointId,
+    slot: &Slot,
+    at: Column,
+    fresh: &[Items<Edge>],
+) -> bool
+    requires row { IsFirstRow table.now target slots.now at.width }
+    requires target { target.0 < table.now.shape.points }
+    requires from { slot.now.from.0 < table.now.shape.points }
+    requires held { (weight : ℤ) → slot.now.weight ≡ Some weight → HasEdge table.now (edge_in target slot.now weight) }
+    requires column { HasColumn table.now.shape target slot.now.label at.column }
+    requires count { length fresh.now ≡ table.now.shape.points }
+    requires fresh { AreOfTable table.now fresh.now }
+    ensures { result ≡ is_begun_with table.now target fresh.now slot.now }
+{
+    match slot.weight {
+        None => false,
+        Some(weight) => {
+            let firsts = fresh[slot.from.0 as usize].as_slice();
+            weight < 0 && passes_any(slots, table, &edge_in(target, slot), at, firsts)
+        }
+    }
+}
+
+fn passes_any(slots: &[Slot], table: &Table, edge: &Edge, at: Column, firsts: &[Edge]) -> bool
+    requires row { IsFirstRow table.now edge.now.to slots.now at.width }
+    requires edge { HasEdge table.now edge.now }
+    requires column { HasColumn table.now.shape edge.now.to edge.now.label at.column }
+    requires firsts { All (HasEdge table.now) firsts.now }
+    ensures { result ≡ list_any (improves table.now edge.now) firsts.now }
+{
+    firsts
+        .iter()
+        .any(|first| passes(slots, table, edge, at, first))
+}
+
+/// Whether the way over an edge and one of a row is less than what the table has, by the slots of the row.
+fn passes(slots: &[Slot], table: &Table, edge: &Edge, at: Column, first: &Edge) -> bool
+    requires row { IsFirstRow table.now edge.now.to slots.now at.width }
+    requires edge { HasEdge table.now edge.now }
+    requires column { HasColumn table.now.shape edge.now.to edge.now.label at.column }
+    requires first { HasEdge table.now first.now }
+    ensures { result ≡ improves table.now edge.now first.now }
+{
+    let _ = table;
+    let place = place_of(at.width, first.from, at.column);
+    has_above(&slots[place], joined_weight(first, edge))
 }

@@ -1,7 +1,6 @@
 ghost use Rattle.std.specs.Prelude.{◌≡◌, length, fold, is_some, IfOk, OnOk};
 ghost use Rattle.std.specs.List.{All, flat_map};
-ghost use Rattle.net_model.specs.Network.{IsPoint};
-ghost use Rattle.closure_model.specs.Keys.{labels_at};
+ghost use Rattle.net_model.specs.Network.{IsPlan, IsPoint};
 ghost use Rattle.closure_model.specs.ReferenceRow.{first_slots, reference_row, offered, from_first, IsRowOf, HasWeightsWithin, IsWithin};
 ghost use Rattle.closure_model.specs.Tables.{IsFor, IsGraph};
 ghost use Rattle.closure_model.specs.FreshEdges.{fresh_at, AreOfTable, IsMetBut};
@@ -9,14 +8,14 @@ ghost use Rattle.back_propagation.specs.Begun.{begun, what_follows};
 ghost use Rattle.back_propagation.specs.Offering.{IsRowAgainst, IsOfRow};
 ghost use Rattle.back_propagation.specs.Queued.{IsQueued, KeepsQueued};
 
-use crate::beginning::queue_begun;
+use crate::beginning::{begins, queue_begun};
 use crate::offers::{Column, offer_after_first, offer_consequences};
 use crate::queue::Queue;
 use crate::settling::{NewRow, next_live, push_fallen, settled};
 use crate::slots::{edge_in, first_slots};
 use closure_model::rows::{Made, Slot};
 use labelled_graph::Table;
-use net_model::{Edge, Items, LinkId, Network, PointId};
+use net_model::{Edge, Items, Network, PointId};
 use std::alloc::{AllocError, Global};
 
 /// The row of a target against a table, as `row` gives it, where the table already has whatever follows from the row but for what
@@ -39,57 +38,68 @@ pub fn row_after(
     ensures least { IfOk result (λ row. IsRowOf net.now table.now target row.made) }
     ensures within { IfOk result (λ row. All (λ one. IsWithin net.now one.edge.weight) row.made) }
 {
-    // The proof reads here that the table is sound.
+    // The proof reads here that the table and the network are sound.
     let _ = table.weight(target, target);
-    let labels = net.links_from(alloc, target)?;
-    let points = net.points().len() as u32;
-    let mut queue = queue_begun(alloc, table, points, target, labels.as_slice(), fresh)?;
-    let made = made_from(
-        alloc,
-        &mut queue,
-        table,
-        net,
-        target,
-        labels.as_slice(),
-        fresh,
-    )?;
+    let _ = net.points();
+    let made = made_after(alloc, table, net, target, fresh)?;
     Ok(NewRow {
         target,
         made: Items::new(made),
     })
 }
 
-/// The edges of the slots that fall, where the row begins with what waits. The slots are made only where something waits.
-fn made_from(
+/// The edges of the slots that fall; none, and nothing is made, where the row begins with nothing.
+fn made_after(
     alloc: Global,
-    queue: &mut Queue,
     table: &Table,
     net: &Network,
     target: PointId,
-    labels: &[LinkId],
     fresh: &[Items<Edge>],
 ) -> Result<Vec<Made>, AllocError>
+    requires plan { IsPlan net.now }
     requires sound { IsGraph table.now }
     requires fits { IsFor net.now table.now }
     requires target { IsPoint net.now target }
     requires within { HasWeightsWithin net.now table.now }
-    requires labels { labels.now ≡ labels_at table.now.shape target }
     requires count { length fresh.now ≡ length net.now.points }
     requires fresh { AreOfTable table.now fresh.now }
     requires met { IsMetBut net.now table.now target fresh.now }
-    requires queue { IsQueued (begun table.now target fresh.now) (first_slots table.now target) queue.old }
     ensures { IfOk result (λ made. made.items ≡ reference_row net.now table.now target) }
 {
-    let points = net.points().len() as u32;
-    if queue.is_empty() {
-        return Ok(Vec::new(alloc));
+    if begins(table, target, fresh) {
+        made_begun(alloc, table, net, target, fresh)
+    } else {
+        Ok(Vec::new(alloc))
     }
-    let mut slots = first_slots(alloc, table, points, target, labels)?;
+}
+
+/// The edges of the slots that fall, where the row may begin with something.
+fn made_begun(
+    alloc: Global,
+    table: &Table,
+    net: &Network,
+    target: PointId,
+    fresh: &[Items<Edge>],
+) -> Result<Vec<Made>, AllocError>
+    requires plan { IsPlan net.now }
+    requires sound { IsGraph table.now }
+    requires fits { IsFor net.now table.now }
+    requires target { IsPoint net.now target }
+    requires within { HasWeightsWithin net.now table.now }
+    requires count { length fresh.now ≡ length net.now.points }
+    requires fresh { AreOfTable table.now fresh.now }
+    requires met { IsMetBut net.now table.now target fresh.now }
+    ensures { IfOk result (λ made. made.items ≡ reference_row net.now table.now target) }
+{
+    let labels = net.links_from(alloc, target)?;
+    let points = net.points().len() as u32;
     let width = labels.len() + 1;
+    let mut slots = first_slots(alloc, table, points, target, labels.as_slice())?;
+    let mut queue = queue_begun(alloc, slots.as_slice(), table, target, width, fresh)?;
     settle_begun(
         alloc,
         slots.as_mut_slice(),
-        queue,
+        &mut queue,
         table,
         net,
         target,

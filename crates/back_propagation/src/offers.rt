@@ -5,12 +5,13 @@ ghost use Rattle.net_model.specs.Limits.{most_weight};
 ghost use Rattle.net_model.specs.Rules.{is_negative, joined_weight};
 ghost use Rattle.closure_model.specs.ReferenceRow.{given, has_above, taken, offered, from_removal, from_link, from_first, ordinary_into, consequences};
 ghost use Rattle.closure_model.specs.Tables.{HasEdge};
+ghost use Rattle.labelled_graph.specs.Entries.{edge_into};
 ghost use Rattle.back_propagation.specs.Queued.{KeepsQueued};
-ghost use Rattle.back_propagation.specs.Offering.{place_of, IsSlotAt, IsRowAgainst, IsOfRow, after_point};
+ghost use Rattle.back_propagation.specs.Offering.{place_of, IsSlotAt, IsRowAgainst, IsOfRow, after_entry};
 
 use crate::queue::Queue;
 use closure_model::rows::{Made, Slot, Why};
-use labelled_graph::Table;
+use labelled_graph::{Entry, Table};
 use net_model::{Edge, Link, LinkId, Network, PointId, Weight};
 use reduction_rules::{cross_case, lower_case, no_case, removal, upper_case};
 use std::alloc::AllocError;
@@ -118,40 +119,36 @@ fn offer_after_firsts(
     ensures slots { OnOk result (slots.new ≡ fold offered slots.old (flat_map (from_first edge.now) (ordinary_into table.now edge.now.from))) }
     ensures queue { OnOk result (KeepsQueued slots.old queue.old slots.new queue.new) }
 {
-    for from in 0..net.points().len() as u32 {
-        offer_after_point(slots, queue, table, net, edge, at, PointId(from))?;
+    for entry in table.entries(edge.from) {
+        offer_after_entry(slots, queue, table, net, edge, at, entry)?;
     }
     Ok(())
 }
 
-/// Offers what follows with the ordinary edge of the table from a point before the edge, if the table has one.
-fn offer_after_point(
+/// Offers what follows with the edge of an entry before the edge, if it is an ordinary one.
+fn offer_after_entry(
     slots: &mut [Slot],
     queue: &mut Queue,
     table: &Table,
     net: &Network,
     edge: &Edge,
     at: Column,
-    from: PointId,
+    entry: &Entry,
 ) -> Result<(), AllocError>
     requires row { IsRowAgainst net.now table.now edge.now.to slots.old at.width }
     requires edge { IsOfRow net.now table.now edge.now.to edge.now at.column }
-    requires from { from.0 < length net.now.points }
-    ensures slots { OnOk result (slots.new ≡ fold offered slots.old (after_point table.now edge.now from)) }
+    requires entry { HasEdge table.now (edge_into edge.now.from entry.now) }
+    ensures slots { OnOk result (slots.new ≡ fold offered slots.old (after_entry edge.now entry.now)) }
     ensures queue { OnOk result (KeepsQueued slots.old queue.old slots.new queue.new) }
 {
-    if let Some(weight) = table.weight(from, edge.from) {
-        let first = Edge {
-            from,
-            to: edge.from,
-            label: None,
-            weight,
-        };
+    if entry.is_ordinary() {
+        let first = entry.edge_into(edge.from);
         offer_after_first(slots, queue, table, net, edge, at, &first)?;
     }
     Ok(())
 }
 
+/// Offers what follows with an ordinary edge of the table before the edge.
 pub(crate) fn offer_after_first(
     slots: &mut [Slot],
     queue: &mut Queue,
@@ -243,7 +240,7 @@ fn taken(slot: &Slot, made: &Made) -> Slot
     }
 }
 
-fn has_above(slot: &Slot, weight: Weight) -> bool
+pub(crate) fn has_above(slot: &Slot, weight: Weight) -> bool
     ensures { result ≡ has_above slot.now weight }
 {
     match slot.weight {

@@ -9,14 +9,6 @@ use Rattle.closure_model.proofs.RowRun.{row_within}
 use Rattle.back_propagation.proofs.RowPlaces.{links_from_labels}
 use Rattle.back_propagation.proofs.begun.row_after.Goals as goal
 
-pub queue_begun-requires-clause-labels : goal.queue_begun-requires-clause-labels
-queue_begun-requires-clause-labels c =
-    c.as_slice.ensures.value ∙ (c.in_ok-labels.ensures ∙ (links_from_labels c.args.net.now c.args.target ∙ ap (λ (s : Shape). labels_at s c.args.target) (sym c.requires.fits)))
-
-pub made_from-requires-clause-labels : goal.made_from-requires-clause-labels
-made_from-requires-clause-labels c =
-    c.as_slice-2.ensures.value ∙ (c.in_ok-labels.ensures ∙ (links_from_labels c.args.net.now c.args.target ∙ ap (λ (s : Shape). labels_at s c.args.target) (sym c.requires.fits)))
-
 pub returns-clause-least : goal.returns-clause-least
 returns-clause-least c =
     subst (IsRowOf c.args.net.now c.args.table.now c.args.target) (sym (c.new.ensures ∙ c.in_ok-made.ensures))
