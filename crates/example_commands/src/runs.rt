@@ -1,6 +1,7 @@
 //! Runs of the examples over a port in memory.
 
 use crate::counting::{Counting, HowMany, HowManyEach};
+use crate::desk::Desk;
 use crate::tally::{FromCount, Tally};
 use commands::{Asked, Planned, Status, Then, serve};
 use plan_port::MemoryPort;
@@ -27,6 +28,9 @@ tally|count/end/x|3|0|0|from 2/at 2 3/error no-stop 4/|3
 tally|count/end/x/y/stop/|1|13|0|from 2/at 2 3/error read/|5
 tally|count/end/x/y/stop/|1|0|2|from 2/|6
 tally|counts/|0|0|0|error no-title 1/|3
+desk|a/b/go/x/stop/|0|0|0|kept 1/kept 2/from 2/at 2 4/|0
+desk|a/go/x/|1|0|0|kept 1/from 1/at 1 3/error no-stop 4/|3
+desk|a/b|1|0|0|kept 1/kept 2/error no-go 3/|3
 each|count/end/count/a/end/|1|0|0|lines 2 5/|0
 each|count/end/counts/|0|0|0|error no-title 3/|3
 each|count/end/count/|0|0|0|error no-end 4/|3";
@@ -95,6 +99,7 @@ fn run(rt: &(impl Threads + Sync), alloc: Global, row: &Row<'_>, port: &mut Memo
             },
             port,
         ),
+        "desk" => serve(rt, alloc, Desk::Open(0), port),
         _ => {
             let tally: Planned<FromCount, Counting, Tally> = Planned::Reading(
                 FromCount,
