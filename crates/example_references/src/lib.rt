@@ -1,9 +1,13 @@
 //! The reference rows, orders, rounds and refutations as plain slow programs on lists, each of which gives what its definition says,
-//! tried on small networks as tests. Nothing here stands on the engine.
+//! tried on small networks as tests. They stand on no part of the engine; a test makes the rounds of drawn networks by both.
 #![tactic(auto)]
 
 #[cfg(test)]
+mod compared;
+#[cfg(test)]
 mod deducing;
+#[cfg(test)]
+mod drawn;
 mod ending;
 #[cfg(test)]
 mod nodes;

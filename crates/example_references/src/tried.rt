@@ -62,14 +62,14 @@ enum End {
 }
 
 /// A network, all nodes of its rounds in order of making, how many rounds are made, and how they end.
-struct Case {
-    parts: &'static str,
+pub(crate) struct Case {
+    pub(crate) parts: &'static str,
     nodes: &'static str,
     rounds: u64,
     end: End,
 }
 
-const CASES: [Case; 7] = [
+pub(crate) const CASES: [Case; 7] = [
     Case {
         parts: ONE_LINK,
         nodes: AFTER_TWO,
