@@ -15,7 +15,7 @@ use Rattle.clap.proofs.LexerLemmas.{name_and_value-at, name_and_value-without}
 use Rattle.command_words.specs.ClapRules.{app_for}
 use Rattle.command_words.specs.Syntax.{Text, Syntax, is_in, asks, is_name, is_sound, dashed, are_apart}
 use Rattle.command_words.specs.Spelling.{Use, flag, valued, operand, name_of, text_of, is_plain, Spells, SpellsAll, IsOf, AreOf, operand_names}
-use Rattle.command_words.specs.Arguments.{Arguments, is_given, operand_texts, text_given, arguments_by, Means}
+use Rattle.command_words.specs.Arguments.{IsMeaning, Arguments, is_given, operand_texts, text_given, arguments_by, Means}
 use Rattle.command_words.specs.Reading.{is_refused, count_operands, long_of, with_use, uses_from, with_next, after_word, after_value, all_texts, with_first, complete_by, arguments_of}
 use Rattle.command_words.proofs.DefaultLemmas.{map_on}
 use Rattle.command_words.proofs.UseLemmas.{operands_append}
@@ -71,6 +71,9 @@ fresh uses u added apart =
 slice_after : (xs : List Text) (n : Text) (ys : List Text) → slice_get (xs ++ n ∷ ys) (length xs) ≡ Some n
 slice_after [] n ys = refl
 slice_after (x ∷ xs) n ys = slice_after xs n ys
+
+pub refused_words : (command : Syntax) (words : List Text) → list_any is_refused words ≡ true → None ≡ arguments_of command words
+refused_words command words refused = ap (λ b. if b then None else option_and_then (complete_by command) (uses_from command words [])) (sym refused)
 
 module _ (command : Syntax) (sound : is_sound command ≡ true) where
   -- ---- what is spelled is read
@@ -252,6 +255,13 @@ module _ (command : Syntax) (sound : is_sound command ≡ true) where
 
   pub read_exactly : (words : List Text) (said : Arguments) → arguments_of command words ≡ Some said ↔ Means command words said
   read_exactly words said = (means words said, meant words said)
+
+  -- what is read is what the words mean, where they mean anything
+  pub read_means : (words : List Text) (found : Option Arguments) → found ≡ arguments_of command words → IsMeaning command words found
+  read_means words (Some arguments) is = means words arguments (sym is)
+  read_means words None is = λ arguments m.
+      let bad : ◌≡◌ {A = Option Arguments} None (Some arguments) = is ∙ meant words arguments m in
+      absurd cc
 
   -- `clap` accepts what is said, by its own promise
   pub clap_accepts : (words : List Text) (said : Arguments) → Means command words said → fault_of (app_for command) words ≡ []

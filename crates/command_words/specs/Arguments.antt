@@ -1,5 +1,5 @@
 -- What words give to a command. This project's own choice.
-use Rattle.std.specs.Prelude.{◌≡◌, ℕ, Bool, false, List, [], ◌∷◌, map, Option, find, slice_get}
+use Rattle.std.specs.Prelude.{◌≡◌, Some, None, ℕ, Bool, false, List, [], ◌∷◌, map, Option, find, slice_get}
 use Rattle.std.specs.Option.{option_and_then, unwrap_or}
 use Rattle.std.specs.List.{list_any}
 use Rattle.std.specs.Str.{bytes_eq}
@@ -43,3 +43,8 @@ arguments_by command uses = record {
 -- the words mean these arguments: they say uses of the command that give them
 abbrev pub Means : Syntax → List Text → Arguments → Type 0
 Means command words arguments = (uses : List Use) × Says command words uses × (arguments ≡ arguments_by command uses)
+
+-- the words mean this, or they mean nothing
+abbrev pub IsMeaning : Syntax → List Text → Option Arguments → Type 0
+IsMeaning command words (Some arguments) = Means command words arguments
+IsMeaning command words None = (arguments : Arguments) → Means command words arguments → ⊥

@@ -1,6 +1,7 @@
 ghost use Rattle.std.specs.Prelude.{◌≡◌, map, string_bytes, IfOk, true};
 ghost use Rattle.std.specs.List.{list_any};
 ghost use Rattle.clap.specs.Words.{first_value, found_of};
+ghost use Rattle.command_words.specs.Arguments.{IsMeaning};
 ghost use Rattle.command_words.specs.ClapRules.{arguments_found};
 ghost use Rattle.command_words.specs.Reading.{arguments_of, is_refused, is_stray};
 ghost use Rattle.command_words.specs.Syntax.{is_sound};
@@ -23,7 +24,8 @@ pub fn read<'a>(
     words: &'a [String],
 ) -> Result<Option<Arguments<'a>>, AllocError>
     requires { is_sound syntax.now ≡ true }
-    ensures { IfOk result (λ arguments. arguments ≡ arguments_of syntax.now (map string_bytes words.now)) }
+    ensures meaning { IfOk result (IsMeaning syntax.now (map string_bytes words.now)) }
+    ensures reading { IfOk result (λ arguments. arguments ≡ arguments_of syntax.now (map string_bytes words.now)) }
 {
     if has_refused(words) {
         return Ok(None);
