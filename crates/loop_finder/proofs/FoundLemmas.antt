@@ -34,6 +34,6 @@ step_on graph placed before after p o k n steps new next more =
     ∙ ap (λ b. cond b (drop (position_or_len (λ q. q.0 == p.0) before) before) (option_map_or (cycle_after graph placed n (before ++ p ∷ [])) (next_on graph placed p) [])) new
     ∙ (λ i. option_map_or (cycle_after graph placed n (sym more i)) (next i) [])
 
-pub same_items : {V E : Type 0} (items : V → List PointId) (r : Result V E) (xs ys : List PointId) → IfOk r (λ v. items v ≡ xs) → xs ≡ ys → IfOk r (λ v. items v ≡ ys)
-same_items items (Ok v) xs ys is same = is ∙ same
-same_items items (Err e) xs ys is same = tt
+pub if_items : {V E : Type 0} (items : V → List PointId) (r : Result V E) (xs : List PointId) (P : List PointId → Type 0) → IfOk r (λ v. items v ≡ xs) → P xs → IfOk r (λ v. P (items v))
+if_items items (Ok v) xs P is holds = subst P (sym is) holds
+if_items items (Err e) xs P is holds = tt

@@ -1,1 +1,4 @@
 pub mod FoundLemmas
+mod OnwardLemmas
+mod FreeLemmas
+mod KeptLemmas

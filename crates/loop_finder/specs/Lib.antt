@@ -1,2 +1,4 @@
 pub mod Found
+pub mod Onward
 pub mod Marks
+pub mod Kept

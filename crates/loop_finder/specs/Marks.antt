@@ -1,14 +1,18 @@
--- How the points that are placed, and how far each point was looked through, are kept. This project's own choice.
-use Rattle.std.specs.Prelude.{◌≡◌, ◌<◌, ℕ, Bool, false, List, length}
-use Rattle.std.specs.List.{slice_index, slice_index_or}
+-- How the points that are placed, and how far the list of each point was looked through, are kept. This project's own choice.
+use Rattle.std.specs.Prelude.{◌≡◌, ◌<◌, ◌≤◌, ℕ, Bool, true, false, List, length, slice_index_or}
 use Rattle.net_model.specs.declared.ids.PointId.{PointId}
-use Rattle.closure_model.specs.Tables.{Graph}
-use Rattle.closure_model.specs.Orders.{is_among, goes_on}
+use Rattle.closure_model.specs.Orders.{is_among}
+use Rattle.loop_finder.specs.Onward.{targets_of, point}
 
 -- a mark for each point says whether it stands in a list
 abbrev pub AreMarks : List PointId → List Bool → Type 0
 AreMarks points marks = (k : ℕ) → k < length marks → slice_index_or marks k false ≡ is_among points (record { 0 = k })
 
--- below its head a point goes on to no point
-abbrev pub AreHeads : Graph → List PointId → List ℕ → Type 0
-AreHeads graph placed heads = (from to : ℕ) → from < length heads → to < slice_index heads from → goes_on graph placed (record { 0 = from }) (record { 0 = to }) ≡ false
+-- the points of a list before a place are placed
+pub record IsHead (placed targets : List PointId) (head : ℕ) : Type 0 where
+  pub inside : head ≤ length targets
+  pub placed_before : (k : ℕ) (d : PointId) → k < head → is_among placed (slice_index_or targets k d) ≡ true
+
+-- below the head of each point its list is placed
+abbrev pub AreHeads : List (List PointId) → List PointId → List ℕ → Type 0
+AreHeads lists placed heads = (from : ℕ) → from < length heads → IsHead placed (targets_of lists (point from)) (slice_index_or heads from 0)

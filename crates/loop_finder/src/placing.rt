@@ -1,11 +1,15 @@
-ghost use Rattle.std.specs.Prelude.{◌≡◌, ◌≢◌, ◌<◌, ◌≤◌, ◌++◌, ◌==◌, ◌∷◌, [], ℕ, length, not, false, true, find, drop, IfOk, OnOk, map};
-ghost use Rattle.std.specs.List.{position_or_len, range_with_len};
-ghost use Rattle.closure_model.specs.Keys.{all_points};
-ghost use Rattle.closure_model.specs.Orders.{goes, goes_on, next_on, is_free, is_among, place_next, placed_points, first_left, cycle_from};
+ghost use Rattle.std.specs.Prelude.{◌≡◌, ◌<◌, ◌≤◌, ◌&&◌, ◌++◌, ◌==◌, ◌∷◌, [], ℕ, length, not, false, find, drop, IfOk, OnOk, map, is_none, slice_index_or};
+ghost use Rattle.std.specs.List.{All, position_or_len, range_with_len};
+ghost use Rattle.std.specs.Option.{option_to_list};
+ghost use Rattle.net_model.specs.declared.ids.PointId.{PointId};
+ghost use Rattle.closure_model.specs.Orders.{is_among, placed_points, cycle_from};
+ghost use Rattle.closure_model.specs.Tables.{Graph};
 ghost use Rattle.loop_finder.specs.Found.{found_in, IsWhatItSays};
-ghost use Rattle.loop_finder.specs.Marks.{AreMarks, AreHeads};
+ghost use Rattle.loop_finder.specs.Marks.{AreMarks, IsHead, AreHeads};
+ghost use Rattle.loop_finder.specs.Onward.{AreOnward, AreWithin, is_free_in, point};
 
 use crate::found::Found;
+use crate::onward::{Targets, onward};
 use labelled_graph::Table;
 use net_model::{Items, PointId};
 use std::alloc::{AllocError, Global};
@@ -57,124 +61,123 @@ pub fn order(alloc: Global, table: &Table, points: u32) -> Result<Found, AllocEr
     ensures found { IfOk result (λ found. found ≡ found_in table.now) }
     ensures says { IfOk result (IsWhatItSays table.now) }
 {
-    let placed = place_all(alloc, table, points)?;
+    let lists = onward(alloc, table, points)?;
+    let placed = place_all(alloc, lists.as_slice(), points)?;
     match first_left(&placed, points) {
         None => {
             let Marked { order, .. } = placed;
             Ok(Found::Order(Items::new(order)))
         }
         Some(first) => {
-            let cycle = cycle_from(alloc, table, points, &placed, first)?;
+            let cycle = cycle_from(alloc, lists.as_slice(), &placed, points, first)?;
             Ok(Found::Cycle(Items::new(cycle)))
         }
     }
 }
 
-/// Whether an ordinary edge of negative weight goes from one point to another.
-fn goes(table: &Table, from: PointId, to: PointId) -> bool
-    requires from_point { from.0 < table.now.shape.points }
-    requires to_point { to.0 < table.now.shape.points }
-    ensures { result ≡ goes table.now from to }
+/// The first point of a list that is not placed.
+fn next_in(targets: &[PointId], placed: &Marked) -> Option<PointId>
+    requires { All (λ to. to.0 < length placed.now.marks.items) targets.now }
+    ensures { result ≡ find (λ to. not (is_among placed.now.order.items to)) targets.now }
 {
-    table.weight(from, to).is_some_and(|weight| weight < 0)
-}
-
-/// The lowest point not placed to which a point goes on; it goes on to none below `head`.
-fn next_on(table: &Table, points: u32, placed: &Marked, from: PointId, head: u32) -> Option<PointId>
-    requires points { points ≡ table.now.shape.points }
-    requires marks { length placed.now.marks.items ≡ points }
-    requires from_point { from.0 < points }
-    requires head { (to : ℕ) → to < head → goes_on table.now placed.now.order.items from (record { 0 = to }) ≡ false }
-    ensures { result ≡ next_on table.now placed.now.order.items from }
-{
-    for to in head..points {
-        if goes(table, from, PointId(to)) && !placed.has(to) {
-            return Some(PointId(to));
+    for to in targets {
+        if !placed.has(to.0) {
+            return Some(*to);
         }
     }
     None
 }
 
-/// The lowest free point. What was looked through for each point is kept in its head.
-fn lowest_free(table: &Table, points: u32, placed: &Marked, heads: &mut [u32]) -> Option<PointId>
-    requires points { points ≡ table.now.shape.points }
-    requires marks { length placed.now.marks.items ≡ points }
-    requires head_count { length heads.old ≡ points }
-    requires heads { AreHeads table.now placed.now.order.items heads.old }
-    ensures free { result ≡ find (is_free table.now placed.now.order.items) (all_points table.now.shape) }
-    ensures heads { AreHeads table.now placed.now.order.items heads.new }
+/// The place of the first point of a list that is not placed, or the length of the list; no point below `head` is.
+fn first_open(targets: &[PointId], placed: &Marked, head: usize) -> usize
+    requires within { All (λ to. to.0 < length placed.now.marks.items) targets.now }
+    requires head { IsHead placed.now.order.items targets.now head }
+    ensures head { IsHead placed.now.order.items targets.now result }
+    ensures open { result < length targets.now → (d : PointId) → is_among placed.now.order.items (slice_index_or targets.now result d) ≡ false }
 {
-    for point in 0..points {
-        if is_free_by_head(
-            table,
-            points,
-            placed,
-            PointId(point),
-            &mut heads[point as usize],
-        ) {
-            return Some(PointId(point));
+    for place in head..targets.len() {
+        if !placed.has(targets[place].0) {
+            return place;
         }
     }
-    None
+    targets.len()
 }
 
-/// Whether a point is free, where it goes on to no point below its head; its head rises to the point to which it goes on.
-fn is_free_by_head(
-    table: &Table,
-    points: u32,
-    placed: &Marked,
-    point: PointId,
-    head: &mut u32,
-) -> bool
-    requires points { points ≡ table.now.shape.points }
-    requires marks { length placed.now.marks.items ≡ points }
-    requires point { point.0 < points }
-    requires head { (to : ℕ) → to < head.old → goes_on table.now placed.now.order.items point (record { 0 = to }) ≡ false }
-    ensures free { result ≡ is_free table.now placed.now.order.items point }
-    ensures head { (to : ℕ) → to < head.new → goes_on table.now placed.now.order.items point (record { 0 = to }) ≡ false }
+/// Whether a point is free: it is not placed, and all points of its list are. The head rises to the first that is not.
+fn is_free_by_head(targets: &[PointId], placed: &Marked, from: PointId, head: &mut usize) -> bool
+    requires from { from.0 < length placed.now.marks.items }
+    requires within { All (λ to. to.0 < length placed.now.marks.items) targets.now }
+    requires head { IsHead placed.now.order.items targets.now head.old }
+    ensures free { result ≡ not (is_among placed.now.order.items from) && is_none (find (λ to. not (is_among placed.now.order.items to)) targets.now) }
+    ensures head { IsHead placed.now.order.items targets.now head.new }
 {
-    if placed.has(point.0) {
+    if placed.has(from.0) {
         return false;
     }
-    match next_on(table, points, placed, point, *head) {
-        None => true,
-        Some(next) => {
-            *head = next.0;
-            false
+    *head = first_open(targets, placed, *head);
+    *head == targets.len()
+}
+
+/// The lowest free point. How far each list was looked through is kept in its head.
+fn lowest_free(
+    lists: &[Targets],
+    placed: &Marked,
+    points: u32,
+    heads: &mut [usize],
+) -> Option<PointId>
+    requires lists { length lists.now ≡ points }
+    requires marks { length placed.now.marks.items ≡ points }
+    requires within { AreWithin lists.now points }
+    requires head_count { length heads.old ≡ points }
+    requires heads { AreHeads lists.now placed.now.order.items heads.old }
+    ensures free { result ≡ find (is_free_in lists.now placed.now.order.items) (map point (range_with_len 0 points)) }
+    ensures count { length heads.new ≡ points }
+    ensures heads { AreHeads lists.now placed.now.order.items heads.new }
+{
+    for from in 0..points {
+        let targets = lists[from as usize].as_slice();
+        let head = &mut heads[from as usize];
+        if is_free_by_head(targets, placed, PointId(from), head) {
+            return Some(PointId(from));
         }
     }
+    None
 }
 
 /// Places the lowest free point, if there is one.
 fn place_next(
-    table: &Table,
-    points: u32,
+    lists: &[Targets],
     placed: &mut Marked,
-    heads: &mut [u32],
+    points: u32,
+    heads: &mut [usize],
 ) -> Result<(), AllocError>
-    requires points { points ≡ table.now.shape.points }
+    requires lists { length lists.now ≡ points }
     requires marks { length placed.old.marks.items ≡ points }
+    requires within { AreWithin lists.now points }
     requires head_count { length heads.old ≡ points }
-    requires heads { AreHeads table.now placed.old.order.items heads.old }
-    ensures placed { OnOk result (placed.new.order.items ≡ place_next table.now placed.old.order.items) }
-    ensures marks { OnOk result (length placed.new.marks.items ≡ length placed.old.marks.items) }
-    ensures heads { OnOk result (AreHeads table.now placed.new.order.items heads.new) }
+    requires heads { AreHeads lists.now placed.old.order.items heads.old }
+    ensures placed { OnOk result (placed.new.order.items ≡ placed.old.order.items ++ option_to_list (find (is_free_in lists.now placed.old.order.items) (map point (range_with_len 0 points)))) }
+    ensures marks { OnOk result (length placed.new.marks.items ≡ points) }
+    ensures count { OnOk result (length heads.new ≡ points) }
+    ensures heads { OnOk result (AreHeads lists.now placed.new.order.items heads.new) }
 {
-    if let Some(point) = lowest_free(table, points, placed, heads) {
+    if let Some(point) = lowest_free(lists, placed, points, heads) {
         placed.push(point)?;
     }
     Ok(())
 }
 
 /// The points that are placed, in their order.
-fn place_all(alloc: Global, table: &Table, points: u32) -> Result<Marked, AllocError>
-    requires { points ≡ table.now.shape.points }
-    ensures { IfOk result (λ placed. (placed.order.items ≡ placed_points table.now) × (length placed.marks.items ≡ points)) }
+fn place_all(alloc: Global, lists: &[Targets], points: u32) -> Result<Marked, AllocError>
+    requires lists { length lists.now ≡ points }
+    requires within { AreWithin lists.now points }
+    ensures placed { IfOk result (λ placed. (graph : Graph) → graph.shape.points ≡ points → AreOnward graph lists.now → placed.order.items ≡ placed_points graph) }
+    ensures marks { IfOk result (λ placed. length placed.marks.items ≡ points) }
 {
     let mut placed = Marked::none(alloc, points)?;
-    let mut heads = vec![in alloc; 0u32; points as usize]?;
+    let mut heads = vec![in alloc; 0usize; points as usize]?;
     for _step in 0..points {
-        place_next(table, points, &mut placed, heads.as_mut_slice())?;
+        place_next(lists, &mut placed, points, heads.as_mut_slice())?;
     }
     Ok(placed)
 }
@@ -195,16 +198,16 @@ fn first_left(placed: &Marked, points: u32) -> Option<PointId>
 /// The cycle that is met first from a point.
 fn cycle_from(
     alloc: Global,
-    table: &Table,
-    points: u32,
+    lists: &[Targets],
     placed: &Marked,
+    points: u32,
     first: PointId,
 ) -> Result<Vec<PointId>, AllocError>
-    requires points { points ≡ table.now.shape.points }
+    requires lists { length lists.now ≡ points }
     requires marks { length placed.now.marks.items ≡ points }
-    requires placed { placed.now.order.items ≡ placed_points table.now }
+    requires within { AreWithin lists.now points }
     requires first { first.0 < points }
-    ensures { IfOk result (λ cycle. cycle.items ≡ cycle_from table.now first) }
+    ensures { IfOk result (λ cycle. (graph : Graph) → graph.shape.points ≡ points → AreOnward graph lists.now → placed.now.order.items ≡ placed_points graph → cycle.items ≡ cycle_from graph first) }
 {
     let mut walk = Marked::none(alloc, points)?;
     let mut point = first;
@@ -213,7 +216,8 @@ fn cycle_from(
             return from_place_of(alloc, walk.order.as_slice(), point);
         }
         walk.push(point)?;
-        match next_on(table, points, placed, point, 0) {
+        let targets = lists[point.0 as usize].as_slice();
+        match next_in(targets, placed) {
             None => return Ok(Vec::new(alloc)),
             Some(next) => point = next,
         }

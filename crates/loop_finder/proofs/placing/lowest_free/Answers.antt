@@ -1,10 +1,18 @@
-use Rattle.std.proofs.Common.{sym, arith}
-use Rattle.closure_model.specs.Orders.{is_free}
+use Rattle.std.proofs.Common.{◌≡◌, ◌∙◌, ◌&&◌, not, ap, sym, List, true, arith}
+use Rattle.std.specs.Prelude.{find, is_none}
+use Rattle.net_model.specs.declared.ids.PointId.{PointId}
+use Rattle.closure_model.specs.Orders.{is_among}
 use Rattle.closure_model.proofs.OrderLemmas.{found_at, found_nowhere}
+use Rattle.loop_finder.specs.Onward.{is_free_in, point}
+use Rattle.loop_finder.proofs.FreeLemmas.{read_targets}
 use Rattle.loop_finder.proofs.placing.lowest_free.Goals as goal
 
 pub returns-then-is_free_by_head-clause-free : goal.returns-then-is_free_by_head-clause-free
-returns-then-is_free_by_head-clause-free c = sym (found_at (is_free c.args.table.now c.args.placed.now.order.items) c.args.table.now.shape.points c.loop-point.point (omega arith) (sym c.if-is_free_by_head.ensures.free) (λ j less. c.loop-point.invariant.1 j less))
+returns-then-is_free_by_head-clause-free c =
+    let are = read_targets c.args.lists.now c.loop-from.from c.as_slice-targets.result.now c.index-lists-from.result (omega (arith, c.loop-from-test.true, c.requires.lists)) c.as_slice-targets.ensures c.index-lists-from.is in
+    let free : is_free_in c.args.lists.now c.args.placed.now.order.items (point c.loop-from.from) ≡ true =
+    sym (c.if-is_free_by_head.ensures.free ∙ ap (λ (ts : List PointId). not (is_among c.args.placed.now.order.items (point c.loop-from.from)) && is_none (find (λ to. not (is_among c.args.placed.now.order.items to)) ts)) are) in
+    sym (found_at (is_free_in c.args.lists.now c.args.placed.now.order.items) c.args.points c.loop-from.from c.loop-from-test.true free c.loop-from.invariant.2)
 
 pub returns-clause-free : goal.returns-clause-free
-returns-clause-free c = sym (found_nowhere (is_free c.args.table.now c.args.placed.now.order.items) c.args.table.now.shape.points (λ j less. c.loop-point.invariant.1 j (omega arith)))
+returns-clause-free c = sym (found_nowhere (is_free_in c.args.lists.now c.args.placed.now.order.items) c.args.points (λ j less. c.loop-from.invariant.2 j (omega (arith, c.loop-from-test.false))))

@@ -1,0 +1,97 @@
+ghost use Rattle.std.specs.Prelude.{◌≡◌, ◌≢◌, ◌<◌, length, true, IfOk, List};
+ghost use Rattle.std.specs.Bool.{Decides};
+ghost use Rattle.std.specs.List.{All, AllPairs};
+ghost use Rattle.closure_model.specs.Orders.{IsOrder};
+ghost use Rattle.closure_model.specs.ReferenceRow.{with_made};
+ghost use Rattle.closure_model.specs.Tables.{Graph};
+ghost use Rattle.loop_finder.specs.Kept.{place_in, GoesAlong, ArePlaces};
+
+use closure_model::rows::Made;
+use net_model::{Edge, Items, PointId};
+use std::alloc::{AllocError, Global};
+use std::marker::Model;
+
+/// An order of points with the place of each. Contracts see it as the list of its points.
+#[derive(Debug, Drop)]
+pub struct KeptOrder {
+    order: Items<PointId>,
+    places: Vec<usize>,
+}
+
+impl Model for KeptOrder {
+    ghost use Rattle.std.specs.Prelude.{List};
+    ghost use Rattle.std.specs.Coded.{coded_list};
+    ghost use Rattle.net_model.specs.declared.ids.PointId.{PointId};
+    ghost use Rattle.closure_model.specs.Codes.{point_code};
+
+    ghost Value = { List PointId };
+
+    ghost coded = { coded_list point_code };
+
+    ghost use Rattle.loop_finder.specs.Kept.{ArePlaces};
+
+    ghost view = { λ kept. kept.order };
+
+    ghost invariant = { λ kept. ArePlaces kept.order kept.places.items };
+}
+
+impl KeptOrder {
+    /// An order of so many points, each of which stands in it at most once. `AllocError` comes only for want of memory.
+    pub fn of(alloc: Global, order: Items<PointId>, points: u32) -> Result<KeptOrder, AllocError>
+        requires once { AllPairs (λ p q. p.0 ≢ q.0) order }
+        requires within { All (λ point. point.0 < points) order }
+        ensures { IfOk result (λ kept. kept ≡ order) }
+    {
+        let places = places_of(alloc, order.as_slice(), points)?;
+        Ok(KeptOrder { order, places })
+    }
+
+    /// Whether all edges that fell go along the order: each that is ordinary and negative from a later point to an earlier one. Then
+    /// the order is one of the table in which they fell too.
+    pub fn stays(&self, made: &[Made]) -> bool
+        ensures along { Decides result (All (λ one. GoesAlong self.now one.edge) made.now) }
+        ensures kept { result ≡ true → (table : Graph) → IsOrder table self.now → IsOrder (with_made table made.now) self.now }
+    {
+        for one in made {
+            if !self.goes_along(&one.edge) {
+                return false;
+            }
+        }
+        true
+    }
+
+    /// Whether an edge goes along the order: where it is ordinary and negative, from a later point to an earlier one.
+    pub fn goes_along(&self, edge: &Edge) -> bool
+        ensures { Decides result (GoesAlong self.now edge.now) }
+    {
+        if edge.label.is_some() || edge.weight >= 0 {
+            return true;
+        }
+        self.place_of(edge.to) < self.place_of(edge.from)
+    }
+
+    /// The place of a point, or how many points the order has where it has no place.
+    fn place_of(&self, point: PointId) -> usize
+        ensures { result ≡ place_in self.now point }
+    {
+        let number = point.0 as usize;
+        if number < self.places.len() {
+            self.places[number]
+        } else {
+            self.order.as_slice().len()
+        }
+    }
+}
+
+/// The place of each of so many points in an order, or the length of the order where the point has none.
+fn places_of(alloc: Global, order: &[PointId], points: u32) -> Result<Vec<usize>, AllocError>
+    requires once { AllPairs (λ p q. p.0 ≢ q.0) order.now }
+    requires within { All (λ point. point.0 < points) order.now }
+    ensures { IfOk result (λ places. (length places.items ≡ points) × ArePlaces order.now places.items) }
+{
+    let mut places = vec![in alloc; order.len(); points as usize]?;
+    for (place, point) in order.iter().enumerate() {
+        places[point.0 as usize] = place;
+    }
+    Ok(places)
+}
