@@ -1,5 +1,5 @@
 -- The loops that find what a row begins with.
-use Rattle.std.proofs.Common.{◌≡◌, ◌≢◌, ℕ, zero, suc, ◌+◌, ◌*◌, ◌<◌, ◌≤◌, ℤ, pos, ◌==◌, ◌||◌, ◌%◌, Bool, true, false, not, ◌⊎◌, List, [], ◌∷◌, ◌++◌, ◌^◌, length, map, take, get_or, Option, Some, None, refl, ap, sym, subst, ◌∙◌, inl, inr, arith, is_some, IsPermutation}
+use Rattle.std.proofs.Common.{◌≡◌, ◌≢◌, ℕ, zero, suc, ◌+◌, ◌<◌, ◌≤◌, ℤ, ◌==◌, ◌||◌, ◌%◌, Bool, true, false, not, ◌⊎◌, List, [], ◌∷◌, ◌^◌, length, map, get_or, Option, Some, None, refl, ap, sym, subst, ◌∙◌, inl, inr, arith, is_some, IsPermutation}
 use Rattle.std.specs.Prelude.{slice_get, int_lt, int_le, MatchOption}
 use Rattle.std.specs.Option.{option_map, option_map_or}
 use Rattle.std.specs.List.{All, AllByRecursion, Contains, list_any}
@@ -7,8 +7,6 @@ use Rattle.std.proofs.lemmas.Option.{same_Some, slice_get-map, slice_get-get_or,
 use Rattle.std.proofs.lemmas.Bool.{eqb-true}
 use Rattle.std.proofs.lemmas.Bool.Decides.{nat_tests}
 use Rattle.std.proofs.lemmas.Int.{ints}
-use Rattle.std.proofs.lemmas.List.{take_more, take_all, map_push}
-use Rattle.std.proofs.lemmas.List.Folds.{list_any-append}
 use Rattle.std.proofs.lemmas.List.Sorted.{Contains-permutation, IsPermutation-sym}
 use Rattle.net_model.specs.declared.ids.LinkId.{LinkId}
 use Rattle.net_model.specs.declared.ids.PointId.{PointId}
@@ -16,7 +14,7 @@ use Rattle.net_model.specs.declared.part.Edge.{Edge}
 use Rattle.closure_model.specs.Keys.{Key, key_of, IsKey, all_keys, all_points, row_keys}
 use Rattle.net_model.specs.Rules.{joined_weight}
 use Rattle.closure_model.specs.ReferenceRow.{edge_in, first_slot, first_slots, has_above}
-use Rattle.closure_model.specs.Tables.{Graph, HasEdge, IsGraph, weight_of}
+use Rattle.closure_model.specs.Tables.{Graph, HasEdge, weight_of}
 use Rattle.closure_model.specs.declared.rows.Slot.{Slot}
 use Rattle.closure_model.specs.declared.rows.Why.{Why}
 use Rattle.closure_model.proofs.Lists.{Contains-head, Contains-tail, Contains-cases, Contains-none, Contains-flat_map, each-contained}

@@ -16,7 +16,7 @@ use Rattle.net_model.specs.declared.part.Edge.{Edge}
 use Rattle.net_model.proofs.RuleLemmas.{no_case_gives, upper_case_gives}
 use Rattle.closure_model.specs.Keys.{Key, row_keys}
 use Rattle.closure_model.specs.ReferenceRow.{given, from_first, consequences, offered, edge_in, fell, first_slot, first_slots, reference_row}
-use Rattle.closure_model.specs.Tables.{Graph, HasEdge, HasAtMost, IsFor, IsGraph, edges_of, has_at_most, row_of, weight_of}
+use Rattle.closure_model.specs.Tables.{Graph, HasEdge, HasAtMost, IsFor, IsGraph, edges_of, has_at_most, row_of}
 use Rattle.closure_model.specs.declared.rows.Made.{Made}
 use Rattle.closure_model.specs.declared.rows.Slot.{Slot}
 use Rattle.closure_model.specs.declared.rows.Why.{Why}

@@ -21,9 +21,9 @@ use Rattle.net_model.specs.declared.part.Edge.{Edge}
 use Rattle.net_model.specs.declared.part.Link.{Link}
 use Rattle.net_model.proofs.NetworkLemmas.{greatest-le}
 use Rattle.net_model.proofs.RuleLemmas.{no_case_gives, upper_case_gives, lower_case_gives, cross_case_gives, removal_gives}
-use Rattle.closure_model.specs.Keys.{Key, Shape, key_of, edge_of, ordinary_key, row_keys, labels_at, all_points, IsLabelAt}
+use Rattle.closure_model.specs.Keys.{Key, Shape, key_of, row_keys, labels_at, IsLabelAt}
 use Rattle.closure_model.specs.ReferenceRow.{given, is_slot_of, has_above, taken, offered, from_removal, over_link, from_link, from_first, ordinary_into, consequences, IsWithin}
-use Rattle.closure_model.specs.Tables.{Graph, HasEdge, edges_of, row_of, weight_of, IsGraph}
+use Rattle.closure_model.specs.Tables.{Graph, HasEdge, edges_of, row_of, IsGraph}
 use Rattle.closure_model.specs.declared.rows.Made.{Made}
 use Rattle.closure_model.specs.declared.rows.Slot.{Slot}
 use Rattle.closure_model.specs.declared.rows.Why.{Why}

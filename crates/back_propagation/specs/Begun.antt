@@ -1,5 +1,5 @@
 -- What a row begins with, told which ordinary edges are fresh. This project's own choice.
-use Rattle.std.specs.Prelude.{◌≡◌, ◌&&◌, ◌<◌, ℕ, ℤ, pos, not, int_lt, Bool, true, false, List, slice_get, Some, if◌then◌else◌}
+use Rattle.std.specs.Prelude.{◌≡◌, ◌&&◌, ◌<◌, ℕ, ℤ, not, Bool, true, false, List, slice_get, Some, if◌then◌else◌}
 use Rattle.std.specs.List.{Contains, flat_map, list_any}
 use Rattle.std.specs.Option.{option_map_or}
 use Rattle.net_model.specs.Network.{Plan}

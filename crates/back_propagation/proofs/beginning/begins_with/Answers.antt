@@ -1,4 +1,4 @@
-use Rattle.std.proofs.Common.{◌≡◌, ◌<◌, ℕ, sym, subst}
+use Rattle.std.proofs.Common.{◌<◌, ℕ, sym, subst}
 use Rattle.back_propagation.proofs.BeginSteps.{all_of_table}
 use Rattle.back_propagation.proofs.beginning.begins_with.Goals as goal
 

@@ -1,8 +1,7 @@
 -- The slot of the way over both edges says what the table has.
-use Rattle.std.proofs.Common.{rules, ◌≡◌, ◌∙◌, ◌<◌, ℕ, ℤ, length, get_or, ap, sym, subst, None, false, w64, to_z, of_z}
+use Rattle.std.proofs.Common.{rules, ◌≡◌, ◌∙◌, ◌<◌, ℕ, length, get_or, ap, sym, subst, None, false, w64, to_z, of_z}
 use Rattle.closure_model.specs.ReferenceRow.{has_above}
 use Rattle.closure_model.specs.declared.rows.Slot.{Slot}
-use Rattle.net_model.specs.Rules.{joined_weight}
 use Rattle.back_propagation.specs.Offering.{place_of}
 use Rattle.back_propagation.proofs.BeginSteps.{between, between_fits, between_inside, passes_improves}
 use Rattle.back_propagation.proofs.beginning.passes.Goals as goal

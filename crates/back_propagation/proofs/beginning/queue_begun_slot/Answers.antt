@@ -1,5 +1,5 @@
 -- One more slot was looked at.
-use Rattle.std.proofs.Common.{◌≡◌, ◌∙◌, Bool, true, false, None, get_or, sym, refl}
+use Rattle.std.proofs.Common.{◌∙◌, false, None, get_or, sym, refl}
 use Rattle.closure_model.specs.declared.rows.Slot.{Slot}
 use Rattle.back_propagation.proofs.BeginSteps.{slot_first, slot_from, slot_column, slot_held, to_more}
 use Rattle.back_propagation.proofs.beginning.queue_begun_slot.Goals as goal

@@ -1,12 +1,10 @@
 -- The row begins as the table has it, and what falls is the reference row, which is least.
-use Rattle.std.proofs.Common.{ap, sym, ◌∙◌, subst}
+use Rattle.std.proofs.Common.{sym, ◌∙◌, subst}
 use Rattle.std.specs.List.{All}
-use Rattle.closure_model.specs.Keys.{Shape, labels_at}
 use Rattle.closure_model.specs.ReferenceRow.{IsRowOf, IsWithin}
 use Rattle.closure_model.specs.declared.rows.Made.{Made}
 use Rattle.closure_model.proofs.RowLaw.{rows_are_least}
 use Rattle.closure_model.proofs.RowRun.{row_within}
-use Rattle.back_propagation.proofs.RowPlaces.{links_from_labels}
 use Rattle.back_propagation.proofs.begun.row_after.Goals as goal
 
 pub returns-clause-least : goal.returns-clause-least
