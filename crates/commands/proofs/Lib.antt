@@ -8,3 +8,4 @@ pub mod TakenLemmas
 pub mod TurnLemmas
 pub mod EndLemmas
 pub mod FrontLemmas
+pub mod WrapLemmas

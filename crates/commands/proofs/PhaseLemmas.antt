@@ -18,15 +18,7 @@ use Rattle.commands.specs.declared.reading.Step.{Step}
 use Rattle.commands.specs.declared.reading.Step.TheVariants.{Goes, Gives, Refused}
 use Rattle.commands.specs.declared.phases.Planned.{Planned}
 use Rattle.commands.specs.declared.phases.Planned.TheVariants.{Reading, Serving}
-
--- a wrapped command ends where the inner one does, and goes on by a wrapped state
-pub wrapped_ends : {C D : Type 0} (wrap : C → D) (inner : Onward C) (end : End) → run.Ends end ≡ wrapped wrap inner → inner ≡ run.Ends end
-wrapped_ends wrap (run.Goes state) end is = absurd (cc is)
-wrapped_ends wrap (run.Ends other) end is = cc is
-
-pub wrapped_goes : {C D : Type 0} (wrap : C → D) (inner : Onward C) (state : D) → run.Goes state ≡ wrapped wrap inner → (it : C) × (inner ≡ run.Goes it) × (state ≡ wrap it)
-wrapped_goes wrap (run.Goes it) state is = (it, refl, cc is)
-wrapped_goes wrap (run.Ends other) state is = absurd (cc is)
+use Rattle.commands.proofs.WrapLemmas.{Wraps, wrapped_ends, wrapped_goes, at_phase, served_lines, served_run}
 
 -- a reply within another is single where the inner one is
 pub within_same : {C D : Type 0} (wrap : C → D) (Inner : List ℕ → Onward C → Type 0) → ((a b : List ℕ) (x y : Onward C) → Inner a x → Inner b y → (a ≡ b) × (x ≡ y)) →
@@ -42,39 +34,16 @@ module _ {B S V F P : Type 0} (begin : B → V → List ℕ → Onward P → Typ
   abbrev pub at_text : B → Here S → Here (Planned B S P)
   at_text start here = record { state = Reading start here.state; number = here.number; room = here.room }
 
-  abbrev pub at_phase : Here P → Here (Planned B S P)
-  at_phase here = record { state = Serving here.state; number = here.number; room = here.room }
-
   abbrev Follows : B → Outcome V F → List ℕ → End → Type 0
   Follows start outcome put end = FollowsOutcome begin reader refusing phase start outcome put end
 
   -- the phase, once it serves
-  serves_by : (how : Coming) (here : Here P) (text answer : List ℕ) (onward : Onward (Planned B S P)) → RepliesTo machine how (at_phase here) text answer onward → (inner : Onward P) × RepliesTo phase how here text answer inner × (onward ≡ wrapped Serving inner)
-  serves_by Comes here text answer onward replies = replies
-  serves_by TooLong here text answer onward replies = (run.Ends replies.0, (replies.0, refl, replies.2), replies.1)
-  serves_by TooMuch here text answer onward replies = (run.Ends replies.0, (replies.0, refl, replies.2), replies.1)
-
-  serves : (here : Here P) (lines : List InputLine) (answer : List ℕ) (onward : Onward (Planned B S P)) → Replies machine (at_phase here) lines answer onward → (inner : Onward P) × Replies phase here lines answer inner × (onward ≡ wrapped Serving inner)
-  serves here [] answer onward replies = (run.Ends replies.0, (replies.0, refl, replies.2), replies.1)
-  serves here (line ∷ rest) answer onward replies = serves_by (coming (phase.longest here.state) here.room line) here line.text answer onward replies
-
-  serves_lines : (here : Here P) (first : List InputLine) (said : List ℕ) (there : Here (Planned B S P)) → Answers machine (at_phase here) first said there → (inner : Here P) × (there ≡ at_phase inner) × Answers phase here first said inner
-  serves_lines here [] said there so_far = (here, sym so_far.1, (so_far.0, refl))
-  serves_lines here (line ∷ first) said there so_far =
-      let inner = serves here (line ∷ first) so_far.0 (run.Goes so_far.2) so_far.3 in
-      let goes = wrapped_goes Serving inner.0 so_far.2 inner.2 in
-      let later : Answers machine (at_phase (after_line here line goes.0)) first so_far.1 there = subst (λ (s : Planned B S P). Answers machine (after_line (at_phase here) line s) first so_far.1 there) goes.2 so_far.5 in
-      let on = serves_lines (after_line here line goes.0) first so_far.1 there later in
-      let reply : Replies phase here (line ∷ first) so_far.0 (run.Goes goes.0) = subst (λ (o : Onward P). Replies phase here (line ∷ first) so_far.0 o) goes.1 inner.1 in
-      (on.0, on.1, (so_far.0, so_far.1, goes.0, reply, so_far.4, on.2))
-
-  serves_run : (here : Here P) (first rest : List InputLine) (said last : List ℕ) (there : Here (Planned B S P)) (end : End) → Answers machine (at_phase here) first said there → Replies machine there rest last (run.Ends end) → Run phase here (first ++ rest) (said ++ last) end
-  serves_run here first rest said last there end so_far replies =
-      let served = serves_lines here first said there so_far in
-      let p : Replies machine (at_phase served.0) rest last (run.Ends end) = subst (λ (h : Here (Planned B S P)). Replies machine h rest last (run.Ends end)) served.1 replies in
-      let inner = serves served.0 rest last (run.Ends end) p in
-      let ends : Replies phase served.0 rest last (run.Ends end) = subst (λ (o : Onward P). Replies phase served.0 rest last o) (wrapped_ends Serving inner.0 end inner.2) inner.1 in
-      record { first = first; rest = rest; said = said; there = served.0; last = last; divided = refl; answers = served.2; ends = ends; all = refl }
+  pub wraps_phase : Wraps phase machine Serving
+  wraps_phase = record {
+    longest = λ state. refl;
+    takes = λ state number line answer onward replies. replies;
+    stops = λ state number stop answer end stops. stops;
+  }
 
   -- the last reply while the text is read
   stops_by : (start : B) (here : Here S) (stop : Stop) (last : List ℕ) (end : End) → Stops machine (at_text start here) stop last (run.Ends end) → Follows start (Faulty (reader.stops here.state (here.number + 1) stop)) last end
@@ -149,9 +118,10 @@ module _ {B S V F P : Type 0} (begin : B → V → List ℕ → Onward P → Typ
       (subst (λ (s : List ℕ). Follows start (reading reader next (first ++ rest)) (s ++ last) end) (sym said_is) follows)
   runs_by start here line first rest said last there end so_far replies (inr on) later =
       let next : Here P = record { state = on.served; number = here.number + 1; room = here.room - line_size line } in
-      let served : Answers machine (at_phase next) first so_far.1 there = subst (λ (s : Planned B S P). Answers machine (after_line (at_text start here) line s) first so_far.1 there) on.so so_far.5 in
+      let served : Answers machine (at_phase phase machine Serving wraps_phase next) first so_far.1 there = subst (λ (s : Planned B S P). Answers machine (after_line (at_text start here) line s) first so_far.1 there) on.so so_far.5 in
       let follows : Follows start (Given on.value (here.number + 1) (here.room - line_size line) (first ++ rest)) (said ++ last) end =
-      (so_far.0, so_far.1 ++ last, run.Goes on.served, on.begins, ap (λ (s : List ℕ). s ++ last) so_far.4 ∙ append_assoc so_far.0 so_far.1 last, serves_run next first rest so_far.1 last there end served replies) in
+      (so_far.0, so_far.1 ++ last, run.Goes on.served, on.begins, ap (λ (s : List ℕ). s ++ last) so_far.4 ∙ append_assoc so_far.0 so_far.1 last, served_run phase machine Serving wraps_phase next (first ++ rest) (so_far.1 ++ last) end
+      (record { first = first; rest = rest; said = so_far.1; there = there; last = last; divided = refl; answers = served; ends = replies; all = refl })) in
       subst (λ (o : Outcome V F). Follows start o (said ++ last) end) (sym (on.reads (first ++ rest) (λ state. reading reader (after_line here line state) (first ++ rest)))) follows
 
   runs_on : (start : B) (here : Here S) (first rest : List InputLine) (said last : List ℕ) (there : Here (Planned B S P)) (end : End) → Answers machine (at_text start here) first said there → Replies machine there rest last (run.Ends end) → Follows start (reading reader here (first ++ rest)) (said ++ last) end
@@ -178,7 +148,7 @@ module _ {B S V F P : Type 0} (begin : B → V → List ℕ → Onward P → Typ
       so_far.4 ∙ ap (λ (s : List ℕ). s ++ so_far.1) on.nothing ∙ nothing
   quiet_by start here line first said there none wants so_far (inr on) later =
       let next : Here P = record { state = on.served; number = here.number + 1; room = here.room - line_size line } in
-      let served = serves_lines next first so_far.1 there (subst (λ (s : Planned B S P). Answers machine (after_line (at_text start here) line s) first so_far.1 there) on.so so_far.5) in
+      let served = served_lines phase machine Serving wraps_phase next first so_far.1 there (subst (λ (s : Planned B S P). Answers machine (after_line (at_text start here) line s) first so_far.1 there) on.so so_far.5) in
       absurd (none served.0.state (subst (λ (h : Here (Planned B S P)). machine.may_want h.state) served.1 wants))
 
   quiet : (start : B) (here : Here S) (first : List InputLine) (said : List ℕ) (there : Here (Planned B S P)) → WantsNone phase → machine.may_want there.state → Answers machine (at_text start here) first said there → said ≡ []

@@ -1,11 +1,12 @@
 -- The dispatchable network of a table (waits: Morris, Muscettola and Vidal 2001; the labelled edges that give them: Morris and
 -- Muscettola 2005; both in this project's form): by which lower bounds and waits each executable point is executed.
-use Rattle.std.specs.Prelude.{ℕ, ℤ, pos, ◌-ℤ◌, int_lt, List, [], map, Option, Some, None, is_some, if◌then◌else◌}
+use Rattle.std.specs.Prelude.{◌≡◌, ℕ, ℤ, pos, ◌-ℤ◌, int_lt, List, [], map, Option, Some, None, is_some, if◌then◌else◌}
 use Rattle.std.specs.List.{enumerate_from, filter_map, slice_index_or}
 use Rattle.std.specs.Option.{option_map, option_and_then}
 use Rattle.net_model.specs.Network.{Plan, activation}
 use Rattle.net_model.specs.declared.ids.PointId.{PointId}
 use Rattle.net_model.specs.declared.ids.LinkId.{LinkId}
+use Rattle.net_model.specs.declared.part.Link.{Link}
 use Rattle.closure_model.specs.Keys.{ordinary_key, labelled_key, all_points}
 use Rattle.closure_model.specs.Tables.{Graph, weight_of, IsFor, HasBase, IsClosed}
 use Rattle.closure_model.specs.Orders.{IsOrder}
@@ -57,3 +58,20 @@ dispatchable net table = map (conditions_in net table) (all_points table.shape)
 -- by what a point is executed in a dispatchable network
 abbrev pub conditions_at : List Conditions → PointId → Conditions
 conditions_at dispatch point = slice_index_or dispatch point.0 no_conditions
+
+-- A dispatchable network as it is held: the links of its network, by what each point is executed as a table gives it, and what is kept of
+-- that. Executions are told by what was made.
+pub record DispatchLists : Type 0 where
+  pub links : List Link
+  pub made : List Conditions
+  pub kept : List Conditions
+
+-- what is kept of what was made: for the present the whole of it
+abbrev pub KeepsMade : DispatchLists → Type 0
+KeepsMade lists = lists.kept ≡ lists.made
+
+-- the dispatchable network that a table gives: nothing of it is left out
+pub record IsDispatchBy (net : Plan) (table : Graph) (lists : DispatchLists) : Type 0 where
+  pub links : lists.links ≡ net.links
+  pub made : lists.made ≡ dispatchable net table
+  pub kept : lists.kept ≡ lists.made

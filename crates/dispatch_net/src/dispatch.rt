@@ -4,11 +4,11 @@ ghost use Rattle.std.specs.Option.{option_and_then};
 ghost use Rattle.net_model.specs.Network.{IsPoint};
 ghost use Rattle.strategy_model.specs.Plays.{IsInstant};
 ghost use Rattle.closure_model.specs.Tables.{IsFor, IsGraph, IsWeight};
-ghost use Rattle.dispatch_net.specs.Dispatchable.{MayDispatch, lower_bounds_in, waits_in, conditions_in, dispatchable, conditions_at, moments_of, with_moments};
+ghost use Rattle.dispatch_net.specs.Dispatchable.{MayDispatch, lower_bounds_in, waits_in, conditions_in, dispatchable, conditions_at, IsDispatchBy, moments_of, with_moments};
 ghost use Rattle.dispatch_net.specs.Execution.{ExecutionSatisfies};
 
 use labelled_graph::Table;
-use net_model::{Items, LinkId, Network, PointId, Weight};
+use net_model::{Items, Link, LinkId, Network, PointId, Weight};
 use std::alloc::{AllocError, Global};
 use std::marker::Model;
 
@@ -22,19 +22,20 @@ pub struct Conditions {
 }
 
 /// The dispatchable network of a closed table (Morris, Muscettola and Vidal 2001, in this project's form): the lower bounds and
-/// waits by which each executable point is executed. Contracts see it as the list of these, one for each point.
+/// waits by which each executable point is executed, and the links of its network. Contracts see it as the links, the lists that were made
+/// of the table, one for each point, and those that are kept.
 #[derive(Debug, Drop)]
 pub struct Dispatch {
+    links: Vec<Link>,
     conditions: Vec<Conditions>,
 }
 
 impl Model for Dispatch {
-    ghost use Rattle.std.specs.Prelude.{List};
-    ghost use Rattle.dispatch_net.specs.declared.dispatch.Conditions.{Conditions};
+    ghost use Rattle.dispatch_net.specs.Dispatchable.{DispatchLists};
 
-    ghost Value = { List Conditions };
+    ghost Value = { DispatchLists };
 
-    ghost view = { λ dispatch. dispatch.conditions.items };
+    ghost view = { λ dispatch. record { links = dispatch.links.items; made = dispatch.conditions.items; kept = dispatch.conditions.items } };
 }
 
 impl Dispatch {
@@ -48,34 +49,56 @@ impl Dispatch {
         order: &[PointId],
     ) -> Result<Dispatch, AllocError>
         requires { MayDispatch net.now table.now order.now }
-        ensures dispatchable { IfOk result (λ dispatch. dispatch ≡ dispatchable net.now table.now) }
-        ensures whole { IfOk result (λ dispatch. length dispatch ≡ length net.now.points) }
-        ensures executed { IfOk result (λ dispatch. IsInstant net.now → IsGraph table.now → ExecutionSatisfies net.now dispatch) }
+        ensures dispatchable { IfOk result (IsDispatchBy net.now table.now) }
+        ensures whole { IfOk result (λ dispatch. length dispatch.made ≡ length net.now.points) }
+        ensures executed { IfOk result (λ dispatch. IsInstant net.now → IsGraph table.now → ExecutionSatisfies net.now dispatch.made) }
     {
-        let mut conditions = Vec::new(alloc);
-        for point in 0..net.points().len() as u32 {
-            conditions.push(conditions_of(alloc, net, table, PointId(point))?)?;
-        }
-        Ok(Dispatch { conditions })
+        let conditions = conditions_by(alloc, net, table)?;
+        let links = Vec::from_slice(alloc, net.links())?;
+        Ok(Dispatch { links, conditions })
     }
 
-    /// The lower bounds of a point, in order of number: a point and n above 0, for n moments after that point. A contingent point
-    /// has none.
+    /// The links of the network, in order of number.
+    pub fn links(&self) -> &[Link]
+        ensures { result.now ≡ self.now.links }
+    {
+        self.links.as_slice()
+    }
+
+    /// The lower bounds that are kept of a point, in order of number: a point and n above 0, for n moments after that point. A contingent
+    /// point has none.
     pub fn lower_bounds(&self, point: PointId) -> &[(PointId, Weight)]
-        requires { point.0 < length self.now }
-        ensures { result.now ≡ (conditions_at self.now point).lower_bounds }
+        requires { point.0 < length self.now.kept }
+        ensures { result.now ≡ (conditions_at self.now.kept point).lower_bounds }
     {
         self.conditions[point.0 as usize].lower_bounds.as_slice()
     }
 
-    /// The waits of a point, in order of number: a link and n above 0, for the contingent point of the link or n moments after its
-    /// activation point. A contingent point has none.
+    /// The waits that are kept of a point, in order of number: a link and n above 0, for the contingent point of the link or n moments
+    /// after its activation point. A contingent point has none.
     pub fn waits(&self, point: PointId) -> &[(LinkId, Weight)]
-        requires { point.0 < length self.now }
-        ensures { result.now ≡ (conditions_at self.now point).waits }
+        requires { point.0 < length self.now.kept }
+        ensures { result.now ≡ (conditions_at self.now.kept point).waits }
     {
         self.conditions[point.0 as usize].waits.as_slice()
     }
+}
+
+/// By what each point is executed, in the order of the points.
+fn conditions_by(
+    alloc: Global,
+    net: &Network,
+    table: &Table,
+) -> Result<Vec<Conditions>, AllocError>
+    requires { IsFor net.now table.now }
+    ensures made { IfOk result (λ conditions. conditions.items ≡ dispatchable net.now table.now) }
+    ensures whole { IfOk result (λ conditions. length conditions.items ≡ length net.now.points) }
+{
+    let mut conditions = Vec::new(alloc);
+    for point in 0..net.points().len() as u32 {
+        conditions.push(conditions_of(alloc, net, table, PointId(point))?)?;
+    }
+    Ok(conditions)
 }
 
 /// By what a point is executed.

@@ -1,5 +1,5 @@
 -- A moment more of time that runs.
-use Rattle.std.proofs.Common.{◌≡◌, ℕ, suc, ◌+◌, ◌-◌, ◌<◌, List, ◌++◌, Option, ap, sym, subst, ◌∙◌, append_assoc, arith}
+use Rattle.std.proofs.Common.{◌≡◌, ℕ, suc, ◌+◌, ◌-◌, ◌<◌, List, ◌++◌, length, Option, ap, sym, subst, ◌∙◌, append_assoc, arith}
 use Rattle.std.specs.Prelude.{IsSome}
 use Rattle.std.specs.List.{All}
 use Rattle.execution_model.specs.Execution.{Moments, Setting, acts_at, acted, time_runs, acts_while}
@@ -30,15 +30,16 @@ module _ (setting : Setting) (t until : ℕ) (less : t < until) where
 
 -- time that runs until each point has come makes an execution whole
 pub whole_by : (setting : Setting) (before moments : Moments) (last latest : Option ℕ) (old acts : List Act) (refused : Option Why) (from count : ℕ)
-    → from ≡ next_moment (record { setting = setting; moments = before; last = last; acts = old; refused = refused })
+    → length before ≡ length setting.dispatch → from ≡ next_moment (record { setting = setting; moments = before; last = last; acts = old; refused = refused })
     → moments ≡ time_runs setting before from count → acts ≡ acts_while setting before from count → latest ≡ last_of last acts → All IsSome moments
     → IsWhole (record { setting = setting; moments = before; last = last; acts = old; refused = refused }) (record { setting = setting; moments = moments; last = latest; acts = acts; refused = refused })
-whole_by setting before moments last latest old acts refused from count begins runs makes is come =
+whole_by setting before moments last latest old acts refused from count long begins runs makes is come =
     let execution : Execution = record { setting = setting; moments = before; last = last; acts = old; refused = refused } in
     let now : moments ≡ time_runs setting before (next_moment execution) count = runs ∙ ap (λ t. time_runs setting before t count) begins in
     let made : acts ≡ acts_while setting before (next_moment execution) count = makes ∙ ap (λ t. acts_while setting before t count) begins in
     record {
       count = count;
+      long = long;
       come = subst (All IsSome) now come;
       after_it = λ i. record { setting = setting; moments = now i; last = (is ∙ ap (last_of last) made) i; acts = made i; refused = refused };
     }

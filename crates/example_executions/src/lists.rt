@@ -25,16 +25,16 @@ impl Model for Lists {
 
     ghost Value = { Setting };
 
-    ghost view = { λ kept. record { links = kept.links.items; dispatch = kept.dispatch } };
+    ghost view = { λ kept. record { links = kept.links.items; dispatch = kept.dispatch.kept } };
 
-    ghost invariant = { λ kept. kept.points.items ≡ points_of (record { links = kept.links.items; dispatch = kept.dispatch }) };
+    ghost invariant = { λ kept. kept.points.items ≡ points_of (record { links = kept.links.items; dispatch = kept.dispatch.kept }) };
 }
 
 impl Lists {
-    /// Those of a network and its dispatchable network.
+    /// Those of a network, and those that its dispatchable network keeps.
     pub(crate) fn new(alloc: Global, net: &Network, dispatch: Dispatch) -> Result<Lists, Fail>
-        requires { length dispatch ≡ length net.now.points }
-        ensures { IfOk result (λ lists. lists ≡ record { links = net.now.links; dispatch = dispatch }) }
+        requires { length dispatch.kept ≡ length net.now.points }
+        ensures { IfOk result (λ lists. lists ≡ record { links = net.now.links; dispatch = dispatch.kept }) }
     {
         let points = points(alloc, net.points().len() as u32)?;
         let links = Vec::from_slice(alloc, net.links())?;

@@ -18,7 +18,8 @@ use std::thread::Threads;
 /// The dispatchable network of the closure of a network.
 fn dispatch(rt: &(impl Threads + Sync), alloc: Global, net: &Network) -> Result<Dispatch, Fail>
     ensures dispatched { IfOk result (IsDispatchOf net.now) }
-    ensures whole { IfOk result (λ dispatch. length dispatch ≡ length net.now.points) }
+    ensures whole { IfOk result (λ dispatch. length dispatch.made ≡ length net.now.points) }
+    ensures kept { IfOk result (λ dispatch. length dispatch.kept ≡ length net.now.points) }
 {
     let mut store = Plain::of(alloc, net)?;
     let _points = net.points();

@@ -48,8 +48,8 @@ impl SlowExecutor {
         net: &Network,
         dispatch: Dispatch,
     ) -> Result<SlowExecutor, Fail>
-        requires { length dispatch ≡ length net.now.points }
-        ensures { IfOk result (λ executor. executor ≡ started (record { links = net.now.links; dispatch = dispatch })) }
+        requires { length dispatch.kept ≡ length net.now.points }
+        ensures { IfOk result (λ executor. executor ≡ started (record { links = net.now.links; dispatch = dispatch.kept })) }
     {
         let lists = Lists::new(alloc, net, dispatch)?;
         let moments = lists.no_moments(alloc)?;
@@ -228,6 +228,9 @@ impl SlowExecutor {
         ensures whole { IfOk result (λ whole. whole ≡ true → IsWhole self.old self.new) }
         ensures same { IfOk result (λ whole. whole ≡ false → self.new ≡ self.old) }
     {
+        if self.moments.len() != self.lists.points().len() {
+            return Err(Fail::from("not one moment for each point"));
+        }
         let mut acts = Vec::new(alloc);
         let mut moments = Vec::from_slice(alloc, self.moments.as_slice())?;
         self.lists.run(alloc, &mut moments, from, end, &mut acts)?;

@@ -18,7 +18,7 @@ fn dispatch<R: Threads + Sync>(
     alloc: Global,
     net: &Network,
 ) -> Result<Option<Dispatch>, Fail>
-    ensures { IfOk result (λ found. IfSome found (λ dispatch. length dispatch ≡ length net.now.points)) }
+    ensures { IfOk result (λ found. IfSome found (λ dispatch. length dispatch.kept ≡ length net.now.points)) }
 {
     let mut store = Plain::of(alloc, net)?;
     let _points = net.points();
@@ -37,7 +37,7 @@ fn push_point(
     point: PointId,
     text: &mut String,
 ) -> Result<(), Fail>
-    requires { point.0 < length dispatch.now }
+    requires { point.0 < length dispatch.now.kept }
 {
     for (other, n) in dispatch.lower_bounds(point) {
         text.push_str(format!(in alloc; "{} after {} by {n}|", point.0, other.0)?.as_str())?;

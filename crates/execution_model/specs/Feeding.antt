@@ -1,6 +1,6 @@
 -- What a feed of an execution is: time runs to the moment before, the completions of the moment are taken, and the acts of the moment are
 -- made; its refusals, the end of an execution, and the next due moment. This project's own choice.
-use Rattle.std.specs.Prelude.{◌≡◌, ◌≢◌, ℕ, ◌+◌, ◌-◌, ◌<◌, ◌≤◌, nat_le, nat_lt, unsigned_abs, Bool, false, IsSome, List, [], ◌∷◌, ◌++◌, map, find, fold, Option, Some, None, is_some, Result, Ok, Err, slice_set, if◌then◌else◌}
+use Rattle.std.specs.Prelude.{◌≡◌, ◌≢◌, ℕ, ◌+◌, ◌-◌, ◌<◌, ◌≤◌, nat_le, nat_lt, unsigned_abs, Bool, false, IsSome, List, [], ◌∷◌, ◌++◌, length, map, find, fold, Option, Some, None, is_some, Result, Ok, Err, slice_set, if◌then◌else◌}
 use Rattle.std.specs.List.{All}
 use Rattle.std.specs.Option.{option_map, option_map_or, option_and_then}
 use Rattle.net_model.specs.declared.ids.PointId.{PointId}
@@ -145,9 +145,10 @@ first_open execution = find (is_open execution.setting execution.moments) (point
 abbrev pub last_of : Option ℕ → List Act → Option ℕ
 last_of last acts = fold (λ before (act : Act). Some act.moment) last acts
 
--- the execution is whole: time has run on until each point has a moment
+-- the execution is whole: it has a moment, or none, for each point, and time has run on until each has one
 pub record IsWhole (execution : Execution) (after : Execution) : Type 0 where
   pub count : ℕ
+  pub long : length execution.moments ≡ length execution.setting.dispatch
   pub come : All IsSome (time_runs execution.setting execution.moments (next_moment execution) count)
   pub after_it : after ≡ record execution {
     moments = time_runs execution.setting execution.moments (next_moment execution) count;

@@ -8,10 +8,10 @@ use Rattle.net_model.specs.Limits.{most_size}
 use Rattle.net_model.specs.declared.ids.PointId.{PointId}
 use Rattle.net_model.specs.declared.part.Link.{Link}
 use Rattle.closure_model.proofs.OrderLemmas.{find_none}
-use Rattle.dispatch_net.specs.Dispatchable.{conditions_at, no_conditions}
+use Rattle.dispatch_net.specs.Dispatchable.{DispatchLists, conditions_at, no_conditions}
 use Rattle.dispatch_net.specs.declared.dispatch.Conditions.{Conditions}
 use Rattle.dispatch_net.proofs.ExecutionLemmas.{dispatchable_length}
-use Rattle.execution_model.specs.Execution.{Moments, Setting, moment_of, has_come, link_to, is_due, meets_bound, meets_wait, meets_wait_for, has_gone_by, points_of, acts_at, time_runs}
+use Rattle.execution_model.specs.Execution.{Moments, Setting, setting_by, moment_of, has_come, link_to, is_due, meets_bound, meets_wait, meets_wait_for, has_gone_by, points_of, acts_at, time_runs}
 use Rattle.execution_model.specs.Feeding.{is_open}
 use Rattle.execution_model.specs.Laws.{NoActsLeftIsWhole, setting_of}
 use Rattle.execution_model.proofs.LinkLemmas.{contingent_has_link, link_to_is_point}
@@ -22,17 +22,18 @@ use Rattle.live_executor.specs.Sound.{IsLowerBound, IsWait, IsSound, IsKept, Com
 use Rattle.live_executor.proofs.MomentLemmas.{moment_before}
 
 -- ---- of which network it is
-pub comes_to_its_end : NoActsLeftIsWhole → (setting : Setting) (ends : List (Option Link)) → IsKept setting ends → ComesToItsEnd setting
-comes_to_its_end law setting ends kept moments whole contingent idle =
+pub comes_to_its_end : NoActsLeftIsWhole → (lists : DispatchLists) (ends : List (Option Link)) → IsKept lists ends → ComesToItsEnd (setting_by lists)
+comes_to_its_end law lists ends kept moments whole contingent idle =
     let of = kept.dispatched in
-    let count : length setting.dispatch ≡ length kept.net.points = ap length of.made ∙ dispatchable_length kept.net of.table of.may.for_network in
+    let setting = setting_by lists in
+    let count : length lists.made ≡ length kept.net.points = ap length of.made ∙ dispatchable_length kept.net of.table of.may.for_network in
     let same : setting ≡ setting_of kept.net of.table =
-    ap (λ (links : List Link). let s : Setting = record { links = links; dispatch = setting.dispatch } in s) kept.links
+    ap (λ (links : List Link). let s : Setting = record { links = links; dispatch = lists.made } in s) of.links
     ∙ ap (λ (dispatch : List Conditions). let s : Setting = record { links = kept.net.links; dispatch = dispatch } in s) of.made in
     law kept.net of.table of.order moments 0 of.instant of.graph of.may (whole ∙ count)
     (λ point is.
-    let (link, found) = contingent_has_link kept.net setting kept.links of.instant.sound point is in
-    let inside = link_to_is_point kept.net setting kept.links of.instant.sound point link found in
+    let (link, found) = contingent_has_link kept.net setting of.links of.instant.sound point is in
+    let inside = link_to_is_point kept.net setting of.links of.instant.sound point link found in
     contingent point (omega (arith, count, inside)) (ap is_some found))
     (λ t from. subst (λ (s : Setting). acts_at s moments t ≡ []) same (idle t))
 

@@ -8,7 +8,7 @@ use Rattle.std.proofs.lemmas.List.{length-map, get_or_default}
 use Rattle.std.proofs.lemmas.List.Elements.{All-weaker, All-contains_itself, All-nil, All-head, All-tail}
 use Rattle.std.proofs.lemmas.Option.{slice_get_within}
 use Rattle.net_model.specs.Limits.{most_size}
-use Rattle.net_model.specs.Network.{Plan, IsPlan, IsLink, IsPoint, activation}
+use Rattle.net_model.specs.Network.{Plan, IsLink, IsPoint, activation}
 use Rattle.net_model.specs.declared.ids.PointId.{PointId}
 use Rattle.net_model.specs.declared.ids.LinkId.{LinkId}
 use Rattle.net_model.specs.declared.part.Link.{Link}
@@ -16,12 +16,11 @@ use Rattle.net_model.specs.declared.part.Edge.{Edge}
 use Rattle.net_model.proofs.NetworkLemmas.{greatest-le}
 use Rattle.closure_model.specs.Keys.{Shape}
 use Rattle.closure_model.specs.Tables.{HasEdge}
-use Rattle.dispatch_net.specs.Dispatchable.{no_conditions, dispatchable, conditions_at}
+use Rattle.dispatch_net.specs.Dispatchable.{DispatchLists, no_conditions, dispatchable, conditions_at}
 use Rattle.dispatch_net.specs.Laws.{AreExact}
 use Rattle.dispatch_net.specs.declared.dispatch.Conditions.{Conditions}
 use Rattle.dispatch_net.proofs.ExecutionLemmas.{dispatchable_length, point_count}
 use Rattle.dispatch_net.proofs.ExactLemmas.{lists_are_exact}
-use Rattle.execution_model.specs.Execution.{Setting}
 use Rattle.live_executor.specs.Sound.{IsLowerBound, IsWait, IsLinkOf, IsSound, IsDispatchOf, AreEnds, IsKept}
 
 each_contained : {X : Type 0} (P : X → Type 0) (xs : List X) → ((x : X) → Contains xs x → P x) → All P xs
@@ -31,7 +30,7 @@ some_or_none : {X : Type 0} (o : Option X) (A : Type 0) → (is_some o ≡ true 
 some_or_none (Some x) A some none = some refl
 some_or_none None A some none = none refl
 
-module _ (net : Plan) (dispatch : List Conditions) (of : IsDispatchOf net dispatch) where
+module _ (net : Plan) (lists : DispatchLists) (of : IsDispatchOf net lists) where
   within : (edge : Edge) → HasEdge of.table edge → unsigned_abs edge.weight ≤ most_size
   within edge has = let small = greatest-le net of.instant.sound in let low = of.may.within edge has in omega (arith, low, small)
 
@@ -62,23 +61,23 @@ module _ (net : Plan) (dispatch : List Conditions) (of : IsDispatchOf net dispat
           omega (arith, inside, ap (length {A = PointId}) same, long)
 
   conditions_sound : (point : PointId) → IsPoint net point
-      → All (IsLowerBound (length net.points)) (conditions_at dispatch point).lower_bounds × All (IsWait (length net.links)) (conditions_at dispatch point).waits
+      → All (IsLowerBound (length net.points)) (conditions_at lists.made point).lower_bounds × All (IsWait (length net.links)) (conditions_at lists.made point).waits
   conditions_sound point is_point =
       let exact = lists_are_exact net of.table point of.may.for_network of.graph is_point in
       rw of.made (some_or_none (activation net point) _
       (λ some. rw (exact.1 some) (All-nil (IsLowerBound (length net.points)), All-nil (IsWait (length net.links))))
       (λ none. (bound_sound point (conditions_at (dispatchable net of.table) point) (exact.0 (is_point, none)), wait_sound point (conditions_at (dispatchable net of.table) point) (exact.0 (is_point, none)))))
 
-  count : length dispatch ≡ length net.points
+  count : length lists.made ≡ length net.points
   count = rw of.made (dispatchable_length net of.table of.may.for_network)
 
-  at_index : (k : ℕ) (d : Conditions) → k < length dispatch → get_or dispatch k d ≡ conditions_at dispatch (record { 0 = k })
-  at_index k d inside = get_or_default dispatch k d no_conditions inside
+  at_index : (k : ℕ) (d : Conditions) → k < length lists.made → get_or lists.made k d ≡ conditions_at lists.made (record { 0 = k })
+  at_index k d inside = get_or_default lists.made k d no_conditions inside
 
   low_size : (low high : ℤ) → pos 1 ≤ℤ low → low ≤ℤ high → unsigned_abs high ≤ most_size → unsigned_abs low ≤ most_size
   low_size low high first second third = omega (arith, ints, first, second, third)
 
-  link_sound : (link : Link) → IsLink net link → IsLinkOf (length dispatch) link
+  link_sound : (link : Link) → IsLink net link → IsLinkOf (length lists.made) link
   link_sound link is = record {
     from_point = (let low = is.from_point in omega (arith, count, low));
     to_point = (let low = is.to_point in omega (arith, count, low));
@@ -86,22 +85,20 @@ module _ (net : Plan) (dispatch : List Conditions) (of : IsDispatchOf net dispat
     high = leb-true (unsigned_abs link.high) most_size is.within;
   }
 
-  pub dispatch_sound : IsSound (record { links = net.links; dispatch = dispatch })
+  pub dispatch_sound : IsSound (record { links = net.links; dispatch = lists.made })
   dispatch_sound = record {
     bounds = λ k d inside. rw (at_index k d inside, count) ((conditions_sound (record { 0 = k }) (omega (arith, inside, count))).0);
     waits = λ k d inside. rw (at_index k d inside) ((conditions_sound (record { 0 = k }) (omega (arith, inside, count))).1);
-    links = All-weaker (IsLink net) (IsLinkOf (length dispatch)) link_sound net.links of.instant.sound.links_sound;
+    links = All-weaker (IsLink net) (IsLinkOf (length lists.made)) link_sound net.links of.instant.sound.links_sound;
     few = (let few = of.instant.sound.few_points in omega (arith, few, count));
   }
 
-  pub kept : (links : List Link) (points : ℕ) (ends : List (Option Link)) → links ≡ net.links → points ≡ length net.points → AreEnds links points ends
-      → IsKept (record { links = links; dispatch = dispatch }) ends
-  kept links points ends same same_points are = record {
+  pub kept : (points : ℕ) (ends : List (Option Link)) → points ≡ length net.points → AreEnds lists.links points ends → IsKept lists ends
+  kept points ends same_points are = record {
     net = net;
-    links = same;
     dispatched = of;
-    sound = rw same dispatch_sound;
-    ends_are = subst (λ n. AreEnds links n ends) (same_points ∙ sym count) are;
+    sound = rw of.links dispatch_sound;
+    ends_are = subst (λ n. AreEnds lists.links n ends) (same_points ∙ sym count) are;
   }
 
 -- what holds of each item holds of the first that passes a test
@@ -114,10 +111,10 @@ found_has P p (x ∷ xs) all = either P x (find p xs) (p x) (All-head P x xs all
     either P x later false here there = there
 
 -- the link that is kept of a point is sound
-pub kept_link : (setting : Setting) (ends : List (Option Link)) (k : ℕ) (x : Option Link) → IsKept setting ends → k < length setting.dispatch → x ≡ get_or ends k x
-    → IfSome x (IsLinkOf (length setting.dispatch))
-kept_link setting ends k x is inside read =
+pub kept_link : (lists : DispatchLists) (ends : List (Option Link)) (k : ℕ) (x : Option Link) → IsKept lists ends → k < length lists.made → x ≡ get_or ends k x
+    → IfSome x (IsLinkOf (length lists.made))
+kept_link lists ends k x is inside read =
     let test : Link → Bool = λ link. link.to.0 == k in
-    let found : find test setting.links ≡ x =
+    let found : find test lists.links ≡ x =
     sym (is.ends_are.each k inside) ∙ get_or_default ends k None x (omega (arith, is.ends_are.count, inside)) ∙ sym read in
-    subst (λ (o : Option Link). IfSome o (IsLinkOf (length setting.dispatch))) found (found_has (IsLinkOf (length setting.dispatch)) test setting.links is.sound.links)
+    subst (λ (o : Option Link). IfSome o (IsLinkOf (length lists.made))) found (found_has (IsLinkOf (length lists.made)) test lists.links is.sound.links)

@@ -4,13 +4,13 @@ use Rattle.std.specs.List.{All, slice_index_or}
 use Rattle.net_model.specs.Network.{Plan}
 use Rattle.closure_model.specs.Tables.{Graph, IsGraph}
 use Rattle.strategy_model.specs.Plays.{IsInstant}
-use Rattle.dispatch_net.specs.Dispatchable.{MayDispatch, dispatchable}
+use Rattle.dispatch_net.specs.Dispatchable.{MayDispatch, dispatchable, DispatchLists, KeepsMade}
 use Rattle.net_model.specs.Limits.{most_points, most_size}
 use Rattle.net_model.specs.declared.ids.PointId.{PointId}
 use Rattle.net_model.specs.declared.ids.LinkId.{LinkId}
 use Rattle.net_model.specs.declared.part.Link.{Link}
 use Rattle.dispatch_net.specs.declared.dispatch.Conditions.{Conditions}
-use Rattle.execution_model.specs.Execution.{Moments, Setting, moment_of, link_to, acts_at}
+use Rattle.execution_model.specs.Execution.{Moments, Setting, setting_by, moment_of, link_to, acts_at}
 
 -- a lower bound is after one of so many points, by a number that a network may have
 pub record IsLowerBound (points : ℕ) (bound : PointId × ℤ) : Type 0 where
@@ -36,27 +36,29 @@ pub record IsSound (setting : Setting) : Type 0 where
   pub links : All (IsLinkOf (length setting.dispatch)) setting.links
   pub few : length setting.dispatch ≤ most_points
 
--- a dispatchable network is one of a network in which reaction is instantaneous: that of a table by which the network may be dispatched in some order
-pub record IsDispatchOf (net : Plan) (dispatch : List Conditions) : Type 0 where
+-- a dispatchable network is one of a network in which reaction is instantaneous: that of a table by which the network may be dispatched
+-- in some order, and it keeps what was made
+pub record IsDispatchOf (net : Plan) (lists : DispatchLists) : Type 0 where
   pub instant : IsInstant net
   pub table : Graph
   pub order : List PointId
   pub graph : IsGraph table
   pub may : MayDispatch net table order
-  pub made : dispatch ≡ dispatchable net table
+  pub links : lists.links ≡ net.links
+  pub made : lists.made ≡ dispatchable net table
+  pub keeps : KeepsMade lists
 
 -- for each of so many points the link that ends in it
 pub record AreEnds (links : List Link) (points : ℕ) (ends : List (Option Link)) : Type 0 where
   pub count : length ends ≡ points
   pub each : (point : ℕ) → point < points → slice_index_or ends point None ≡ find (λ (link : Link). link.to.0 == point) links
 
--- what is kept of a network and its dispatchable network: the links, the conditions, and for each point the link that ends in it
-pub record IsKept (setting : Setting) (ends : List (Option Link)) : Type 0 where
+-- what is kept of a network: a dispatchable network of it, and for each point the link that ends in it
+pub record IsKept (lists : DispatchLists) (ends : List (Option Link)) : Type 0 where
   pub net : Plan
-  pub links : setting.links ≡ net.links
-  pub dispatched : IsDispatchOf net setting.dispatch
-  pub sound : IsSound setting
-  pub ends_are : AreEnds setting.links (length setting.dispatch) ends
+  pub dispatched : IsDispatchOf net lists
+  pub sound : IsSound (setting_by lists)
+  pub ends_are : AreEnds lists.links (length lists.made) ends
 
 -- where each contingent point has come, and no moment brings an act, every point has come
 abbrev pub ComesToItsEnd : Setting → Type 0

@@ -16,23 +16,22 @@ use std::alloc::{AllocError, Global};
 use std::marker::Model;
 
 /// By what a network is executed: its links, and the lower bounds and waits of its points. For each point the link that ends in it
-/// is kept. Contracts see it as the links and the conditions.
+/// is kept. Contracts see it as the links and the conditions that were made.
 #[derive(Drop)]
 pub(crate) struct Dispatched {
     dispatch: Dispatch,
-    links: Vec<Link>,
     ends: Vec<Option<Link>>,
 }
 
 impl Model for Dispatched {
-    ghost use Rattle.execution_model.specs.Execution.{Setting};
+    ghost use Rattle.execution_model.specs.Execution.{Setting, setting_by};
     ghost use Rattle.live_executor.specs.Sound.{IsKept};
 
     ghost Value = { Setting };
 
-    ghost view = { λ kept. record { links = kept.links.items; dispatch = kept.dispatch } };
+    ghost view = { λ kept. setting_by kept.dispatch };
 
-    ghost invariant = { λ kept. IsKept (record { links = kept.links.items; dispatch = kept.dispatch }) kept.ends.items };
+    ghost invariant = { λ kept. IsKept kept.dispatch kept.ends.items };
 }
 
 impl Dispatched {
@@ -43,16 +42,10 @@ impl Dispatched {
         dispatch: Dispatch,
     ) -> Result<Dispatched, AllocError>
         requires { IsDispatchOf net.now dispatch }
-        ensures { IfOk result (λ dispatched. dispatched ≡ record { links = net.now.links; dispatch = dispatch }) }
+        ensures { IfOk result (λ dispatched. dispatched ≡ record { links = net.now.links; dispatch = dispatch.made }) }
     {
-        let links = net.links();
-        let ends = ends_of(alloc, links, net.points().len() as u32)?;
-        let links = Vec::from_slice(alloc, links)?;
-        Ok(Dispatched {
-            dispatch,
-            links,
-            ends,
-        })
+        let ends = ends_of(alloc, dispatch.links(), net.points().len() as u32)?;
+        Ok(Dispatched { dispatch, ends })
     }
 
     /// How many points there are.
@@ -95,7 +88,7 @@ impl Dispatched {
             return None;
         }
         let bounds = bounds_met(moments, self.dispatch.lower_bounds(point))?;
-        let waits = waits_met(moments, self.links.as_slice(), self.dispatch.waits(point))?;
+        let waits = waits_met(moments, self.dispatch.links(), self.dispatch.waits(point))?;
         Some(bounds.max(waits))
     }
 }

@@ -52,7 +52,7 @@ impl Executor {
     /// `AllocError` comes only for want of memory.
     pub fn start(alloc: Global, net: &Network, dispatch: Dispatch) -> Result<Executor, AllocError>
         requires { IsDispatchOf net.now dispatch }
-        ensures { IfOk result (λ executor. executor ≡ started (record { links = net.now.links; dispatch = dispatch })) }
+        ensures { IfOk result (λ executor. executor ≡ started (record { links = net.now.links; dispatch = dispatch.made })) }
     {
         let dispatched = Dispatched::new(alloc, net, dispatch)?;
         let course = Course::fresh(alloc, &dispatched)?;

@@ -186,7 +186,7 @@ module _ (reading : (net : Plan) (line : List (List ℕ)) → OneReading net lin
     one = replied here line lines put end Comes comes run
 
     tells : (told : EventLine) → IsLine net told line.text → AnswersEvent here.state (number + 1) told one.answer one.onward
-    tells told is = told_answers here.state (number + 1) told line.text one.answer one.onward is one.replies.1
+    tells told is = told_answers here.state (number + 1) told line.text one.answer one.onward is one.replies
 
     on_as : (onward : Onward Course) → one.onward ≡ onward → Continues here line lines put end onward one.answer
     on_as onward is = subst (λ (o : Onward Course). Continues here line lines put end o one.answer) is one.on
@@ -228,6 +228,6 @@ module _ (reading : (net : Plan) (line : List (List ℕ)) → OneReading net lin
 
     pub one_fault : (kind : FormatKind) → IsFaultOf net line.text kind → EndsBy (Format (number + 1) kind) put end
     one_fault kind is =
-        let answers = fault_answers here.state (number + 1) kind line.text one.answer one.onward is one.replies.1 in
+        let answers = fault_answers here.state (number + 1) kind line.text one.answer one.onward is one.replies in
         let on = on_as (Ends (fault_end (Format (number + 1) kind))) answers.1 in
         (on.0 ∙ answers.0, on.1)

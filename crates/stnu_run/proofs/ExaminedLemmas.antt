@@ -12,7 +12,7 @@ use Rattle.parallel_rounds.specs.Propagated.{IsPropagated}
 use Rattle.parallel_rounds.specs.declared.outcome.Outcome.{Outcome}
 use Rattle.parallel_rounds.specs.declared.outcome.Outcome.TheVariants.{Closed, Looped}
 use Rattle.dispatch_net.specs.declared.dispatch.Conditions.{Conditions}
-use Rattle.dispatch_net.specs.Dispatchable.{MayDispatch, dispatchable}
+use Rattle.dispatch_net.specs.Dispatchable.{MayDispatch, DispatchLists, IsDispatchBy}
 use Rattle.dispatch_net.proofs.EarliestLemmas.{closures_may_dispatch}
 use Rattle.execution_model.specs.Feeding.{Execution, started, IsDueAnswer}
 use Rattle.commands.specs.declared.endings.End.{End}
@@ -30,12 +30,12 @@ module _ (net : Plan) (before after : Support) (outcome : Outcome) (propagated :
       let made : IsPropagated net before after (Closed rounds order) = subst (IsPropagated net before after) is propagated in
       closures_may_dispatch net after.table order plan made.says.0 made.says.1
 
-  pub closed_examined : (rounds : ℕ) (order : List PointId) (dispatch : List Conditions) → IsPlan net → before ≡ base_support net → outcome ≡ Closed rounds order
-      → dispatch ≡ dispatchable net after.table → length dispatch ≡ length net.points → IsExamined net (Controllable dispatch)
+  pub closed_examined : (rounds : ℕ) (order : List PointId) (dispatch : DispatchLists) → IsPlan net → before ≡ base_support net → outcome ≡ Closed rounds order
+      → IsDispatchBy net after.table dispatch → length dispatch.made ≡ length net.points → IsExamined net (Controllable dispatch)
   closed_examined rounds order dispatch plan base is dispatched count =
       let made : IsPropagated net before after (Closed rounds order) = subst (IsPropagated net before after) is propagated in (
-        (record { rounds = rounds; after = after; order = order; ends = subst (λ (s : Support). RoundsEnd net s rounds after (closed order)) base made.ends }, dispatched),
-        record { instant = record { sound = plan }; table = after.table; order = order; graph = standing_sound net plan after propagated.stands; may = closed_may rounds order plan is; made = dispatched },
+        (record { rounds = rounds; after = after; order = order; ends = subst (λ (s : Support). RoundsEnd net s rounds after (closed order)) base made.ends }, dispatched.made),
+        record { instant = record { sound = plan }; table = after.table; order = order; graph = standing_sound net plan after propagated.stands; may = closed_may rounds order plan is; links = dispatched.links; made = dispatched.made; keeps = dispatched.kept },
         count,
       )
 
@@ -61,7 +61,7 @@ module _ (net : Plan) (before after : Support) (outcome : Outcome) (propagated :
       )
 
 -- the beginning, by what was shown
-pub execution_begins : (net : Plan) (dispatch : List Conditions) (put : List ℕ) (onward : Onward Course) → IsExamined net (Controllable dispatch) → GoesOnFrom net dispatch put onward
+pub execution_begins : (net : Plan) (dispatch : DispatchLists) (put : List ℕ) (onward : Onward Course) → IsExamined net (Controllable dispatch) → GoesOnFrom net dispatch.made put onward
     → run_begins tt net put onward
 execution_begins net dispatch put onward ((closing, made), of, count) ((due, is, puts), goes) =
     let from : List Conditions → Execution = λ d. started (record { links = net.links; dispatch = d }) in

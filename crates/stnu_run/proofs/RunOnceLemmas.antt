@@ -27,7 +27,7 @@ use Rattle.commands.specs.Single.{IsSingle, IsSingleAnswer}
 use Rattle.commands.specs.declared.machines.Onward.{Onward}
 use Rattle.commands.specs.declared.machines.Onward.TheVariants.{Goes, Ends}
 use Rattle.stnu_run.specs.Checking.{controllable_line, refuted_line}
-use Rattle.stnu_run.specs.Course.{Course, IsCourse}
+use Rattle.stnu_run.specs.Course.{Course}
 use Rattle.stnu_run.specs.EventAnswers.{acts_text, due_line, event_fault_line}
 use Rattle.stnu_run.specs.Executing.{AnswersFeed, AnswersEnd, AnswersEvent, TakesEvent, executing_machine}
 use Rattle.stnu_run.specs.Faults.{fault_end}
@@ -110,13 +110,13 @@ module _ (setting : Setting) where
       (rest.0, ap (λ (acts : List Act). acts_at setting moments t ++ acts) rest.1)
 
 -- ---- the end is answered in one way
-module _ (execution : Execution) (long : length execution.moments ≡ length execution.setting.dispatch) where
+module _ (execution : Execution) where
   abbrev after_time : (moments : Moments) (acts : List Act) → Execution
   after_time moments acts = record execution { moments = moments; last = last_of execution.last acts; acts = acts }
 
   ordered_one : (first second : Execution) (a : IsWhole execution first) (b : IsWhole execution second) → a.count ≤ b.count → first ≡ second
   ordered_one first second a b least =
-      let same = settled execution.setting a.count b.count least execution.moments (next_moment execution) long a.come in
+      let same = settled execution.setting a.count b.count least execution.moments (next_moment execution) a.long a.come in
       a.after_it ∙ (ap (λ (m : Moments). after_time m (acts_while execution.setting execution.moments (next_moment execution) a.count)) (sym same.0)
       ∙ (ap (λ (acts : List Act). after_time (time_runs execution.setting execution.moments (next_moment execution) b.count) acts) (sym same.1) ∙ sym b.after_it))
 
@@ -160,37 +160,37 @@ end_once state number finished.Complete after a b x y one other = (one.0 ∙ sym
 end_once state number (finished.Unfinished point) after a b x y one other = (one.0 ∙ sym other.0, one.1 ∙ sym other.1)
 end_once state number (finished.Ended cause) after a b x y one other = (one.0 ∙ sym other.0, one.1 ∙ sym other.1)
 
-event_once : (state : Course) (number : ℕ) (told : EventLine) (a b : List ℕ) (x y : Onward Course) → IsCourse state
+event_once : (state : Course) (number : ℕ) (told : EventLine) (a b : List ℕ) (x y : Onward Course)
     → AnswersEvent state number told a x → AnswersEvent state number told b y → (a ≡ b) × (x ≡ y)
-event_once state number blank a b x y course one other = (one.0 ∙ sym other.0, one.1 ∙ sym other.1)
-event_once state number (completed moment points) a b x y course (answered, after, is, answers) (other, also, it, others) =
+event_once state number blank a b x y one other = (one.0 ∙ sym other.0, one.1 ∙ sym other.1)
+event_once state number (completed moment points) a b x y (answered, after, is, answers) (other, also, it, others) =
     let same = fed_one state.execution moment points answered other after also is it in
     let of : Execution → Course = λ execution. record state { execution = execution; listed = points } in
     let moved : AnswersFeed state number other (of also) a x =
     subst (λ (e : Execution). AnswersFeed state number other (of e) a x) same.1 (subst (λ (f : Fed). AnswersFeed state number f (of after) a x) same.0 answers) in
     feed_once state number other (of also) a b x y moved others
-event_once state number done a b x y course (answered, after, is, answers) (other, also, it, others) =
-    let same = finished_one state.execution (course.moments ∙ sym course.dispatch) answered other after also is it in
+event_once state number done a b x y (answered, after, is, answers) (other, also, it, others) =
+    let same = finished_one state.execution answered other after also is it in
     let moved : AnswersEnd state.net number other also a x =
     subst (λ (e : Execution). AnswersEnd state.net number other e a x) same.1 (subst (λ (f : Finished). AnswersEnd state.net number f after a x) same.0 answers) in
     end_once state number other also a b x y moved others
 
 -- ---- each line is answered in one way
 module _ (reading : (net : Plan) (line : List (List ℕ)) → OneReading net line) where
-  line_once : (state : Course) (number : ℕ) (line a b : List ℕ) (x y : Onward Course) → IsCourse state
+  line_once : (state : Course) (number : ℕ) (line a b : List ℕ) (x y : Onward Course)
       → TakesEvent state number line a x → TakesEvent state number line b y → (a ≡ b) × (x ≡ y)
-  line_once state number line a b x y course (inl (told, is, answers)) (inl (other, it, others)) =
+  line_once state number line a b x y (inl (told, is, answers)) (inl (other, it, others)) =
       let same = (reading state.net (words line)).one_telling told other is it in
-      event_once state number other a b x y course (subst (λ (t : EventLine). AnswersEvent state number t a x) same answers) others
-  line_once state number line a b x y course (inl (told, is, answers)) (inr (kind, it, put, ended)) = absurd ((reading state.net (words line)).not_both told kind is it)
-  line_once state number line a b x y course (inr (kind, is, put, ended)) (inl (other, it, others)) = absurd ((reading state.net (words line)).not_both other kind it is)
-  line_once state number line a b x y course (inr (kind, is, put, ended)) (inr (other, it, also, so)) =
+      event_once state number other a b x y (subst (λ (t : EventLine). AnswersEvent state number t a x) same answers) others
+  line_once state number line a b x y (inl (told, is, answers)) (inr (kind, it, put, ended)) = absurd ((reading state.net (words line)).not_both told kind is it)
+  line_once state number line a b x y (inr (kind, is, put, ended)) (inl (other, it, others)) = absurd ((reading state.net (words line)).not_both other kind it is)
+  line_once state number line a b x y (inr (kind, is, put, ended)) (inr (other, it, also, so)) =
       let same = (reading state.net (words line)).one_fault kind other is it in
       (put ∙ (ap (event_fault_line number) same ∙ sym also), ended ∙ (ap (λ (k : FormatKind). let onward : Onward Course = Ends (fault_end (Format number k)) in onward) same ∙ sym so))
 
   pub executing_single : IsSingle executing_machine
   executing_single = record {
-    takes = λ state number line a b x y one other. line_once state number line a b x y one.0 one.1 other.1;
+    takes = λ state number line a b x y one other. line_once state number line a b x y one other;
     stops = λ state number stop a b x y one other. (one.0 ∙ sym other.0, one.1 ∙ sym other.1);
   }
 

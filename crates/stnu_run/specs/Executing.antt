@@ -18,7 +18,7 @@ use Rattle.commands.specs.Machine.{Machine}
 use Rattle.commands.specs.declared.endings.End.TheVariants as ends
 use Rattle.commands.specs.declared.machines.Onward.{Onward}
 use Rattle.commands.specs.declared.machines.Onward.TheVariants.{Goes, Ends}
-use Rattle.stnu_run.specs.Course.{Course, IsCourse}
+use Rattle.stnu_run.specs.Course.{Course}
 use Rattle.stnu_run.specs.EventAnswers.{acts_text, due_line, complete_line, NamesPoints, why_words, unfinished_words, event_line, event_fault_line, most_act}
 use Rattle.stnu_run.specs.Faults.{fault_line, fault_end, stop_fault}
 use Rattle.stnu_run.specs.declared.faults.Fault.TheVariants.{Format}
@@ -71,11 +71,11 @@ TakesEvent state number line answer onward =
 abbrev pub answer_room : Plan → ℕ
 answer_room net = most_act * length net.points + least_room
 
--- What the phase means; it wants no memory. Each state is the execution of a network.
+-- What the phase means; it wants no memory.
 abbrev pub executing_machine : Machine Course
 executing_machine = record {
   longest = λ state. most_line;
-  takes = λ state number line answer onward. IsCourse state × TakesEvent state number line answer onward;
+  takes = TakesEvent;
   stops = λ state number stop answer end. (answer ≡ fault_line (stop_fault number stop NoEnd)) × (end ≡ fault_end (stop_fault number stop NoEnd));
   may_want = λ state. ⊥;
   room = λ state. answer_room state.net;

@@ -58,7 +58,7 @@ GoesOnFrom net dispatch put onward =
 -- that can be printed
 abbrev pub IsExamined : Plan → Examined → Type 0
 IsExamined net (Controllable dispatch) =
-    ((closing : RoundsClose net) × (dispatch ≡ dispatchable net closing.after.table)) × IsDispatchOf net dispatch × (length dispatch ≡ length net.points)
+    ((closing : RoundsClose net) × (dispatch.made ≡ dispatchable net closing.after.table)) × IsDispatchOf net dispatch × (length dispatch.made ≡ length net.points)
 IsExamined net (Refuted certificate) = IsCertificateOf net certificate × HasWeights certificate
 
 abbrev pub run_begins : Unit {0} → Plan → List ℕ → Onward Course → Type 0

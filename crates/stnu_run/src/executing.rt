@@ -51,8 +51,8 @@ impl Executing {
         dispatch: Dispatch,
     ) -> Result<Executing, AllocError>
         requires dispatch { IsDispatchOf net dispatch }
-        requires points { length dispatch ≡ length net.points }
-        ensures { IfOk result (λ state. state ≡ record { net = net; execution = started (record { links = net.links; dispatch = dispatch }); listed = [] }) }
+        requires points { length dispatch.made ≡ length net.points }
+        ensures { IfOk result (λ state. state ≡ record { net = net; execution = started (record { links = net.links; dispatch = dispatch.made }); listed = [] }) }
     {
         let executor = Executor::start(alloc, &net, dispatch)?;
         let events = EventReader::new(alloc)?;

@@ -190,8 +190,8 @@ fn begin_execution(
 ) -> Result<Onward<Executing>, AllocError>
     requires empty { answer.old.text ≡ [] }
     requires dispatch { IsDispatchOf net dispatch }
-    requires points { length dispatch ≡ length net.points }
-    ensures begins { IfOk result (GoesOnFrom net dispatch answer.new.text) }
+    requires points { length dispatch.made ≡ length net.points }
+    ensures begins { IfOk result (GoesOnFrom net dispatch.made answer.new.text) }
     ensures room { IfOk result (λ onward. HasRoom executing_machine onward answer.new.capacity) }
 {
     let state = Executing::start(alloc, net, dispatch)?;

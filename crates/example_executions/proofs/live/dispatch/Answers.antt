@@ -1,4 +1,5 @@
 -- A closed end of the rounds is a closure with an order, by which its network may be dispatched.
+use Rattle.std.proofs.Common.{◌∙◌, ap, length}
 use Rattle.example_executions.proofs.DispatchFacts.{may_be, sound_graph}
 use Rattle.example_executions.proofs.live.dispatch.Goals as goal
 
@@ -10,6 +11,7 @@ of-requires-2 g c =
 pub returns-clause-dispatched : goal.returns-clause-dispatched
 returns-clause-dispatched g c =
     let plan = c.points-points.ensures.sound in
+    let by = c.in_ok-dispatch.ensures.dispatchable in
     record {
       instant = record { sound = plan };
       table = c.table.result.now;
@@ -17,5 +19,10 @@ returns-clause-dispatched g c =
       graph = sound_graph c.args.net.now c.propagate.new.store c.table.result.now plan c.in_ok-order.ensures.stands c.table.ensures;
       may = may_be c.args.net.now c.propagate.new.store _ c.in-Closed.rounds c.in-Closed.order c.as_slice.result.now c.table.result.now plan
           c.in_ok-order.ensures.says c.in-Closed.is c.table.ensures c.as_slice.ensures;
-      made = c.in_ok-dispatch.ensures.dispatchable;
+      links = by.links;
+      made = by.made;
+      keeps = by.kept;
     }
+
+pub returns-clause-kept : goal.returns-clause-kept
+returns-clause-kept g c = ap length c.in_ok-dispatch.ensures.dispatchable.kept ∙ c.in_ok-dispatch.ensures.whole

@@ -1,8 +1,8 @@
-use Rattle.std.proofs.Common.{◌≡◌, ◌∙◌, List, refl, sym, subst, ap}
+use Rattle.std.proofs.Common.{List, refl, sym, subst}
 use Rattle.net_model.specs.declared.ids.PointId.{PointId}
 use Rattle.closure_model.specs.Derivations.{base_support}
 use Rattle.closure_model.specs.Tables.{Graph}
-use Rattle.dispatch_net.specs.Dispatchable.{MayDispatch, dispatchable}
+use Rattle.dispatch_net.specs.Dispatchable.{MayDispatch, IsDispatchBy}
 use Rattle.refutations.specs.Certifying.{IsCertificateBy}
 use Rattle.stnu_run.proofs.ExaminedLemmas.{closed_may, closed_examined, looped_examined}
 use Rattle.stnu_run.proofs.running.shown_by.Goals as goal
@@ -19,7 +19,7 @@ returns-in_ok-dispatch-in-Closed c =
     let net = c.args.net.now in
     let after = c.args.store.now in
     let dispatch = c.in_ok-dispatch-in-Closed.dispatch in
-    let made : dispatch ≡ dispatchable net after.table = c.in_ok-dispatch-in-Closed.ensures.dispatchable ∙ ap (dispatchable net) c.table.ensures in
+    let made = subst (λ (t : Graph). IsDispatchBy net t dispatch) c.table.ensures c.in_ok-dispatch-in-Closed.ensures.dispatchable in
     closed_examined net (base_support net) after c.args.outcome.now c.requires c.in-Closed.rounds c.in-Closed.order dispatch c.points.ensures.sound refl c.in-Closed.is made
     c.in_ok-dispatch-in-Closed.ensures.whole
 

@@ -8,10 +8,10 @@ use Rattle.example_executions.proofs.lists.Lists.waits.Goals as goal
 pub waits-requires : goal.waits-requires
 waits-requires c =
     let kept = c.self.inside in
-    inside (record { links = kept.links.items; dispatch = kept.dispatch }) kept.points.items c.args.point.0 c.self.invariant (omega arith)
+    inside (record { links = kept.links.items; dispatch = kept.dispatch.kept }) kept.points.items c.args.point.0 c.self.invariant (omega arith)
 
 pub returns-else-point-len : goal.returns-else-point-len
 returns-else-point-len c =
     let kept = c.self.inside in
-    let none = past (record { links = kept.links.items; dispatch = kept.dispatch }) kept.points.items c.args.point c.self.invariant (omega arith) in
+    let none = past (record { links = kept.links.items; dispatch = kept.dispatch.kept }) kept.points.items c.args.point c.self.invariant (omega arith) in
     c.as_slice.ensures ∙ sym (ap (λ (setting : Setting). (conditions_at setting.dispatch c.args.point).waits) (sym c.self.view_is) ∙ ap (λ (conditions : Conditions). conditions.waits) none)

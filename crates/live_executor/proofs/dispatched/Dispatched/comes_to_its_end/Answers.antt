@@ -1,5 +1,4 @@
 use Rattle.std.proofs.Common.{subst}
-use Rattle.execution_model.specs.Execution.{Setting}
 use Rattle.live_executor.specs.Sound.{ComesToItsEnd}
 use Rattle.live_executor.proofs.EndLemmas.{comes_to_its_end}
 use Rattle.live_executor.proofs.dispatched.Dispatched.comes_to_its_end.Goals as goal
@@ -7,5 +6,4 @@ use Rattle.live_executor.proofs.dispatched.Dispatched.comes_to_its_end.Goals as 
 pub returns : goal.returns
 returns c =
     let kept = c.self.inside in
-    let seen : Setting = record { links = kept.links.items; dispatch = kept.dispatch } in
-    subst ComesToItsEnd c.self.view_is (comes_to_its_end c.no_acts_left_is_whole.ensures seen kept.ends.items c.self.invariant)
+    subst ComesToItsEnd c.self.view_is (comes_to_its_end c.no_acts_left_is_whole.ensures kept.dispatch kept.ends.items c.self.invariant)

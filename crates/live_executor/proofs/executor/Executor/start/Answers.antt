@@ -3,5 +3,5 @@ use Rattle.live_executor.proofs.executor.Executor.start.Goals as goal
 
 pub returns : goal.returns
 returns c =
-    starts c.in_ok-dispatched.dispatched (record { links = c.args.net.now.links; dispatch = c.args.dispatch }) c.in_ok-course.course.moments.items c.in_ok-course.course.acts.items
+    starts c.in_ok-dispatched.dispatched (record { links = c.args.net.now.links; dispatch = c.args.dispatch.made }) c.in_ok-course.course.moments.items c.in_ok-course.course.acts.items
     c.in_ok-dispatched.ensures c.in_ok-course.ensures.moments c.in_ok-course.ensures.acts
