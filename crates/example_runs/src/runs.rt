@@ -72,9 +72,9 @@ const FAILING_CALLS: &str = "0 2 0 => stnu judge => stnu 1|point A| => error rea
 1 0 1 => stnu judge => point A|end| =>  => 6
 1 4 1 => stnu judge => stnu 1|end| =>  => 6
 0 1 1 => stnu chek => stnu 1|end| =>  => 6
-1 4 0 => stnu run => stnu 1|point A|point C|point D|bound b1 D C 4|link A 3 8 C|end|at 0|at 3 C|done| => error read| => 5
-0 0 2 => stnu run => stnu 1|point A|point C|point D|bound b1 D C 4|link A 3 8 C|end|at 0|at 3 C|done| => controllable|due 0| => 6
-1 0 2 => stnu run => stnu 1|point A|point C|point D|bound b1 D C 4|link A 3 8 C|end|at 0|at 3 C|done| => controllable|due 0| => 6";
+1 4 0 => stnu run => stnu 1|point A|point B|bound b1 A B 5|bound b2 B A -2|end|at 0|at 2|done| => error read| => 5
+0 0 2 => stnu run => stnu 1|point A|point B|bound b1 A B 5|bound b2 B A -2|end|at 0|at 2|done| => controllable|due 0| => 6
+1 0 2 => stnu run => stnu 1|point A|point B|bound b1 A B 5|bound b2 B A -2|end|at 0|at 2|done| => controllable|due 0| => 6";
 
 /// Rows: the room of a port of fixed room, how much of it is left after the run, whether all bytes put are kept; and then as above.
 /// The room is ample, just enough, or too little: the status is the same.

@@ -6,7 +6,7 @@ use Rattle.strategy_model.specs.Control.{IsControllable}
 use Rattle.plan_format.specs.PlanNetwork.{DeclaresNetwork}
 use Rattle.cert_format.specs.CertificateWords.{printed_certificate}
 use Rattle.commands.specs.declared.endings.End.{End}
-use Rattle.stnu_run.specs.Checking.{controllable_line, refuted_line}
+use Rattle.stnu_run.specs.Verdict.{controllable_line, refuted_line}
 use Rattle.stnu_run.specs.CheckPromise.{CheckPromise, PutsVerdict}
 use Rattle.stnu_run.specs.Faults.{fault_line}
 use Rattle.stnu_run.specs.ToCheck.{plan_grammar}

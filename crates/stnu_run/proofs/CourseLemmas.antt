@@ -232,7 +232,7 @@ module _ (reading : (net : Plan) (line : List (List ℕ)) → OneReading net lin
       by : (result : Result Moments Why) → taken execution moment points ≡ result → EndsAt net (line ∷ lines) number room execution end
       by (Err cause) refuses =
           told_here line lines number room execution end (completed moment points) comes is
-          (cause, refuses, (one_refused reading net execution listed number room none line lines put end comes run moment points cause is refuses).2)
+          (cause, refuses, (one_refused reading net execution listed number room none line lines put end comes run moment points cause is refuses).1)
       by (Ok moments) takes =
           let went = one_feed reading net execution listed number room none line lines put end comes run moment points moments is takes in
           after_line line lines number room execution (after_feed execution moment moments) (λ others. listing ∷ others) end comes
@@ -245,7 +245,7 @@ module _ (reading : (net : Plan) (line : List (List ℕ)) → OneReading net lin
           told_here line lines number room execution end done comes is (inl (closed, (one_done reading net execution listed number room none line lines put end comes run is closed).3))
       by (Some point) opens =
           told_here line lines number room execution end done comes is
-          (inr (point, opens, (one_unfinished reading net execution listed number room none line lines put end comes run point is opens).2))
+          (inr (point, opens, (one_unfinished reading net execution listed number room none line lines put end comes run point is opens).1))
   line_ends line lines execution listed number room put end Comes none comes (inr (kind, fault)) run later =
       ends_here (line ∷ lines) number room execution end
       (inr (Format (number + 1) kind, inr (inr (kind, comes, fault, refl)), (one_fault reading net execution listed number room none line lines put end comes run kind fault).1))

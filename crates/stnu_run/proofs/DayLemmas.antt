@@ -29,12 +29,10 @@ use Rattle.stnu_run.specs.Day.{ListLines, IsUnfaithfulWith, PutsListings}
 use Rattle.stnu_run.specs.Due.{moment_after}
 use Rattle.stnu_run.specs.EventAnswers.{acts_text, due_line}
 use Rattle.stnu_run.proofs.CourseLemmas.{SaysListings, Decides, fed_step, fed_stops, fed_both}
-use Rattle.stnu_run.proofs.DueLemmas.{shows_first, fed_moment, due_after}
-use Rattle.stnu_run.proofs.VerdictLemmas.{Laws}
+use Rattle.stnu_run.proofs.DueLemmas.{shows_first, fed_moment, due_answered}
 
--- the laws on which the promise of `run` rests
-pub record RunLaws : Type 0 where
-  pub verdict : Laws
+-- the laws on which the promise of an execution rests
+pub record ExecutionLaws : Type 0 where
   pub reading : (net : Plan) (line : List (List ℕ)) → OneReading net line
   pub taken : FaithfulStreamsAreTaken
   pub done : DoneWhereNoneIsOpen
@@ -50,7 +48,7 @@ lists_within net (line ∷ lines) listings (inr (moment, points, others, is, sam
     subst AreWithinLimit (sym same)
     (All-cons (λ (listing : Listing). listing.moment ≤ most_moment) (record { moment = moment; points = points }) others is.within (lists_within net lines others lists))
 
-module _ (laws : RunLaws) (net : Plan) (table : Graph) (order : List PointId) (by : IsDispatchedByClosure net table order) where
+module _ (laws : ExecutionLaws) (net : Plan) (table : Graph) (order : List PointId) (by : IsDispatchedByClosure net table order) where
   abbrev start : Execution
   start = started (setting_of net table)
 
@@ -70,7 +68,7 @@ module _ (laws : RunLaws) (net : Plan) (table : Graph) (order : List PointId) (b
         let more_fed : fed_all start (before ++ listing ∷ []) ≡ Ok after = fed_both before (listing ∷ []) start execution fed ∙ fed_step execution listing [] moments takes in (
           due,
           more,
-          due_after net table order by (before ++ listing ∷ []) after more_fed none due due_answer,
+          due_answered net table order by (before ++ listing ∷ []) after more_fed none due due_answer,
           is ∙ ap (λ (acts : List Act). acts_text net acts ++ (due_line due ++ more)) here,
           puts_listings others (before ++ listing ∷ []) after more none more_fed on says,
         )

@@ -36,7 +36,7 @@ use Rattle.execution_model.proofs.MomentLemmas.{within_from_some, due_parts, due
 use Rattle.execution_model.proofs.PlaceLemmas.{ending_contingent, gone_by, from_gone_by}
 use Rattle.execution_model.proofs.StreamLemmas.{shows_next, next_shows}
 use Rattle.execution_model.proofs.TimeLemmas.{time_cut}
-use Rattle.stnu_run.specs.Due.{moment_after, ExecutesNone, IsDueAfter}
+use Rattle.stnu_run.specs.Due.{moment_after, ExecutesNone, IsDueAfter, IsFedBy, AnswersDue}
 use Rattle.stnu_run.proofs.CourseLemmas.{fed_step, fed_stops}
 
 -- ---- the first part of a stream, and its end
@@ -227,3 +227,11 @@ module _ (net : Plan) (table : Graph) (order : List PointId) (by : IsDispatchedB
   -- the next due moment is due after what is listed
   pub due_after : final.refused ≡ None → (due : Option ℕ) → IsDueAnswer final due → IsDueAfter net listings due
   due_after unrefused due answer = due_by due (subst (λ (o : Option Why). DueBy o due) unrefused answer)
+
+  -- the execution that was fed them
+  pub fed_by : IsFedBy net listings final
+  fed_by = record { table = table; order = order; by_closure = by; fed = fed }
+
+  -- so it is answered
+  pub due_answered : final.refused ≡ None → (due : Option ℕ) → IsDueAnswer final due → AnswersDue net listings due
+  due_answered unrefused due answer = record { execution = final; fed = fed_by; answered = answer; told = due_after unrefused due answer }

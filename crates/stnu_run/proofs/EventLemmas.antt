@@ -134,9 +134,9 @@ replied here line lines put end how comes run = by (first_reply executing_machin
 abbrev pub EndsBy : Fault → List ℕ → End → Type 0
 EndsBy fault put end = (put ≡ event_refusal fault) × (end ≡ fault_end fault)
 
--- a run ends by a refused event, with its line
-abbrev pub EndsRefused : ℕ → List ℕ → End → Type 0
-EndsRefused number put end = (words : List (List ℕ)) × (put ≡ event_line number words) × (end ≡ ends.EventRefused)
+-- a run ends by a refused event, with its line, in these words
+abbrev pub EndsRefused : ℕ → (words : List (List ℕ)) → List ℕ → End → Type 0
+EndsRefused number words put end = (put ≡ event_line number words) × (end ≡ ends.EventRefused)
 
 -- where no line comes, the run ends by a fault
 pub no_line : (net : Plan) (execution : Execution) (listed : List PointId) (number room : ℕ) (put : List ℕ) (end : End)
@@ -207,11 +207,11 @@ module _ (reading : (net : Plan) (line : List (List ℕ)) → OneReading net lin
         (goes.0, on.0, goes.1, on.1 ∙ (ap (λ (a : List ℕ). a ++ on.0) goes.2 ∙ append_assoc (acts_text net (after_feed execution moment moments).acts) (due_line goes.0) on.0), on.2)
 
     pub one_refused : (moment : ℕ) (points : List PointId) (cause : Why) → IsLine net (completed moment points) line.text → taken execution moment points ≡ Err cause
-        → EndsRefused (number + 1) put end
+        → EndsRefused (number + 1) (why_words net cause) put end
     one_refused moment points cause is refuses =
         let answers = refused_ends here.state (number + 1) none one.answer one.onward moment points cause refuses (tells (completed moment points) is) in
         let on = on_as (Ends ends.EventRefused) answers.1 in
-        (why_words net cause, on.0 ∙ answers.0, on.1)
+        (on.0 ∙ answers.0, on.1)
 
     pub one_done : IsLine net done line.text → first_open execution ≡ None
         → (after : Execution) × IsWhole execution after × (put ≡ acts_text net after.acts ++ complete_line) × (end ≡ ends.Done)
@@ -220,11 +220,11 @@ module _ (reading : (net : Plan) (line : List (List ℕ)) → OneReading net lin
         let on = on_as (Ends ends.Done) whole.3 in
         (whole.0, whole.1, on.0 ∙ whole.2, on.1)
 
-    pub one_unfinished : (point : PointId) → IsLine net done line.text → first_open execution ≡ Some point → EndsRefused (number + 1) put end
+    pub one_unfinished : (point : PointId) → IsLine net done line.text → first_open execution ≡ Some point → EndsRefused (number + 1) (unfinished_words net point) put end
     one_unfinished point is opens =
         let answers = done_unfinished here.state (number + 1) none one.answer one.onward point opens (tells done is) in
         let on = on_as (Ends ends.EventRefused) answers.1 in
-        (unfinished_words net point, on.0 ∙ answers.0, on.1)
+        (on.0 ∙ answers.0, on.1)
 
     pub one_fault : (kind : FormatKind) → IsFaultOf net line.text kind → EndsBy (Format (number + 1) kind) put end
     one_fault kind is =

@@ -12,11 +12,11 @@ use Rattle.closure_model.specs.declared.derivation.NodeId.{NodeId}
 use Rattle.closure_model.proofs.LawProofs.{node_of_key_is_one}
 use Rattle.closure_model.proofs.Lists.{Contains-none, Contains-head, Contains-tail, Contains-cases, each-contained}
 use Rattle.closure_model.proofs.RoundsLaw.{rounds_end_in_one_way}
-use Rattle.cert_format.specs.CertificateWords.{printed_certificate}
 use Rattle.cert_format.specs.declared.certificate.Certificate.{Certificate}
 use Rattle.refutations.specs.Certifying.{certificate_by}
 use Rattle.commands.specs.declared.endings.End.{End}
-use Rattle.stnu_run.specs.Checking.{check_answers, refuted_line, RoundsClose, IsCertificateOf}
+use Rattle.stnu_run.specs.Checking.{check_answers}
+use Rattle.stnu_run.specs.Verdict.{PutsControllable, PutsRefuted, IsCertificateOf, Decides}
 
 -- ---- lists in order with the same elements are one
 abbrev IsOrdered : List NodeId → Type 0
@@ -99,16 +99,18 @@ certificate_one net cert other one two =
     let moved : IsRefutationBy two.nodes b.cycle one.lines one.walk = subst (λ (c : List PointId). IsRefutationBy two.nodes c one.lines one.walk) cycle (subst (λ (ns : List Node). IsRefutationBy ns a.cycle one.lines one.walk) nodes a.by_cycle) in
     one.is ∙ (ap (λ (ns : List Node). certificate_by net ns one.lines one.walk) nodes ∙ (refutation_one net two.nodes b.cycle one.lines two.lines one.walk two.walk moved b.by_cycle ∙ sym two.is))
 
-pub never_both : (net : Plan) (cert : Certificate) → RoundsClose net → IsCertificateOf net cert → ⊥
-never_both net cert closes of =
-    let is = of.refutation in
-    let same : closed closes.order ≡ looped is.cycle = (rounds_end_in_one_way net (base_support net) closes.after is.after closes.rounds is.rounds (closed closes.order) (looped is.cycle) closes.ends is.ends).2 in
-    absurd cc
+-- ---- the answer by the verdict is one
+-- a verdict is one, where what is said of each answer is
+pub decided_once : {A : Type 0} (net : Plan) (Yes : A → Type 0) (No : A → Certificate → Type 0) (Same : A → A → Type 0)
+    → ((one other : A) → Yes one → Yes other → Same one other) → ((one other : A) (cert : Certificate) → No one cert → No other cert → Same one other)
+    → (one other : A) → Decides net (Yes one) (No one) → Decides net (Yes other) (No other) → Same one other
+decided_once net Yes No Same same_yes same_no one other (inl (controls, first)) (inl (also, second)) = same_yes one other first second
+decided_once net Yes No Same same_yes same_no one other (inl (controls, first)) (inr (never, refuted)) = absurd (never controls)
+decided_once net Yes No Same same_yes same_no one other (inr (never, refuted)) (inl (controls, second)) = absurd (never controls)
+decided_once net Yes No Same same_yes same_no one other (inr (never, (cert, of, first))) (inr (also, (same, is, second))) =
+    same_no one other cert first (subst (No other) (certificate_one net same cert is of) second)
 
 pub check_answers_once : (question : Unit {0}) (net : Plan) (a b : List ℕ) (x y : End) → check_answers question net a x → check_answers question net b y → (a ≡ b) × (x ≡ y)
-check_answers_once question net a b x y (inl (closes, one)) (inl (also, other)) = (one.0 ∙ sym other.0, one.1 ∙ sym other.1)
-check_answers_once question net a b x y (inl (closes, one)) (inr (cert, of, other)) = absurd (never_both net cert closes of)
-check_answers_once question net a b x y (inr (cert, of, one)) (inl (closes, other)) = absurd (never_both net cert closes of)
-check_answers_once question net a b x y (inr (cert, of, one)) (inr (also, is, other)) =
-    let same = certificate_one net cert also of is in
-    (one.0 ∙ (ap (λ (c : Certificate). refuted_line ++ printed_certificate c) same ∙ sym other.0), one.1 ∙ sym other.1)
+check_answers_once question net a b x y =
+    decided_once {A = List ℕ × End} net (λ one. PutsControllable one.0 one.1) (λ one cert. PutsRefuted cert one.0 one.1) (λ one other. (one.0 ≡ other.0) × (one.1 ≡ other.1))
+    (λ one other puts also. (puts.0 ∙ sym also.0, puts.1 ∙ sym also.1)) (λ one other cert puts also. (puts.0 ∙ sym also.0, puts.1 ∙ sym also.1)) (a, x) (b, y)

@@ -7,9 +7,8 @@ use Rattle.texts.specs.Words.{words}
 use Rattle.net_model.specs.Network.{Plan}
 use Rattle.net_model.specs.declared.ids.PointId.{PointId}
 use Rattle.net_model.specs.declared.format.FormatKind.{FormatKind}
-use Rattle.closure_model.specs.Derivations.{Support, base_support}
-use Rattle.closure_model.specs.ReferenceRounds.{closed}
-use Rattle.cert_format.specs.CertificateWords.{printed_certificate}
+use Rattle.closure_model.specs.Tables.{Graph}
+use Rattle.closure_model.proofs.LawProofs.{closure_is_one}
 use Rattle.cert_format.specs.declared.certificate.Certificate.{Certificate}
 use Rattle.event_stream.specs.EventText.{EventLine, blank, completed, done}
 use Rattle.event_stream.specs.Laws.{OneReading}
@@ -24,17 +23,17 @@ use Rattle.execution_model.specs.declared.feeding.Finished.{Finished}
 use Rattle.execution_model.specs.declared.feeding.Finished.TheVariants as finished
 use Rattle.execution_model.proofs.MomentLemmas.{length-acted, come_not_due, none_due_no_acts, no_acts_same}
 use Rattle.commands.specs.Single.{IsSingle, IsSingleAnswer}
+use Rattle.commands.specs.declared.endings.End.{End}
 use Rattle.commands.specs.declared.machines.Onward.{Onward}
 use Rattle.commands.specs.declared.machines.Onward.TheVariants.{Goes, Ends}
-use Rattle.stnu_run.specs.Checking.{controllable_line, refuted_line}
+use Rattle.stnu_run.specs.Verdict.{controllable_line}
 use Rattle.stnu_run.specs.Course.{Course}
 use Rattle.stnu_run.specs.EventAnswers.{acts_text, due_line, event_fault_line}
 use Rattle.stnu_run.specs.Executing.{AnswersFeed, AnswersEnd, AnswersEvent, TakesEvent, executing_machine}
 use Rattle.stnu_run.specs.Faults.{fault_end}
 use Rattle.stnu_run.specs.declared.faults.Fault.TheVariants.{Format}
-use Rattle.stnu_run.specs.Running.{run_begins, BeginsExecution}
-use Rattle.closure_model.proofs.RoundsLaw.{rounds_end_in_one_way}
-use Rattle.stnu_run.proofs.RefutationLemmas.{certificate_one, never_both}
+use Rattle.stnu_run.specs.Running.{run_begins, BeginsExecution, EndsRefuted}
+use Rattle.stnu_run.proofs.RefutationLemmas.{decided_once}
 
 -- ---- the next due moment is one
 next_due_one : (execution : Execution) (due other : Option ℕ) → IsNextDue execution due → IsNextDue execution other → due ≡ other
@@ -197,18 +196,18 @@ module _ (reading : (net : Plan) (line : List (List ℕ)) → OneReading net lin
 -- ---- the beginning is one
 begun_one : (net : Plan) (a b : List ℕ) (x y : Onward Course) → BeginsExecution net a x → BeginsExecution net b y → (a ≡ b) × (x ≡ y)
 begun_one net a b x y one other =
-    let closing = one.closing in
-    let also = other.closing in
-    let ends = rounds_end_in_one_way net (base_support net) closing.after also.after closing.rounds also.rounds (closed closing.order) (closed also.order) closing.ends also.ends in
-    let from : Support → Execution = λ support. started (setting_of net support.table) in
-    let onward : Support → Onward Course = λ support. Goes (record { net = net; execution = from support; listed = [] }) in
-    let due = due_one (from also.after) one.due other.due (subst (λ (s : Support). IsDueAnswer (from s) one.due) ends.1 one.first) other.first in
-    (one.put ∙ (ap (λ (d : Option ℕ). controllable_line ++ due_line d) due ∙ sym other.put), one.goes ∙ (ap onward ends.1 ∙ sym other.goes))
+    let same : one.table ≡ other.table = closure_is_one net one.table other.table one.by_closure.closure other.by_closure.closure in
+    let from : Graph → Execution = λ table. started (setting_of net table) in
+    let onward : Graph → Onward Course = λ table. Goes (record { net = net; execution = from table; listed = [] }) in
+    let due = due_one (from other.table) one.due other.due (subst (λ (t : Graph). IsDueAnswer (from t) one.due) same one.first) other.first in
+    (one.put ∙ (ap (λ (d : Option ℕ). controllable_line ++ due_line d) due ∙ sym other.put), one.goes ∙ (ap onward same ∙ sym other.goes))
+
+refuted_one : (cert : Certificate) (a b : List ℕ) (x y : Onward Course) → EndsRefuted cert a x → EndsRefuted cert b y → (a ≡ b) × (x ≡ y)
+refuted_one cert a b x y (end, puts, is) (other, also, so) =
+    let ending : End → Onward Course = λ e. Ends e in
+    (puts.0 ∙ sym also.0, is ∙ (ap ending (puts.1 ∙ sym also.1) ∙ sym so))
 
 pub run_begins_once : IsSingleAnswer run_begins
-run_begins_once start net a b x y (inl one) (inl other) = begun_one net a b x y one other
-run_begins_once start net a b x y (inl one) (inr other) = absurd (never_both net other.certificate one.closing other.refutation)
-run_begins_once start net a b x y (inr one) (inl other) = absurd (never_both net one.certificate other.closing one.refutation)
-run_begins_once start net a b x y (inr one) (inr other) =
-    let same = certificate_one net one.certificate other.certificate one.refutation other.refutation in
-    (one.put ∙ (ap (λ (c : Certificate). refuted_line ++ printed_certificate c) same ∙ sym other.put), one.ends ∙ sym other.ends)
+run_begins_once start net a b x y =
+    decided_once {A = List ℕ × Onward Course} net (λ one. BeginsExecution net one.0 one.1) (λ one cert. EndsRefuted cert one.0 one.1) (λ one other. (one.0 ≡ other.0) × (one.1 ≡ other.1))
+    (λ one other begins also. begun_one net one.0 other.0 one.1 other.1 begins also) (λ one other cert ends also. refuted_one cert one.0 other.0 one.1 other.1 ends also) (a, x) (b, y)

@@ -9,11 +9,12 @@ use Rattle.cert_checker.specs.Judgement.{judgement_of}
 use Rattle.cert_checker.specs.declared.judgement.Claim.TheVariants.{NotControllable}
 use Rattle.cert_checker.specs.declared.judgement.Judgement.TheVariants.{Accepted}
 use Rattle.commands.specs.declared.endings.End.{End}
-use Rattle.stnu_run.specs.Checking.{check_answers, controllable_line, refuted_line, PutsControllable, PutsRefuted}
+use Rattle.stnu_run.specs.Checking.{check_answers}
 use Rattle.stnu_run.specs.PlanAsking.{plan_program}
 use Rattle.stnu_run.specs.Programs.{Program}
 use Rattle.stnu_run.specs.ToCheck.{plan_grammar}
 use Rattle.stnu_run.specs.ToRead.{AnswersText}
+use Rattle.stnu_run.specs.Verdict.{controllable_line, refuted_line, PutsControllable, PutsRefuted}
 
 -- The verdict of a network is put: that it is controllable, and it is; or that it is not, and it is not, and a certificate that the
 -- judge accepts.

@@ -11,7 +11,7 @@ use Rattle.event_stream.specs.EventText.{IsFaultOf}
 use Rattle.execution_model.specs.Laws.{going_on}
 use Rattle.execution_model.specs.Streams.{Listing, IsFaithful}
 use Rattle.commands.specs.Limits.{most_input}
-use Rattle.stnu_run.specs.Day.{IsUnderway}
+use Rattle.stnu_run.specs.Day.{Opening, IsUnderway}
 use Rattle.stnu_run.specs.EventAnswers.{event_fault_line}
 use Rattle.stnu_run.specs.Faults.{fault_line}
 use Rattle.stnu_run.specs.ToRead.{room_after}
@@ -33,10 +33,10 @@ IsNextFault net number room (line ∷ others) fault =
     ⊎ ((kind : FormatKind) × (coming most_line room line ≡ Comes) × IsFaultOf net line.text kind × (fault ≡ Format number kind)))
 
 -- the lines of events have a fault after those that list a faithful stream of a controllable network
-pub record HasEventFault (input : List InputLine) (fault : Fault) : Type 0 where
+pub record HasEventFault (opens : Opening) (input : List InputLine) (fault : Fault) : Type 0 where
   pub net : Plan
   pub listings : List Listing
-  pub underway : IsUnderway input net listings
+  pub underway : IsUnderway opens input net listings
   pub controllable : IsControllable net
   pub faithful : IsFaithful net (going_on listings)
-  pub next : IsNextFault net (length (underway.plan ++ underway.events) + 1) (room_after most_input (underway.plan ++ underway.events)) underway.rest fault
+  pub next : IsNextFault net (length (underway.used ++ underway.events) + 1) (room_after most_input (underway.used ++ underway.events)) underway.rest fault

@@ -7,6 +7,7 @@ pub mod ToRead
 pub mod ToJudge
 pub mod ToCheck
 pub mod JudgePromise
+pub mod Verdict
 pub mod Checking
 pub mod CheckPromise
 pub mod PlanAsking
@@ -19,6 +20,7 @@ pub mod Running
 pub mod Due
 pub mod Day
 pub mod EventFaults
+pub mod ExecutionPromise
 pub mod RunPromise
 pub mod Workers
 pub mod WordLaws

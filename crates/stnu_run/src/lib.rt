@@ -16,9 +16,11 @@ mod requests;
 mod running;
 mod status;
 mod telling;
+mod verdict;
 mod workers;
 
 pub use dispatch::run;
+pub use executing::greatest_moments_are_one;
 pub use laws::{
     check_is_read_exactly, defined_run_is_one, judge_is_read_exactly, run_is_read_exactly,
     workers_change_nothing,

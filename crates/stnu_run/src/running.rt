@@ -1,38 +1,31 @@
 //! The command `run`: a plan, and then the execution of its network over lines of events.
 
 ghost use Rattle.std.specs.Prelude.{◌≡◌, ◌≤◌, [], length, IfOk, OnOk};
-ghost use Rattle.closure_model.specs.Derivations.{base_support};
-ghost use Rattle.parallel_rounds.specs.Propagated.{IsPropagated};
 ghost use Rattle.commands.specs.Machine.{HasRoom};
 ghost use Rattle.execution_model.specs.Feeding.{IsDueAnswer};
-ghost use Rattle.live_executor.specs.Sound.{IsDispatchOf};
+ghost use Rattle.execution_model.specs.Laws.{IsDispatchedByClosure};
 ghost use Rattle.stnu_run.specs.Executing.{executing_machine, answer_room};
 ghost use Rattle.stnu_run.specs.Programs.{or_nothing};
 ghost use Rattle.stnu_run.specs.RunPromise.{RunPromise};
-ghost use Rattle.stnu_run.specs.Running.{run_asked, run_begins, run_start, run_syntax, IsExamined, PutsBegun, GoesOnFrom};
+ghost use Rattle.stnu_run.specs.Running.{run_asked, run_begins, run_start, run_syntax, BeginsExecution, PutsBegun};
 
-use crate::checking::put_refuted;
 use crate::event_answers::put_due;
 use crate::executing::Executing;
 use crate::plan_text::PlanText;
 use crate::promising::Promising;
 use crate::requests::Request;
+use crate::verdict::{Closed, Verdict, decide, put_refuted};
 use crate::workers::Workers;
-use cert_checker::laws::accepted_excludes;
-use cert_format::Certificate;
 use closure_model::laws::base_stands;
 use closure_model::{order_laws, round_laws};
 use command_words::{Arguments, Syntax};
 use commands::{Answer, Begin, Onward, Planned, Word};
-use controllability::laws::closures_decide;
-use derivation_dag::{Plain, Supports};
+use derivation_dag::Supports;
 use dispatch_net::Dispatch;
 use event_stream::laws::lines_have_one_reading;
 use execution_model::laws as execution_laws;
 use net_model::Network;
-use parallel_rounds::Outcome;
 use refutations::laws::refutations_are_accepted;
-use refutations::refutation;
 use std::alloc::{AllocError, Global};
 use std::marker::Model;
 use std::thread::Threads;
@@ -76,15 +69,6 @@ impl Request for Run {
 /// The command: how far its input was read.
 pub type Running = Planned<Run, PlanText, Executing>;
 
-/// What the propagation through a network shows.
-#[derive(Drop)]
-pub(crate) enum Examined {
-    /// The network is controllable, and this is its dispatchable network.
-    Controllable(Dispatch),
-    /// The network is not controllable, and this refutes it.
-    Refuted(Certificate),
-}
-
 impl Begin<Network> for Run {
     type Phase = Executing;
 
@@ -97,9 +81,9 @@ impl Begin<Network> for Run {
         answer: &mut Answer,
         value: Network,
     ) -> Result<Onward<Executing>, AllocError> {
-        match examine(rt, alloc, &value, &self.workers)? {
-            Examined::Controllable(dispatch) => begin_execution(alloc, answer, value, dispatch),
-            Examined::Refuted(certificate) => {
+        match decide(rt, alloc, &value, &self.workers)? {
+            Verdict::Controllable(closed) => begin_execution(alloc, answer, value, &closed),
+            Verdict::Refuted(certificate) => {
                 Ok(Onward::Ends(put_refuted(alloc, answer, &certificate)?))
             }
         }
@@ -119,13 +103,9 @@ impl Promising for Running {
 
     fn keeps_its_promise() {
         base_stands();
-        round_laws::rounds_that_close();
         round_laws::rounds_stand();
-        order_laws::placed_points_are_an_order();
         order_laws::cycles_are_met();
-        closures_decide();
         refutations_are_accepted();
-        accepted_excludes();
         lines_have_one_reading();
         execution_laws::faithful_streams_are_taken();
         execution_laws::done_where_none_is_open();
@@ -141,59 +121,19 @@ impl Promising for Running {
     }
 }
 
-/// Makes rounds until the table of a network is closed, and gives the dispatchable network of it, or ends in a cycle, and gives the
-/// refutation by it. `AllocError` comes only for want of memory.
-fn examine<R: Threads + Sync>(
-    rt: &R,
-    alloc: Global,
-    net: &Network,
-    workers: &Workers,
-) -> Result<Examined, AllocError>
-    ensures { IfOk result (IsExamined net.now) }
-{
-    let mut store = Plain::of(alloc, net)?;
-    let outcome = workers.propagate(rt, alloc, net, &mut store)?;
-    shown_by(alloc, net, &store, &outcome)
-}
-
-/// What the propagation from the base table of a network shows, by its outcome and the store that it left. `AllocError` comes only for
-/// want of memory.
-fn shown_by(
-    alloc: Global,
-    net: &Network,
-    store: &Plain,
-    outcome: &Outcome,
-) -> Result<Examined, AllocError>
-    requires { IsPropagated net.now (base_support net.now) store.now outcome.now }
-    ensures { IfOk result (IsExamined net.now) }
-{
-    // The proof reads here that the network is sound.
-    let _ = net.points();
-    match outcome {
-        Outcome::Closed { order, .. } => {
-            let dispatch = Dispatch::of(alloc, net, store.table(), order.as_slice())?;
-            Ok(Examined::Controllable(dispatch))
-        }
-        Outcome::Looped { cycle, .. } => {
-            let certificate = refutation(alloc, net, store, store.dag(), cycle.as_slice())?;
-            Ok(Examined::Refuted(certificate))
-        }
-    }
-}
-
-/// Begins the execution of a network on a dispatchable network of it, and puts that the network is controllable, and the first due moment.
+/// Begins the execution of a controllable network by its closure, and puts that the network is controllable, and the first due moment.
 fn begin_execution(
     alloc: Global,
     answer: &mut Answer,
     net: Network,
-    dispatch: Dispatch,
+    closed: &Closed,
 ) -> Result<Onward<Executing>, AllocError>
     requires empty { answer.old.text ≡ [] }
-    requires dispatch { IsDispatchOf net dispatch }
-    requires points { length dispatch.made ≡ length net.points }
-    ensures begins { IfOk result (GoesOnFrom net dispatch.made answer.new.text) }
+    requires closure { IsDispatchedByClosure net closed.now.store.table closed.now.order }
+    ensures begins { IfOk result (BeginsExecution net answer.new.text) }
     ensures room { IfOk result (λ onward. HasRoom executing_machine onward answer.new.capacity) }
 {
+    let dispatch = Dispatch::of(alloc, &net, closed.store.table(), closed.order.as_slice())?;
     let state = Executing::start(alloc, net, dispatch)?;
     put_begun(answer, &state)?;
     Ok(Onward::Goes(state))

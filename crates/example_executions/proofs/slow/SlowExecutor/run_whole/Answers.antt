@@ -2,6 +2,7 @@
 use Rattle.std.proofs.Common.{◌≡◌, ◌++◌, ◌-◌, length, arith, refl, ap, sym, subst, ◌∙◌}
 use Rattle.std.specs.Prelude.{IsSome}
 use Rattle.std.specs.List.{All}
+use Rattle.execution_model.proofs.MomentLemmas.{length-points}
 use Rattle.execution_model.specs.Execution.{Moments, time_runs, acts_while}
 use Rattle.execution_model.specs.Feeding.{Execution, next_moment, last_of, IsWhole}
 use Rattle.example_executions.proofs.TimeFacts.{whole_by}

@@ -5,10 +5,6 @@ pub returns : goal.returns
 returns c = λ check net put end plan answered. verdict_put (record {
   base = c.base_stands.ensures;
   stand = c.rounds_stand.ensures;
-  close = c.rounds_that_close.ensures;
-  placed = c.placed_points_are_an_order.ensures;
   met = c.cycles_are_met.ensures;
-  decide = c.closures_decide.ensures;
   accepted = c.refutations_are_accepted.ensures;
-  exclude = c.accepted_excludes.ensures;
-}) net plan put end answered
+}) net (record { sound = plan }) put end answered

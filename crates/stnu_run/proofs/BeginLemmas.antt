@@ -1,0 +1,48 @@
+-- The beginning of an execution, by the closure of its network.
+use Rattle.std.proofs.Common.{◌≡◌, ℕ, List, [], ap, subst, ◌∙◌}
+use Rattle.net_model.specs.Network.{Plan}
+use Rattle.net_model.specs.declared.ids.PointId.{PointId}
+use Rattle.closure_model.specs.Tables.{Graph}
+use Rattle.dispatch_net.specs.Dispatchable.{MayDispatch, DispatchLists, IsDispatchBy}
+use Rattle.dispatch_net.specs.declared.dispatch.Conditions.{Conditions}
+use Rattle.dispatch_net.proofs.EarliestLemmas.{closures_may_dispatch}
+use Rattle.execution_model.specs.Feeding.{started, IsDueAnswer}
+use Rattle.execution_model.specs.Laws.{IsDispatchedByClosure}
+use Rattle.execution_model.proofs.GraphLemmas.{closures_are_graphs}
+use Rattle.live_executor.specs.Sound.{IsDispatchOf}
+use Rattle.commands.specs.declared.machines.Onward.TheVariants.{Goes}
+use Rattle.stnu_run.specs.Course.{Course}
+use Rattle.stnu_run.specs.Running.{BeginsExecution, PutsBegun}
+
+module _ (net : Plan) (table : Graph) (order : List PointId) (by : IsDispatchedByClosure net table order) where
+  pub may_dispatch : MayDispatch net table order
+  may_dispatch = closures_may_dispatch net table order by.instant.sound by.closure by.ordered
+
+  module _ (lists : DispatchLists) (made : IsDispatchBy net table lists) where
+    pub dispatch_of : IsDispatchOf net lists
+    dispatch_of = record {
+      instant = by.instant;
+      table = table;
+      order = order;
+      graph = closures_are_graphs net table by.instant.sound by.closure;
+      may = may_dispatch;
+      links = made.links;
+      made = made.made;
+      keeps = made.kept;
+    }
+
+    -- where this is put, it begins so
+    pub begins_so : (state : Course) → state ≡ record { net = net; execution = started (record { links = net.links; dispatch = lists.made }); listed = [] }
+        → (put : List ℕ) → PutsBegun state.execution put → BeginsExecution net put (Goes state)
+    begins_so state is put (due, first, puts) =
+        let from : List Conditions → Course = λ d. record { net = net; execution = started (record { links = net.links; dispatch = d }); listed = [] } in
+        let begun = is ∙ ap from made.made in
+        record {
+          table = table;
+          order = order;
+          by_closure = by;
+          due = due;
+          first = subst (λ (s : Course). IsDueAnswer s.execution due) begun first;
+          put = puts;
+          goes = ap Goes begun;
+        }

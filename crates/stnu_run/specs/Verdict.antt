@@ -1,0 +1,49 @@
+-- The verdict of a network, by what it is decided, and what is put of it. This project's own choice.
+use Rattle.std.specs.Prelude.{◌≡◌, ◌⊎◌, ℕ, List, [], ◌∷◌, ◌++◌, codes}
+use Rattle.texts.specs.Printing.{printed_line}
+use Rattle.net_model.specs.Network.{Plan}
+use Rattle.closure_model.specs.ReferenceRounds.{IsRefutationOf}
+use Rattle.closure_model.specs.declared.derivation.Node.{Node}
+use Rattle.closure_model.specs.declared.derivation.NodeId.{NodeId}
+use Rattle.strategy_model.specs.Control.{IsControllable}
+use Rattle.cert_format.specs.CertificateWords.{printed_certificate, HasWeights}
+use Rattle.cert_format.specs.declared.certificate.Certificate.{Certificate}
+use Rattle.refutations.specs.Certifying.{certificate_by}
+use Rattle.execution_model.specs.Laws.{IsDispatchedByClosure}
+use Rattle.commands.specs.declared.endings.End.{End}
+use Rattle.commands.specs.declared.endings.End.TheVariants.{Done, Refused as RefusedEnd}
+use Rattle.stnu_run.specs.declared.verdict.Verdict.{Verdict}
+use Rattle.stnu_run.specs.declared.verdict.Verdict.TheVariants.{Controllable, Refuted}
+
+-- the line `controllable`
+abbrev pub controllable_line : List ℕ
+controllable_line = printed_line (codes "controllable" ∷ [])
+
+-- the line `not controllable`
+abbrev pub refuted_line : List ℕ
+refuted_line = printed_line (codes "not controllable" ∷ [])
+
+-- it is put that a network is controllable
+abbrev pub PutsControllable : List ℕ → End → Type 0
+PutsControllable put end = (put ≡ controllable_line) × (end ≡ Done)
+
+-- it is put that a network is not controllable, and a certificate after that
+abbrev pub PutsRefuted : Certificate → List ℕ → End → Type 0
+PutsRefuted cert put end = (put ≡ refuted_line ++ printed_certificate cert) × (end ≡ RefusedEnd)
+
+-- a certificate is that of the refutation of a network
+pub record IsCertificateOf (net : Plan) (cert : Certificate) : Type 0 where
+  pub nodes : List Node
+  pub lines : List NodeId
+  pub walk : List ℕ
+  pub refutation : IsRefutationOf net nodes lines walk
+  pub is : cert ≡ certificate_by net nodes lines walk
+
+-- the verdict of a network: it is controllable, and then this is so; or it is not, and then this of the certificate of its refutation
+abbrev pub Decides : Plan → Type 0 → (Certificate → Type 0) → Type 0
+Decides net Yes No = (IsControllable net × Yes) ⊎ ((¬ IsControllable net) × ((cert : Certificate) × IsCertificateOf net cert × No cert))
+
+-- what decides it: its closure with an order where it is controllable, else the certificate of its refutation, of weights that can be printed
+abbrev pub IsVerdict : Plan → Verdict → Type 0
+IsVerdict net (Controllable closed) = IsControllable net × IsDispatchedByClosure net closed.store.table closed.order
+IsVerdict net (Refuted cert) = (¬ IsControllable net) × IsCertificateOf net cert × HasWeights cert
