@@ -119,9 +119,15 @@ module _ {B S V F P : Type 0} (begin : B → V → List ℕ → Onward P → Typ
   runs_by start here line first rest said last there end so_far replies (inr on) later =
       let next : Here P = record { state = on.served; number = here.number + 1; room = here.room - line_size line } in
       let served : Answers machine (at_phase phase machine Serving wraps_phase next) first so_far.1 there = subst (λ (s : Planned B S P). Answers machine (after_line (at_text start here) line s) first so_far.1 there) on.so so_far.5 in
-      let follows : Follows start (Given on.value (here.number + 1) (here.room - line_size line) (first ++ rest)) (said ++ last) end =
-      (so_far.0, so_far.1 ++ last, run.Goes on.served, on.begins, ap (λ (s : List ℕ). s ++ last) so_far.4 ∙ append_assoc so_far.0 so_far.1 last, served_run phase machine Serving wraps_phase next (first ++ rest) (so_far.1 ++ last) end
-      (record { first = first; rest = rest; said = so_far.1; there = there; last = last; divided = refl; answers = served; ends = replies; all = refl })) in
+      let follows : Follows start (Given on.value (here.number + 1) (here.room - line_size line) (first ++ rest)) (said ++ last) end = (
+        so_far.0,
+        so_far.1 ++ last,
+        run.Goes on.served,
+        on.begins,
+        ap (λ (s : List ℕ). s ++ last) so_far.4 ∙ append_assoc so_far.0 so_far.1 last,
+        served_run phase machine Serving wraps_phase next (first ++ rest) (so_far.1 ++ last) end
+            (record { first = first; rest = rest; said = so_far.1; there = there; last = last; divided = refl; answers = served; ends = replies; all = refl }),
+      ) in
       subst (λ (o : Outcome V F). Follows start o (said ++ last) end) (sym (on.reads (first ++ rest) (λ state. reading reader (after_line here line state) (first ++ rest)))) follows
 
   runs_on : (start : B) (here : Here S) (first rest : List InputLine) (said last : List ℕ) (there : Here (Planned B S P)) (end : End) → Answers machine (at_text start here) first said there → Replies machine there rest last (run.Ends end) → Follows start (reading reader here (first ++ rest)) (said ++ last) end

@@ -85,11 +85,7 @@ impl Dispatch {
 }
 
 /// By what each point is executed, in the order of the points.
-fn conditions_by(
-    alloc: Global,
-    net: &Network,
-    table: &Table,
-) -> Result<Vec<Conditions>, AllocError>
+fn conditions_by(alloc: Global, net: &Network, table: &Table) -> Result<Vec<Conditions>, AllocError>
     requires { IsFor net.now table.now }
     ensures made { IfOk result (λ conditions. conditions.items ≡ dispatchable net.now table.now) }
     ensures whole { IfOk result (λ conditions. length conditions.items ≡ length net.now.points) }

@@ -136,8 +136,8 @@ module _ (laws : ExecutionLaws) where
           let due : List ℕ = due_line opened.due in (
             day.before ++ (controllable_line ++ (due ++ said)),
             opened.all ∙ (ap (λ (m : List ℕ). day.before ++ (controllable_line ++ (due ++ m))) (all.over.all ∙ ap (λ (m : List ℕ). said ++ m) is)
-            ∙ (ap (λ (m : List ℕ). day.before ++ (controllable_line ++ m)) (sym (append_assoc due said line))
-            ∙ (ap (λ (m : List ℕ). day.before ++ m) (sym (append_assoc controllable_line (due ++ said) line)) ∙ sym (append_assoc day.before (controllable_line ++ (due ++ said)) line)))),
+                ∙ (ap (λ (m : List ℕ). day.before ++ (controllable_line ++ m)) (sym (append_assoc due said line))
+                ∙ (ap (λ (m : List ℕ). day.before ++ m) (sym (append_assoc controllable_line (due ++ said) line)) ∙ sym (append_assoc day.before (controllable_line ++ (due ++ said)) line)))),
           )
 
       -- a fault of what comes next ends the run so

@@ -8,7 +8,6 @@ pub mod OnceLemmas
 pub mod TextLemmas
 pub mod JudgeLemmas
 pub mod PlanLemmas
-pub mod OrderedLemmas
 pub mod VerdictLemmas
 pub mod CauseLemmas
 pub mod FeedingLemmas

@@ -2,16 +2,14 @@
 use Rattle.std.proofs.Common.{◌≡◌, ℕ, List, refl, ap, ◌∙◌, subst, inl, inr}
 use Rattle.net_model.specs.Network.{Plan}
 use Rattle.net_model.specs.declared.ids.PointId.{PointId}
-use Rattle.closure_model.specs.Closure.{IsClosure}
 use Rattle.closure_model.specs.Derivations.{Support, base_support}
 use Rattle.closure_model.specs.DerivationLaws.{BaseStands}
 use Rattle.closure_model.specs.OrderLaws.{CyclesAreMet}
-use Rattle.closure_model.specs.Orders.{IsOrder, IsCycle}
+use Rattle.closure_model.specs.Orders.{IsCycle}
 use Rattle.closure_model.specs.ReferenceRound.{after_round}
-use Rattle.closure_model.specs.ReferenceRounds.{Ending, closed, looped, RoundsEnd, in_cycle, in_order, after_one, RoundsStand, IsRefutationBy}
-use Rattle.closure_model.specs.Tables.{Graph}
+use Rattle.closure_model.specs.ReferenceRounds.{Ending, looped, RoundsEnd, in_cycle, in_order, after_one, RoundsStand, IsRefutationBy}
 use Rattle.closure_model.specs.declared.derivation.Node.{Node}
-use Rattle.controllability.specs.Laws.{ClosuresDecide}
+use Rattle.controllability.specs.Laws.{OrderedClosuresAreControllable}
 use Rattle.strategy_model.specs.Plays.{IsInstant}
 use Rattle.strategy_model.specs.Control.{IsControllable}
 use Rattle.cert_format.specs.CertificateWords.{HasWeights}
@@ -26,26 +24,18 @@ use Rattle.parallel_rounds.specs.Propagated.{IsPropagated}
 use Rattle.parallel_rounds.specs.declared.outcome.Outcome.{Outcome}
 use Rattle.parallel_rounds.specs.declared.outcome.Outcome.TheVariants.{Closed, Looped}
 use Rattle.execution_model.specs.Laws.{IsDispatchedByClosure}
-use Rattle.execution_model.proofs.GraphLemmas.{closures_are_graphs}
 use Rattle.commands.specs.declared.endings.End.{End}
 use Rattle.stnu_run.specs.Checking.{check_answers}
 use Rattle.stnu_run.specs.CheckPromise.{PutsVerdict}
 use Rattle.stnu_run.specs.Verdict.{IsCertificateOf}
-use Rattle.stnu_run.proofs.OrderedLemmas.{order_excludes}
 
 -- ---- what decides
--- a closure with an order decides that its network is controllable
-ordered_controls : ClosuresDecide → (net : Plan) (table : Graph) (order : List PointId) → IsDispatchedByClosure net table order → IsControllable net
-ordered_controls decide net table order by =
-    (decide net table by.instant by.closure).1 (order_excludes table order (closures_are_graphs net table by.instant.sound by.closure) by.ordered)
-
 module _ (net : Plan) (before after : Support) (outcome : Outcome) (base : before ≡ base_support net) (propagated : IsPropagated net before after outcome) (instant : IsInstant net) where
   -- rounds that close give the closure and an order
-  pub closed_decides : ClosuresDecide → (rounds : ℕ) (order : List PointId) → outcome ≡ Closed rounds order → IsControllable net × IsDispatchedByClosure net after.table order
+  pub closed_decides : OrderedClosuresAreControllable → (rounds : ℕ) (order : List PointId) → outcome ≡ Closed rounds order → IsControllable net × IsDispatchedByClosure net after.table order
   closed_decides decide rounds order is =
       let made : IsPropagated net before after (Closed rounds order) = subst (IsPropagated net before after) is propagated in
-      let by : IsDispatchedByClosure net after.table order = record { instant = instant; closure = made.says.0; ordered = made.says.1 } in
-      (ordered_controls decide net after.table order by, by)
+      (decide net after.table order instant made.says.0 made.says.1, record { instant = instant; closure = made.says.0; ordered = made.says.1 })
 
   -- rounds that end in a cycle give the refutation
   pub looped_decides : AcceptedExcludes → (rounds : ℕ) (cycle : List PointId) (cert : Certificate) → outcome ≡ Looped rounds cycle → IsCertificateBy net after.nodes cycle cert

@@ -10,7 +10,7 @@ use crate::workers::Workers;
 use cert_checker::laws::accepted_excludes;
 use cert_format::{Certificate, print_certificate};
 use commands::{Answer, End, Word};
-use controllability::laws::closures_decide;
+use controllability::laws::ordered_closures_are_controllable;
 use derivation_dag::Plain;
 use net_model::{Items, Network, PointId};
 use parallel_rounds::Outcome;
@@ -59,7 +59,7 @@ fn shown_by(
     requires { IsPropagated net.now (base_support net.now) store outcome }
     ensures { IfOk result (IsVerdict net.now) }
 {
-    closures_decide();
+    ordered_closures_are_controllable();
     accepted_excludes();
     // The proof reads here that the network is sound.
     let _ = net.points();

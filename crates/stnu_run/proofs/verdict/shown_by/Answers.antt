@@ -7,7 +7,7 @@ use Rattle.stnu_run.proofs.verdict.shown_by.Goals as goal
 
 pub returns-in-Closed : goal.returns-in-Closed
 returns-in-Closed c =
-    closed_decides c.args.net.now (base_support c.args.net.now) c.args.store c.args.outcome refl c.requires (record { sound = c.points.ensures.sound }) c.closures_decide.ensures
+    closed_decides c.args.net.now (base_support c.args.net.now) c.args.store c.args.outcome refl c.requires (record { sound = c.points.ensures.sound }) c.ordered_closures_are_controllable.ensures
     c.in-Closed.rounds c.in-Closed.order c.in-Closed.is
 
 pub returns-in_ok-certificate-in-Looped : goal.returns-in_ok-certificate-in-Looped
