@@ -1,7 +1,7 @@
 -- A run that ends for want of memory before it has begun is one of any program.
-use Rattle.std.proofs.Common.{◌≡◌, ◌⊎◌, ℕ, List, [], ◌++◌, inl, inr, refl, sym, ap, ◌∙◌, append-nil}
+use Rattle.std.proofs.Common.{[], inl, inr, refl, sym, ◌∙◌, append-nil}
 use Rattle.std.proofs.lemmas.List.{append_cancel_left}
-use Rattle.plan_port.specs.Talk.{Seen, Talk, WhereTold}
+use Rattle.plan_port.specs.Talk.{Seen}
 use Rattle.plan_port.proofs.Talks.{WhereTold-same}
 use Rattle.commands.specs.declared.endings.Status.TheVariants.{NoMemory}
 use Rattle.commands.proofs.EndLemmas.{nothing_served}

@@ -1,8 +1,8 @@
 -- Where the words of an option stand among the words of a command, whatever stands before and after them.
-use Rattle.std.proofs.Common.{◌≡◌, ◌⊎◌, ℕ, ◌==◌, Bool, true, false, not, List, [], ◌∷◌, ◌++◌, map, Option, Some, None, inl, inr, refl, sym, ap, ◌∙◌, subst, true≢false, append_assoc}
+use Rattle.std.proofs.Common.{◌≡◌, ◌⊎◌, true, false, List, [], ◌∷◌, ◌++◌, Option, Some, None, inl, inr, refl, sym, ap, ◌∙◌, subst, true≢false}
 use Rattle.command_words.specs.Reading.{long_of}
-use Rattle.command_words.specs.Spelling.{Use, flag, valued, operand, name_of, Spells, SpellsAll, IsOf, AreOf, operand_names, is_plain, Says}
-use Rattle.command_words.specs.Syntax.{Syntax, Text, are_apart, dashed, is_in, is_name, is_sound}
+use Rattle.command_words.specs.Spelling.{Use, flag, valued, operand, Spells, SpellsAll, IsOf, AreOf}
+use Rattle.command_words.specs.Syntax.{Syntax, Text, dashed, is_in, is_name, is_sound}
 use Rattle.command_words.proofs.LawLemmas.{name_long, attached_long, plain_long}
 use Rattle.command_words.proofs.SoundLemmas.{flags_named, options_named}
 

@@ -16,7 +16,7 @@ use Rattle.plan_format.specs.declared.plan_line.PlanLine.{PlanLine}
 use Rattle.plan_format.specs.declared.plan_line.PlanLine.TheVariants as line
 use Rattle.plan_format.specs.declared.section.PlanSection.{PlanSection}
 use Rattle.plan_format.specs.declared.section.PlanSection.TheVariants as section
-use Rattle.plan_format.proofs.StepLemmas.{reached, one_more}
+use Rattle.plan_format.proofs.StepLemmas.{reached}
 use Rattle.plan_format.proofs.GrammarLemmas.{line_is}
 use Rattle.cert_format.specs.CertificateGrammar as certificate
 use Rattle.cert_format.specs.CertificateText.{Declared, line_in, advanced, said_from, read_from}

@@ -1,13 +1,12 @@
 -- Words that ask the same of a command define the same.
-use Rattle.std.proofs.Common.{◌≡◌, ◌↔◌, ℕ, List, [], ◌∷◌, ◌++◌, Bool, true, false, Option, Some, None, refl, sym, subst}
+use Rattle.std.proofs.Common.{◌≡◌, ℕ, List, [], ◌++◌, Bool, true, false, Option, Some, None, refl, sym, subst}
 use Rattle.command_words.specs.Arguments.{Arguments}
 use Rattle.command_words.specs.Syntax.{Syntax, Text}
 use Rattle.stnu_run.specs.DefinedRuns.{when◌run◌else◌}
-use Rattle.stnu_run.specs.Programs.{Program, Defines}
-use Rattle.stnu_run.specs.Requests.{asked_by, program_asked, program_by, refuses_words}
+use Rattle.stnu_run.specs.Programs.{Program}
+use Rattle.stnu_run.specs.Requests.{asked_by, program_asked, program_by}
 use Rattle.stnu_run.specs.WordLaws.{DefineSame, DefineSameWhereTaken}
 use Rattle.stnu_run.specs.Workers.{SpellsWorkers, WorkersDecideNothing}
-use Rattle.stnu_run.specs.declared.status.Status.{Status}
 use Rattle.stnu_run.specs.declared.telling.TellingEnd.TheVariants.{WordsRefused}
 use Rattle.stnu_run.proofs.WorkersLemmas.{asked_other, asked_without}
 

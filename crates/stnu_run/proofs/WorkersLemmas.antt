@@ -1,8 +1,7 @@
 -- The number of workers changes nothing in what the words ask, and what words of commands that take it say.
-use Rattle.std.proofs.Common.{◌≡◌, ◌⊎◌, ◌↔◌, not, ℕ, ◌<◌, ◌≤◌, ◌^◌, ◌==◌, Bool, true, false, List, [], ◌∷◌, ◌++◌, Option, Some, None, Result, Ok, Err, codes, inl, inr, refl, sym, ap, ◌∙◌, subst, true≢false, arith, rules, if◌then◌else◌}
+use Rattle.std.proofs.Common.{◌≡◌, ◌↔◌, not, ℕ, ◌<◌, ◌≤◌, ◌^◌, ◌==◌, Bool, true, false, List, [], ◌∷◌, ◌++◌, Option, Some, None, Result, Ok, Err, inl, inr, refl, sym, ap, ◌∙◌, subst, true≢false, arith, rules, if◌then◌else◌}
 use Rattle.std.specs.Fmt.{decimal}
 use Rattle.std.specs.Option.{option_and_then, option_map}
-use Rattle.std.specs.Str.{bytes_eq}
 use Rattle.std.proofs.lemmas.Bool.{eqb-true}
 use Rattle.std.proofs.lemmas.Bool.Decides.{nat_tests}
 use Rattle.net_model.specs.Numbers.{natural_of}
@@ -11,7 +10,7 @@ use Rattle.net_model.proofs.SpellingLemmas.{natural_spelled, spelled_natural}
 use Rattle.command_words.specs.Arguments.{Arguments, arguments_by, is_given, text_given, option_at}
 use Rattle.command_words.specs.Reading.{arguments_of}
 use Rattle.command_words.specs.Spelling.{Use, valued, flag, operand, is_plain, Spells, SpellsAll, AreOf, Says}
-use Rattle.command_words.specs.Syntax.{Syntax, Text, is_in, is_sound}
+use Rattle.command_words.specs.Syntax.{Syntax, Text, is_sound}
 use Rattle.command_words.proofs.LawLemmas.{read_exactly}
 use Rattle.stnu_run.specs.Judging.{judge_asked, judge_syntax}
 use Rattle.stnu_run.specs.Requests.{asked_by}
