@@ -27,9 +27,9 @@ use Rattle.stnu_run.specs.Executing.{executing_machine}
 use Rattle.stnu_run.specs.Faults.{refusing, fault_end}
 use Rattle.stnu_run.specs.PlanText.{plan_begun, plan_reader}
 use Rattle.stnu_run.specs.RunPromise.{OpensExecution, plan_opens, RunPromise}
-use Rattle.stnu_run.specs.Running.{BeginsExecution, EndsRefuted, run_begins, run_machine, run_start}
+use Rattle.stnu_run.specs.Running.{run_begins, run_machine, run_start}
 use Rattle.stnu_run.specs.ToCheck.{plan_grammar}
-use Rattle.stnu_run.specs.ToRead.{AnswersOrRefuses, IsFirstRefusal, Come, texts, room_after}
+use Rattle.stnu_run.specs.ToRead.{AnswersOrRefuses, IsFirstRefusal, texts, room_after}
 use Rattle.stnu_run.specs.Verdict.{controllable_line, PutsRefuted, IsCertificateOf}
 use Rattle.stnu_run.specs.declared.faults.Fault.{Fault}
 use Rattle.stnu_run.proofs.DayLemmas.{ExecutionLaws}

@@ -1,4 +1,4 @@
-use Rattle.std.proofs.Common.{ap, sym, subst, length, List}
+use Rattle.std.proofs.Common.{ap, subst, length, List}
 use Rattle.net_model.specs.declared.part.Link.{Link}
 use Rattle.live_executor.specs.Sound.{AreEnds}
 use Rattle.live_executor.proofs.SoundLemmas.{kept}

@@ -1,8 +1,8 @@
-use Rattle.std.proofs.Common.{inl, inr, refl, subst}
+use Rattle.std.proofs.Common.{inl, subst}
 use Rattle.std.proofs.lemmas.Result.{IfOk-weaker}
 use Rattle.stnu_run.specs.Running.{BeginsExecution, run_begins}
 use Rattle.stnu_run.specs.Verdict.{IsVerdict}
-use Rattle.stnu_run.specs.declared.verdict.Verdict.TheVariants.{Controllable, Refuted}
+use Rattle.stnu_run.specs.declared.verdict.Verdict.TheVariants.{Controllable}
 use Rattle.stnu_run.proofs.running.RunBeginNetwork.begin.Goals as goal
 
 pub begin_execution-requires-clause-closure : goal.begin_execution-requires-clause-closure
