@@ -4,7 +4,7 @@ use Rattle.std.specs.Prelude.{if◌then◌else◌}
 use Rattle.std.specs.Option.{is_some}
 use Rattle.std.specs.List.{concat}
 use Rattle.texts.specs.Lines.{InputLine, input_lines, whole_lines, whole_line}
-use Rattle.texts.proofs.InputLemmas.{whole_lines_is, unfinished_is}
+use Rattle.texts.proofs.InputLemmas.{whole_lines_is, unfinished_is, first_grows}
 use Rattle.plan_port.specs.Lines.{Coming, TooLong as LongLine, TooMuch as MuchInput}
 use Rattle.plan_port.specs.Talk.{Piece, Place, Talk, Seen, WhereTold, LosesFront, place_of, raised}
 use Rattle.plan_port.specs.Writing.{Writes, after_writing}
@@ -438,18 +438,44 @@ module _ {C : Type 0} (machine : Machine C) (start : C) where
         there = here command old;
         divided = ahead.divided ∙ ap (λ (l : List InputLine). read.lines ++ l) ahead.gives.1.lines;
         answers = subst (λ (l : List ℕ). Answers machine (begins start) read.lines l (here command old)) (sym (append-nil read.said)) read.answers;
-        comes = ahead.gives.1.comes;
+        comes = inl ahead.gives.1.comes;
         may_want = may_want;
         not_whole = in_time_pieces was.put read.lines read.said read.pieces read.in_time;
       }))
 
-  wanted_by : (line : Line) (command : C) (old new : Reader) (first before between : Seen) → line ≡ Text → ReadFrom line command old new first before between → machine.may_want command → Serves machine start status.NoMemory first between
+  -- there was no memory inside a line
+  wants_inside : (command : C) (old new : Reader) (first before between : Seen) → ReadFrom OutOfMemory command old new first before between → machine.may_want command → Serves machine start status.NoMemory first between
+  wants_inside command old new first before between from may_want =
+      serves_by status.NoMemory command old new OutOfMemory first before between between All [] from (nothing_writes between)
+      (no_take_failed command old new OutOfMemory first before between between All [] refl from (nothing_writes between), no_put_failed command old new OutOfMemory first before between between [] from (nothing_writes between))
+      (λ was it input untaken read ahead.
+      let inside = from.reads.wants refl in
+      let filled : 0 < length new.kept = omega (arith, inside.long) in
+      let grows = first_grows new.kept (if new.ended then [] else untaken) filled inside.undecided.no_line in
+      let lines : input_lines (remaining old ahead.before) ≡ grows.first ∷ grows.others = ap (λ (bytes : List ℕ). input_lines bytes) (sym ahead.gives) ∙ grows.all_are in
+      inl (record {
+        first = read.lines;
+        line = grows.first;
+        rest = grows.others;
+        there = here command old;
+        divided = ahead.divided ∙ ap (λ (ls : List InputLine). read.lines ++ ls) lines;
+        answers = subst (λ (l : List ℕ). Answers machine (begins start) read.lines l (here command old)) (sym (append-nil read.said)) read.answers;
+        comes = inr (omega (arith, inside.long, grows.longer));
+        may_want = may_want;
+        not_whole = in_time_pieces was.put read.lines read.said read.pieces read.in_time;
+      }))
+
+  wanted_by : (line : Line) (command : C) (old new : Reader) (first before between : Seen) → (line ≡ Text) ⊎ (line ≡ OutOfMemory) → ReadFrom line command old new first before between → machine.may_want command → Serves machine start status.NoMemory first between
   wanted_by Text command old new first before between is from may_want = wants command old new first before between from may_want
-  wanted_by NoLine command old new first before between is from may_want = absurd (cc is)
-  wanted_by (TooLong n) command old new first before between is from may_want = absurd (cc is)
-  wanted_by (TooMuch n) command old new first before between is from may_want = absurd (cc is)
-  wanted_by ReadFault command old new first before between is from may_want = absurd (cc is)
-  wanted_by OutOfMemory command old new first before between is from may_want = absurd (cc is)
+  wanted_by OutOfMemory command old new first before between is from may_want = wants_inside command old new first before between from may_want
+  wanted_by NoLine command old new first before between (inl is) from may_want = absurd (cc is)
+  wanted_by NoLine command old new first before between (inr is) from may_want = absurd (cc is)
+  wanted_by (TooLong n) command old new first before between (inl is) from may_want = absurd (cc is)
+  wanted_by (TooLong n) command old new first before between (inr is) from may_want = absurd (cc is)
+  wanted_by (TooMuch n) command old new first before between (inl is) from may_want = absurd (cc is)
+  wanted_by (TooMuch n) command old new first before between (inr is) from may_want = absurd (cc is)
+  wanted_by ReadFault command old new first before between (inl is) from may_want = absurd (cc is)
+  wanted_by ReadFault command old new first before between (inr is) from may_want = absurd (cc is)
 
   answered : (line : Line) (written : Written) (s : Status) (command : C) (old new : Reader) (first before between after : Seen) (answer : List ℕ) (reply : Turn C) → is_read_fault line ≡ false →
       ReadFrom line command old new first before between → Writes between after written answer → ReplyTo machine command line new answer reply → Ends s ≡ after_written written reply →
@@ -480,7 +506,7 @@ module _ {C : Type 0} (machine : Machine C) (start : C) where
   ends_wanted line s command old new first before between after from wanted =
       let same : status.NoMemory ≡ s = cc (wanted.ends) in
       subst (λ (t : Status). Serves machine start t first after) same (subst (λ (a : Seen). Serves machine start status.NoMemory first a) (sym wanted.same)
-      (wanted_by line command old new first before between wanted.text from wanted.may_want))
+      (wanted_by line command old new first before between wanted.at_line from wanted.may_want))
 
   ends_puts : (s : Status) (command : C) (old new : Reader) (first before after : Seen) (turn : OneTurn machine command old new (Ends s) before after) → WantedMemory machine command turn.line (Ends s) turn.between after ⊎ Replied machine command turn.line new (Ends s) turn.between after → IsServing command old first before → Serves machine start s first after
   ends_puts s command old new first before after turn (inl wanted) serving =

@@ -6,7 +6,7 @@ use Rattle.std.proofs.lemmas.List.{map-append}
 use Rattle.texts.specs.Lines.{InputLine, input_lines, whole_lines, unfinished, whole_line, open_line, line_size}
 use Rattle.plan_port.specs.Lines.{Coming, Comes, TooLong as LongLine, TooMuch as MuchInput, coming, DecideNothing}
 use Rattle.plan_port.specs.Talk.{Piece, Talk, Seen, WhereTold, LosesFront, place_of}
-use Rattle.plan_port.specs.Reader.{Reader, room, remaining, is_read_fault, after_takes, Takes, answer_by, answer_to, answer, without_line, ReadsNext, GivesFirst, GivesNext}
+use Rattle.plan_port.specs.Reader.{Reader, room, remaining, is_read_fault, after_takes, Takes, answer_by, answer_to, answer, without_line, ReadsNext, GivesFirst, GivesNext, WantsRoom}
 use Rattle.plan_port.specs.declared.lines.Line.{Line}
 use Rattle.plan_port.specs.declared.lines.Line.TheVariants.{Text, End, TooLong, TooMuch, ReadFault, OutOfMemory}
 use Rattle.plan_port.proofs.Talks.{WhereTold-twice, WhereTold-so, LosesFront-twice}
@@ -211,10 +211,14 @@ module _ {C : Type 0} (machine : Machine C) (start : C) where
       let kept : full.kept ≡ old.kept ++ concat taken = ap (λ (r : Reader). r.kept) takes.reader in
       bytes_of-append pieces (map (piece_at put) taken) ∙ (ap (λ (l : List ℕ). l ++ bytes_of (map (piece_at put) taken)) held.bytes ∙ (append_assoc held.given old.kept (bytes_of (map (piece_at put) taken)) ∙ ap (λ (l : List ℕ). held.given ++ l) (ap (λ (l : List ℕ). old.kept ++ l) (bytes_of-map put taken) ∙ sym kept)))
 
+  text_answered : (longest : ℕ) (full : Reader) → (Text ≡ answer longest full) ⊎ ((Text ≡ OutOfMemory) × WantsRoom longest full) → Text ≡ answer longest full
+  text_answered longest full (inl is) = is
+  text_answered longest full (inr (none, wants)) = absurd (cc none)
+
   given_line : (command : C) (old new : Reader) (before between : Seen) (left_first : Option (List ℕ)) (was mid : Talk) (so_far : SoFar command old left_first before.left was mid) (reads : ReadsNext (machine.longest command) old new Text before between) → (one : InputLine) × Given command old new (so_far.pieces ++ map (piece_at (length mid.put)) reads.pieces) so_far.lines one
   given_line command old new before between left_first was mid so_far reads =
       let full = reads.full in
-      let holds = holds_line (machine.longest command) full (input_lines full.kept) reads.answered in
+      let holds = holds_line (machine.longest command) full (input_lines full.kept) (text_answered (machine.longest command) full reads.answered) in
       let size = line_size holds.line in
       let room_is : room full ≡ room old = ap room reads.takes.reader in
       let goes : new ≡ record full { text = holds.line.text; kept = drop size full.kept; before = full.before + size; number = full.number + 1; stopped = None } =

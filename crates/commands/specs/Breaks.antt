@@ -1,6 +1,7 @@
 -- What was put by a run that a failed call, or want of memory, breaks off. This project's own choice.
 use Rattle.std.specs.Prelude.{◌≡◌, ◌⊎◌, ℕ, ◌<◌, List, [], ◌∷◌, ◌++◌, length, map, codes}
 use Rattle.texts.specs.Lines.{InputLine, input_lines, whole_lines, whole_line}
+use Rattle.plan_port.specs.Limits.{most_line}
 use Rattle.plan_port.specs.Lines.{Comes}
 use Rattle.plan_port.specs.Talk.{Piece}
 use Rattle.commands.specs.Machine.{Machine}
@@ -41,8 +42,8 @@ module _ {C : Type 0} (machine : Machine C) (start : C) where
     pub part : IsPart last answer
     pub all : put ≡ said ++ last
 
-  -- Memory was wanted at a line: those before it were answered, and the state there may want memory. Of the pieces of bytes
-  -- that were taken, each was taken before that line was whole.
+  -- Memory was wanted at a line that comes, or inside one of more than 65,536 bytes, be it too long as a whole: those before it were
+  -- answered, and the state there may want memory. Of the pieces of bytes that were taken, each was taken before that line was whole.
   pub record WantsMemory (input put : List ℕ) (pieces : List Piece) : Type 0 where
     pub first : List InputLine
     pub line : InputLine
@@ -50,7 +51,7 @@ module _ {C : Type 0} (machine : Machine C) (start : C) where
     pub there : Here C
     pub divided : input_lines input ≡ first ++ line ∷ rest
     pub answers : Answers machine (begins start) first put there
-    pub comes : coming_at machine there line ≡ Comes
+    pub comes : (coming_at machine there line ≡ Comes) ⊎ (most_line < length line.text)
     pub may_want : machine.may_want there.state
     pub not_whole : (seen later : List Piece) (piece : Piece) → pieces ≡ seen ++ piece ∷ later → (more : List InputLine) × (first ≡ map whole_line (whole_lines (bytes_of seen)) ++ more)
 

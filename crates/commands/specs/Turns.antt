@@ -50,9 +50,9 @@ module _ {C : Type 0} (machine : Machine C) where
   ReplyTo command ReadFault reader answer turn = (answer ≡ read_fault_line) × (turn ≡ Ends status.ReadFault)
   ReplyTo command OutOfMemory reader answer turn = ⊥
 
-  -- at a line there was no memory, and nothing was put
+  -- at a line, or inside one, there was no memory, and nothing was put
   pub record WantedMemory (command : C) (line : Line) (turn : Turn C) (before after : Seen) : Type 0 where
-    pub text : line ≡ Text
+    pub at_line : (line ≡ Text) ⊎ (line ≡ OutOfMemory)
     pub may_want : machine.may_want command
     pub ends : turn ≡ Ends status.NoMemory
     pub same : after ≡ before

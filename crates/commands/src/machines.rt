@@ -1,6 +1,6 @@
 //! A command as a machine that takes the lines of its input one by one.
 
-ghost use Rattle.std.specs.Prelude.{◌≡◌, ℕ, ◌≤◌, List, [], length, IfOk, OnErr};
+ghost use Rattle.std.specs.Prelude.{◌≡◌, ℕ, ◌<◌, ◌≤◌, List, [], length, IfOk, OnErr};
 ghost use Rattle.std.specs.Thread.{IsSync};
 ghost use Rattle.plan_port.specs.Limits.{most_line};
 ghost use Rattle.commands.specs.Machine.{Machine, HasRoom};
@@ -35,12 +35,11 @@ pub trait Command: Drop {
     /// What the command means.
     ghost machine: { Machine Self };
 
-    /// How many bytes the next line may have, its end not among them. No state passes what a reader of lines holds without
-    /// memory: `held` is the one place that says so. Once a reader may grow, it becomes
-    /// `most_line < result → machine.may_want self.now`.
+    /// How many bytes the next line may have, its end not among them. Only a state that may want memory passes what a reader of lines
+    /// holds without it.
     fn longest(&self) -> u32
         ensures value { result ≡ machine.longest self.now }
-        ensures held { result ≤ most_line };
+        ensures wants { most_line < result → machine.may_want self.now };
 
     /// Answers a line, by its number, from 1, and its bytes, which are no more than `longest` says: the answer is put into the
     /// buffer, which is empty and has the room that this state needs. `AllocError` comes only for want of memory, and only from

@@ -1,6 +1,6 @@
 //! The run of a command over a port.
 
-ghost use Rattle.std.specs.Prelude.{◌≡◌, ◌≢◌, ◌<◌, ◌≤◌, [], None, length, IfOk, OnErr};
+ghost use Rattle.std.specs.Prelude.{◌≡◌, ◌⊎◌, ◌<◌, ◌≤◌, [], None, length, IfOk, OnErr};
 ghost use Rattle.plan_port.specs.Writing.{Writes};
 ghost use Rattle.plan_port.specs.Reader.{IsReader};
 ghost use Rattle.commands.specs.Limits.{most_input, least_room};
@@ -87,12 +87,12 @@ fn reply_to<R: Threads + Sync, C: Command>(
 ) -> Result<Turn<C>, AllocError>
     requires fresh { answer.old.text ≡ [] }
     requires room { C.machine.room command ≤ answer.old.capacity }
-    requires line { line ≢ Line.OutOfMemory }
+    requires memory { line ≡ Line.OutOfMemory → C.machine.may_want command }
     requires text { line ≡ Line.Text → length reader.now.text ≤ C.machine.longest command }
     requires number { reader.now.number < 4294967295 }
     ensures replies { IfOk result (λ turn. ReplyTo C.machine command line reader.now answer.new.text turn) }
     ensures room { IfOk result (λ turn. TurnHasRoom C.machine turn answer.new.capacity) }
-    ensures wants { OnErr result ((line ≡ Line.Text) × C.machine.may_want command) }
+    ensures wants { OnErr result (((line ≡ Line.Text) ⊎ (line ≡ Line.OutOfMemory)) × C.machine.may_want command) }
 {
     let number = reader.number();
     match line {
@@ -101,7 +101,7 @@ fn reply_to<R: Threads + Sync, C: Command>(
         Line::TooLong(_) => Ok(stop(command, answer, number, Stop::LineTooLong)),
         Line::TooMuch(_) => Ok(stop(command, answer, number, Stop::InputTooMuch)),
         Line::ReadFault => Ok(tell_read_fault(answer)),
-        Line::OutOfMemory => unreachable!(),
+        Line::OutOfMemory => Err(AllocError),
     }
 }
 

@@ -1,5 +1,5 @@
 -- What a reader answers by the bytes that it holds, and what it goes on with.
-use Rattle.std.proofs.Common.{◌≡◌, ℕ, ◌+◌, ◌<◌, Bool, true, false, cond, ◌||◌, List, [], ◌∷◌, ◌++◌, length, take, drop, Option, Some, None, refl, sym, ap, subst, ◌∙◌, arith, append_assoc}
+use Rattle.std.proofs.Common.{◌≡◌, inl, inr, ℕ, ◌+◌, ◌<◌, Bool, true, false, cond, ◌||◌, List, [], ◌∷◌, ◌++◌, length, take, drop, Option, Some, None, refl, sym, ap, subst, ◌∙◌, arith, append_assoc}
 use Rattle.std.specs.List.{concat}
 use Rattle.std.proofs.lemmas.Bool.{false≢true}
 use Rattle.std.proofs.lemmas.List.{append-nil, length-append, drop_all}
@@ -8,7 +8,7 @@ use Rattle.texts.proofs.InputLemmas.{input_lines-open, input_lines-closed, unfin
 use Rattle.plan_port.specs.Talk.{Seen, WhereTold, LosesFront}
 use Rattle.plan_port.specs.Lines.{Coming, Comes, coming, DecideNothing}
 use Rattle.plan_port.specs.Lines.{TooLong as LongLine, TooMuch as MuchInput}
-use Rattle.plan_port.specs.Reader.{Reader, Takes, ReadsNext, GivesNext, GivesFirst, GivesLine, FirstIs, NamesLimit, room, remaining, answer_by, answer_to, answer, without_line, after_answer, stop_of, lines_begun, is_read_fault}
+use Rattle.plan_port.specs.Reader.{Reader, Takes, ReadsNext, GivesNext, WantsRoom, GivesFirst, GivesLine, FirstIs, NamesLimit, room, remaining, answer_by, answer_to, answer, without_line, after_answer, stop_of, lines_begun, is_read_fault}
 use Rattle.plan_port.specs.Reading.{verdict_by, verdict_to, verdict, outcome_by, outcome_of, is_fault, gives_line}
 use Rattle.plan_port.specs.declared.lines.Outcome.{Outcome}
 use Rattle.plan_port.specs.declared.lines.Outcome.TheVariants.{Decided}
@@ -311,6 +311,24 @@ line_held longest full new line answered goes_on is =
       },
     )
 
+-- no answer by what is held is want of memory
+never_none : (ended : Bool) → OutOfMemory ≡ cond ended End ReadFault → ⊥
+never_none true e = cc
+never_none false e = cc
+
+never_comes : (text : Bool) → OutOfMemory ≡ cond text Text ReadFault → ⊥
+never_comes true e = cc
+never_comes false e = cc
+
+never_by : (how : Coming) (longest : ℕ) (r : Reader) (line : InputLine) → OutOfMemory ≡ answer_by how longest r line → ⊥
+never_by Comes longest r line e = never_comes (line.ended || r.ended) e
+never_by LongLine longest r line e = cc
+never_by MuchInput longest r line e = cc
+
+pub never_to : (lines : List InputLine) (longest : ℕ) (r : Reader) → OutOfMemory ≡ answer_to longest r lines → ⊥
+never_to [] longest r e = never_none r.ended e
+never_to (line ∷ others) longest r e = never_by (coming longest (room r) line) longest r line e
+
 -- what a call of the reader did
 pub reads_next : (longest : ℕ) (old full new : Reader) (line : Line) (outcome : Outcome) (pieces : List (List ℕ)) (a b : Seen) → Takes longest old full pieces (is_fault outcome) a b → outcome ≡ outcome_of longest full → line ≡ answer longest full → new ≡ after_answer line full → ReadsNext longest old new line a b
 reads_next longest old full new line outcome pieces a b takes is answered goes_on =
@@ -320,7 +338,7 @@ reads_next longest old full new line outcome pieces a b takes is answered goes_o
       pieces = pieces;
       full = full;
       takes = subst (λ (f : Bool). Takes longest old full pieces f a b) failed takes;
-      answered = answered;
+      answered = inl answered;
       goes_on = goes_on;
       number = ap (λ (r : Reader). r.number) goes_on ∙ ap (λ (r : Reader). r.number + lines_begun line) takes.reader;
       most = ap (λ (r : Reader). r.most) goes_on ∙ (most_stays line (input_lines full.kept) full ∙ most);
@@ -329,6 +347,7 @@ reads_next longest old full new line outcome pieces a b takes is answered goes_o
       given = line_held longest full new line answered goes_on;
       at_end = at_end longest full new line answered goes_on;
       cut_off = cut_off longest full new line answered goes_on;
+      wants = λ none. absurd (never_to (input_lines full.kept) longest full (sym none ∙ answered));
     }
 
 -- the same, told of the reader before its takes
@@ -370,3 +389,35 @@ pub line_clause : (longest : ℕ) (old full new : Reader) (line : Line) (pieces 
 line_clause longest old full new line pieces failed a b takes answered goes_on =
     where_told a.left b.left (concat pieces) (λ before after. GivesNext longest old new line before after) takes.left
     (λ before after then now. gives_next longest old full new line pieces failed a b before after takes answered goes_on (record { then = then; now = now }))
+
+-- what a call of the reader did for which there was no memory
+pub reads_no_more : (longest : ℕ) (old new : Reader) (pieces : List (List ℕ)) (a b : Seen) → Takes longest old new pieces false a b → WantsRoom longest new → old.stopped ≡ None → ReadsNext longest old new OutOfMemory a b
+reads_no_more longest old new pieces a b takes wants running =
+    let stopped : new.stopped ≡ None = ap (λ (r : Reader). r.stopped) takes.reader ∙ running in
+    let count : new.number ≡ new.number + 0 = omega arith in
+    record {
+      pieces = pieces;
+      full = new;
+      takes = takes;
+      answered = inr (refl, wants);
+      goes_on = ap (λ (s : Option Line). record new { stopped = s }) stopped ∙ ap (λ (n : ℕ). record new { number = n; stopped = None }) count;
+      number = ap (λ (r : Reader). r.number) takes.reader ∙ (let none : old.number ≡ old.number + 0 = omega arith in none);
+      most = ap (λ (r : Reader). r.most) takes.reader;
+      stopped = stopped;
+      limit = tt;
+      given = λ is. absurd (cc);
+      at_end = λ is. absurd (cc);
+      cut_off = λ is. absurd (cc);
+      wants = λ none. wants;
+    }
+
+pub no_line_clause : (longest : ℕ) (old new : Reader) (pieces : List (List ℕ)) (failed : Bool) (a b : Seen) → Takes longest old new pieces failed a b → WhereTold a.left b.left (λ before after. GivesNext longest old new OutOfMemory before after)
+no_line_clause longest old new pieces failed a b takes =
+    where_told a.left b.left (concat pieces) (λ before after. GivesNext longest old new OutOfMemory before after) takes.left
+    (λ before after then now.
+    let same = remaining_same longest old new pieces failed a b before after (record { then = then; now = now }) takes in
+    let place : new.before ≡ old.before = ap (λ (r : Reader). r.before) takes.reader in
+    record {
+      first = sym same;
+      whole = omega (arith, place, ap (λ (l : List ℕ). length l) same);
+    })

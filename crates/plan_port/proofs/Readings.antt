@@ -5,7 +5,6 @@ use Rattle.std.specs.Option.{option_map}
 use Rattle.std.proofs.lemmas.Bool.{false≢true, cases_lt}
 use Rattle.std.proofs.lemmas.List.{append-nil, take-append-le, take_at, length-append, length-take-le}
 use Rattle.std.proofs.lemmas.List.Elements.{All-append, All-nil, All-cons}
-use Rattle.plan_port.specs.Limits.{most_line}
 use Rattle.plan_port.specs.Talk.{Talk, Seen, TakesOnce, bytes_given, after_take, counted_take, with_pieces, with_failed_take}
 use Rattle.plan_port.specs.Lines.{DecideNothing}
 use Rattle.plan_port.specs.Reader.{Reader, Takes, with_pieces_kept, room, remaining, after_takes, counted_takes}
@@ -15,8 +14,8 @@ use Rattle.plan_port.specs.declared.ports.Took.TheVariants.{Bytes, End, Failed}
 use Rattle.plan_port.proofs.Talks.{WhereTold-same, changed_twice, with_pieces-nil, with_pieces-with_pieces, LosesFront-nil, LosesFront-twice, concat-append}
 
 -- each take that doesn't fail brings the reader nearer to a decision
-abbrev pub distance : Reader → ℕ
-distance r = 2 * (most_line + 1 - length r.kept) + cond r.ended 0 1
+abbrev pub distance : ℕ → Reader → ℕ
+distance longest r = 2 * (longest + 1 - length r.kept) + cond r.ended 0 1
 
 pub Takes-none : (longest : ℕ) (old : Reader) (seen : Seen) → Takes longest old (with_pieces_kept old [] old.ended) [] false seen seen
 Takes-none longest old seen = record {
@@ -109,18 +108,18 @@ Takes-more longest old mid new took into pieces a b c before once unended decide
       write_faults = once.write_faults ∙ before.write_faults;
     }
 
-pub nearer : (mid new : Reader) (took : Took) (into : List ℕ) (a b : Seen) → (took ≡ Failed → ⊥) → TakesOnce a b took into → mid.ended ≡ false → length mid.kept ≤ most_line → new ≡ with_bytes_kept mid (bytes_given took into) (ended_after took mid.ended) → distance new < distance mid
-nearer mid new (Bytes n) into a b h once e small is =
+pub nearer : (longest : ℕ) (mid new : Reader) (took : Took) (into : List ℕ) (a b : Seen) → (took ≡ Failed → ⊥) → TakesOnce a b took into → mid.ended ≡ false → length mid.kept ≤ longest → new ≡ with_bytes_kept mid (bytes_given took into) (ended_after took mid.ended) → distance longest new < distance longest mid
+nearer longest mid new (Bytes n) into a b h once e small is =
     let within = once.within in
     let kept = ap (λ (r : Reader). length r.kept) is ∙ length-append mid.kept (take n into) in
     let last : cond new.ended 0 1 ≡ cond mid.ended 0 1 = ap {B = ℕ} (λ (r : Reader). cond r.ended 0 1) is in
     omega (arith, kept, last, within.0, within.1, length-take-le n into within.1)
-nearer mid new End into a b h once e small is =
+nearer longest mid new End into a b h once e small is =
     let kept = ap (λ (r : Reader). length r.kept) is ∙ length-append mid.kept [] in
     let last : cond new.ended 0 1 ≡ 0 = ap {B = ℕ} (λ (r : Reader). cond r.ended 0 1) is in
     let was : cond mid.ended 0 1 ≡ 1 = ap {B = ℕ} (λ b. cond b 0 1) e in
     omega (arith, kept, last, was)
-nearer mid new Failed into a b h once e small is = absurd (h refl)
+nearer longest mid new Failed into a b h once e small is = absurd (h refl)
 
 pub not_failed : (took : Took) → ((x : ℕ) × (took ≡ Bytes x)) ⊎ (took ≡ End) → took ≡ Failed → ⊥
 not_failed (Bytes n) h e = cc

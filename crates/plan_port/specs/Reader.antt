@@ -1,12 +1,13 @@
 -- A reader of lines, as its callers see it. This project's own choice.
-use Rattle.std.specs.Prelude.{◌≡◌, ℕ, ◌+◌, ◌-◌, ◌<◌, ◌≤◌, Bool, true, false, ◌||◌, if◌then◌else◌, List, [], ◌∷◌, ◌++◌, length, take, drop, All, Option, Some, None, is_some, IfSome}
+use Rattle.std.specs.Prelude.{◌≡◌, ◌⊎◌, ℕ, ◌+◌, ◌-◌, ◌<◌, ◌≤◌, Bool, true, false, ◌||◌, if◌then◌else◌, List, [], ◌∷◌, ◌++◌, length, take, drop, All, Option, Some, None, is_some, IfSome}
 use Rattle.std.specs.List.{concat}
 use Rattle.texts.specs.Lines.{InputLine, input_lines, line_size}
+use Rattle.plan_port.specs.Limits.{most_line}
 use Rattle.plan_port.specs.Talk.{Seen, Talk, WhereTold, LosesFront, with_pieces, with_failed_take, raised}
 use Rattle.plan_port.specs.Lines.{Coming, Comes, coming, DecideNothing}
 use Rattle.plan_port.specs.Lines.{TooLong as LongLine, TooMuch as MuchInput}
 use Rattle.plan_port.specs.declared.lines.Line.{Line}
-use Rattle.plan_port.specs.declared.lines.Line.TheVariants.{Text, End, TooLong, TooMuch, ReadFault}
+use Rattle.plan_port.specs.declared.lines.Line.TheVariants.{Text, End, TooLong, TooMuch, ReadFault, OutOfMemory}
 
 -- `text` is the last line given; `kept` the bytes taken and not given out; `number` that of the last line begun;
 -- `before` how many bytes of the input stand before the kept ones; `most` how many the input may have;
@@ -125,14 +126,20 @@ pub record GivesLine (longest : ℕ) (old new : Reader) (all remain : List ℕ) 
   pub text : new.text ≡ line.text
   pub place : new.before ≡ old.before + line_size line
 
+-- there was no place for a byte more of a line of which more than 65,536 bytes are kept: the input goes on, and they decide nothing
+pub record WantsRoom (longest : ℕ) (reader : Reader) : Type 0 where
+  pub long : most_line < length reader.kept
+  pub running : reader.ended ≡ false
+  pub undecided : DecideNothing longest (room reader) reader.kept
+
 -- what a reader did that had not stopped: it took the pieces that it needed and no more, the answer is what the bytes that it
--- then held decide, and it goes on with the others. A line that it gave is the first of those that it held. Where a take
--- failed, it holds bytes that decide nothing.
+-- then held decide, and it goes on with the others; or there was no memory for more of them, and it goes on with the same line. A line
+-- that it gave is the first of those that it held. Where a take failed, it holds bytes that decide nothing.
 pub record ReadsNext (longest : ℕ) (old new : Reader) (line : Line) (before after : Seen) : Type 0 where
   pub pieces : List (List ℕ)
   pub full : Reader
   pub takes : Takes longest old full pieces (is_read_fault line) before after
-  pub answered : line ≡ answer longest full
+  pub answered : (line ≡ answer longest full) ⊎ ((line ≡ OutOfMemory) × WantsRoom longest full)
   pub goes_on : new ≡ after_answer line full
   pub number : new.number ≡ old.number + lines_begun line
   pub most : new.most ≡ old.most
@@ -141,6 +148,7 @@ pub record ReadsNext (longest : ℕ) (old new : Reader) (line : Line) (before af
   pub given : line ≡ Text → (first : InputLine) × GivesLine longest full new full.kept new.kept first
   pub at_end : line ≡ End → (new.ended ≡ true) × (new.kept ≡ [])
   pub cut_off : line ≡ ReadFault → (new.ended ≡ false) × DecideNothing longest (room new) new.kept
+  pub wants : line ≡ OutOfMemory → WantsRoom longest new
 
 -- this is what comes of the first of these lines
 abbrev pub FirstIs : Coming → (longest room : ℕ) → List InputLine → Type 0

@@ -1,5 +1,5 @@
 -- The steps of a reader. No public clause cites this module.
-use Rattle.std.specs.Prelude.{ℕ, ◌+◌, Bool, true, false, nat_lt, nat_le, ◌&&◌, ◌||◌, ◌==◌, if◌then◌else◌, List, [], ◌∷◌, ◌++◌, length, take}
+use Rattle.std.specs.Prelude.{ℕ, ◌+◌, Bool, true, false, nat_lt, nat_le, ◌&&◌, ◌||◌, ◌==◌, if◌then◌else◌, List, [], ◌∷◌, ◌++◌, length, take, Result, Ok, Err}
 use Rattle.texts.specs.Lines.{InputLine, input_lines}
 use Rattle.plan_port.specs.Lines.{Coming, Comes, TooLong, TooMuch, coming}
 use Rattle.plan_port.specs.Reader.{Reader, room}
@@ -49,6 +49,11 @@ outcome_of longest reader = outcome_by (verdict longest (room reader) reader.kep
 abbrev pub is_fault : Outcome → Bool
 is_fault Fault = true
 is_fault _ = false
+
+-- the taking ended so, and not for want of memory
+abbrev pub has_fault : {E : Type 0} → Result Outcome E → Bool
+has_fault (Ok outcome) = is_fault outcome
+has_fault (Err error) = false
 
 -- whether a take failed
 abbrev pub has_failed : Took → Bool

@@ -1,9 +1,9 @@
 //! The lines of an input that comes over a port.
-ghost use Rattle.std.specs.Prelude.{◌≡◌, ◌≢◌, ℕ, ◌+◌, ◌<◌, ◌≤◌, ◌^◌, true, false, List, [], length, take, drop, Some, None, IfOk, IfSome, IfNone};
+ghost use Rattle.std.specs.Prelude.{◌≡◌, ◌≢◌, ℕ, ◌+◌, ◌<◌, ◌≤◌, ◌^◌, true, false, List, [], length, take, drop, Some, None, IfOk, IfSome, IfNone, OnErr};
 ghost use Rattle.plan_port.specs.Limits.{most_line, most_read};
 ghost use Rattle.plan_port.specs.Talk.{TakesOnce, WhereTold, bytes_given};
-ghost use Rattle.plan_port.specs.Reader.{Reader, IsReader, Takes, ReadsNext, GivesNext, fresh, room, stop_of, answer, after_answer, with_pieces_kept};
-ghost use Rattle.plan_port.specs.Reading.{verdict, verdict_on, outcome_of, is_fault, ended_after, with_bytes_kept, gives_line};
+ghost use Rattle.plan_port.specs.Reader.{Reader, IsReader, Takes, ReadsNext, GivesNext, WantsRoom, fresh, room, stop_of, answer, after_answer, with_pieces_kept};
+ghost use Rattle.plan_port.specs.Reading.{verdict, verdict_on, outcome_of, has_fault, ended_after, with_bytes_kept, gives_line};
 
 use crate::ports::{Port, Took};
 use crate::window::Window;
@@ -24,7 +24,8 @@ pub enum Line {
     TooMuch(u64),
     /// A take failed before the next line was decided.
     ReadFault,
-    /// There was no memory for the line. It never comes for lines of at most [`MOST_LINE`] bytes.
+    /// There was no memory for more of the line. It never comes for lines of at most `MOST_LINE` bytes. What was taken is kept, and the same
+    /// line goes on.
     OutOfMemory,
 }
 
@@ -73,7 +74,8 @@ fn judge(size: u64, is_closed: bool, longest: u64, room: u64) -> Verdict
     }
 }
 
-/// A reader of the lines of an input. It holds at most `MOST_LINE` bytes and one more, reserved when it is made.
+/// A reader of the lines of an input. It has place for `MOST_LINE` bytes and one more, reserved when it is made, and takes more memory for a
+/// line that may be longer, and is.
 #[derive(Drop)]
 pub struct LineReader {
     window: Window,
@@ -143,27 +145,28 @@ impl LineReader {
         self.number
     }
 
-    /// Reads the next line of the input that comes over the port, of at most `longest` bytes, which is `MOST_LINE` or less
-    /// and does not count the line end. It takes no memory, so `OutOfMemory` never comes. It takes from the port
-    /// only while no whole line is kept, and judges the bytes one by one in their order, however they are cut:
+    /// Reads the next line of the input that comes over the port, of at most `longest` bytes, which does not count the line end. It
+    /// takes from the port only while no whole line is kept, and judges the bytes one by one in their order, however they are cut:
     /// `TooLong` at byte `longest + 1` of the line, where that is among the first `most + 1` bytes of the input;
     /// else `TooMuch` where byte `most + 1` of the input belongs to the line or is its end. `ReadFault` comes exactly where
     /// a take failed before that, the last one that was made. These three are answered again by every later call, which
-    /// takes nothing. `End` comes where the input has ended and nothing is kept of it.
+    /// takes nothing. `End` comes where the input has ended and nothing is kept of it. `OutOfMemory` comes only for want of memory, inside
+    /// a line of more than `MOST_LINE` bytes, where `longest` is more: what was taken is kept, and the next call goes on with that line.
     pub fn next_line<P: Port>(&mut self, port: &mut P, longest: u32) -> Line
-        requires { longest ≤ most_line }
         ensures repeated { IfSome self.old.stopped (λ line. (result ≡ line) × (self.new ≡ self.old) × (port.new ≡ port.old)) }
         ensures reads { IfNone self.old.stopped (ReadsNext longest self.old self.new result (P.seen port.old) (P.seen port.new)) }
         ensures line { IfNone self.old.stopped (WhereTold (P.seen port.old).left (P.seen port.new).left
             (λ before after. GivesNext longest self.old self.new result before after)) }
         ensures valid { IsReader self.new }
-        ensures memory { result ≢ Line.OutOfMemory }
+        ensures memory { result ≡ Line.OutOfMemory → most_line < longest }
     {
         if let Some(line) = self.stopped() {
             return line;
         }
-        let outcome = self.take_until_decided(port, longest);
-        self.answer(outcome, longest)
+        match self.take_until_decided(port, longest) {
+            Ok(outcome) => self.answer(outcome, longest),
+            Err(AllocError) => Line::OutOfMemory,
+        }
     }
 
     fn stopped(&self) -> Option<Line>
@@ -197,34 +200,41 @@ impl LineReader {
         }
     }
 
-    /// Takes once from the port.
-    fn fill<P: Port>(&mut self, port: &mut P) -> Took
-        requires { length self.old.kept ≤ most_line }
-        ensures { (into : List ℕ) × TakesOnce (P.seen port.old) (P.seen port.new) result into
-            × (self.new ≡ with_bytes_kept self.old (bytes_given result into) (ended_after result self.old.ended)) }
+    /// Takes once from the port, where there is memory for a byte more.
+    fn fill<P: Port>(&mut self, port: &mut P) -> Result<Took, AllocError>
+        ensures takes { IfOk result (λ took. (into : List ℕ) × TakesOnce (P.seen port.old) (P.seen port.new) took into
+            × (self.new ≡ with_bytes_kept self.old (bytes_given took into) (ended_after took self.old.ended))) }
+        ensures kept { OnErr result (self.new ≡ record self.old { text = [] }) }
+        ensures wants { OnErr result (most_line < length self.old.kept) }
+        ensures untaken { OnErr result (port.new ≡ port.old) }
     {
-        let took = self.window.take_from(port);
+        self.window.make_room()?;
+        let took = self.window.fill(port);
         if took == Took::End {
             self.ended = true;
         }
-        took
+        Ok(took)
     }
 
-    /// Takes from the port until the kept bytes decide the next line, the input ends or a take fails.
-    fn take_until_decided<P: Port>(&mut self, port: &mut P, longest: u32) -> Outcome
-        requires { longest ≤ most_line }
+    /// Takes from the port until the kept bytes decide the next line, the input ends or a take fails, or there is no memory for more.
+    fn take_until_decided<P: Port>(
+        &mut self,
+        port: &mut P,
+        longest: u32,
+    ) -> Result<Outcome, AllocError>
         ensures takes { (pieces : List (List ℕ))
-            × Takes longest self.old self.new pieces (is_fault result) (P.seen port.old) (P.seen port.new) }
-        ensures outcome { result ≡ outcome_of longest self.new }
+            × Takes longest self.old self.new pieces (has_fault result) (P.seen port.old) (P.seen port.new) }
+        ensures outcome { IfOk result (λ outcome. outcome ≡ outcome_of longest self.new) }
+        ensures wants { OnErr result (WantsRoom longest self.new) }
     {
         self.forget_text();
         loop {
             let verdict = self.decide(longest);
             if verdict.is_clear() || self.has_ended() {
-                return Outcome::Decided(verdict);
+                return Ok(Outcome::Decided(verdict));
             }
-            match self.fill(port) {
-                Took::Failed => return Outcome::Fault,
+            match self.fill(port)? {
+                Took::Failed => return Ok(Outcome::Fault),
                 Took::Bytes(_) | Took::End => {}
             }
         }

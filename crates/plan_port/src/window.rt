@@ -1,5 +1,5 @@
 //! The bytes that a reader holds: the last line given, and those taken and not given out.
-ghost use Rattle.std.specs.Prelude.{◌≡◌, ℕ, ◌+◌, ◌<◌, ◌≤◌, List, [], ◌++◌, length, take, drop, IfOk, IfSome};
+ghost use Rattle.std.specs.Prelude.{◌≡◌, ℕ, ◌+◌, ◌<◌, ◌^◌, List, [], ◌++◌, length, take, drop, IfOk, IfSome, OnErr, OnOk};
 ghost use Rattle.std.specs.List.{position};
 ghost use Rattle.plan_port.specs.Limits.{most_line};
 ghost use Rattle.plan_port.specs.Talk.{TakesOnce, bytes_given};
@@ -10,7 +10,7 @@ use crate::ports::{Port, Took};
 use std::alloc::{AllocError, Global};
 use std::marker::Model;
 
-/// A line of the greatest length, and one byte that shows that it is longer.
+/// A line of the greatest length that needs no memory, and one byte that shows that it is longer.
 const CAPACITY: usize = MOST_LINE as usize + 1;
 
 #[derive(Drop)]
@@ -25,7 +25,7 @@ pub(crate) struct Window {
 }
 
 impl Model for Window {
-    ghost use Rattle.std.specs.Prelude.{◌≡◌, ◌≤◌, ◌+◌, ◌-◌, slice_range, vec_len};
+    ghost use Rattle.std.specs.Prelude.{◌≡◌, ◌<◌, ◌≤◌, ◌-◌, slice_range, vec_len};
     ghost use Rattle.std.specs.List.{position_or_len};
     ghost use Rattle.plan_port.specs.Held.{Held};
     ghost use Rattle.plan_port.specs.Limits.{most_line};
@@ -36,12 +36,12 @@ impl Model for Window {
     ghost view = { λ w. record {
       text = slice_range w.bytes.items w.text_start w.text_end;
       kept = slice_range w.bytes.items w.start w.end;
-      free = most_line + 1 - w.end;
+      free = vec_len w.bytes - w.end;
     } };
 
-    ghost invariant = { λ w. (vec_len w.bytes ≡ most_line + 1)
-        × (w.text_start ≤ w.text_end) × (w.text_end ≤ most_line + 1)
-        × (w.start ≤ w.searched) × (w.searched ≤ w.end) × (w.end ≤ most_line + 1)
+    ghost invariant = { λ w. (most_line < vec_len w.bytes)
+        × (w.text_start ≤ w.text_end) × (w.text_end ≤ vec_len w.bytes)
+        × (w.start ≤ w.searched) × (w.searched ≤ w.end) × (w.end ≤ vec_len w.bytes)
         × (position_or_len ends_line (slice_range w.bytes.items w.start w.searched) ≡ w.searched - w.start) };
 }
 
@@ -69,7 +69,7 @@ impl Window {
     /// How many bytes are kept.
     pub(crate) fn size(&self) -> usize
         ensures value { result ≡ length self.now.kept }
-        ensures small { result ≤ most_line + 1 }
+        ensures small { result < 2 ^ 63 }
     {
         self.end - self.start
     }
@@ -77,7 +77,7 @@ impl Window {
     /// Where the first line of the kept bytes ends, if its end has come.
     pub(crate) fn find_line_end(&mut self) -> Option<usize>
         ensures place { result ≡ position ends_line self.old.kept }
-        ensures small { IfSome result (λ place. place ≤ most_line) }
+        ensures small { IfSome result (λ place. place < 2 ^ 63) }
         ensures same { self.new ≡ self.old }
     {
         let unsearched = &self.bytes[self.searched..self.end];
@@ -127,7 +127,7 @@ impl Window {
         requires { self.old.text ≡ [] }
         ensures text { self.new.text ≡ [] }
         ensures kept { self.new.kept ≡ self.old.kept }
-        ensures free { self.new.free + length self.new.kept ≡ most_line + 1 }
+        ensures free { most_line < self.new.free + length self.new.kept }
     {
         let (start, end) = (self.start, self.end);
         self.bytes.copy_within(start..end, 0);
@@ -138,22 +138,38 @@ impl Window {
         self.end = end - start;
     }
 
-    /// Takes once from the port, after the kept bytes. The last line is forgotten, since its place may be needed.
-    pub(crate) fn take_from<P: Port>(&mut self, port: &mut P) -> Took
-        requires { length self.old.kept ≤ most_line }
-        ensures took { (into : List ℕ) × TakesOnce (P.seen port.old) (P.seen port.new) result into
-            × (self.new.kept ≡ self.old.kept ++ bytes_given result into) }
+    /// Makes place for a byte more after the kept ones, and forgets the last line, since its place may be needed. `AllocError` comes only
+    /// for want of memory, where more than `MOST_LINE` bytes are kept, and leaves these.
+    pub(crate) fn make_room(&mut self) -> Result<(), AllocError>
         ensures text { self.new.text ≡ [] }
+        ensures kept { self.new.kept ≡ self.old.kept }
+        ensures room { OnOk result (0 < self.new.free) }
+        ensures wants { OnErr result (most_line < length self.old.kept) }
     {
         self.forget_text();
-        if self.start == self.end || self.end == CAPACITY {
+        if self.start == self.end || self.end == self.bytes.len() {
             self.move_to_front();
         }
-        self.fill(port)
+        self.grow()
     }
 
-    /// The same where there is place.
-    fn fill<P: Port>(&mut self, port: &mut P) -> Took
+    /// Makes the buffer twice as long where it is full.
+    fn grow(&mut self) -> Result<(), AllocError>
+        requires { self.old.free ≡ 0 → most_line < length self.old.kept }
+        ensures text { self.new.text ≡ self.old.text }
+        ensures kept { self.new.kept ≡ self.old.kept }
+        ensures room { OnOk result (0 < self.new.free) }
+        ensures wants { OnErr result (most_line < length self.old.kept) }
+    {
+        let size = self.bytes.len();
+        if self.end == size {
+            self.bytes.resize(size * 2, 0)?;
+        }
+        Ok(())
+    }
+
+    /// Takes once from the port, after the kept bytes.
+    pub(crate) fn fill<P: Port>(&mut self, port: &mut P) -> Took
         requires { 0 < self.old.free }
         ensures took { (into : List ℕ) × TakesOnce (P.seen port.old) (P.seen port.new) result into
             × (self.new.kept ≡ self.old.kept ++ bytes_given result into) }

@@ -1,22 +1,29 @@
-use Rattle.std.proofs.Common.{◌≡◌, ◌<◌, ◌≤◌, ◌++◌, [], false, length, sym, ap, subst, refl, ◌∙◌, arith}
-use Rattle.plan_port.specs.Limits.{most_line}
+use Rattle.std.proofs.Common.{◌≡◌, ◌<◌, ◌≤◌, ◌++◌, [], false, length, sym, ap, subst, refl, ◌∙◌, arith, Result, Ok, Err}
+use Rattle.std.specs.Result.{OnErr}
 use Rattle.plan_port.specs.Lines.{DecideNothing}
-use Rattle.plan_port.specs.Reader.{Reader, room, Takes}
+use Rattle.plan_port.specs.Reader.{Reader, room, Takes, WantsRoom}
 use Rattle.plan_port.specs.Reading.{has_failed, pieces_given}
 use Rattle.plan_port.proofs.FirstLines.{decide_nothing, nothing_is_small}
 use Rattle.plan_port.proofs.Readings.{Takes-none, Takes-more, nearer, not_failed, not_has_failed, distance}
 use Rattle.plan_port.proofs.lines.LineReader.take_until_decided.Goals as goal
 
+on_err : {A E : Type 0} (result : Result A E) (P : Type 0) → P → OnErr result P
+on_err (Ok value) P p = tt
+on_err (Err error) P p = p
+
 pub loop-self-init : goal.loop-self-init
 loop-self-init g c = ([], subst (λ (r : Reader). Takes c.args.longest c.args.self.now r [] false (g.P.Port.seen c.args.port.now) (g.P.Port.seen c.args.port.now)) (sym c.forget_text.ensures) (Takes-none c.args.longest c.args.self.now (g.P.Port.seen c.args.port.now)))
 
-pub fill-requires : goal.fill-requires
-fill-requires g c =
+pub returns-in_err-fill-clause-wants : goal.returns-in_err-fill-clause-wants
+returns-in_err-fill-clause-wants g c =
     let longest = c.args.longest in
     let before = c.loop-self.self in
-    let decides : DecideNothing longest (room before) before.kept = decide_nothing longest (room before) before.kept (sym c.decide-verdict.ensures.value ∙ c.if-is_clear.ensures.unclear refl) in
-    let small : length before.kept ≤ longest = (nothing_is_small longest (room before) before.kept decides).0 in
-    omega (arith, small, c.requires, ap (λ (r : Reader). length r.kept) c.decide-verdict.ensures.same)
+    let mid = c.decide-verdict.new.self in
+    let same = c.decide-verdict.ensures.same in
+    let was : DecideNothing longest (room before) before.kept = decide_nothing longest (room before) before.kept (sym c.decide-verdict.ensures.value ∙ c.if-is_clear.ensures.unclear refl) in
+    let decides : DecideNothing longest (room mid) mid.kept = subst (λ (r : Reader). DecideNothing longest (room r) r.kept) (sym same) was in
+    let facts = c.in_err-fill.ensures in
+    on_err c.from_residual.result (WantsRoom longest c.fill.new.self) (subst (λ (r : Reader). WantsRoom longest r) (sym facts.kept) (record { long = facts.wants; running = sym c.if-has_ended.ensures; undecided = decides }))
 
 pub loop-self-smaller : goal.loop-self-smaller
 loop-self-smaller g c =
@@ -26,10 +33,10 @@ loop-self-smaller g c =
     let same = c.decide-verdict.ensures.same in
     let decides : DecideNothing longest (room before) before.kept = decide_nothing longest (room before) before.kept (sym c.decide-verdict.ensures.value ∙ c.if-is_clear.ensures.unclear refl) in
     let small : length before.kept ≤ longest = (nothing_is_small longest (room before) before.kept decides).0 in
-    let size : length mid.kept ≤ most_line = omega (arith, small, c.requires, ap (λ (r : Reader). length r.kept) same) in
-    let took = c.fill.ensures in
-    let falls = nearer mid c.fill.new.self c.fill.result took.0 (g.P.Port.seen c.loop-self.port) (g.P.Port.seen c.fill.new.port) (not_failed c.fill.result c.in-Bytes.is) took.1 (sym c.if-has_ended.ensures) size took.2 in
-    subst (λ (r : Reader). distance c.fill.new.self < distance r) same falls
+    let size : length mid.kept ≤ longest = omega (arith, small, ap (λ (r : Reader). length r.kept) same) in
+    let took = c.in_ok-fill.ensures.takes in
+    let falls = nearer longest mid c.fill.new.self c.in_ok-fill.field-0 took.0 (g.P.Port.seen c.loop-self.port) (g.P.Port.seen c.fill.new.port) (not_failed c.in_ok-fill.field-0 c.in-Bytes.is) took.1 (sym c.if-has_ended.ensures) size took.2 in
+    subst (λ (r : Reader). distance longest c.fill.new.self < distance longest r) same falls
 
 pub loop-self-preserved : goal.loop-self-preserved
 loop-self-preserved g c =
@@ -42,8 +49,8 @@ loop-self-preserved g c =
     let b = g.P.Port.seen c.loop-self.port in
     let was : DecideNothing longest (room before) before.kept = decide_nothing longest (room before) before.kept (sym c.decide-verdict.ensures.value ∙ c.if-is_clear.ensures.unclear refl) in
     let decides : DecideNothing longest (room mid) mid.kept = subst (λ (r : Reader). DecideNothing longest (room r) r.kept) (sym same) was in
-    let took = c.fill.ensures in
+    let took = c.in_ok-fill.ensures.takes in
     let earlier = subst (λ (r : Reader). Takes longest c.args.self.now r inv.0 false a b) (sym same) inv.1 in
-    let more = Takes-more longest c.args.self.now mid c.fill.new.self c.fill.result took.0 inv.0 a b (g.P.Port.seen c.fill.new.port) earlier took.1 (sym c.if-has_ended.ensures) decides took.2 in
-    let kept : has_failed c.fill.result ≡ false = not_has_failed c.fill.result (not_failed c.fill.result c.in-Bytes.is) in
-    (inv.0 ++ pieces_given c.fill.result took.0, subst (λ f. Takes longest c.args.self.now c.fill.new.self (inv.0 ++ pieces_given c.fill.result took.0) f a (g.P.Port.seen c.fill.new.port)) kept more)
+    let more = Takes-more longest c.args.self.now mid c.fill.new.self c.in_ok-fill.field-0 took.0 inv.0 a b (g.P.Port.seen c.fill.new.port) earlier took.1 (sym c.if-has_ended.ensures) decides took.2 in
+    let kept : has_failed c.in_ok-fill.field-0 ≡ false = not_has_failed c.in_ok-fill.field-0 (not_failed c.in_ok-fill.field-0 c.in-Bytes.is) in
+    (inv.0 ++ pieces_given c.in_ok-fill.field-0 took.0, subst (λ f. Takes longest c.args.self.now c.fill.new.self (inv.0 ++ pieces_given c.in_ok-fill.field-0 took.0) f a (g.P.Port.seen c.fill.new.port)) kept more)

@@ -7,4 +7,4 @@ abbrev pub invariant-loop-self : goal.invariant-loop-self
 invariant-loop-self g l = (pieces : List (List ℕ)) × Takes l.longest l.fn.self l.self pieces false (g.P.Port.seen l.fn.port) (g.P.Port.seen l.port)
 
 abbrev pub decreases-loop-self : goal.decreases-loop-self
-decreases-loop-self g l = distance l.self
+decreases-loop-self g l = distance l.longest l.self

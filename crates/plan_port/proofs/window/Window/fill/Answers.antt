@@ -3,7 +3,6 @@ use Rattle.std.specs.List.{position_or_len, slice_range}
 use Rattle.std.proofs.lemmas.List.{append-nil}
 use Rattle.plan_port.specs.Reading.{ends_line}
 use Rattle.plan_port.specs.Held.{Held}
-use Rattle.plan_port.specs.Limits.{most_line}
 use Rattle.plan_port.proofs.Windows.{lent, below, grown, gives_nothing, empty_range}
 use Rattle.plan_port.proofs.window.Window.fill.Goals as goal
 
@@ -15,7 +14,7 @@ invariant_of-self g c =
     let fits : length into ≡ length d - w.end = omega (arith, c.take-took.auto.into, length-take (length d - w.end) (drop w.end d), length-drop w.end d) in
     let len : w.bytes.len ≡ length w.bytes.items = omega arith in
     let inside : w.end ≤ w.bytes.len = omega arith in
-    let count : w.end + c.in-Bytes.count ≤ most_line + 1 = omega (arith, c.in-Bytes.ensures.once.within) in
+    let count : w.end + c.in-Bytes.count ≤ w.bytes.len = omega (arith, c.in-Bytes.ensures.once.within) in
     let whole = lent w.bytes.items d into w.bytes.len w.end c.deref_mut.ensures.value len inside fits in
     let same = below w.bytes.items into w.start w.searched w.end (length d - w.end) (omega arith) (omega arith) in (
       omega arith,
