@@ -9,3 +9,8 @@ pub mod TurnLemmas
 pub mod EndLemmas
 pub mod FrontLemmas
 pub mod WrapLemmas
+pub mod LeadLemmas
+pub mod PathLemmas
+pub mod InputLemmas
+pub mod GrammarLemmas
+pub mod PairGrammarLemmas

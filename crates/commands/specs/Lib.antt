@@ -9,6 +9,8 @@ pub mod Calls
 pub mod Serves
 pub mod Single
 pub mod Reading
+pub mod Grammars
+pub mod Inputs
 pub mod Asked
 pub mod Pairs
 pub mod Phases

@@ -1,5 +1,6 @@
 -- A text, and after it another. This project's own choice.
-use Rattle.std.specs.Prelude.{ℕ, List}
+use Rattle.std.specs.Prelude.{◌≡◌, ◌⊎◌, ℕ, ◌+◌, List, ◌++◌, length}
+use Rattle.commands.specs.Grammars.{Grammar, Next}
 use Rattle.commands.specs.Reading.{Reader, Outcome, Given, Faulty, reading}
 use Rattle.commands.specs.declared.machines.Stop.{Stop}
 use Rattle.commands.specs.declared.reading.Step.{Step}
@@ -47,3 +48,24 @@ module _ {A V B W F : Type 0} where
     then_reading other (Given value number room rest) =
         with_first value (reading second (record { state = other; number = number; room = room }) rest)
     then_reading other (Faulty fault) = Faulty fault
+
+module _ {V W F : Type 0} (first : Grammar V F) (second : ℕ → Grammar W F) (past : ℕ) where
+  -- the lines divide into a text that declares a value and what stands after it
+  pub record Divides (lines : List (List ℕ)) (value : V) : Type 0 where
+    pub text : List (List ℕ)
+    pub rest : List (List ℕ)
+    pub whole : lines ≡ text ++ rest
+    pub declared : first.declares lines value rest
+
+  -- the grammar of what stands after the first text, which is told how many lines stand before it in the input
+  abbrev pub second_after : {lines : List (List ℕ)} {value : V} → Divides lines value → Grammar W F
+  second_after divided = second (past + length divided.text)
+
+  -- The grammar of a text and another after it: both declare their values, and the faults are those of the first, and, after it, of the
+  -- second.
+  abbrev pub then_grammar : Grammar (V × W) F
+  then_grammar = record {
+    declares = λ lines value rest. (divided : Divides lines value.0) × (second_after divided).declares divided.rest value.1 rest;
+    longest = λ lines longest. first.longest lines longest ⊎ ((value : V) × (divided : Divides lines value) × (second_after divided).longest divided.rest longest);
+    refuses = λ lines next fault. first.refuses lines next fault ⊎ ((value : V) × (divided : Divides lines value) × (second_after divided).refuses divided.rest next fault);
+  }

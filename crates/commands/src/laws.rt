@@ -6,6 +6,7 @@ ghost use Rattle.commands.specs.Runs.{Here, Runs, begins};
 ghost use Rattle.commands.specs.Single.{IsSingle, IsSingleAnswer, IsFront};
 ghost use Rattle.commands.specs.Reading.{reading};
 ghost use Rattle.commands.specs.Asked.{asked_machine, AnswersOutcome};
+ghost use Rattle.commands.specs.Inputs.{AnswersText};
 ghost use Rattle.commands.specs.Pairs.{then_reader, then_reading};
 ghost use Rattle.commands.specs.Phases.{WantsNone, planned_machine, FollowsOutcome};
 ghost use Rattle.commands.specs.Breaks.{WithinReply, WantsMemory, BreaksForMemory};
@@ -16,7 +17,7 @@ use crate::asking::Question;
 use crate::machines::Command;
 use crate::pairs::Then;
 use crate::phases::{Begin, Planned};
-use crate::reading::Text;
+use crate::reading::{InGrammar, Text};
 
 /// A command that has at most one reply has at most one run over an input.
 pub fn single_runs<C: Command>()
@@ -50,6 +51,16 @@ pub fn asked_runs<T: Text, Q: Question<T::Value>>()
         → Runs (asked_machine Q.answers T.reader T.Fault.refusing) (record { question = question; text = text }) input put end
         → AnswersOutcome Q.answers T.reader T.Fault.refusing question (reading T.reader (begins text) (input_lines input)) put end }
 {}
+
+/// A command that reads a text and answers once puts, by the grammar of the text, the answer to what the input declares, or the first
+/// refusal of the input.
+pub fn asked_answers<T: InGrammar, Q: Question<T::Value>>()
+    ensures { (question : Q) (input put : List ℕ) (end : End)
+        → Runs (asked_machine Q.answers T.reader T.Fault.refusing) (record { question = question; text = T.beginning }) input put end
+        → AnswersText (T.grammar 0) T.Fault.refusing (Q.answers question) input put end }
+{
+    T::reads_by_grammar();
+}
 
 /// The reading of a text and another is that of the first, and then that of the second over the lines that are left.
 pub fn pair_reads<A: Text, B: Text<Fault = A::Fault>>()

@@ -18,14 +18,14 @@ pub use answers::Answer;
 pub use asking::{Asked, Question, refuse};
 pub use endings::{End, Status};
 pub use laws::{
-    asked_is_single, asked_runs, asked_wants, broken_runs_are_fronts, pair_reads,
+    asked_answers, asked_is_single, asked_runs, asked_wants, broken_runs_are_fronts, pair_reads,
     planned_is_single, planned_runs, planned_wants, single_runs,
 };
 pub use limits::{LEAST_ROOM, MOST_INPUT, limits_are_defined};
 pub use machines::{Command, Onward, Stop};
 pub use pairs::Then;
 pub use phases::{Begin, Planned};
-pub use reading::{Step, Text};
+pub use reading::{InGrammar, Step, Text};
 pub use refusals::Refusal;
 pub use serving::serve;
 pub use words::Word;

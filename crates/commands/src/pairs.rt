@@ -1,9 +1,10 @@
 //! A text, and after it another.
 
-ghost use Rattle.commands.specs.Pairs.{then_reader};
+ghost use Rattle.commands.specs.Pairs.{then_reader, then_grammar};
+ghost use Rattle.commands.specs.declared.pairs.Then.TheVariants.{First};
 
 use crate::machines::Stop;
-use crate::reading::{Step, Text};
+use crate::reading::{InGrammar, Step, Text};
 use std::alloc::{AllocError, Global};
 
 /// A text, and after it another: how far both were read. The reading begins with the beginnings of both.
@@ -54,5 +55,16 @@ impl<A: Text, B: Text<Fault = A::Fault>> Text for Then<A, A::Value, B> {
             Then::First(text, _) => text.stop(number, stop),
             Then::Second(_, text) => text.stop(number, stop),
         }
+    }
+}
+
+impl<A: InGrammar, B: InGrammar + Text<Fault = A::Fault>> InGrammar for Then<A, A::Value, B> {
+    ghost beginning = { First A.beginning B.beginning };
+
+    ghost grammar = { λ past. then_grammar (A.grammar past) B.grammar past };
+
+    fn reads_by_grammar() {
+        A::reads_by_grammar();
+        B::reads_by_grammar();
     }
 }

@@ -1,7 +1,7 @@
 //! Texts that are read line by line.
 
-ghost use Rattle.std.specs.Prelude.{◌≡◌, ◌≤◌, IfOk};
-ghost use Rattle.plan_port.specs.Limits.{most_line};
+ghost use Rattle.std.specs.Prelude.{◌≡◌, ℕ, IfOk};
+ghost use Rattle.commands.specs.Grammars.{Grammar, ReadsBy};
 ghost use Rattle.commands.specs.Reading.{Reader};
 
 use crate::machines::Stop;
@@ -32,8 +32,7 @@ pub trait Text: Drop {
 
     /// How many bytes the next line may have, its end not among them.
     fn longest(&self) -> u32
-        ensures value { result ≡ reader.longest self.now }
-        ensures held { result ≤ most_line };
+        ensures { result ≡ reader.longest self.now };
 
     /// Reads a line, by its number, from 1, and its bytes. `AllocError` comes only for want of memory.
     fn read_line(
@@ -47,4 +46,17 @@ pub trait Text: Drop {
     /// The fault where no line comes, by the number of the line that was begun.
     fn stop(&self, number: u32, stop: Stop) -> Self::Fault
         ensures { result ≡ reader.stops self.now number stop };
+}
+
+/// A text with its grammar, which knows no reader.
+pub trait InGrammar: Text {
+    /// Before the first line.
+    ghost beginning: { Self };
+
+    /// The grammar, where so many lines stand before the text in the input.
+    ghost grammar: { ℕ → Grammar Self.Value Self.Fault };
+
+    /// The law that the text is read by its grammar, wherever it stands in an input.
+    fn reads_by_grammar()
+        ensures { (past : ℕ) → ReadsBy Self.reader beginning past (grammar past) };
 }

@@ -23,7 +23,8 @@ use Rattle.stnu_run.specs.EventAnswers.{acts_text, due_line}
 use Rattle.stnu_run.specs.EventFaults.{IsNextFault}
 use Rattle.stnu_run.specs.Executing.{executing_machine}
 use Rattle.stnu_run.specs.Faults.{fault_end}
-use Rattle.stnu_run.specs.ToRead.{Come, texts, room_after}
+use Rattle.commands.specs.Inputs.{texts, room_after}
+use Rattle.stnu_run.specs.ToRead.{Come}
 use Rattle.stnu_run.specs.declared.faults.Fault.{Fault}
 use Rattle.stnu_run.specs.declared.faults.Fault.TheVariants.{Format, LineTooLong as LongLine, InputTooMuch as MuchInput}
 use Rattle.stnu_run.proofs.EventLemmas.{at, EndsBy, no_line, too_long, too_much, one_blank, one_feed, one_refused, one_done, one_unfinished, one_fault}

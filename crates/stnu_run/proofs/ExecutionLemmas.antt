@@ -22,6 +22,7 @@ use Rattle.execution_model.specs.Timely.{fed_all}
 use Rattle.execution_model.specs.declared.feeding.Act.{Act}
 use Rattle.execution_model.specs.declared.feeding.Why.{Why}
 use Rattle.execution_model.proofs.StreamLemmas.{done_shows}
+use Rattle.commands.specs.Inputs.{texts, room_after}
 use Rattle.commands.specs.Limits.{most_input}
 use Rattle.commands.specs.Runs.{Run as RunOver}
 use Rattle.commands.specs.declared.endings.End.{End}
@@ -33,7 +34,6 @@ use Rattle.stnu_run.specs.EventFaults.{event_refusal, IsNextFault, HasEventFault
 use Rattle.stnu_run.specs.Executing.{executing_machine}
 use Rattle.stnu_run.specs.ExecutionPromise.{PutsLast, IsRefusedBy, EndsRefused, ExecutionPromise}
 use Rattle.stnu_run.specs.Faults.{fault_end}
-use Rattle.stnu_run.specs.ToRead.{texts, room_after}
 use Rattle.stnu_run.specs.Verdict.{controllable_line}
 use Rattle.stnu_run.specs.declared.faults.Fault.{Fault}
 use Rattle.stnu_run.specs.declared.faults.Fault.TheVariants.{Format, Part, LineTooLong, InputTooMuch}

@@ -1,13 +1,8 @@
 pub mod FaultLemmas
-pub mod PathLemmas
 pub mod NetworkLemmas
-pub mod TextFacts
-pub mod StandingLemmas
-pub mod ReachingLemmas
-pub mod OnceLemmas
-pub mod TextLemmas
-pub mod JudgeLemmas
 pub mod PlanLemmas
+pub mod CertificateLemmas
+pub mod JudgeLemmas
 pub mod VerdictLemmas
 pub mod CauseLemmas
 pub mod FeedingLemmas
@@ -19,7 +14,6 @@ pub mod RefutationLemmas
 pub mod RunOnceLemmas
 pub mod BeginLemmas
 pub mod ReplyLemmas
-pub mod GivenLemmas
 pub mod EventLemmas
 pub mod CourseLemmas
 pub mod DueLemmas

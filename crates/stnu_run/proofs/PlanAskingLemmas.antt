@@ -3,29 +3,29 @@ use Rattle.std.proofs.Common.{ℕ, List, inl, inr}
 use Rattle.texts.specs.Lines.{lines}
 use Rattle.net_model.specs.Network.{Plan, IsPlan}
 use Rattle.commands.specs.Asked.{asked_machine}
+use Rattle.commands.specs.Inputs.{AnswersText, AnswersOrRefuses}
 use Rattle.commands.specs.Runs.{Runs}
 use Rattle.commands.specs.declared.endings.End.{End}
+use Rattle.commands.proofs.InputLemmas.{answers_text}
 use Rattle.stnu_run.specs.Faults.{refusing}
 use Rattle.stnu_run.specs.PlanAsking.{asking}
 use Rattle.stnu_run.specs.PlanText.{plan_begun, plan_reader}
 use Rattle.stnu_run.specs.ToCheck.{plan_grammar}
-use Rattle.stnu_run.specs.ToRead.{AnswersText, AnswersOrRefuses}
 use Rattle.stnu_run.proofs.NetworkLemmas.{declared_sound}
-use Rattle.stnu_run.proofs.PlanLemmas.{plan_by, plan_once}
-use Rattle.stnu_run.proofs.TextLemmas.{answers_text}
+use Rattle.stnu_run.proofs.PlanLemmas.{plan_by}
 
 module _ {Q : Type 0} (answers : Q → Plan → List ℕ → End → Type 0) (question : Q) (puts : Plan → List ℕ → End → Type 0)
     (law : (net : Plan) (put : List ℕ) (end : End) → IsPlan net → answers question net put end → puts net put end) where
-  put_by : (input put : List ℕ) (end : End) → AnswersOrRefuses plan_grammar (answers question) input put end → AnswersOrRefuses plan_grammar puts input put end
+  put_by : (input put : List ℕ) (end : End) → AnswersOrRefuses plan_grammar refusing (answers question) input put end → AnswersOrRefuses plan_grammar refusing puts input put end
   put_by input put end (inl (net, after, is, answered)) = inl (net, after, is, law net put end (declared_sound (lines input) net after is) answered)
   put_by input put end (inr refused) = inr refused
 
   -- where the answer to a network is what is put, a run puts that for the network of the input, or its first refusal
-  pub asked_keeps : (input put : List ℕ) (end : End) → Runs (asked_machine answers plan_reader refusing) (asking question) input put end → AnswersText plan_grammar puts input put end
+  pub asked_keeps : (input put : List ℕ) (end : End) → Runs (asked_machine answers plan_reader refusing) (asking question) input put end → AnswersText plan_grammar refusing puts input put end
   asked_keeps input put end runs =
-      let text = answers_text plan_reader plan_grammar plan_begun plan_by plan_once answers question input put end runs in
+      let text = answers_text plan_reader plan_begun plan_grammar (plan_by 0) answers refusing question input put end runs in
       record {
         answers = put_by input put end text.answers;
-        declared = λ net within. law net put end (declared_sound _ net _ within.declared) (text.declared net within);
+        declared = λ net within. law net put end (declared_sound _ net _ within.declares.declared) (text.declared net within);
         refuses = text.refuses;
       }

@@ -5,19 +5,20 @@ use Rattle.net_model.specs.Network.{Plan, IsPlan}
 use Rattle.net_model.specs.declared.ids.PointId.{PointId}
 use Rattle.closure_model.specs.Tables.{Graph}
 use Rattle.strategy_model.specs.Control.{IsControllable}
-use Rattle.plan_format.specs.PlanNetwork.{DeclaresNetwork}
 use Rattle.cert_format.specs.declared.certificate.Certificate.{Certificate}
 use Rattle.execution_model.specs.Feeding.{started, IsDueAnswer}
 use Rattle.execution_model.specs.Laws.{setting_of, IsDispatchedByClosure}
 use Rattle.execution_model.specs.Streams.{Listing}
 use Rattle.commands.specs.Asked.{AnswersOutcome}
+use Rattle.commands.specs.Inputs.{AnswersOrRefuses, IsFirstRefusal, room_after}
 use Rattle.commands.specs.Limits.{most_input}
 use Rattle.commands.specs.Phases.{FollowsOutcome, GoesOn}
-use Rattle.commands.specs.Reading.{Outcome, Given, Faulty}
+use Rattle.commands.specs.Reading.{Outcome, Given, Faulty, reading}
 use Rattle.commands.specs.Runs.{Run as RunOver, Runs, begins}
 use Rattle.commands.specs.declared.endings.End.{End}
 use Rattle.commands.specs.declared.endings.End.TheVariants as ends
 use Rattle.commands.specs.declared.machines.Onward.{Onward}
+use Rattle.commands.proofs.InputLemmas.{IsGivenAt, OutcomeIs, declared_read, outcome_is, outcome_answered}
 use Rattle.commands.proofs.PhaseLemmas.{run_is}
 use Rattle.stnu_run.specs.Course.{Course}
 use Rattle.stnu_run.specs.Day.{IsWholeDay, IsRefusedDay}
@@ -29,20 +30,21 @@ use Rattle.stnu_run.specs.PlanText.{plan_begun, plan_reader}
 use Rattle.stnu_run.specs.RunPromise.{OpensExecution, plan_opens, RunPromise}
 use Rattle.stnu_run.specs.Running.{run_begins, run_machine, run_start}
 use Rattle.stnu_run.specs.ToCheck.{plan_grammar}
-use Rattle.stnu_run.specs.ToRead.{AnswersOrRefuses, IsFirstRefusal, texts, room_after}
 use Rattle.stnu_run.specs.Verdict.{controllable_line, PutsRefuted, IsCertificateOf}
 use Rattle.stnu_run.specs.declared.faults.Fault.{Fault}
 use Rattle.stnu_run.proofs.DayLemmas.{ExecutionLaws}
 use Rattle.stnu_run.proofs.DueLemmas.{due_answered}
 use Rattle.stnu_run.proofs.EventLemmas.{at}
 use Rattle.stnu_run.proofs.ExecutionLemmas.{IsOpened, Lasts, lasts, execution_keeps, whole_by, refused_so, fault_so, fault_not}
-use Rattle.stnu_run.proofs.GivenLemmas.{outcome_of, IsGivenAt, is_given, declared_given}
 use Rattle.stnu_run.proofs.NetworkLemmas.{declared_sound}
-use Rattle.stnu_run.proofs.PlanLemmas.{plan_by, plan_once}
-use Rattle.stnu_run.proofs.TextLemmas.{OutcomeIs, outcome_is, outcome_answered}
+use Rattle.stnu_run.proofs.PlanLemmas.{plan_by}
 use Rattle.stnu_run.proofs.VerdictLemmas.{Laws, certificate_accepted}
 
 -- ---- what follows on the reading of a plan
+-- what the reading of the plan of an input comes to
+abbrev outcome_of : List InputLine → Outcome Plan Fault
+outcome_of lines = reading plan_reader (begins plan_begun) lines
+
 -- how a run follows on what the reading of its plan came to
 abbrev Follows : Outcome Plan Fault → List ℕ → End → Type 0
 Follows outcome put end = FollowsOutcome run_begins plan_reader refusing executing_machine tt outcome put end
@@ -126,20 +128,17 @@ module _ (verdict : Laws) (laws : ExecutionLaws) where
           inl (opened.controllable, (opened.due, opened.more, first, opened.all))
       by (inr refuted) = inr (refuted.never, (refuted.cert, certificate_accepted verdict net (record { sound = plan }) refuted.cert refuted.of, refuted.puts))
 
-  opens_text : (input put : List ℕ) (end : End) → AnswersOrRefuses plan_grammar Begins input put end → AnswersOrRefuses plan_grammar OpensExecution input put end
+  opens_text : (input put : List ℕ) (end : End) → AnswersOrRefuses plan_grammar refusing Begins input put end → AnswersOrRefuses plan_grammar refusing OpensExecution input put end
   opens_text input put end (inl (net, after, is, begins)) = inl (net, after, is, opens_by net (declared_sound (lines input) net after is) put end begins)
   opens_text input put end (inr refused) = inr refused
 
   module _ (input put : List ℕ) (end : End) (follows : Follows (outcome_of (input_lines input)) put end) where
     -- lines of a plan of a controllable network open its execution
     leads : (used rest : List InputLine) (net : Plan) (before : List ℕ) → input_lines input ≡ used ++ rest → plan_opens used rest net before → IsControllable net → IsOpened net used rest before put end
-    leads used rest net before divided (come, declared, nothing) controls = by (opened_or net (length used) (room_after most_input used) rest put end here)
+    leads used rest net before divided (declares, nothing) controls = by (opened_or net (length used) (room_after most_input used) rest put end here)
       where
-        declares : DeclaresNetwork (texts (input_lines input)) net (texts rest)
-        declares = subst (λ (ls : List InputLine). DeclaresNetwork (texts ls) net (texts rest)) (sym divided) declared
-
         here : Follows (Given net (length used) (room_after most_input used) rest) put end
-        here = subst (λ (o : Outcome Plan Fault). Follows o put end) (declared_given (input_lines input) used rest net divided come declares) follows
+        here = subst (λ (o : Outcome Plan Fault). Follows o put end) (declared_read plan_reader plan_begun plan_grammar (plan_by 0) (input_lines input) used rest net divided declares) follows
 
         by : Opened net (length used) (room_after most_input used) rest put end ⊎ RefutedSo net put end → IsOpened net used rest before put end
         by (inl opened) = opened_after net used rest before put end nothing opened
@@ -152,18 +151,17 @@ module _ (verdict : Laws) (laws : ExecutionLaws) where
       lasted : Lasts laws plan_opens (input_lines input) put end → Ending
 
     how_ended : Ending
-    how_ended = by (outcome_of (input_lines input)) refl follows (outcome_is plan_reader plan_grammar plan_begun plan_by plan_once (input_lines input))
+    how_ended = by (outcome_of (input_lines input)) refl follows (outcome_is plan_reader plan_begun plan_grammar (plan_by 0) (input_lines input))
       where
-        opens : (net : Plan) (number room : ℕ) (rest : List InputLine) → IsGivenAt (input_lines input) net number room rest → Opened net number room rest put end ⊎ RefutedSo net put end → Ending
+        opens : (net : Plan) (number room : ℕ) (rest : List InputLine) → IsGivenAt plan_reader plan_begun plan_grammar (plan_by 0) (input_lines input) net number room rest → Opened net number room rest put end ⊎ RefutedSo net put end → Ending
         opens net number room rest given (inl opening) =
-            let declared = subst (λ (ls : List InputLine). DeclaresNetwork (texts ls) net (texts rest)) given.divided given.declared in
             let opened = subst (λ (n : ℕ). Opened net n (room_after most_input given.used) rest put end) given.counted (subst (λ (r : ℕ). Opened net number r rest put end) given.left opening) in
-            lasted (lasts laws plan_opens (input_lines input) given.used rest net [] put end given.divided (given.come, declared, refl) (opened_after net given.used rest [] put end refl opened))
+            lasted (lasts laws plan_opens (input_lines input) given.used rest net [] put end given.divided (given.declares, refl) (opened_after net given.used rest [] put end refl opened))
         opens net number room rest given (inr refuted) = refuted_network refuted.puts.1
 
         by : (outcome : Outcome Plan Fault) → outcome_of (input_lines input) ≡ outcome → Follows outcome put end
-            → OutcomeIs plan_reader plan_grammar plan_begun plan_by plan_once (input_lines input) outcome → Ending
-        by (Given net number room rest) comes on is = opens net number room rest (is_given (input_lines input) net number room rest comes) (opened_or net number room rest put end on)
+            → OutcomeIs plan_reader plan_begun plan_grammar (plan_by 0) (input_lines input) outcome → Ending
+        by (Given net number room rest) comes on is = opens net number room rest is (opened_or net number room rest put end on)
         by (Faulty fault) comes on is = refused_text fault is on.1
 
     completes_by : end ≡ ends.Done → (net : Plan) × (listings : List Listing) × IsWholeDay plan_opens (input_lines input) net listings
@@ -199,11 +197,11 @@ module _ (verdict : Laws) (laws : ExecutionLaws) where
   pub run_keeps : (run : Unit {0}) (input put : List ℕ) (end : End) → Runs run_machine (run_start run) input put end → RunPromise input put end
   run_keeps run input put end runs =
       let follows = run_is run_begins plan_reader refusing executing_machine tt (begins plan_begun) (input_lines input) put end runs in
-      let text = outcome_answered plan_reader plan_grammar plan_begun plan_by plan_once begins_answers tt input put end (follows_answered (outcome_of (input_lines input)) put end follows) in
+      let text = outcome_answered plan_reader plan_begun plan_grammar (plan_by 0) begins_answers refusing tt input put end (follows_answered (outcome_of (input_lines input)) put end follows) in
       record {
         opens = record {
           answers = opens_text input put end text.answers;
-          declared = λ net is. opens_by net (declared_sound _ net _ is.declared) put end (text.declared net is);
+          declared = λ net is. opens_by net (declared_sound _ net _ is.declares.declared) put end (text.declared net is);
           refuses = text.refuses;
         };
         execution = execution_keeps laws plan_opens (input_lines input) put end (leads input put end follows);

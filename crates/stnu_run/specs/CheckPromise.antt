@@ -3,17 +3,17 @@ use Rattle.std.specs.Prelude.{◌≡◌, ◌⊎◌, ℕ, List, ◌++◌}
 use Rattle.texts.specs.Lines.{lines}
 use Rattle.net_model.specs.Network.{Plan}
 use Rattle.strategy_model.specs.Control.{IsControllable}
-use Rattle.plan_format.specs.PlanNetwork.{DeclaresNetwork}
 use Rattle.cert_format.specs.declared.certificate.Certificate.{Certificate}
 use Rattle.cert_checker.specs.Judgement.{judgement_of}
 use Rattle.cert_checker.specs.declared.judgement.Claim.TheVariants.{NotControllable}
 use Rattle.cert_checker.specs.declared.judgement.Judgement.TheVariants.{Accepted}
+use Rattle.commands.specs.Inputs.{AnswersText}
 use Rattle.commands.specs.declared.endings.End.{End}
 use Rattle.stnu_run.specs.Checking.{check_answers}
+use Rattle.stnu_run.specs.Faults.{refusing}
 use Rattle.stnu_run.specs.PlanAsking.{plan_program}
 use Rattle.stnu_run.specs.Programs.{Program}
 use Rattle.stnu_run.specs.ToCheck.{plan_grammar}
-use Rattle.stnu_run.specs.ToRead.{AnswersText}
 use Rattle.stnu_run.specs.Verdict.{controllable_line, refuted_line, PutsControllable, PutsRefuted}
 
 -- The verdict of a network is put: that it is controllable, and it is; or that it is not, and it is not, and a certificate that the
@@ -27,9 +27,9 @@ PutsVerdict net put end =
 -- `controllable`: where it puts that a network is controllable, the network that the input declares is. `refutes`: where it puts that
 -- one is not, the network that the input declares is not.
 pub record CheckPromise (input put : List ℕ) (end : End) : Type 0 where
-  pub checks : AnswersText plan_grammar PutsVerdict input put end
-  pub controllable : put ≡ controllable_line → (net : Plan) (rest : List (List ℕ)) → DeclaresNetwork (lines input) net rest → IsControllable net
-  pub refutes : (more : List ℕ) → put ≡ refuted_line ++ more → (net : Plan) (rest : List (List ℕ)) → DeclaresNetwork (lines input) net rest → ¬ IsControllable net
+  pub checks : AnswersText plan_grammar refusing PutsVerdict input put end
+  pub controllable : put ≡ controllable_line → (net : Plan) (rest : List (List ℕ)) → plan_grammar.declares (lines input) net rest → IsControllable net
+  pub refutes : (more : List ℕ) → put ≡ refuted_line ++ more → (net : Plan) (rest : List (List ℕ)) → plan_grammar.declares (lines input) net rest → ¬ IsControllable net
 
 -- the program of `check`
 abbrev pub check_program : Unit {0} → Program

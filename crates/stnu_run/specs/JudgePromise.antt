@@ -4,14 +4,15 @@ use Rattle.texts.specs.Lines.{lines}
 use Rattle.texts.specs.Printing.{printed_line}
 use Rattle.net_model.specs.Network.{Plan}
 use Rattle.strategy_model.specs.Control.{IsControllable}
-use Rattle.plan_format.specs.PlanNetwork.{DeclaresNetwork}
 use Rattle.cert_format.specs.declared.certificate.Certificate.{Certificate}
 use Rattle.cert_checker.specs.Judgement.{judgement_of}
+use Rattle.commands.specs.Inputs.{AnswersText}
 use Rattle.commands.specs.declared.endings.End.{End}
+use Rattle.stnu_run.specs.Faults.{refusing}
 use Rattle.stnu_run.specs.Judging.{judgement_line, judgement_end, judge_machine, judge_start}
 use Rattle.stnu_run.specs.Programs.{Program, or_nothing, serves}
+use Rattle.stnu_run.specs.ToCheck.{plan_grammar}
 use Rattle.stnu_run.specs.ToJudge.{judge_grammar}
-use Rattle.stnu_run.specs.ToRead.{AnswersText}
 use Rattle.stnu_run.specs.declared.judging.Judge.{Judge}
 
 -- the judgement of a certificate of a network is put
@@ -22,8 +23,8 @@ PutsJudgement value put end = (put ≡ judgement_line (judgement_of value.0 valu
 -- refusal of the input. `excludes`: where it puts that a certificate is accepted, no strategy controls the network that the input
 -- declares.
 pub record JudgePromise (input put : List ℕ) (end : End) : Type 0 where
-  pub judges : AnswersText judge_grammar PutsJudgement input put end
-  pub excludes : put ≡ printed_line (codes "accepted not controllable" ∷ []) → (net : Plan) (rest : List (List ℕ)) → DeclaresNetwork (lines input) net rest → ¬ IsControllable net
+  pub judges : AnswersText judge_grammar refusing PutsJudgement input put end
+  pub excludes : put ≡ printed_line (codes "accepted not controllable" ∷ []) → (net : Plan) (rest : List (List ℕ)) → plan_grammar.declares (lines input) net rest → ¬ IsControllable net
 
 -- the program of `judge`
 abbrev pub judge_program : Judge → Program

@@ -3,13 +3,12 @@ use Rattle.std.specs.Prelude.{◌≡◌, ◌⊎◌, ℕ, List, [], ◌++◌, Opt
 use Rattle.texts.specs.Lines.{input_lines}
 use Rattle.net_model.specs.Network.{Plan}
 use Rattle.strategy_model.specs.Control.{IsControllable}
-use Rattle.plan_format.specs.PlanNetwork.{DeclaresNetwork}
 use Rattle.cert_format.specs.declared.certificate.Certificate.{Certificate}
 use Rattle.cert_checker.specs.Judgement.{judgement_of}
 use Rattle.cert_checker.specs.declared.judgement.Claim.TheVariants.{NotControllable}
 use Rattle.cert_checker.specs.declared.judgement.Judgement.TheVariants.{Accepted}
 use Rattle.execution_model.specs.Streams.{Listing}
-use Rattle.commands.specs.Limits.{most_input}
+use Rattle.commands.specs.Inputs.{AnswersText, DeclaresBy, IsFirstRefusal}
 use Rattle.commands.specs.declared.endings.End.{End}
 use Rattle.commands.specs.declared.endings.End.TheVariants as ends
 use Rattle.stnu_run.specs.Day.{Opening, IsWholeDay, IsRefusedDay}
@@ -17,10 +16,10 @@ use Rattle.stnu_run.specs.Due.{AnswersDue}
 use Rattle.stnu_run.specs.EventAnswers.{due_line}
 use Rattle.stnu_run.specs.EventFaults.{HasEventFault}
 use Rattle.stnu_run.specs.ExecutionPromise.{ExecutionPromise}
+use Rattle.stnu_run.specs.Faults.{refusing}
 use Rattle.stnu_run.specs.Programs.{Program, or_nothing, serves}
 use Rattle.stnu_run.specs.Running.{run_machine, run_start}
 use Rattle.stnu_run.specs.ToCheck.{plan_grammar}
-use Rattle.stnu_run.specs.ToRead.{AnswersText, IsFirstRefusal, Come, texts}
 use Rattle.stnu_run.specs.Verdict.{controllable_line, PutsRefuted}
 use Rattle.stnu_run.specs.declared.faults.Fault.{Fault}
 
@@ -33,14 +32,14 @@ OpensExecution net put end =
 
 -- what opens an execution of `run`: the lines of a plan, which all come within the limits; nothing is put before
 abbrev pub plan_opens : Opening
-plan_opens used rest net before = Come most_input used × DeclaresNetwork (texts (used ++ rest)) net (texts rest) × (before ≡ [])
+plan_opens used rest net before = DeclaresBy plan_grammar used rest net × (before ≡ [])
 
 -- What `run` promises. `opens`: it opens the execution of the network that the input declares, or puts the first refusal of the input.
 -- `execution`: what is promised of an execution that is opened so. `completes`: only for a controllable network and a faithful stream that is done
 -- does it end as whole. `refused`: only where a line tells what no faithful stream does does it end by a refused event. `faults`: only where the
 -- input has a first refusal, or its lines of events a fault, does it end by one.
 pub record RunPromise (input put : List ℕ) (end : End) : Type 0 where
-  pub opens : AnswersText plan_grammar OpensExecution input put end
+  pub opens : AnswersText plan_grammar refusing OpensExecution input put end
   pub execution : ExecutionPromise plan_opens (input_lines input) put end
   pub completes : end ≡ ends.Done → (net : Plan) × (listings : List Listing) × IsWholeDay plan_opens (input_lines input) net listings
   pub refused : end ≡ ends.EventRefused → IsRefusedDay plan_opens (input_lines input)

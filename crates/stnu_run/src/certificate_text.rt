@@ -3,10 +3,11 @@
 ghost use Rattle.std.specs.Prelude.{◌≡◌};
 ghost use Rattle.cert_format.specs.CertificateGrammar.{certificate_of};
 ghost use Rattle.stnu_run.specs.CertificateTexts.{certificate_reader, certificate_begun};
+ghost use Rattle.stnu_run.specs.ToJudge.{certificate_texts};
 
 use crate::faults::{Fault, stop_fault};
 use cert_format::{CertReader, CertText, Certificate};
-use commands::{Step, Stop, Text};
+use commands::{InGrammar, Step, Stop, Text};
 use net_model::WordFault;
 use plan_port::MOST_LINE;
 use std::alloc::{AllocError, Global};
@@ -63,4 +64,12 @@ impl Text for CertificateText {
     fn stop(&self, number: u32, stop: Stop) -> Fault {
         stop_fault(number, stop, self.reader.missing())
     }
+}
+
+impl InGrammar for CertificateText {
+    ghost beginning = { certificate_begun };
+
+    ghost grammar = { certificate_texts };
+
+    fn reads_by_grammar() {}
 }

@@ -2,12 +2,13 @@
 
 ghost use Rattle.std.specs.Prelude.{◌≡◌, ℕ, List};
 ghost use Rattle.net_model.specs.Network.{Plan, IsPlan};
+ghost use Rattle.commands.specs.Inputs.{AnswersText};
 ghost use Rattle.commands.specs.Single.{IsSingleAnswer};
 ghost use Rattle.commands.specs.declared.endings.End.{End};
+ghost use Rattle.stnu_run.specs.Faults.{refusing};
 ghost use Rattle.stnu_run.specs.PlanAsking.{asking};
 ghost use Rattle.stnu_run.specs.Programs.{or_nothing};
 ghost use Rattle.stnu_run.specs.ToCheck.{plan_grammar};
-ghost use Rattle.stnu_run.specs.ToRead.{AnswersText};
 
 use crate::plan_text::PlanText;
 use crate::promising::Promising;
@@ -30,7 +31,7 @@ pub trait PlanQuestion: Question<Network> + Request {
 
     /// The law that the promise is kept where the network of an input is answered so, or its first refusal is put.
     fn answers_keep_it()
-        ensures { (question : Self) (input put : List ℕ) (end : End) → AnswersText plan_grammar (puts question) input put end → promised question input put end };
+        ensures { (question : Self) (input put : List ℕ) (end : End) → AnswersText plan_grammar refusing (puts question) input put end → promised question input put end };
 
     /// The law that a network has at most one answer.
     fn answers_once()

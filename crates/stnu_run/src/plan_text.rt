@@ -3,9 +3,10 @@
 ghost use Rattle.std.specs.Prelude.{◌≡◌, [], IfOk};
 ghost use Rattle.net_model.specs.Building.{built};
 ghost use Rattle.stnu_run.specs.PlanText.{plan_reader, plan_begun, built_step};
+ghost use Rattle.stnu_run.specs.ToCheck.{plan_texts};
 
 use crate::faults::{Fault, stop_fault};
-use commands::{Step, Stop, Text};
+use commands::{InGrammar, Step, Stop, Text};
 use net_model::{Network, WordFault};
 use plan_format::{DeclarationFault, PlanLine, PlanReader};
 use plan_port::MOST_LINE;
@@ -69,4 +70,12 @@ impl Text for PlanText {
     fn stop(&self, number: u32, stop: Stop) -> Fault {
         stop_fault(number, stop, self.reader.missing())
     }
+}
+
+impl InGrammar for PlanText {
+    ghost beginning = { plan_begun };
+
+    ghost grammar = { plan_texts };
+
+    fn reads_by_grammar() {}
 }
