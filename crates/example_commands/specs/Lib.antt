@@ -1,3 +1,4 @@
 pub mod Counting
+pub mod Document
 pub mod Tally
 pub mod Desk

@@ -2,6 +2,7 @@
 
 use crate::counting::{Counting, HowMany, HowManyEach};
 use crate::desk::Desk;
+use crate::document::{Document, HowLarge};
 use crate::tally::{FromCount, Tally};
 use commands::{Asked, Planned, Status, Then, serve};
 use plan_port::MemoryPort;
@@ -31,6 +32,8 @@ tally|counts/|0|0|0|error no-title 1/|3
 desk|a/b/go/x/stop/|0|0|0|kept 1/kept 2/from 2/at 2 4/|0
 desk|a/go/x/|1|0|0|kept 1/from 1/at 1 3/error no-stop 4/|3
 desk|a/b|1|0|0|kept 1/kept 2/error no-go 3/|3
+document|abc/de/end/|0|0|0|left 99995/|0
+document|abc/de|1|0|0|error no-end/|3
 each|count/end/count/a/end/|1|0|0|lines 2 5/|0
 each|count/end/counts/|0|0|0|error no-title 3/|3
 each|count/end/count/|0|0|0|error no-end 4/|3";
@@ -90,6 +93,15 @@ fn run(rt: &(impl Threads + Sync), alloc: Global, row: &Row<'_>, port: &mut Memo
             },
             port,
         ),
+        "document" => serve(
+            rt,
+            alloc,
+            Asked {
+                question: HowLarge,
+                text: Document::new(),
+            },
+            port,
+        ),
         "each" => serve(
             rt,
             alloc,
@@ -125,6 +137,59 @@ fn check(rt: &(impl Abort + Threads + Sync), alloc: Global, line: &str) -> Resul
 fn rows_are_answered(rt: HostRuntime) -> Result<(), Fail> {
     for line in ROWS.split('\n') {
         check(&rt, rt.alloc(), line)?;
+    }
+    Ok(())
+}
+
+// Each row: how many bytes the lines of a document have before `end`, how many bytes each take gives at most, what is put, and the exit
+// status.
+const LONG_ROWS: &str = "\
+70000|0|left 30000/|0
+60000 39000|4096|left 1000/|0
+65537|1|left 34463/|0
+99997|0|left 3/|0
+99998|0|error too-large/|4
+100001|0|error too-large/|4
+60000 40001|7000|error too-large/|4";
+
+/// The input of a row.
+fn document_of(alloc: Global, sizes: &str) -> Result<Vec<u8>, AllocError> {
+    let mut input = Vec::new(alloc);
+    for size in sizes.split(' ') {
+        input.resize(input.len() + number(size) as usize, b'x')?;
+        input.push(b'\n')?;
+    }
+    input.extend_from_slice(b"end\n")?;
+    Ok(input)
+}
+
+fn check_document(
+    rt: &(impl Abort + Threads + Sync),
+    alloc: Global,
+    line: &str,
+) -> Result<(), Fail> {
+    let mut words = line.split('|');
+    let sizes = words.next().ok_or("not a row")?;
+    let cuts = vec![in alloc; number(words.next().unwrap_or("")); 64]?;
+    let output = bytes_of(alloc, words.next().unwrap_or(""))?;
+    let status = number(words.next().unwrap_or(""));
+    let input = document_of(alloc, sizes)?;
+    let mut port = MemoryPort::new(alloc, input, cuts, Vec::new(alloc), Vec::new(alloc));
+    let text = Document::new();
+    let asked = Asked {
+        question: HowLarge,
+        text,
+    };
+    let ended = serve(rt, alloc, asked, &mut port);
+    assert_eq!(rt; port.written(), output.as_slice(), "{line}");
+    assert_eq!(rt; u32::from(ended.number()), status, "{line}");
+    Ok(())
+}
+
+#[test]
+fn long_documents_are_answered(rt: HostRuntime) -> Result<(), Fail> {
+    for line in LONG_ROWS.split('\n') {
+        check_document(&rt, rt.alloc(), line)?;
     }
     Ok(())
 }
