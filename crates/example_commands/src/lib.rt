@@ -1,5 +1,5 @@
-//! Examples of commands: a text, a question about it, a text whose lines have a limit together, a phase that begins from it and wants no memory, and a command that
-//! answers lines before it serves that phase. The tests run them over ports.
+//! Examples of commands: a text, a question about it, a text whose lines have a limit together, a phase that begins from it and wants no
+//! memory, and a command that answers lines before it serves that phase. The tests run them over ports.
 #![tactic(auto)]
 
 mod counting;
