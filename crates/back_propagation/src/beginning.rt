@@ -118,13 +118,13 @@ fn queue_begun_slot(
     requires before { IsBegunTo table.now target fresh.now place queue.old }
     ensures { OnOk result (IsBegunTo table.now target fresh.now (place + 1) queue.new) }
 {
-    let slot = slots[place];
+    let slot = &slots[place];
     let at = Column {
         width,
         column: place % width,
     };
-    if is_begun_with(slots, table, target, &slot, at, fresh) {
-        queue_slot(queue, place, &slot)?;
+    if is_begun_with(slots, table, target, slot, at, fresh) {
+        queue_slot(queue, place, slot)?;
     }
     Ok(())
 }

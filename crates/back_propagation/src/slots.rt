@@ -22,7 +22,7 @@ pub(crate) fn first_slots(
     requires labels { labels.now ≡ labels_at table.now.shape target }
     ensures { IfOk result (λ slots. slots.items ≡ first_slots table.now target) }
 {
-    let mut slots = Vec::new(alloc);
+    let mut slots = Vec::with_capacity(alloc, points as usize)?;
     let mut rest = table.entries(target);
     for from in 0..points {
         rest = push_slots(&mut slots, table, rest, PointId(from), target, labels)?;
