@@ -1,16 +1,16 @@
 -- What a row begins with, told which ordinary edges are fresh. This project's own choice.
-use Rattle.std.specs.Prelude.{◌≡◌, ◌&&◌, ◌<◌, ℕ, ℤ, not, Bool, true, false, List, slice_get, Some, if◌then◌else◌}
+use Rattle.std.specs.Prelude.{◌≡◌, ◌&&◌, ◌<◌, ℕ, ℤ, not, Bool, true, false, List, length, slice_get, Some, if◌then◌else◌}
 use Rattle.std.specs.List.{Contains, flat_map, list_any}
 use Rattle.std.specs.Option.{option_map_or}
-use Rattle.net_model.specs.Network.{Plan}
+use Rattle.net_model.specs.Network.{Plan, IsPlan, IsPoint}
 use Rattle.net_model.specs.Rules.{is_negative, joined_weight}
 use Rattle.net_model.specs.declared.ids.PointId.{PointId}
 use Rattle.net_model.specs.declared.part.Edge.{Edge}
-use Rattle.closure_model.specs.ReferenceRow.{from_first, consequences, edge_in, first_slots}
-use Rattle.closure_model.specs.Tables.{Graph, IsGraph, has_at_most}
+use Rattle.closure_model.specs.ReferenceRow.{from_first, consequences, edge_in, first_slots, HasWeightsWithin}
+use Rattle.closure_model.specs.Tables.{Graph, IsFor, IsGraph, has_at_most}
 use Rattle.closure_model.specs.declared.rows.Made.{Made}
 use Rattle.closure_model.specs.declared.rows.Slot.{Slot}
-use Rattle.closure_model.specs.FreshEdges.{fresh_at}
+use Rattle.closure_model.specs.FreshEdges.{fresh_at, AreOfTable, IsMetBut}
 use Rattle.back_propagation.specs.Offering.{width_of}
 use Rattle.back_propagation.specs.Queued.{IsWaiting}
 
@@ -44,6 +44,17 @@ pub record IsFirstRow (table : Graph) (to : PointId) (slots : List Slot) (width 
   pub sound : IsGraph table
   pub first : slots ≡ first_slots table to
   pub wide : width ≡ width_of table.shape to
+
+-- a row against a table that is met but for fresh edges, which are edges of the table
+pub record IsToldRow (net : Plan) (table : Graph) (to : PointId) (firsts : List (List Edge)) : Type 0 where
+  pub plan : IsPlan net
+  pub fits : IsFor net table
+  pub sound : IsGraph table
+  pub target : IsPoint net to
+  pub within : HasWeightsWithin net table
+  pub count : length firsts ≡ length net.points
+  pub fresh : AreOfTable table firsts
+  pub met : IsMetBut net table to firsts
 
 -- what is offered when a slot is settled: all that follows where it fell, and else what follows with the fresh edges
 abbrev pub what_follows : Plan → Graph → List (List Edge) → Bool → Edge → List Made

@@ -4,7 +4,7 @@ ghost use Rattle.net_model.specs.Network.{IsPlan, IsPoint};
 ghost use Rattle.closure_model.specs.ReferenceRow.{first_slots, reference_row, offered, from_first, IsRowOf, HasWeightsWithin, IsWithin};
 ghost use Rattle.closure_model.specs.Tables.{IsFor, IsGraph};
 ghost use Rattle.closure_model.specs.FreshEdges.{fresh_at, AreOfTable, IsMetBut};
-ghost use Rattle.back_propagation.specs.Begun.{begun, what_follows};
+ghost use Rattle.back_propagation.specs.Begun.{begun, what_follows, IsToldRow};
 ghost use Rattle.back_propagation.specs.Offering.{IsRowAgainst, IsOfRow};
 ghost use Rattle.back_propagation.specs.Queued.{IsQueued, KeepsQueued};
 
@@ -56,14 +56,7 @@ fn made_after(
     target: PointId,
     fresh: &[Items<Edge>],
 ) -> Result<Vec<Made>, AllocError>
-    requires plan { IsPlan net.now }
-    requires sound { IsGraph table.now }
-    requires fits { IsFor net.now table.now }
-    requires target { IsPoint net.now target }
-    requires within { HasWeightsWithin net.now table.now }
-    requires count { length fresh.now ≡ length net.now.points }
-    requires fresh { AreOfTable table.now fresh.now }
-    requires met { IsMetBut net.now table.now target fresh.now }
+    requires { IsToldRow net.now table.now target fresh.now }
     ensures { IfOk result (λ made. made.items ≡ reference_row net.now table.now target) }
 {
     if begins(table, target, fresh) {
@@ -81,14 +74,7 @@ fn made_begun(
     target: PointId,
     fresh: &[Items<Edge>],
 ) -> Result<Vec<Made>, AllocError>
-    requires plan { IsPlan net.now }
-    requires sound { IsGraph table.now }
-    requires fits { IsFor net.now table.now }
-    requires target { IsPoint net.now target }
-    requires within { HasWeightsWithin net.now table.now }
-    requires count { length fresh.now ≡ length net.now.points }
-    requires fresh { AreOfTable table.now fresh.now }
-    requires met { IsMetBut net.now table.now target fresh.now }
+    requires { IsToldRow net.now table.now target fresh.now }
     ensures { IfOk result (λ made. made.items ≡ reference_row net.now table.now target) }
 {
     let labels = net.links_from(alloc, target)?;

@@ -7,6 +7,18 @@ use Rattle.closure_model.proofs.RowLaw.{rows_are_least}
 use Rattle.closure_model.proofs.RowRun.{row_within}
 use Rattle.back_propagation.proofs.begun.row_after.Goals as goal
 
+pub made_after-requires : goal.made_after-requires
+made_after-requires c = record {
+  plan = c.points.ensures.sound;
+  fits = c.requires.fits;
+  sound = c.weight.ensures.sound;
+  target = c.requires.target;
+  within = c.requires.within;
+  count = c.requires.count;
+  fresh = c.requires.fresh;
+  met = c.requires.met;
+}
+
 pub returns-clause-least : goal.returns-clause-least
 returns-clause-least c =
     subst (IsRowOf c.args.net.now c.args.table.now c.args.target) (sym (c.new.ensures ∙ c.in_ok-made.ensures))
