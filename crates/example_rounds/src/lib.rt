@@ -10,6 +10,8 @@ mod dispatches;
 #[cfg(test)]
 mod networks;
 #[cfg(test)]
+mod orders;
+#[cfg(test)]
 mod reductions;
 #[cfg(test)]
 mod rounds;
