@@ -16,6 +16,8 @@ mod reductions;
 #[cfg(test)]
 mod rounds;
 #[cfg(test)]
+mod staleness;
+#[cfg(test)]
 mod tables;
 #[cfg(test)]
 mod workers;

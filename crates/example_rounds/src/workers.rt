@@ -118,7 +118,7 @@ fn try_held<R: Threads + Sync + Abort>(
 }
 
 /// The base table of a network.
-fn base(alloc: Global, net: &Network) -> Result<Table, Fail>
+pub(crate) fn base(alloc: Global, net: &Network) -> Result<Table, Fail>
     ensures fits { IfOk result (λ table. IsFor net.now table) }
     ensures within { IfOk result (λ table. HasWeightsWithin net.now table) }
 {

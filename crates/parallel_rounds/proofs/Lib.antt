@@ -1,5 +1,9 @@
 pub mod AddingSteps
 pub mod GatherSteps
+pub mod Rising
 pub mod InOrder
+pub mod StaleSteps
+pub mod FreshSteps
+pub mod LastSteps
 pub mod RoundsSteps
 pub mod WorkSteps

@@ -1,5 +1,7 @@
 pub mod Adding
 pub mod Propagated
 pub mod Rows
+pub mod Targets
+pub mod Telling
 pub mod Working
 pub mod Gathering

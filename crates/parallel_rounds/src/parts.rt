@@ -8,25 +8,28 @@ ghost use Rattle.closure_model.specs.ReferenceRow.{HasWeightsWithin};
 ghost use Rattle.closure_model.specs.Tables.{IsFor, Graph};
 ghost use Rattle.work_board.specs.Boards.{IsSeatOf};
 ghost use Rattle.parallel_rounds.specs.Gathering.{CanMakeRows, IsFresh, IsFirst, AreSeats, IsPart, IsPartOf, HasRows, AreParts, AllHaveRows};
+ghost use Rattle.parallel_rounds.specs.Telling.{CanTell};
 ghost use Rattle.work_board.specs.Views.{joined_with};
 
 use crate::gate::Gate;
-use crate::working::work;
+use crate::working::draw_rows;
 use back_propagation::NewRow;
 use labelled_graph::Table;
-use net_model::{Network, PointId};
+use net_model::{Edge, Items, Network, PointId};
 use std::alloc::{AllocError, Global};
 use std::thread::{Threads, map_vec};
 use work_board::{Board, Seat};
 
 /// What the workers of a round share: the targets whose rows they make, the table against which and the network for which they make
-/// them, and the gate before each row.
+/// them, the gate before each row, and whether it is told which edges are fresh, by the points in which they end.
 #[derive(Drop)]
 pub(crate) struct Task<'a, G> {
     pub(crate) targets: &'a [PointId],
     pub(crate) table: &'a Table,
     pub(crate) net: &'a Network,
     pub(crate) gate: &'a G,
+    pub(crate) told: bool,
+    pub(crate) fresh: &'a [Items<Edge>],
 }
 
 /// The rows that a worker made, with its seat.
@@ -64,17 +67,10 @@ fn make_part<G: Gate>(
 ) -> Result<Part, AllocError>
     requires can { CanMakeRows task.now.net.now task.now.table.now task.now.targets.now board.now }
     requires fresh { IsFresh board.now seat }
+    requires told { CanTell task.now.net.now task.now.table.now task.now.told task.now.fresh.now }
     ensures { IfOk result (IsPartOf task.now.net.now task.now.table.now task.now.targets.now board.now seat) }
 {
-    let rows = work(
-        alloc,
-        board,
-        &mut seat,
-        task.targets,
-        task.table,
-        task.net,
-        task.gate,
-    )?;
+    let rows = draw_rows(alloc, board, &mut seat, task)?;
     Ok(Part { seat, rows })
 }
 
@@ -88,6 +84,7 @@ pub(crate) fn all_parts<R: Threads + Sync, G: Gate>(
 ) -> Result<Vec<Result<Part, AllocError>>, AllocError>
     requires can { CanMakeRows task.now.net.now task.now.table.now task.now.targets.now board.now }
     requires seats { AreSeats board.now seats.items }
+    requires told { CanTell task.now.net.now task.now.table.now task.now.told task.now.fresh.now }
     ensures parts { IfOk result (λ parts. AreParts board.now parts.items) }
     ensures rows { IfOk result (λ parts. AllHaveRows task.now.net.now task.now.table.now task.now.targets.now parts.items) }
 {
@@ -95,7 +92,7 @@ pub(crate) fn all_parts<R: Threads + Sync, G: Gate>(
         rt,
         seats,
         &|seat| -> Result<Part, AllocError>
-            requires { CanMakeRows task.now.net.now task.now.table.now task.now.targets.now board.now × IsFresh board.now seat }
+            requires { CanMakeRows task.now.net.now task.now.table.now task.now.targets.now board.now × IsFresh board.now seat × CanTell task.now.net.now task.now.table.now task.now.told task.now.fresh.now }
             ensures { IfOk result (IsPartOf task.entry.now.net.now task.entry.now.table.now task.entry.now.targets.now board.entry.now seat) }
         { make_part(alloc, board, seat, task) },
     )

@@ -1,22 +1,36 @@
-ghost use Rattle.std.specs.Prelude.{◌≡◌, ◌≤◌, ◌==◌, not, length, IfOk};
+ghost use Rattle.std.specs.Prelude.{◌≡◌, ◌≢◌, ◌≤◌, [], IfOk, IfSome, MatchOption};
 ghost use Rattle.closure_model.specs.Derivations.{StandsOn};
 ghost use Rattle.closure_model.specs.ReferenceRound.{round_made, after_round};
+ghost use Rattle.closure_model.specs.ReferenceRow.{HasWeightsWithin};
+ghost use Rattle.closure_model.specs.Tables.{IsFor, IsGraph};
 ghost use Rattle.work_board.specs.Limits.{most_seats};
 ghost use Rattle.parallel_rounds.specs.Propagated.{IsPropagated};
+ghost use Rattle.parallel_rounds.specs.Targets.{AreRowsOfRound};
+ghost use Rattle.parallel_rounds.specs.Telling.{IsLastRound};
 
 use crate::adding::{fallen_in, take_all};
 use crate::gate::Gate;
 use crate::outcome::Outcome;
-use crate::rows::round;
+use crate::parts::Task;
+use crate::rows::{round, rows_of};
+use crate::staleness::stale;
+use crate::telling::LastRound;
+use back_propagation::NewRow;
 use derivation_dag::Supports;
+use labelled_graph::Table;
 use loop_finder::{Found, order};
 use net_model::Network;
 use std::alloc::{AllocError, Global};
 use std::thread::Threads;
 
+/// Where so little is told of the last round that starting threads would take longer than the rows, one worker makes the round: the number
+/// of rows times that of points, with that of edges that fell, is below this.
+const LITTLE: usize = 20_000;
+
 /// Makes rounds until the table of a store is closed, or until it has a cycle of negative ordinary edges. The store stands on the
-/// network; there are 1 to 64 workers. Its list gains exactly the nodes of the reference rounds, in their order. `AllocError` comes only
-/// for want of memory; then the store is lost, and the caller drops it.
+/// network; there are 1 to 64 workers. Its list gains exactly the nodes of the reference rounds, in their order. In the first round all
+/// rows are made, in each later one those that are stale after the points in whose rows something fell. `AllocError` comes only for want
+/// of memory; then the store is lost, and the caller drops it.
 pub fn propagate<R: Threads + Sync, S: Supports, G: Gate>(
     rt: &R,
     alloc: Global,
@@ -31,21 +45,23 @@ pub fn propagate<R: Threads + Sync, S: Supports, G: Gate>(
 {
     let points = net.points().len() as u32;
     let mut rounds = 0;
+    let mut last = None;
     loop {
         match order(alloc, store.table(), points)? {
             Found::Cycle(cycle) => return Ok(Outcome::Looped { rounds, cycle }),
             Found::Order(order) => {
                 rounds += 1;
-                let fell = make_round(rt, alloc, net, store, workers, gate)?;
-                if !fell {
+                let next = make_round(rt, alloc, net, store, workers, gate, &last)?;
+                if next.is_none() {
                     return Ok(Outcome::Closed { rounds, order });
                 }
+                last = next;
             }
         }
     }
 }
 
-/// Makes one round, and says whether anything fell in it.
+/// Makes one round, and says what fell in it, if anything did.
 fn make_round<R: Threads + Sync, S: Supports, G: Gate>(
     rt: &R,
     alloc: Global,
@@ -53,15 +69,86 @@ fn make_round<R: Threads + Sync, S: Supports, G: Gate>(
     store: &mut S,
     workers: u32,
     gate: &G,
-) -> Result<bool, AllocError>
+    last: &Option<LastRound>,
+) -> Result<Option<LastRound>, AllocError>
     requires workers { (1 ≤ workers) × (workers ≤ most_seats) }
     requires stands { StandsOn net.now (S.support store.old) }
-    ensures { IfOk result (λ fell. (S.support store.new ≡ after_round net.now (S.support store.old)) × (fell ≡ not (length (round_made net.now (S.support store.old).table) == 0))) }
+    requires last { IfSome last.now (IsLastRound net.now (S.support store.old).table) }
+    ensures after { IfOk result (λ _. S.support store.new ≡ after_round net.now (S.support store.old)) }
+    ensures fell { IfOk result (λ last. MatchOption last (round_made net.now (S.support store.old).table ≡ []) (λ last. (round_made net.now (S.support store.old).table ≢ []) × IsLastRound net.now (S.support store.new).table last)) }
 {
     // The proof reads here that the network is sound.
-    let _ = net.points();
-    let rows = round(rt, alloc, store.table(), net, workers, gate)?;
+    let points = net.points().len() as u32;
+    let rows = rows_of_round(rt, alloc, store.table(), net, workers, gate, last)?;
     let fallen = fallen_in(alloc, store, rows.as_slice())?;
     take_all(net, store, fallen.as_slice())?;
-    Ok(!fallen.is_empty())
+    if fallen.is_empty() {
+        return Ok(None);
+    }
+    let last = LastRound::of(alloc, points, rows.as_slice(), fallen.len())?;
+    Ok(Some(last))
+}
+
+/// The rows of a round: all of them where nothing is told of the last one, else those in which something can fall.
+fn rows_of_round<R: Threads + Sync, G: Gate>(
+    rt: &R,
+    alloc: Global,
+    table: &Table,
+    net: &Network,
+    workers: u32,
+    gate: &G,
+    last: &Option<LastRound>,
+) -> Result<Vec<NewRow>, AllocError>
+    requires workers { (1 ≤ workers) × (workers ≤ most_seats) }
+    requires fits { IsFor net.now table.now }
+    requires within { HasWeightsWithin net.now table.now }
+    requires sound { IsGraph table.now }
+    requires last { IfSome last.now (IsLastRound net.now table.now) }
+    ensures { IfOk result (λ rows. AreRowsOfRound net.now table.now rows.items) }
+{
+    match last {
+        None => round(rt, alloc, table, net, workers, gate),
+        Some(last) => stale_rows(rt, alloc, table, net, workers, gate, last),
+    }
+}
+
+/// The rows that are stale after the last round, told what fell in it.
+fn stale_rows<R: Threads + Sync, G: Gate>(
+    rt: &R,
+    alloc: Global,
+    table: &Table,
+    net: &Network,
+    workers: u32,
+    gate: &G,
+    last: &LastRound,
+) -> Result<Vec<NewRow>, AllocError>
+    requires workers { (1 ≤ workers) × (workers ≤ most_seats) }
+    requires fits { IsFor net.now table.now }
+    requires within { HasWeightsWithin net.now table.now }
+    requires sound { IsGraph table.now }
+    requires last { IsLastRound net.now table.now last.now }
+    ensures { IfOk result (λ rows. AreRowsOfRound net.now table.now rows.items) }
+{
+    // The proof reads here that the network is sound.
+    let names = net.points();
+    let targets = stale(alloc, table, net, last.changed.as_slice())?;
+    let task = Task {
+        targets: targets.as_slice(),
+        table,
+        net,
+        gate,
+        told: true,
+        fresh: last.fresh.as_slice(),
+    };
+    let workers = if is_little(targets.len(), names.len(), last.fallen) {
+        1
+    } else {
+        workers
+    };
+    rows_of(rt, alloc, &task, workers)
+}
+
+/// Whether the rows of so many targets, after so many edges fell, are made sooner by one worker than threads are started.
+fn is_little(targets: usize, points: usize, fallen: usize) -> bool {
+    targets.saturating_mul(points).saturating_add(fallen) < LITTLE
 }

@@ -9,6 +9,8 @@ ghost use Rattle.work_board.specs.Boards.{IsSeatOf, EachOnce};
 ghost use Rattle.work_board.specs.Limits.{most_seats};
 ghost use Rattle.parallel_rounds.specs.Gathering.{CanMakeRows, IsFresh, IsFirst, IsPart, HasRows};
 ghost use Rattle.parallel_rounds.specs.Rows.{new_row};
+ghost use Rattle.parallel_rounds.specs.Targets.{AreRising};
+ghost use Rattle.parallel_rounds.specs.Telling.{CanTell};
 
 use crate::gate::Gate;
 use crate::parts::{Part, Task, all_parts, all_seats, gather};
@@ -36,17 +38,37 @@ pub fn round<R: Threads + Sync, G: Gate>(
     ensures { IfOk result (λ rows. rows.items ≡ map (new_row net.now table.now) (all_points table.now.shape)) }
 {
     let targets = all_targets(alloc, net)?;
-    let (board, first) = Board::new(alloc, net.points().len() as u32, workers)?;
+    round_of(rt, alloc, table, net, targets.as_slice(), workers, gate)
+}
+
+/// The rows of some targets, in their order, as `round` makes those of all. Targets are points of the network, and each has a lower
+/// number than those after it. The gate is told the target.
+pub fn round_of<R: Threads + Sync, G: Gate>(
+    rt: &R,
+    alloc: Global,
+    table: &Table,
+    net: &Network,
+    targets: &[PointId],
+    workers: u32,
+    gate: &G,
+) -> Result<Vec<NewRow>, AllocError>
+    requires workers { (1 ≤ workers) × (workers ≤ most_seats) }
+    requires fits { IsFor net.now table.now }
+    requires within { HasWeightsWithin net.now table.now }
+    requires points { All (IsPoint net.now) targets.now }
+    requires rise { AreRising targets.now }
+    ensures { IfOk result (λ rows. rows.items ≡ map (new_row net.now table.now) targets.now) }
+{
+    let nothing = [];
     let task = Task {
-        targets: targets.as_slice(),
+        targets,
         table,
         net,
         gate,
+        told: false,
+        fresh: nothing.as_slice(),
     };
-    let Part { seat, mut rows } = make_rows(rt, alloc, &board, first, &task)?;
-    board.close(seat);
-    put_in_order(&mut rows);
-    Ok(rows)
+    rows_of(rt, alloc, &task, workers)
 }
 
 /// All points of a network, in order.
@@ -56,6 +78,30 @@ fn all_targets(alloc: Global, net: &Network) -> Result<Vec<PointId>, AllocError>
     (0..net.points().len() as u32)
         .map(|point| PointId(point))
         .collect(alloc)
+}
+
+/// The rows of the targets of a task, in their order.
+pub(crate) fn rows_of<R: Threads + Sync, G: Gate>(
+    rt: &R,
+    alloc: Global,
+    task: &Task<G>,
+    workers: u32,
+) -> Result<Vec<NewRow>, AllocError>
+    requires workers { (1 ≤ workers) × (workers ≤ most_seats) }
+    requires fits { IsFor task.now.net.now task.now.table.now }
+    requires within { HasWeightsWithin task.now.net.now task.now.table.now }
+    requires points { All (IsPoint task.now.net.now) task.now.targets.now }
+    requires rise { AreRising task.now.targets.now }
+    requires told { CanTell task.now.net.now task.now.table.now task.now.told task.now.fresh.now }
+    ensures { IfOk result (λ rows. rows.items ≡ map (new_row task.now.net.now task.now.table.now) task.now.targets.now) }
+{
+    // The proof reads here that the network is sound.
+    let _ = task.net.points();
+    let (board, first) = Board::new(alloc, task.targets.len() as u32, workers)?;
+    let Part { seat, mut rows } = make_rows(rt, alloc, &board, first, task)?;
+    board.close(seat);
+    put_in_order(&mut rows);
+    Ok(rows)
 }
 
 /// The rows of all targets in any order, with the first seat, into which all others are joined.
@@ -69,6 +115,7 @@ fn make_rows<R: Threads + Sync, G: Gate>(
     requires can { CanMakeRows task.now.net.now task.now.table.now task.now.targets.now board.now }
     requires fresh { IsFresh board.now first }
     requires first { IsFirst 0 first }
+    requires told { CanTell task.now.net.now task.now.table.now task.now.told task.now.fresh.now }
     ensures seat { IfOk result (λ all. IsPart board.now all × IsFirst 0 all.seat) }
     ensures rows { IfOk result (HasRows task.now.net.now task.now.table.now task.now.targets.now) }
 {

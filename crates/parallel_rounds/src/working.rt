@@ -1,14 +1,17 @@
-ghost use Rattle.std.specs.Prelude.{◌≡◌, ◌++◌, [], ◌∷◌, length, MatchResult, OnOk};
+ghost use Rattle.std.specs.Prelude.{◌≡◌, ◌++◌, [], ◌∷◌, length, IfOk, MatchResult, OnOk};
 ghost use Rattle.std.specs.List.{All};
 ghost use Rattle.net_model.specs.Network.{IsPoint};
 ghost use Rattle.closure_model.specs.ReferenceRow.{HasWeightsWithin};
 ghost use Rattle.closure_model.specs.Tables.{IsFor};
 ghost use Rattle.work_board.specs.Boards.{IsSeatOf};
 ghost use Rattle.parallel_rounds.specs.Rows.{new_row};
+ghost use Rattle.parallel_rounds.specs.Gathering.{CanMakeRows};
+ghost use Rattle.parallel_rounds.specs.Telling.{CanTell};
 ghost use Rattle.parallel_rounds.specs.Working.{IsWorked, LeftOff};
 
 use crate::gate::Gate;
-use back_propagation::{NewRow, row};
+use crate::parts::Task;
+use back_propagation::{NewRow, row, row_after};
 use labelled_graph::Table;
 use net_model::{Network, PointId};
 use std::alloc::{AllocError, Global};
@@ -35,28 +38,68 @@ pub fn work<G: Gate>(
     requires untold { seat.old.view.nones ≡ 0 }
     ensures { MatchResult result (λ rows. IsWorked net.now table.now targets.now seat.old seat.new rows.items) (λ _. LeftOff seat.old seat.new) }
 {
+    let nothing = [];
+    let task = Task {
+        targets,
+        table,
+        net,
+        gate,
+        told: false,
+        fresh: nothing.as_slice(),
+    };
+    draw_rows(alloc, board, seat, &task)
+}
+
+/// One worker's part of a round, whose rows are made as a task says.
+pub(crate) fn draw_rows<G: Gate>(
+    alloc: Global,
+    board: &Board,
+    seat: &mut Seat,
+    task: &Task<G>,
+) -> Result<Vec<NewRow>, AllocError>
+    requires can { CanMakeRows task.now.net.now task.now.table.now task.now.targets.now board.now }
+    requires told { CanTell task.now.net.now task.now.table.now task.now.told task.now.fresh.now }
+    requires seat { IsSeatOf board.now seat.old }
+    requires untold { seat.old.view.nones ≡ 0 }
+    ensures { MatchResult result (λ rows. IsWorked task.now.net.now task.now.table.now task.now.targets.now seat.old seat.new rows.items) (λ _. LeftOff seat.old seat.new) }
+{
     let mut rows = Vec::new(alloc);
     while let Some(number) = board.draw(seat) {
-        let target = targets[number as usize];
-        gate.before(target.0);
-        add_row(alloc, table, net, target, &mut rows)?;
+        let target = task.targets[number as usize];
+        task.gate.before(target.0);
+        add_row(alloc, task, target, &mut rows)?;
     }
     Ok(rows)
 }
 
 /// Makes the row of a target, and puts it at the end of others.
-fn add_row(
+fn add_row<G>(
     alloc: Global,
-    table: &Table,
-    net: &Network,
+    task: &Task<G>,
     target: PointId,
     rows: &mut Vec<NewRow>,
 ) -> Result<(), AllocError>
-    requires fits { IsFor net.now table.now }
-    requires within { HasWeightsWithin net.now table.now }
-    requires target { IsPoint net.now target }
-    ensures { OnOk result (rows.new.items ≡ rows.old.items ++ new_row net.now table.now target ∷ []) }
+    requires fits { IsFor task.now.net.now task.now.table.now }
+    requires within { HasWeightsWithin task.now.net.now task.now.table.now }
+    requires target { IsPoint task.now.net.now target }
+    requires told { CanTell task.now.net.now task.now.table.now task.now.told task.now.fresh.now }
+    ensures { OnOk result (rows.new.items ≡ rows.old.items ++ new_row task.now.net.now task.now.table.now target ∷ []) }
 {
-    rows.push(row(alloc, table, net, target)?)?;
+    rows.push(row_of(alloc, task, target)?)?;
     Ok(())
+}
+
+/// The row of a target: where the task tells what fell in the last round, from that alone.
+fn row_of<G>(alloc: Global, task: &Task<G>, target: PointId) -> Result<NewRow, AllocError>
+    requires fits { IsFor task.now.net.now task.now.table.now }
+    requires within { HasWeightsWithin task.now.net.now task.now.table.now }
+    requires target { IsPoint task.now.net.now target }
+    requires told { CanTell task.now.net.now task.now.table.now task.now.told task.now.fresh.now }
+    ensures { IfOk result (λ row. row ≡ new_row task.now.net.now task.now.table.now target) }
+{
+    if task.told {
+        row_after(alloc, task.table, task.net, target, task.fresh)
+    } else {
+        row(alloc, task.table, task.net, target)
+    }
 }

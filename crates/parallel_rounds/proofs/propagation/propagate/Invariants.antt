@@ -1,9 +1,14 @@
-use Rattle.closure_model.proofs.Rooms.{room}
+use Rattle.std.proofs.Common.{◌-◌, length}
+use Rattle.std.specs.Prelude.{IfSome}
+use Rattle.parallel_rounds.specs.Telling.{IsLastRound}
 use Rattle.parallel_rounds.proofs.RoundsSteps.{IsUnderWay}
 use Rattle.parallel_rounds.proofs.propagation.propagate.Given as goal
 
-abbrev pub invariant-loop-cycle : goal.invariant-loop-cycle
-invariant-loop-cycle g l = IsUnderWay l.net (g.S.Supports.support l.fn.store) (g.S.Supports.support l.store) l.rounds
+abbrev pub invariant-loop-last : goal.invariant-loop-last
+invariant-loop-last g l = record {
+  way : IsUnderWay l.net (g.S.Supports.support l.fn.store) (g.S.Supports.support l.store) l.rounds;
+  told : IfSome l.last (IsLastRound l.net (g.S.Supports.support l.store).table);
+}
 
-abbrev pub decreases-loop-cycle : goal.decreases-loop-cycle
-decreases-loop-cycle g l = room l.net (g.S.Supports.support l.store).table
+abbrev pub decreases-loop-last : goal.decreases-loop-last
+decreases-loop-last g l = length l.net.points - l.rounds

@@ -1,0 +1,114 @@
+//! Which rows are made in later rounds, and that the gate is told their targets.
+
+ghost use Rattle.std.specs.Prelude.{◌≡◌, length};
+ghost use Rattle.closure_model.specs.ReferenceRow.{HasWeightsWithin};
+ghost use Rattle.closure_model.specs.Tables.{IsFor};
+
+use crate::networks::network;
+use crate::workers::base;
+use derivation_dag::Plain;
+use labelled_graph::Table;
+use net_model::{Network, PointId};
+use parallel_rounds::{Gate, Outcome, propagate, round_of, stale};
+use std::alloc::Global;
+use std::process::Abort;
+use std::sync::atomic::{AtomicU64, Ordering};
+use std::test::Fail;
+use std::thread::Threads;
+
+/// The points A, C and D have the numbers 0, 1 and 2.
+const PLAN: &str = "point A|point C|point D|bound b1 D C 1|bound b2 C D -1|link A 3 8 C";
+
+/// Counts the calls for each of three targets.
+#[derive(Drop)]
+struct Counting {
+    a: AtomicU64,
+    c: AtomicU64,
+    d: AtomicU64,
+}
+
+impl Counting {
+    fn new() -> Counting {
+        Counting {
+            a: AtomicU64::new(0),
+            c: AtomicU64::new(0),
+            d: AtomicU64::new(0),
+        }
+    }
+
+    /// Whether the gate was called so often for the three targets.
+    fn was_called(&self, a: u64, c: u64, d: u64) -> bool {
+        self.a.load(Ordering::SeqCst) == a
+            && self.c.load(Ordering::SeqCst) == c
+            && self.d.load(Ordering::SeqCst) == d
+    }
+}
+
+impl Gate for Counting {
+    fn before(&self, target: u32) {
+        match target {
+            0 => self.a.fetch_add(1, Ordering::SeqCst),
+            1 => self.c.fetch_add(1, Ordering::SeqCst),
+            _ => self.d.fetch_add(1, Ordering::SeqCst),
+        };
+    }
+}
+
+/// In the first round all rows are made, in the second the one of A alone.
+fn try_propagation<R: Threads + Sync + Abort>(
+    rt: &R,
+    alloc: Global,
+    net: &Network,
+) -> Result<(), Fail> {
+    let gate = Counting::new();
+    let mut store = Plain::of(alloc, net)?;
+    let outcome = propagate(rt, alloc, net, &mut store, 1, &gate)?;
+    assert!(rt;
+        matches!(
+            outcome,
+            Outcome::Looped {
+                rounds: 2,
+                cycle: _
+            }
+        )
+    );
+    assert!(rt; gate.was_called(2, 1, 1));
+    Ok(())
+}
+
+/// Negative edges go from C to A and to D, so these are stale after C; and the rows of these two are made by two workers, the gate
+/// called with A and D.
+fn try_stale<R: Threads + Sync + Abort>(
+    rt: &R,
+    alloc: Global,
+    net: &Network,
+    table: &Table,
+) -> Result<(), Fail>
+    requires fits { IsFor net.now table.now }
+    requires within { HasWeightsWithin net.now table.now }
+    requires three { length net.now.points ≡ 3 }
+{
+    let gate = Counting::new();
+    let changed = [PointId(1)];
+    let targets = stale(alloc, table, net, changed.as_slice())?;
+    assert!(rt; targets.as_slice() == [PointId(0), PointId(2)].as_slice());
+    let rows = round_of(rt, alloc, table, net, targets.as_slice(), 2, &gate)?;
+    assert!(rt; rows.len() == 2 && gate.was_called(1, 0, 1));
+    Ok(())
+}
+
+#[test]
+fn later_rounds_make_stale_rows(rt: HostRuntime) -> Result<(), Fail> {
+    let net = network(rt.alloc(), PLAN)?;
+    try_propagation(&rt, rt.alloc(), &net)
+}
+
+#[test]
+fn rows_of_stale_targets(rt: HostRuntime) -> Result<(), Fail> {
+    let net = network(rt.alloc(), PLAN)?;
+    let table = base(rt.alloc(), &net)?;
+    if net.points().len() != 3 {
+        return Err("the network has other points".into());
+    }
+    try_stale(&rt, rt.alloc(), &net, &table)
+}

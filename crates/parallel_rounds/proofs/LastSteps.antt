@@ -1,0 +1,126 @@
+-- What is told after a round.
+use Rattle.std.proofs.Common.{◌≡◌, ◌==◌, ℕ, ◌<◌, Bool, true, false, not, List, [], ◌∷◌, length, refl, ap, sym, subst, ◌∙◌, arith}
+use Rattle.std.specs.Prelude.{filter}
+use Rattle.std.specs.List.{All, AllPairs, Contains}
+use Rattle.std.proofs.lemmas.Bool.Decides.{nat_tests}
+use Rattle.std.proofs.lemmas.List.Elements.{All-contains}
+use Rattle.std.proofs.lemmas.List.Kept.{AllPairs-filter}
+use Rattle.std.proofs.lemmas.List.Sorted.{length_permutation}
+use Rattle.net_model.specs.Network.{Plan, IsPlan, IsPoint}
+use Rattle.net_model.specs.declared.ids.PointId.{PointId}
+use Rattle.net_model.specs.declared.part.Edge.{Edge}
+use Rattle.closure_model.specs.Derivations.{Support, StandsOn}
+use Rattle.closure_model.specs.FreshEdges.{fresh_at, IsMetBut, AreOfTable}
+use Rattle.closure_model.specs.Keys.{Shape}
+use Rattle.closure_model.specs.Orders.{is_among}
+use Rattle.closure_model.specs.ReferenceRow.{reference_row, with_made}
+use Rattle.closure_model.specs.ReferenceRound.{round_made, after_round}
+use Rattle.closure_model.specs.Tables.{Graph, IsFor, IsGraph}
+use Rattle.closure_model.specs.declared.rows.Made.{Made}
+use Rattle.closure_model.proofs.FreshLemmas.{rows_are_met_after_a_round}
+use Rattle.closure_model.proofs.Lists.{Contains-map, Contains-map_from, Contains-filter_from}
+use Rattle.closure_model.proofs.OrderLemmas.{among_from, from_among}
+use Rattle.closure_model.proofs.RoundClosing.{standing_fits, standing_sound}
+use Rattle.closure_model.proofs.RoundsLaw.{round_stands_after}
+use Rattle.back_propagation.specs.declared.settling.NewRow.{NewRow}
+use Rattle.parallel_rounds.specs.Rows.{new_row}
+use Rattle.parallel_rounds.specs.Targets.{AreRising, AreRowsOfRound}
+use Rattle.parallel_rounds.specs.Telling.{IsLastRound, AreInOrder, AreListed, ordinary_made, changed_in}
+use Rattle.parallel_rounds.specs.declared.telling.LastRound.{LastRound}
+use Rattle.parallel_rounds.proofs.FreshSteps.{fresh_after}
+use Rattle.parallel_rounds.proofs.StaleSteps.{All-from_each, map_pairs, stays_in_filter}
+
+module _ (net : Plan) (table : Graph) (rows : List NewRow) (are : AreRowsOfRound net table rows) where
+  pub rows_rise : AllPairs (λ (one other : NewRow). one.target.0 < other.target.0) rows
+  rows_rise = subst (AllPairs (λ (one other : NewRow). one.target.0 < other.target.0)) (sym are.rows_are)
+      (map_pairs (new_row net table) (λ (one other : PointId). one.0 < other.0) (λ (one other : NewRow). one.target.0 < other.target.0) (λ one other less. less) are.targets are.rise)
+
+  row_of_target : (row : NewRow) → Contains rows row → (point : PointId) × Contains are.targets point × (new_row net table point ≡ row)
+  row_of_target row inside = Contains-map_from (new_row net table) are.targets row (subst (λ (l : List NewRow). Contains l row) are.rows_are inside)
+
+  target_inside : (row : NewRow) → Contains rows row → row.target.0 < table.shape.points
+  target_inside row inside =
+      let (point, there, is) = row_of_target row inside in
+      subst (λ (r : NewRow). r.target.0 < table.shape.points) is (All-contains (λ (p : PointId). p.0 < table.shape.points) are.targets point are.points there)
+
+  pub rows_inside : All (λ (row : NewRow). row.target.0 < table.shape.points) rows
+  rows_inside = All-from_each (λ (row : NewRow). row.target.0 < table.shape.points) rows target_inside
+
+  changed_rise : AreRising (changed_in rows)
+  changed_rise =
+      map_pairs (λ (row : NewRow). row.target) (λ (one other : NewRow). one.target.0 < other.target.0) (λ (one other : PointId). one.0 < other.0) (λ one other less. less) (filter (λ (row : NewRow). not (length row.made == 0)) rows)
+      (AllPairs-filter (λ (one other : NewRow). one.target.0 < other.target.0) (λ (row : NewRow). not (length row.made == 0)) rows rows_rise)
+
+  changed_inside : All (λ (point : PointId). point.0 < table.shape.points) (changed_in rows)
+  changed_inside = All-from_each (λ (point : PointId). point.0 < table.shape.points) (changed_in rows) (λ point there. by point (Contains-map_from (λ (row : NewRow). row.target) (filter (λ (row : NewRow). not (length row.made == 0)) rows) point there))
+    where
+      by : (point : PointId) → (row : NewRow) × Contains (filter (λ (row : NewRow). not (length row.made == 0)) rows) row × (row.target ≡ point) → point.0 < table.shape.points
+      by point (row, there, is) = subst (λ (p : PointId). p.0 < table.shape.points) is (target_inside row (Contains-filter_from (λ (r : NewRow). not (length r.made == 0)) rows row there))
+
+  unchanged_is : (fresh : List (List Edge)) → AreListed rows fresh → (point : PointId) → ¬ Contains (changed_in rows) point → fresh_at fresh point ≡ []
+  unchanged_is fresh listed point unchanged = by (is_among are.targets point) refl
+    where
+      row : NewRow
+      row = new_row net table point
+
+      no_list : (list : List Edge) → length list ≡ 0 → list ≡ []
+      no_list [] none = refl
+      no_list (edge ∷ list) none = absurd (omega arith)
+
+      nothing : (made : List Made) → (not (length made == 0) ≡ true → ⊥) → made ≡ []
+      nothing [] none = refl
+      nothing (one ∷ made) none = absurd (none (grind (arith, nat_tests)))
+
+      there : Contains are.targets point → Contains rows (new_row net table point)
+      there inside = subst (λ (l : List NewRow). Contains l (new_row net table point)) (sym are.rows_are) (Contains-map (new_row net table) are.targets point inside)
+
+      fell : Contains are.targets point → not (length (reference_row net table point) == 0) ≡ true → ⊥
+      fell inside some = unchanged (Contains-map (λ (r : NewRow). r.target) (filter (λ (r : NewRow). not (length r.made == 0)) rows) (new_row net table point) (stays_in_filter (λ (r : NewRow). not (length r.made == 0)) rows (new_row net table point) (there inside) some))
+
+      by : (b : Bool) → is_among are.targets point ≡ b → fresh_at fresh point ≡ []
+      by true is =
+          let inside = from_among are.targets point is in
+          let none : reference_row net table point ≡ [] = nothing (reference_row net table point) (fell inside) in
+          let listed_here : AreInOrder (reference_row net table point) (fresh_at fresh point) = listed.here (new_row net table point) (there inside) in
+          let long = length_permutation (ordinary_made (reference_row net table point)) (fresh_at fresh point) listed_here.same in
+          no_list (fresh_at fresh point) (long ∙ ap (λ (made : List Made). length (ordinary_made made)) none)
+      by false is = listed.others point (λ r inside same. other r inside same (row_of_target r inside))
+        where
+          other : (r : NewRow) → Contains rows r → r.target ≡ point → (p : PointId) × Contains are.targets p × (new_row net table p ≡ r) → ⊥
+          other r inside same (p, at, made) = let clash = among_from are.targets point (subst (Contains are.targets) (ap (λ (x : NewRow). x.target) made ∙ same) at) in absurd cc
+
+pub last_round_is : (net : Plan) (support after : Support) (rows : List NewRow) (last : LastRound) → IsPlan net → StandsOn net support → after ≡ after_round net support → AreRowsOfRound net support.table rows → last.changed.items ≡ changed_in rows
+    → length last.fresh.items ≡ length net.points → AreListed rows last.fresh.items → IsLastRound net after.table last
+last_round_is net support after rows last plan stands is are changed count listed = record {
+  told = record {
+    count = count;
+    of_table = subst (λ (t : Graph). AreOfTable t last.fresh.items) (sym table_is) met.0;
+    met = λ to. subst (λ (t : Graph). IsMetBut net t to last.fresh.items) (sym table_is) (met.1 to);
+  };
+  rise = subst AreRising (sym changed) (changed_rise net support.table rows are);
+  points = subst (All (IsPoint net)) (sym changed) (subst (λ (n : ℕ). All (λ (p : PointId). p.0 < n) (changed_in rows)) points (changed_inside net support.table rows are));
+  others = λ point none. unchanged_is net support.table rows are last.fresh.items listed point (λ there. none (subst (λ (l : List PointId). Contains l point) (sym changed) there));
+}
+  where
+    fits : IsFor net support.table
+    fits = standing_fits net plan support stands
+
+    sound : IsGraph support.table
+    sound = standing_sound net plan support stands
+
+    points : support.table.shape.points ≡ length net.points
+    points = ap (λ (s : Shape). s.points) fits
+
+    table_is : after.table ≡ with_made support.table (round_made net support.table)
+    table_is = ap (λ (s : Support). s.table) is ∙ (round_stands_after net support plan stands).table_is
+
+    sound_now : IsGraph (with_made support.table (round_made net support.table))
+    sound_now = subst IsGraph (round_stands_after net support plan stands).table_is (standing_sound net plan (after_round net support) (round_stands_after net support plan stands).stands)
+
+    met : AreOfTable (with_made support.table (round_made net support.table)) last.fresh.items × ((to : PointId) → IsMetBut net (with_made support.table (round_made net support.table)) to last.fresh.items)
+    met = rows_are_met_after_a_round net support.table last.fresh.items plan fits sound (fresh_after net support.table plan fits sound sound_now rows last.fresh.items are listed)
+
+pub rows_fit : (net : Plan) (support : Support) (rows : List NewRow) (points : ℕ) → IsPlan net → StandsOn net support → AreRowsOfRound net support.table rows → points ≡ length net.points → All (λ (row : NewRow). row.target.0 < points) rows
+rows_fit net support rows points plan stands are is =
+    let same : support.table.shape.points ≡ points = ap (λ (s : Shape). s.points) (standing_fits net plan support stands) ∙ sym is in
+    subst (λ (n : ℕ). All (λ (row : NewRow). row.target.0 < n) rows) same (rows_inside net support.table rows are)

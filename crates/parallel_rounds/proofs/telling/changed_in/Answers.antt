@@ -1,0 +1,6 @@
+-- One row more.
+use Rattle.parallel_rounds.proofs.FreshSteps.{changed_more}
+use Rattle.parallel_rounds.proofs.telling.changed_in.Goals as goal
+
+pub loop-row-preserved : goal.loop-row-preserved
+loop-row-preserved c = changed_more c.args.rows.now c.loop-row.row-index c.row-item.result c.loop-row.changed.items c.push_changed.new.changed.items c.loop-row-test.true c.row-item.is c.loop-row.invariant c.in_ok-push_changed.ensures

@@ -1,0 +1,49 @@
+-- What is told of the last round. This project's own choice.
+use Rattle.std.specs.Prelude.{◌≡◌, ◌≢◌, ◌==◌, Bool, not, true, List, [], length, map, filter, is_none, IsPermutation}
+use Rattle.std.specs.List.{All, Contains}
+use Rattle.std.specs.List.Sorted.{IsNonDecreasingBy}
+use Rattle.net_model.specs.Network.{Plan, IsPoint}
+use Rattle.net_model.specs.declared.ids.PointId.{PointId}
+use Rattle.net_model.specs.declared.part.Edge.{Edge}
+use Rattle.closure_model.specs.FreshEdges.{fresh_at, AreOfTable, IsMetBut}
+use Rattle.closure_model.specs.Tables.{Graph}
+use Rattle.closure_model.specs.declared.rows.Made.{Made}
+use Rattle.back_propagation.specs.declared.settling.NewRow.{NewRow}
+use Rattle.parallel_rounds.specs.Targets.{AreRising}
+use Rattle.parallel_rounds.specs.declared.telling.LastRound.{LastRound}
+
+-- the fresh edges of a table, by the points in which they end: every row is met but for them
+pub record IsTold (net : Plan) (table : Graph) (fresh : List (List Edge)) : Type 0 where
+  pub count : length fresh ≡ length net.points
+  pub of_table : AreOfTable table fresh
+  pub met : (to : PointId) → IsMetBut net table to fresh
+
+-- what is told, if anything is, is so
+abbrev pub CanTell : Plan → Graph → Bool → List (List Edge) → Type 0
+CanTell net table told fresh = told ≡ true → IsTold net table fresh
+
+-- what fell in the last round, against the table after it: the points in whose rows something did, rising, and the fresh edges, which all
+-- end in one of these
+pub record IsLastRound (net : Plan) (table : Graph) (last : LastRound) : Type 0 where
+  pub told : IsTold net table last.fresh.items
+  pub rise : AreRising last.changed.items
+  pub points : All (IsPoint net) last.changed.items
+  pub others : (point : PointId) → ¬ Contains last.changed.items point → fresh_at last.fresh.items point ≡ []
+
+-- the ordinary edges among those that fell
+abbrev pub ordinary_made : List Made → List Edge
+ordinary_made made = filter (λ (edge : Edge). is_none edge.label) (map (λ (one : Made). one.edge) made)
+
+-- edges are those ordinary ones that fell, by the points in which they begin
+pub record AreInOrder (made : List Made) (edges : List Edge) : Type 0 where
+  pub same : IsPermutation (ordinary_made made) edges
+  pub rise : IsNonDecreasingBy (λ (edge : Edge). edge.from.0) edges
+
+-- lists of edges by the points in which they end are those of the edges that fell in some rows
+pub record AreListed (rows : List NewRow) (fresh : List (List Edge)) : Type 0 where
+  pub here : (row : NewRow) → Contains rows row → AreInOrder row.made (fresh_at fresh row.target)
+  pub others : (point : PointId) → ((row : NewRow) → Contains rows row → row.target ≢ point) → fresh_at fresh point ≡ []
+
+-- the targets of the rows in which something fell
+abbrev pub changed_in : List NewRow → List PointId
+changed_in rows = map (λ (row : NewRow). row.target) (filter (λ (row : NewRow). not (length row.made == 0)) rows)

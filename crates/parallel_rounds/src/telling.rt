@@ -1,0 +1,112 @@
+ghost use Rattle.std.specs.Prelude.{◌≡◌, ◌<◌, ◌++◌, ◌∷◌, [], length, IfOk, OnOk};
+ghost use Rattle.std.specs.List.{All, AllPairs};
+ghost use Rattle.parallel_rounds.specs.Telling.{AreInOrder, AreListed, changed_in, ordinary_made};
+
+use back_propagation::{Made, NewRow};
+use net_model::{Edge, Items, PointId};
+use std::alloc::{AllocError, Global};
+
+/// What fell in a round: the points in whose rows something did, how many edges fell, and those of them that are ordinary, by the points
+/// in which they end, each list in the order of the points in which they begin.
+#[derive(Drop)]
+pub(crate) struct LastRound {
+    pub(crate) changed: Vec<PointId>,
+    pub(crate) fallen: usize,
+    pub(crate) fresh: Vec<Items<Edge>>,
+}
+
+impl LastRound {
+    /// What fell in the rows of a round, for so many points; so many edges fell.
+    pub(crate) fn of(
+        alloc: Global,
+        points: u32,
+        rows: &[NewRow],
+        fallen: usize,
+    ) -> Result<LastRound, AllocError>
+        requires points { All (λ row. row.target.0 < points) rows.now }
+        requires rise { AllPairs (λ one other. one.target.0 < other.target.0) rows.now }
+        ensures changed { IfOk result (λ last. last.changed.items ≡ changed_in rows.now) }
+        ensures count { IfOk result (λ last. length last.fresh.items ≡ points) }
+        ensures fresh { IfOk result (λ last. AreListed rows.now last.fresh.items) }
+    {
+        let changed = changed_in(alloc, rows)?;
+        let fresh = fresh_in(alloc, points, rows)?;
+        Ok(LastRound {
+            changed,
+            fallen,
+            fresh,
+        })
+    }
+}
+
+/// The targets of the rows in which something fell.
+fn changed_in(alloc: Global, rows: &[NewRow]) -> Result<Vec<PointId>, AllocError>
+    ensures { IfOk result (λ changed. changed.items ≡ changed_in rows.now) }
+{
+    let mut changed = Vec::new(alloc);
+    for row in rows {
+        push_changed(&mut changed, row)?;
+    }
+    Ok(changed)
+}
+
+fn push_changed(changed: &mut Vec<PointId>, row: &NewRow) -> Result<(), AllocError>
+    ensures { OnOk result (changed.new.items ≡ changed.old.items ++ changed_in (row.now ∷ [])) }
+{
+    if !row.made.as_slice().is_empty() {
+        changed.push(row.target)?;
+    }
+    Ok(())
+}
+
+/// The ordinary edges that fell in rows, by the points in which they end.
+fn fresh_in(alloc: Global, points: u32, rows: &[NewRow]) -> Result<Vec<Items<Edge>>, AllocError>
+    requires points { All (λ row. row.target.0 < points) rows.now }
+    requires rise { AllPairs (λ one other. one.target.0 < other.target.0) rows.now }
+    ensures count { IfOk result (λ fresh. length fresh.items ≡ points) }
+    ensures fresh { IfOk result (λ fresh. AreListed rows.now fresh.items) }
+{
+    let mut fresh = no_edges(alloc, points)?;
+    for row in rows {
+        fresh[row.target.0 as usize] = in_order(alloc, row.made.as_slice())?;
+    }
+    Ok(fresh)
+}
+
+/// For each point no edges.
+fn no_edges(alloc: Global, points: u32) -> Result<Vec<Items<Edge>>, AllocError>
+    ensures count { IfOk result (λ fresh. length fresh.items ≡ points) }
+    ensures none { IfOk result (λ fresh. All (λ edges. edges ≡ []) fresh.items) }
+{
+    (0..points)
+        .map(|_| Items::new(Vec::new(alloc)))
+        .collect(alloc)
+}
+
+/// The ordinary edges that fell in a row, in the order of the points in which they begin.
+fn in_order(alloc: Global, made: &[Made]) -> Result<Items<Edge>, AllocError>
+    ensures { IfOk result (AreInOrder made.now) }
+{
+    let mut edges = ordinary_made(alloc, made)?;
+    edges.sort_unstable_by_key(|edge| edge.from.0);
+    Ok(Items::new(edges))
+}
+
+fn ordinary_made(alloc: Global, made: &[Made]) -> Result<Vec<Edge>, AllocError>
+    ensures { IfOk result (λ edges. edges.items ≡ ordinary_made made.now) }
+{
+    let mut edges = Vec::new(alloc);
+    for one in made {
+        push_ordinary(&mut edges, one)?;
+    }
+    Ok(edges)
+}
+
+fn push_ordinary(edges: &mut Vec<Edge>, one: &Made) -> Result<(), AllocError>
+    ensures { OnOk result (edges.new.items ≡ edges.old.items ++ ordinary_made (one.now ∷ [])) }
+{
+    if one.edge.label.is_none() {
+        edges.push(one.edge)?;
+    }
+    Ok(())
+}
