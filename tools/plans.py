@@ -58,6 +58,26 @@ def tasks(points, kept):
     return forged(9, max(1, points // 3), 0 if kept else 1)
 
 
+def visits(points, kept):
+    """Visits one after another, two for each five points: nature decides how long each takes, every second one is followed by a note within
+    a window, and the whole has an end, which is one moment too soon where the plan cannot be kept."""
+    draws, count = Draws(1), points * 2 // 5
+    names, lines, least = [], [], 0
+    for i in range(1, count + 1):
+        low = 5 + draws.below(26)
+        high = low + draws.below(31)
+        least += high
+        names += [f"begin{i}", f"done{i}"]
+        lines.append(f"link begin{i} {low} {high} done{i}")
+        if i % 2 == 0:
+            names.append(f"note{i}")
+            lines += [f"bound early{i} note{i} done{i} {draws.below(20)}", f"bound late{i} done{i} note{i} {5 + draws.below(11)}"]
+        if i < count:
+            lines += [f"bound after{i} begin{i + 1} done{i} 0", f"bound soon{i} done{i} begin{i + 1} {draws.below(16)}"]
+    lines.append(f"bound whole begin1 done{count} {least - (0 if kept else 1)}")
+    return [f"point {name}" for name in names] + lines
+
+
 def last_moments(points, after):
     """The least moment of each point, where each comes so long after those before it in the list."""
     moments = {}
@@ -136,4 +156,4 @@ def falling(points, kept):
     return lines
 
 
-KINDS = {"chain": chain, "tasks": tasks, "lanes": lanes, "dense": dense, "falling": falling, "crossing": crossing, "day": day}
+KINDS = {"chain": chain, "tasks": tasks, "visits": visits, "lanes": lanes, "dense": dense, "falling": falling, "crossing": crossing, "day": day}
