@@ -1,5 +1,5 @@
 -- A reader whose language keeps to a grammar reads by it, where the grammar says at most one thing of lines.
-use Rattle.std.proofs.Common.{◌≡◌, ℕ, ◌+◌, List, [], ◌∷◌, ◌++◌, refl, sym, ap, ◌∙◌, subst}
+use Rattle.std.proofs.Common.{◌≡◌, ℕ, List, [], ◌∷◌, ◌++◌, refl, sym, ap, ◌∙◌, subst}
 use Rattle.commands.specs.Grammars.{Grammar, Next, Line, NoLine, Leads, FaultOf, ReadsText, ReadsBy, language, number_after}
 use Rattle.commands.specs.Reading.{Reader}
 use Rattle.commands.specs.declared.reading.Step.{Step}

@@ -5,13 +5,13 @@ use Rattle.texts.specs.Lines.{InputLine, input_lines, lines, line_size}
 use Rattle.texts.proofs.InputLemmas.{lines-texts}
 use Rattle.plan_port.specs.Lines.{Comes, coming}
 use Rattle.commands.specs.Asked.{AnswersOutcome, asked_machine}
-use Rattle.commands.specs.Grammars.{Grammar, Next, Leads, FaultOf, ReadsText, ReadsBy, language, number_after}
-use Rattle.commands.specs.Inputs.{texts, room_after, next_of, ComeAfter, IsFirstRefusal, DeclaresBy, DeclaresWithinLimits, AnswersOrRefuses, AnswersText}
+use Rattle.commands.specs.Grammars.{Grammar, Leads, FaultOf, ReadsText, ReadsBy, number_after}
+use Rattle.commands.specs.Inputs.{texts, room_after, next_of, ComeAfter, IsFirstRefusal, DeclaresBy, AnswersOrRefuses, AnswersText}
 use Rattle.commands.specs.Limits.{most_input}
 use Rattle.commands.specs.Reading.{Reader, Refusing, Outcome, Given, Faulty, reading}
 use Rattle.commands.specs.Runs.{Runs, begins}
 use Rattle.commands.specs.declared.endings.End.{End}
-use Rattle.commands.specs.declared.reading.Step.TheVariants.{Goes, Gives, Refused}
+use Rattle.commands.specs.declared.reading.Step.TheVariants.{Goes, Gives}
 use Rattle.commands.proofs.AskedLemmas.{runs_are}
 use Rattle.commands.proofs.LeadLemmas.{leads_next, leads_one, text_one}
 use Rattle.commands.proofs.PathLemmas.{ComeFrom, Last, refused, given, come_leads, path, reads_on}

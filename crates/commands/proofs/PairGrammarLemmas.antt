@@ -1,8 +1,8 @@
 -- A text and another after it are read as their grammars say.
 use Rattle.std.proofs.Common.{◌≡◌, ℕ, ◌+◌, List, [], ◌∷◌, ◌++◌, length, refl, sym, ap, ◌∙◌, subst, arith, inl, inr, append_assoc}
-use Rattle.std.proofs.lemmas.List.{append-nil, length-append}
+use Rattle.std.proofs.lemmas.List.{length-append}
 use Rattle.commands.specs.Grammars.{Grammar, Next, Line, NoLine, Leads, FaultOf, ReadsText, ReadsBy, language, number_after}
-use Rattle.commands.specs.Pairs.{first_step, second_step, then_reader, Divides, second_after, then_grammar}
+use Rattle.commands.specs.Pairs.{first_step, second_step, then_reader, Divides, then_grammar}
 use Rattle.commands.specs.Reading.{Reader}
 use Rattle.commands.specs.declared.pairs.Then.{Then}
 use Rattle.commands.specs.declared.pairs.Then.TheVariants.{First, Second}

@@ -6,7 +6,6 @@ use Rattle.commands.specs.Grammars.{Leads, FaultOf}
 use Rattle.commands.specs.Inputs.{texts, room_after, next_by, next_of}
 use Rattle.commands.specs.Reading.{Reader, Outcome, Given, Faulty, outcome_by, reading}
 use Rattle.commands.specs.Runs.{Here, after_line}
-use Rattle.commands.specs.declared.machines.Stop.TheVariants.{LineTooLong, InputTooMuch, InputEnded}
 use Rattle.commands.specs.declared.reading.Step.{Step}
 use Rattle.commands.specs.declared.reading.Step.TheVariants.{Goes, Gives, Refused}
 

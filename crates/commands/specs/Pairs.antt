@@ -1,6 +1,6 @@
 -- A text, and after it another. This project's own choice.
 use Rattle.std.specs.Prelude.{◌≡◌, ◌⊎◌, ℕ, ◌+◌, List, ◌++◌, length}
-use Rattle.commands.specs.Grammars.{Grammar, Next}
+use Rattle.commands.specs.Grammars.{Grammar}
 use Rattle.commands.specs.Reading.{Reader, Outcome, Given, Faulty, reading}
 use Rattle.commands.specs.declared.machines.Stop.{Stop}
 use Rattle.commands.specs.declared.reading.Step.{Step}

@@ -1,5 +1,5 @@
 -- Documents are read by their grammar.
-use Rattle.std.proofs.Common.{◌≡◌, ℕ, ◌+◌, ◌-◌, Bool, true, false, List, [], ◌∷◌, ◌++◌, length, codes, IsTrue, refl, sym, ap, ◌∙◌, subst, arith, append_assoc}
+use Rattle.std.proofs.Common.{◌≡◌, ℕ, ◌-◌, Bool, true, false, List, [], ◌∷◌, ◌++◌, length, codes, IsTrue, refl, sym, ap, ◌∙◌, subst, arith}
 use Rattle.std.specs.List.{All, concat}
 use Rattle.std.specs.Str.{bytes_eq}
 use Rattle.std.specs.Prelude.{if◌then◌else◌}
@@ -13,7 +13,7 @@ use Rattle.commands.specs.declared.reading.Step.{Step}
 use Rattle.commands.specs.declared.reading.Step.TheVariants.{Goes, Gives, Refused}
 use Rattle.commands.proofs.GrammarLemmas.{IsOnce, KeepsTo, reads_by}
 use Rattle.commands.proofs.LeadLemmas.{stands_by}
-use Rattle.example_commands.specs.Document.{DeclaresDocument, GoesOn, IsFaultOf, document_grammar, document_reader, empty_document, left_after, most_document, stops}
+use Rattle.example_commands.specs.Document.{DeclaresDocument, GoesOn, IsFaultOf, document_grammar, document_reader, empty_document, left_after, stops}
 use Rattle.example_commands.specs.declared.document.Document.{Document}
 use Rattle.example_commands.specs.declared.document.DocumentFault.{DocumentFault}
 

@@ -11,7 +11,7 @@ use Rattle.commands.specs.declared.endings.End.TheVariants as ends
 use Rattle.commands.specs.declared.machines.Stop.{Stop}
 use Rattle.commands.specs.declared.machines.Onward.{Onward}
 use Rattle.commands.specs.declared.machines.Onward.TheVariants.{Goes}
-use Rattle.example_commands.specs.Tally.{Begins, most_tally, tally_machine}
+use Rattle.example_commands.specs.Tally.{Begins, tally_machine}
 use Rattle.example_commands.specs.declared.desk.Desk.{Desk}
 use Rattle.example_commands.specs.declared.desk.Desk.TheVariants.{Open, Tallying}
 

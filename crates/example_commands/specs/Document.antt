@@ -9,7 +9,7 @@ use Rattle.commands.specs.Reading.{Reader, Refusing}
 use Rattle.commands.specs.declared.endings.End.{End}
 use Rattle.commands.specs.declared.endings.End.TheVariants as ends
 use Rattle.commands.specs.declared.machines.Stop.{Stop}
-use Rattle.commands.specs.declared.machines.Stop.TheVariants.{LineTooLong, InputTooMuch, InputEnded}
+use Rattle.commands.specs.declared.machines.Stop.TheVariants.{InputEnded}
 use Rattle.commands.specs.declared.reading.Step.{Step}
 use Rattle.commands.specs.declared.reading.Step.TheVariants.{Goes, Gives}
 use Rattle.example_commands.specs.declared.document.Document.{Document}

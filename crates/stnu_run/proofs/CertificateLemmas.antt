@@ -1,9 +1,9 @@
 -- Certificates are read by their grammar, whatever stands before them in the input.
-use Rattle.std.proofs.Common.{◌≡◌, ℕ, ◌+◌, List, [], ◌∷◌, ◌++◌, length, Result, Ok, Err, refl, sym, ap, ◌∙◌, subst, arith, length-append}
+use Rattle.std.proofs.Common.{◌≡◌, ℕ, List, [], ◌∷◌, ◌++◌, Result, Ok, Err, refl, sym, ap, ◌∙◌, subst, arith, length-append}
 use Rattle.texts.specs.Words.{words}
 use Rattle.net_model.specs.declared.format.FormatFault.{FormatFault}
 use Rattle.net_model.specs.declared.format.FormatKind.{FormatKind}
-use Rattle.cert_format.specs.CertificateGrammar.{DeclareCertificate, IsFirstFault, IsFront, Progress, certificate_of, missing}
+use Rattle.cert_format.specs.CertificateGrammar.{DeclareCertificate, IsFront, Progress, certificate_of, missing}
 use Rattle.cert_format.specs.CertificateText.{advanced, fault_after, line_in}
 use Rattle.cert_format.specs.declared.certificate.Certificate.{Certificate}
 use Rattle.cert_format.specs.declared.read.CertText.{CertText}

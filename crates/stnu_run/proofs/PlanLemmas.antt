@@ -2,7 +2,7 @@
 use Rattle.std.proofs.Common.{◌≡◌, ◌⊎◌, ℕ, ◌+◌, ◌-◌, List, [], ◌∷◌, ◌++◌, length, map, get_or, Option, Some, None, Result, Ok, Err, refl, sym, ap, ◌∙◌, subst, arith, inl, inr, append_assoc, length-append}
 use Rattle.std.specs.Prelude.{unwrap_or, slice_get}
 use Rattle.std.specs.Option.{option_and_then, option_map}
-use Rattle.std.proofs.lemmas.List.{append-nil, length-map, map-append}
+use Rattle.std.proofs.lemmas.List.{length-map, map-append}
 use Rattle.std.proofs.lemmas.List.Elements.{All-nil}
 use Rattle.std.proofs.lemmas.Option.{slice_get-get_or, slice_get-map}
 use Rattle.texts.specs.Words.{words}
@@ -30,7 +30,7 @@ use Rattle.commands.specs.declared.reading.Step.TheVariants.{Goes, Gives, Refuse
 use Rattle.commands.proofs.GrammarLemmas.{IsOnce, KeepsTo, reads_by}
 use Rattle.commands.proofs.LeadLemmas.{stands_by}
 use Rattle.stnu_run.specs.PlanText.{line_of_part, built_step, plan_begun, plan_step, plan_reader}
-use Rattle.stnu_run.specs.ToCheck.{IsPlanFault, RefusesAtEnd, RefusesPlan, plan_texts}
+use Rattle.stnu_run.specs.ToCheck.{IsPlanFault, RefusesPlan, plan_texts}
 use Rattle.stnu_run.specs.ToRead.{RefusesFormat}
 use Rattle.stnu_run.specs.declared.faults.Fault.{Fault}
 use Rattle.stnu_run.specs.declared.faults.Fault.TheVariants.{Format, Part as PartFault}

@@ -1,6 +1,5 @@
-use Rattle.std.proofs.Common.{◌≡◌, ◌<◌, ◌≤◌, IfNone, Option, Some, None, length, refl, sym, ◌∙◌, arith}
+use Rattle.std.proofs.Common.{IfNone, Option, Some, None, sym, ◌∙◌, arith}
 use Rattle.texts.specs.Lines.{input_lines}
-use Rattle.plan_port.specs.Limits.{most_line}
 use Rattle.plan_port.specs.Reader.{room}
 use Rattle.plan_port.specs.declared.lines.Line.{Line}
 use Rattle.plan_port.proofs.Answering.{reads_next, line_clause, never_to}
