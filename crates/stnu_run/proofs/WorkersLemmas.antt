@@ -188,6 +188,3 @@ workers_exactly words = (to, from)
 
     from : SayWithWorkers workers_alone words → asked_by workers_alone asked_alone words ≡ Some tt
     from say = asks workers_alone refl asked_alone words say.uses say.says ∙ count_said (text_given workers_name say.uses) say.workers
-
-pub alone_decide : WorkersDecideNothing workers_alone asked_alone
-alone_decide = record { sound = refl; no_flag = refl; same = λ uses others differ. rw (differ.one.1, differ.other.1) refl }

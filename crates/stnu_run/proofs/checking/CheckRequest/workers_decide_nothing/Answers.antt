@@ -1,5 +1,0 @@
-use Rattle.stnu_run.proofs.WorkersLemmas.{alone_decide}
-use Rattle.stnu_run.proofs.checking.CheckRequest.workers_decide_nothing.Goals as goal
-
-pub returns : goal.returns
-returns c = alone_decide
