@@ -29,7 +29,7 @@ abbrev reads_whole : Graph → ℕ → List Read
 reads_whole table worker = map (λ (edge : Edge). record { worker = worker; edge = edge }) (edges_of table)
 
 -- the worker of each row in which an edge falls does
-first_reads : Graph → List Made → List Read
+pub first_reads : Graph → List Made → List Read
 first_reads table made = flat_map (λ (one : Made). reads_whole table one.edge.to.0) made
 
 each-flat_map : {X Y : Type 0} (P : Y → Type 0) (f : X → List Y) → ((x : X) → AllByRecursion P (f x)) → (xs : List X) → AllByRecursion P (flat_map f xs)
@@ -41,10 +41,10 @@ each-from_contains P [] all = tt
 each-from_contains P (x ∷ xs) all = (all x (Contains-head x xs), each-from_contains P xs (λ y inside. all y (Contains-tail x xs y inside)))
 
 -- what was read stands in the table
-abbrev AreOf : Graph → List Read → Type 0
+abbrev pub AreOf : Graph → List Read → Type 0
 AreOf table read = AllByRecursion (λ (one : Read). HasEdge table one.edge) read
 
-first_reads_are_of : (table : Graph) (made : List Made) → AreOf table (first_reads table made)
+pub first_reads_are_of : (table : Graph) (made : List Made) → AreOf table (first_reads table made)
 unfolding first_reads
 first_reads_are_of table made = each-flat_map (λ (one : Read). HasEdge table one.edge) (λ (one : Made). reads_whole table one.edge.to.0) (λ one. row one.edge.to.0) made
   where
@@ -54,14 +54,14 @@ first_reads_are_of table made = each-flat_map (λ (one : Read). HasEdge table on
         (each-from_contains (HasEdge table) (edges_of table) (listed_edge table))
 
 -- a worker has read each edge of a table
-abbrev HasReadAll : Graph → List Read → ℕ → Type 0
+abbrev pub HasReadAll : Graph → List Read → ℕ → Type 0
 HasReadAll table read worker = (edge : Edge) → HasEdge table edge → Contains (edges_read_by worker read) edge
 
 -- the workers of the rows of some edges have
-HaveReadAll : Graph → List Read → List Made → Type 0
+pub HaveReadAll : Graph → List Read → List Made → Type 0
 HaveReadAll table read made = (one : Made) → Contains made one → HasReadAll table read one.edge.to.0
 
-have_read : (table : Graph) (read : List Read) (made : List Made) → HaveReadAll table (read ++ first_reads table made) made
+pub have_read : (table : Graph) (read : List Read) (made : List Made) → HaveReadAll table (read ++ first_reads table made) made
 unfolding first_reads HaveReadAll
 have_read table read made one inside edge has =
     let worker : ℕ = one.edge.to.0 in
@@ -70,11 +70,11 @@ have_read table read made one inside edge has =
     let among : Contains (first_reads table made) here = Contains-flat_map (λ (m : Made). reads_whole table m.edge.to.0) made one here inside row in
     read_of (read ++ first_reads table made) here (Contains-append_right read (first_reads table made) here among)
 
-have_read_first : (table : Graph) (read : List Read) (one : Made) (made : List Made) → HaveReadAll table read (one ∷ made) → HasReadAll table read one.edge.to.0
+pub have_read_first : (table : Graph) (read : List Read) (one : Made) (made : List Made) → HaveReadAll table read (one ∷ made) → HasReadAll table read one.edge.to.0
 unfolding HaveReadAll
 have_read_first table read one made all = all one (Contains-head one made)
 
-have_read_rest : (table : Graph) (read more : List Read) (one : Made) (made : List Made) → HaveReadAll table read (one ∷ made) → HaveReadAll table (read ++ more) made
+pub have_read_rest : (table : Graph) (read more : List Read) (one : Made) (made : List Made) → HaveReadAll table read (one ∷ made) → HaveReadAll table (read ++ more) made
 unfolding HaveReadAll
 have_read_rest table read more one made all other inside edge has =
     read_earlier other.edge.to.0 read more edge (all other (Contains-tail one made other inside) edge has)

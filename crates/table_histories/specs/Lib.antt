@@ -1,1 +1,2 @@
 pub mod TableHistory
+pub mod NodeOffers

@@ -1,6 +1,7 @@
 //! Laws about the histories of a table that several workers share, each the contract of a function without parameters.
 
 ghost use Rattle.table_histories.specs.TableHistory.{HistoriesAreDerivable, SettledHistoriesGiveTheClosure, RoundsAreHistories, RoundsThatCloseSettle, StaleReadsMayBeUsed};
+ghost use Rattle.table_histories.specs.NodeOffers.{NodesComeByTheirRules};
 
 /// Where the first table holds derivable edges only, so does the table of every history, and what was read is derivable.
 pub fn histories_are_derivable()
@@ -17,6 +18,12 @@ pub fn settled_histories_give_the_closure()
 /// order of the list, each follows from what the worker of its row read, and each lowers its key.
 pub fn rounds_are_histories()
     ensures { RoundsAreHistories }
+{}
+
+/// Each node of a round comes by its own rule, from the edges of its own premises, which the worker of its row read before: a first
+/// premise at the weight that its key had before the round, a premise in the row at the weight that its key then has.
+pub fn nodes_come_by_their_rules()
+    ensures { NodesComeByTheirRules }
 {}
 
 /// Rounds that close are a settled history of the table from which they start.
