@@ -4,11 +4,10 @@ use Rattle.std.specs.Prelude.{slice_get}
 use Rattle.std.specs.Option.{option_map, option_and_then}
 use Rattle.std.specs.List.{Contains}
 use Rattle.std.proofs.lemmas.Option.{same_Some}
-use Rattle.net_model.specs.Network.{Plan, IsPlan}
+use Rattle.net_model.specs.Network.{Plan}
 use Rattle.net_model.specs.declared.part.Edge.{Edge}
-use Rattle.closure_model.specs.Derivations.{Support, StandsOn, IsTableOf, IsGiven, edge_at, with_node}
+use Rattle.closure_model.specs.Derivations.{Support, StandsOn, IsTableOf, edge_at, with_node}
 use Rattle.closure_model.specs.ReferenceRound.{node_for, rule_for, with_one, round_made, after_round}
-use Rattle.closure_model.specs.ReferenceRow.{IsBelow}
 use Rattle.closure_model.specs.Tables.{Graph, HasEdge, lowered}
 use Rattle.closure_model.specs.declared.derivation.Node.{Node}
 use Rattle.closure_model.specs.declared.derivation.NodeId.{NodeId}

@@ -12,7 +12,7 @@ use Rattle.closure_model.specs.declared.derivation.Node.{Node}
 use Rattle.closure_model.specs.declared.derivation.NodeId.{NodeId}
 use Rattle.closure_model.specs.declared.derivation.Rule.{Rule}
 use Rattle.closure_model.specs.declared.derivation.Rule.TheVariants as by_rule
-use Rattle.table_histories.specs.TableHistory.{Read, edges_read_by}
+use Rattle.table_histories.specs.TableHistory.{Read, edges_read_by, AreHistory}
 
 -- what happened in a round: the list and the table as they stand, and what the workers read
 pub record RoundPast : Type 0 where
@@ -60,3 +60,9 @@ pub record IsRoundHistory (net : Plan) (before after : Support) : Type 0 where
 -- Each node of a round comes by its own rule, from the edges of its own premises, which the worker of its row read before.
 abbrev pub NodesComeByTheirRules : Type 0
 NodesComeByTheirRules = (net : Plan) (support : Support) → IsPlan net → StandsOn net support → IsRoundHistory net support (after_round net support)
+
+-- A history of one round is a history of its table with the same reads: each node that comes is a step in which the worker of its row offers
+-- its edge.
+abbrev pub RoundHistoriesAreHistories : Type 0
+RoundHistoriesAreHistories =
+    (net : Plan) (first : Support) (past : RoundPast) → RoundHistory net first past → (are : AreHistory net first past.support) × (are.read ≡ past.read)

@@ -1,7 +1,7 @@
 //! Laws about the histories of a table that several workers share, each the contract of a function without parameters.
 
 ghost use Rattle.table_histories.specs.TableHistory.{HistoriesAreDerivable, SettledHistoriesGiveTheClosure, RoundsAreHistories, RoundsThatCloseSettle, StaleReadsMayBeUsed};
-ghost use Rattle.table_histories.specs.NodeOffers.{NodesComeByTheirRules};
+ghost use Rattle.table_histories.specs.NodeOffers.{NodesComeByTheirRules, RoundHistoriesAreHistories};
 
 /// Where the first table holds derivable edges only, so does the table of every history, and what was read is derivable.
 pub fn histories_are_derivable()
@@ -24,6 +24,12 @@ pub fn rounds_are_histories()
 /// premise at the weight that its key had before the round, a premise in the row at the weight that its key then has.
 pub fn nodes_come_by_their_rules()
     ensures { NodesComeByTheirRules }
+{}
+
+/// A history of one round is a history of its table with the same reads: each node that comes is a step in which the worker of its row
+/// offers its edge.
+pub fn round_histories_are_histories()
+    ensures { RoundHistoriesAreHistories }
 {}
 
 /// Rounds that close are a settled history of the table from which they start.
