@@ -1,6 +1,8 @@
-ghost use Rattle.std.specs.Prelude.{◌≡◌, ◌<◌, ◌≤◌, ◌<ℤ◌, ℕ, pos, false, length, IfOk, IfSome, None, Some, replicate};
+ghost use Rattle.std.specs.Prelude.{◌≡◌, ◌<◌, ◌≤◌, ◌<ℤ◌, ◌+ℤ◌, ℕ, pos, false, not, int_lt, length, IfOk, None, Some, replicate};
+ghost use Rattle.std.specs.Int.{int_max};
 ghost use Rattle.std.specs.List.{slice_index_or, slice_set};
-ghost use Rattle.table_closing.specs.Words.{held, FitsWord, MeetsHeld};
+ghost use Rattle.std.specs.Ordering.{int_eq};
+ghost use Rattle.table_closing.specs.Words.{absent, held, FitsWord, MeetsHeld};
 
 use net_model::{PointId, Weight};
 use std::alloc::{AllocError, Global};
@@ -93,9 +95,20 @@ fn falls(first: i32, there: i32, weight: i32) -> bool
     requires weight { FitsWord weight }
     ensures { result ≡ false → MeetsHeld (held first) (held there) weight }
 {
-    if first == ABSENT {
-        false
-    } else {
-        first.max(0) + weight < there
-    }
+    // Both are looked at whatever the other says, so that several places are at once.
+    is_weight(first) & goes_below(first, weight, there)
+}
+
+fn is_weight(word: i32) -> bool
+    ensures { result ≡ not (int_eq word absent) }
+{
+    word != ABSENT
+}
+
+fn goes_below(first: i32, weight: i32, there: i32) -> bool
+    requires negative { weight <ℤ pos 0 }
+    requires weight { FitsWord weight }
+    ensures { result ≡ int_lt (int_max first (pos 0) +ℤ weight) there }
+{
+    first.max(0) + weight < there
 }
