@@ -1,12 +1,14 @@
-//! The engine beside the slow programs: the same nodes in the same order, as many rounds, and the same end.
+//! The engine beside the slow programs: the same nodes in the same order, as many rounds, and the same end; and the closing without
+//! rounds beside both.
 
+use crate::closed::closes_as;
 use crate::drawn::{Draws, drawn};
 use crate::ending::Ending;
 use crate::plans::network;
 use crate::rounds::{base_nodes, rounds};
 use crate::tried::CASES;
 use closure_model::Node;
-use derivation_dag::{Dag, NodeId, Plain};
+use derivation_dag::{Dag, NodeId, Plain, Supports};
 use net_model::Network;
 use parallel_rounds::{NoGate, Outcome, propagate};
 use std::alloc::Global;
@@ -67,7 +69,7 @@ fn try_network(
     Ok(matches!(end.1, Ending::Looped(_)))
 }
 
-/// Makes the rounds of a network by the engine, and compares them.
+/// Makes the rounds of a network by the engine and closes it without rounds, and compares them.
 fn try_engine(
     rt: &(impl Abort + Threads + Sync),
     alloc: Global,
@@ -76,10 +78,14 @@ fn try_engine(
     end: &(u64, Ending),
     parts: &str,
 ) -> Result<(), Fail> {
+    // The proof reads here that the network is sound.
+    let _ = net.points();
     let mut store = Plain::of(alloc, net)?;
     let outcome = propagate(rt, alloc, net, &mut store, 2, &NoGate)?;
     assert!(rt; has_nodes(store.dag(), nodes), "{parts}");
     assert!(rt; is_end(&outcome, end), "{parts}");
+    let same = closes_as(alloc, net, &outcome, store.table())?;
+    assert!(rt; same, "{parts}");
     Ok(())
 }
 

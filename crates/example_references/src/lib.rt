@@ -1,7 +1,10 @@
 //! The reference rows, orders, rounds and refutations as plain slow programs on lists, each of which gives what its definition says,
-//! tried on small networks as tests. They stand on no part of the engine; a test makes the rounds of drawn networks by both.
+//! tried on small networks as tests. They stand on no part of the engine; a test makes the rounds of drawn networks by both, and closes them
+//! without rounds.
 #![tactic(auto)]
 
+#[cfg(test)]
+mod closed;
 #[cfg(test)]
 mod compared;
 #[cfg(test)]

@@ -4,7 +4,8 @@ use Rattle.net_model.specs.Network.{Plan}
 use Rattle.net_model.specs.declared.ids.PointId.{PointId}
 use Rattle.closure_model.specs.Derivations.{Support, base_support}
 use Rattle.closure_model.specs.DerivationLaws.{BaseStands}
-use Rattle.closure_model.specs.OrderLaws.{CyclesAreMet}
+use Rattle.closure_model.specs.ClosureLaws.{CyclesAreInClosures}
+use Rattle.closure_model.specs.OrderLaws.{CyclesAreMet, OrdersExcludeCycles}
 use Rattle.closure_model.specs.Orders.{IsCycle}
 use Rattle.closure_model.specs.ReferenceRound.{after_round}
 use Rattle.closure_model.specs.ReferenceRounds.{Ending, looped, RoundsEnd, in_cycle, in_order, after_one, RoundsStand, IsRefutationBy}
@@ -22,24 +23,30 @@ use Rattle.refutations.specs.Certifying.{certificate_by, IsCertificateBy}
 use Rattle.refutations.specs.Laws.{RefutationsAreAccepted}
 use Rattle.parallel_rounds.specs.Propagated.{IsPropagated}
 use Rattle.parallel_rounds.specs.declared.outcome.Outcome.{Outcome}
-use Rattle.parallel_rounds.specs.declared.outcome.Outcome.TheVariants.{Closed, Looped}
+use Rattle.parallel_rounds.specs.declared.outcome.Outcome.TheVariants.{Closed as ClosedOutcome, Looped}
+use Rattle.table_closing.specs.Closing.{IsClosedBy, HasDerivableCycle}
+use Rattle.table_closing.specs.declared.closing.Closed.{Closed}
 use Rattle.execution_model.specs.Laws.{IsDispatchedByClosure}
 use Rattle.commands.specs.declared.endings.End.{End}
 use Rattle.stnu_run.specs.Checking.{check_answers}
 use Rattle.stnu_run.specs.CheckPromise.{PutsVerdict}
-use Rattle.stnu_run.specs.Verdict.{IsCertificateOf}
+use Rattle.stnu_run.specs.Verdict.{IsCertificateOf, Refutes}
 
 -- ---- what decides
+-- a closure with an order
+pub closed_decides : OrderedClosuresAreControllable → (net : Plan) (closed : Closed) → IsInstant net → IsClosedBy net closed → IsControllable net × IsDispatchedByClosure net closed.table closed.order
+closed_decides decide net closed instant is = (decide net closed.table closed.order instant is.closure is.order, record { instant = instant; closure = is.closure; ordered = is.order })
+
 module _ (net : Plan) (before after : Support) (outcome : Outcome) (base : before ≡ base_support net) (propagated : IsPropagated net before after outcome) (instant : IsInstant net) where
-  -- rounds that close give the closure and an order
-  pub closed_decides : OrderedClosuresAreControllable → (rounds : ℕ) (order : List PointId) → outcome ≡ Closed rounds order → IsControllable net × IsDispatchedByClosure net after.table order
-  closed_decides decide rounds order is =
-      let made : IsPropagated net before after (Closed rounds order) = subst (IsPropagated net before after) is propagated in
-      (decide net after.table order instant made.says.0 made.says.1, record { instant = instant; closure = made.says.0; ordered = made.says.1 })
+  -- rounds do not close where a cycle is derivable
+  pub never_closed : CyclesAreInClosures → OrdersExcludeCycles → HasDerivableCycle net → (rounds : ℕ) (order : List PointId) → outcome ≡ ClosedOutcome rounds order → ⊥
+  never_closed inside exclude found rounds order is =
+      let made : IsPropagated net before after (ClosedOutcome rounds order) = subst (IsPropagated net before after) is propagated in
+      exclude after.table order found.cycle made.says.1 (inside net found.table after.table found.cycle found.fits found.derivable made.says.0 found.is)
 
   -- rounds that end in a cycle give the refutation
   pub looped_decides : AcceptedExcludes → (rounds : ℕ) (cycle : List PointId) (cert : Certificate) → outcome ≡ Looped rounds cycle → IsCertificateBy net after.nodes cycle cert
-      → judgement_of net cert ≡ Accepted NotControllable → HasWeights cert → (IsControllable net → ⊥) × IsCertificateOf net cert × HasWeights cert
+      → judgement_of net cert ≡ Accepted NotControllable → HasWeights cert → Refutes net cert
   looped_decides exclude rounds cycle cert is by accepted weights =
       let made : IsPropagated net before after (Looped rounds cycle) = subst (IsPropagated net before after) is propagated in (
         exclude net cert instant accepted,

@@ -43,7 +43,11 @@ pub record IsCertificateOf (net : Plan) (cert : Certificate) : Type 0 where
 abbrev pub Decides : Plan → Type 0 → (Certificate → Type 0) → Type 0
 Decides net Yes No = (IsControllable net × Yes) ⊎ ((¬ IsControllable net) × ((cert : Certificate) × IsCertificateOf net cert × No cert))
 
--- what decides it: its closure with an order where it is controllable, else the certificate of its refutation, of weights that can be printed
+-- a certificate refutes a network: it is not controllable, and the certificate is that of its refutation, of weights that can be printed
+abbrev pub Refutes : Plan → Certificate → Type 0
+Refutes net cert = (¬ IsControllable net) × IsCertificateOf net cert × HasWeights cert
+
+-- what decides it: its closure with an order where it is controllable, else a certificate that refutes it
 abbrev pub IsVerdict : Plan → Verdict → Type 0
-IsVerdict net (Controllable closed) = IsControllable net × IsDispatchedByClosure net closed.store.table closed.order
-IsVerdict net (Refuted cert) = (¬ IsControllable net) × IsCertificateOf net cert × HasWeights cert
+IsVerdict net (Controllable closed) = IsControllable net × IsDispatchedByClosure net closed.table closed.order
+IsVerdict net (Refuted cert) = Refutes net cert

@@ -14,7 +14,7 @@ use crate::executing::Executing;
 use crate::plan_text::PlanText;
 use crate::promising::Promising;
 use crate::requests::Request;
-use crate::verdict::{Closed, Verdict, decide, put_refuted};
+use crate::verdict::{Verdict, decide, put_refuted};
 use crate::workers::Workers;
 use closure_model::laws::base_stands;
 use closure_model::{order_laws, round_laws};
@@ -29,6 +29,7 @@ use refutations::laws::refutations_are_accepted;
 use std::alloc::{AllocError, Global};
 use std::marker::Model;
 use std::thread::Threads;
+use table_closing::Closed;
 
 /// The execution of a network: the command `run` reads a plan, and puts `controllable` and the first due moment where a strategy controls
 /// its network, else `not controllable` and a certificate which `judge` accepts, and then it ends with 1. Over the lines of events that
@@ -129,11 +130,11 @@ fn begin_execution(
     closed: &Closed,
 ) -> Result<Onward<Executing>, AllocError>
     requires empty { answer.old.text ≡ [] }
-    requires closure { IsDispatchedByClosure net closed.now.store.table closed.now.order }
+    requires closure { IsDispatchedByClosure net closed.now.table closed.now.order }
     ensures begins { IfOk result (BeginsExecution net answer.new.text) }
     ensures room { IfOk result (λ onward. HasRoom executing_machine onward answer.new.capacity) }
 {
-    let dispatch = Dispatch::of(alloc, &net, closed.store.table(), closed.order.as_slice())?;
+    let dispatch = Dispatch::of(alloc, &net, &closed.table, closed.order.as_slice())?;
     let state = Executing::start(alloc, net, dispatch)?;
     put_begun(answer, &state)?;
     Ok(Onward::Goes(state))

@@ -4,27 +4,23 @@ ghost use Rattle.std.specs.Prelude.{◌≡◌, [], IfOk};
 ghost use Rattle.closure_model.specs.Derivations.{base_support};
 ghost use Rattle.cert_format.specs.CertificateWords.{HasWeights};
 ghost use Rattle.parallel_rounds.specs.Propagated.{IsPropagated};
-ghost use Rattle.stnu_run.specs.Verdict.{IsVerdict, PutsControllable, PutsRefuted};
+ghost use Rattle.table_closing.specs.Closing.{HasDerivableCycle};
+ghost use Rattle.stnu_run.specs.Verdict.{IsVerdict, Refutes, PutsControllable, PutsRefuted};
 
 use crate::workers::Workers;
 use cert_checker::laws::accepted_excludes;
 use cert_format::{Certificate, print_certificate};
+use closure_model::laws::cycles_are_in_closures;
+use closure_model::order_laws::orders_exclude_cycles;
 use commands::{Answer, End, Word};
 use controllability::laws::ordered_closures_are_controllable;
 use derivation_dag::Plain;
-use net_model::{Items, Network, PointId};
+use net_model::Network;
 use parallel_rounds::Outcome;
 use refutations::refutation;
 use std::alloc::{AllocError, Global};
 use std::thread::Threads;
-
-/// The closure of a network, and an order of its points.
-#[derive(Drop)]
-pub(crate) struct Closed {
-    /// Its table is the closure.
-    pub(crate) store: Plain,
-    pub(crate) order: Items<PointId>,
-}
+use table_closing::{Closed, close};
 
 /// The verdict of a network, and by what it is decided.
 #[derive(Drop)]
@@ -35,7 +31,8 @@ pub(crate) enum Verdict {
     Refuted(Certificate),
 }
 
-/// Decides whether a network is controllable. `AllocError` comes only for want of memory.
+/// Decides whether a network is controllable, by closing its table; rounds are made only where it is not, since the nodes of the
+/// certificate are theirs. `AllocError` comes only for want of memory.
 pub(crate) fn decide<R: Threads + Sync>(
     rt: &R,
     alloc: Global,
@@ -44,30 +41,54 @@ pub(crate) fn decide<R: Threads + Sync>(
 ) -> Result<Verdict, AllocError>
     ensures { IfOk result (IsVerdict net.now) }
 {
-    let mut store = Plain::of(alloc, net)?;
-    let outcome = workers.propagate(rt, alloc, net, &mut store)?;
-    shown_by(alloc, net, store, outcome)
+    ordered_closures_are_controllable();
+    // The proof reads here that the network is sound.
+    let _ = net.points();
+    match close(alloc, net)? {
+        Some(closed) => Ok(Verdict::Controllable(closed)),
+        None => {
+            let certificate = refute(rt, alloc, net, workers)?;
+            Ok(Verdict::Refuted(certificate))
+        }
+    }
 }
 
-/// The verdict that the propagation from the base table of a network shows, by its outcome and the store that it left.
-fn shown_by(
+/// The certificate of the refutation of a network of which a cycle of negative ordinary edges is derivable.
+fn refute<R: Threads + Sync>(
+    rt: &R,
     alloc: Global,
     net: &Network,
-    store: Plain,
-    outcome: Outcome,
-) -> Result<Verdict, AllocError>
-    requires { IsPropagated net.now (base_support net.now) store outcome }
-    ensures { IfOk result (IsVerdict net.now) }
+    workers: &Workers,
+) -> Result<Certificate, AllocError>
+    requires { HasDerivableCycle net.now }
+    ensures { IfOk result (Refutes net.now) }
 {
-    ordered_closures_are_controllable();
+    let mut store = Plain::of(alloc, net)?;
+    let outcome = workers.propagate(rt, alloc, net, &mut store)?;
+    certify(alloc, net, &store, &outcome)
+}
+
+/// The same, by the outcome of the propagation from the base table of the network, and the store that it left.
+fn certify(
+    alloc: Global,
+    net: &Network,
+    store: &Plain,
+    outcome: &Outcome,
+) -> Result<Certificate, AllocError>
+    requires propagated { IsPropagated net.now (base_support net.now) store.now outcome.now }
+    requires cycle { HasDerivableCycle net.now }
+    ensures { IfOk result (Refutes net.now) }
+{
+    cycles_are_in_closures();
+    orders_exclude_cycles();
     accepted_excludes();
     // The proof reads here that the network is sound.
     let _ = net.points();
     match outcome {
-        Outcome::Closed { order, .. } => Ok(Verdict::Controllable(Closed { store, order })),
+        Outcome::Closed { .. } => unreachable!(),
         Outcome::Looped { cycle, .. } => {
-            let certificate = refutation(alloc, net, &store, store.dag(), cycle.as_slice())?;
-            Ok(Verdict::Refuted(certificate))
+            let certificate = refutation(alloc, net, store, store.dag(), cycle.as_slice())?;
+            Ok(certificate)
         }
     }
 }

@@ -1,7 +1,6 @@
 use Rattle.std.proofs.Common.{List, sym, subst}
 use Rattle.net_model.specs.declared.ids.PointId.{PointId}
-use Rattle.closure_model.specs.Tables.{Graph}
-use Rattle.dispatch_net.specs.Dispatchable.{MayDispatch, IsDispatchBy}
+use Rattle.dispatch_net.specs.Dispatchable.{MayDispatch}
 use Rattle.stnu_run.proofs.BeginLemmas.{may_dispatch, dispatch_of, begins_so}
 use Rattle.stnu_run.proofs.running.begin_execution.Goals as goal
 
@@ -9,20 +8,18 @@ pub of-requires : goal.of-requires
 of-requires c =
     let net = c.args.net in
     let closed = c.args.closed.now in
-    subst (λ (o : List PointId). MayDispatch net c.table.result.now o) (sym c.as_slice.ensures)
-    (subst (λ (t : Graph). MayDispatch net t closed.order) (sym c.table.ensures) (may_dispatch net closed.store.table closed.order c.requires.closure))
+    subst (λ (o : List PointId). MayDispatch net closed.table o) (sym c.as_slice.ensures) (may_dispatch net closed.table closed.order c.requires.closure)
 
 pub start-requires-clause-dispatch : goal.start-requires-clause-dispatch
 start-requires-clause-dispatch c =
     let net = c.args.net in
     let closed = c.args.closed.now in
     let dispatch = c.in_ok-dispatch.dispatch in
-    dispatch_of net closed.store.table closed.order c.requires.closure dispatch (subst (λ (t : Graph). IsDispatchBy net t dispatch) c.table.ensures c.in_ok-dispatch.ensures.dispatchable)
+    dispatch_of net closed.table closed.order c.requires.closure dispatch c.in_ok-dispatch.ensures.dispatchable
 
 pub returns-clause-begins : goal.returns-clause-begins
 returns-clause-begins c =
     let net = c.args.net in
     let closed = c.args.closed.now in
     let dispatch = c.in_ok-dispatch.dispatch in
-    let made = subst (λ (t : Graph). IsDispatchBy net t dispatch) c.table.ensures c.in_ok-dispatch.ensures.dispatchable in
-    begins_so net closed.store.table closed.order c.requires.closure dispatch made c.in_ok-state.state c.in_ok-state.ensures c.put_begun.new.answer.text c.in_ok-put_begun.ensures.put
+    begins_so net closed.table closed.order c.requires.closure dispatch c.in_ok-dispatch.ensures.dispatchable c.in_ok-state.state c.in_ok-state.ensures c.put_begun.new.answer.text c.in_ok-put_begun.ensures.put
