@@ -1,8 +1,11 @@
 -- What is told after a round.
-use Rattle.std.proofs.Common.{◌≡◌, ◌==◌, ℕ, ◌<◌, Bool, true, false, not, List, [], ◌∷◌, length, refl, ap, sym, subst, ◌∙◌, arith}
+use Rattle.std.proofs.Common.{◌≡◌, ◌==◌, ℕ, ◌<◌, Bool, true, false, not, List, [], ◌∷◌, length, refl, ap, sym, subst, ◌∙◌, arith, get_or, take, fold, ◌+◌, ◌++◌, ◌≤◌, map}
 use Rattle.std.specs.Prelude.{filter}
 use Rattle.std.specs.List.{All, AllPairs, Contains}
 use Rattle.std.proofs.lemmas.Bool.Decides.{nat_tests}
+use Rattle.std.proofs.lemmas.List.{take_all, take_more, map-append, append-nil}
+use Rattle.std.proofs.lemmas.List.Concat.{flat_map-append}
+use Rattle.std.proofs.lemmas.List.Sums.{fold-append}
 use Rattle.std.proofs.lemmas.List.Elements.{All-contains}
 use Rattle.std.proofs.lemmas.List.Kept.{AllPairs-filter}
 use Rattle.std.proofs.lemmas.List.Sorted.{length_permutation}
@@ -12,10 +15,10 @@ use Rattle.net_model.specs.declared.part.Edge.{Edge}
 use Rattle.closure_model.specs.Derivations.{Support, StandsOn}
 use Rattle.closure_model.specs.FreshEdges.{fresh_at, IsMetBut, AreOfTable}
 use Rattle.closure_model.specs.Keys.{Shape}
-use Rattle.closure_model.specs.Orders.{is_among}
+use Rattle.closure_model.specs.Orders.{is_among, IsOrder}
 use Rattle.closure_model.specs.ReferenceRow.{reference_row, with_made}
 use Rattle.closure_model.specs.ReferenceRound.{round_made, after_round}
-use Rattle.closure_model.specs.Tables.{Graph, IsFor, IsGraph}
+use Rattle.closure_model.specs.Tables.{Graph, IsFor, IsGraph, lowered}
 use Rattle.closure_model.specs.declared.rows.Made.{Made}
 use Rattle.closure_model.proofs.FreshLemmas.{rows_are_met_after_a_round}
 use Rattle.closure_model.proofs.Lists.{Contains-map, Contains-map_from, Contains-filter_from}
@@ -23,12 +26,13 @@ use Rattle.closure_model.proofs.OrderLemmas.{among_from, from_among}
 use Rattle.closure_model.proofs.RoundClosing.{standing_fits, standing_sound}
 use Rattle.closure_model.proofs.RoundsLaw.{round_stands_after}
 use Rattle.back_propagation.specs.declared.settling.NewRow.{NewRow}
+use Rattle.parallel_rounds.specs.Adding.{made_in}
 use Rattle.parallel_rounds.specs.Rows.{new_row}
 use Rattle.parallel_rounds.specs.Targets.{AreRising, AreRowsOfRound}
 use Rattle.parallel_rounds.specs.Telling.{IsLastRound, AreInOrder, AreListed, ordinary_made, changed_in}
 use Rattle.parallel_rounds.specs.declared.telling.LastRound.{LastRound}
 use Rattle.parallel_rounds.proofs.FreshSteps.{fresh_after}
-use Rattle.parallel_rounds.proofs.StaleSteps.{All-from_each, map_pairs, stays_in_filter}
+use Rattle.parallel_rounds.proofs.StaleSteps.{All-from_each, map_pairs, stays_in_filter, rows_make_round}
 
 module _ (net : Plan) (table : Graph) (rows : List NewRow) (are : AreRowsOfRound net table rows) where
   pub rows_rise : AllPairs (λ (one other : NewRow). one.target.0 < other.target.0) rows
@@ -124,3 +128,25 @@ pub rows_fit : (net : Plan) (support : Support) (rows : List NewRow) (points : �
 rows_fit net support rows points plan stands are is =
     let same : support.table.shape.points ≡ points = ap (λ (s : Shape). s.points) (standing_fits net plan support stands) ∙ sym is in
     subst (λ (n : ℕ). All (λ (row : NewRow). row.target.0 < n) rows) same (rows_inside net support.table rows are)
+
+-- an order that stays one row by row stays one
+pub stays_more : (order : List PointId) (rows : List NewRow) (i : ℕ) (row : NewRow) → i < length rows → row ≡ get_or rows i row → ((table : Graph) → IsOrder table order → IsOrder (with_made table (made_in (take i rows))) order)
+    → ((table : Graph) → IsOrder table order → IsOrder (with_made table row.made) order) → (table : Graph) → IsOrder table order → IsOrder (with_made table (made_in (take (i + 1) rows))) order
+stays_more order rows i row inside read before here table is =
+    let more : take (i + 1) rows ≡ take i rows ++ row ∷ [] = take_more rows i row inside ∙ ap (λ (r : NewRow). take i rows ++ r ∷ []) (sym read) in
+    let both : made_in (take (i + 1) rows) ≡ made_in (take i rows) ++ row.made =
+    ap made_in more ∙ (flat_map-append (λ (r : NewRow). r.made) (take i rows) (row ∷ []) ∙ ap (λ (list : List Made). made_in (take i rows) ++ list) (append-nil row.made)) in
+    let lists : with_made table (made_in (take (i + 1) rows)) ≡ with_made (with_made table (made_in (take i rows))) row.made =
+    ap (with_made table) both ∙ (ap (fold lowered table) (map-append (λ (m : Made). m.edge) (made_in (take i rows)) row.made) ∙ fold-append lowered table (map (λ (m : Made). m.edge) (made_in (take i rows))) (map (λ (m : Made). m.edge) row.made)) in
+    subst (λ (t : Graph). IsOrder t order) (sym lists) (here (with_made table (made_in (take i rows))) (before table is))
+
+-- where the rows are those of a round, it stays one of the table after the round
+pub order_stays : (net : Plan) (support after : Support) (rows : List NewRow) (order : List PointId) → IsPlan net → StandsOn net support → after ≡ after_round net support → AreRowsOfRound net support.table rows
+    → ((table : Graph) → IsOrder table order → IsOrder (with_made table (made_in rows)) order) → IsOrder support.table order → IsOrder after.table order
+order_stays net support after rows order plan stands is are stays ordered =
+    let made : made_in rows ≡ round_made net support.table = rows_make_round net support.table rows are in
+    let table_is : after.table ≡ with_made support.table (round_made net support.table) = ap (λ (s : Support). s.table) is ∙ (round_stands_after net support plan stands).table_is in
+    subst (λ (t : Graph). IsOrder t order) (sym (table_is ∙ ap (with_made support.table) (sym made))) (stays support.table ordered)
+
+pub stays_all : (order : List PointId) (rows : List NewRow) (i : ℕ) → length rows ≤ i → ((table : Graph) → IsOrder table order → IsOrder (with_made table (made_in (take i rows))) order) → (table : Graph) → IsOrder table order → IsOrder (with_made table (made_in rows)) order
+stays_all order rows i long is table ordered = subst (λ (r : List NewRow). IsOrder (with_made table (made_in r)) order) (take_all i rows long) (is table ordered)

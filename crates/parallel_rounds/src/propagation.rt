@@ -1,4 +1,5 @@
-ghost use Rattle.std.specs.Prelude.{◌≡◌, ◌≢◌, ◌≤◌, [], IfOk, IfSome, MatchOption};
+ghost use Rattle.std.specs.Prelude.{◌≡◌, ◌≢◌, ◌≤◌, true, [], IfOk, IfSome, MatchOption};
+ghost use Rattle.closure_model.specs.Orders.{IsOrder};
 ghost use Rattle.closure_model.specs.Derivations.{StandsOn};
 ghost use Rattle.closure_model.specs.ReferenceRound.{round_made, after_round};
 ghost use Rattle.closure_model.specs.ReferenceRow.{HasWeightsWithin};
@@ -12,13 +13,14 @@ use crate::adding::{fallen_in, take_all};
 use crate::gate::Gate;
 use crate::outcome::Outcome;
 use crate::parts::Task;
+use crate::placing::{Placed, closed, order_if, place};
 use crate::rows::{round, rows_of};
 use crate::staleness::stale;
 use crate::telling::LastRound;
 use back_propagation::NewRow;
 use derivation_dag::Supports;
 use labelled_graph::Table;
-use loop_finder::{Found, order};
+use loop_finder::KeptOrder;
 use net_model::Network;
 use std::alloc::{AllocError, Global};
 use std::thread::Threads;
@@ -45,17 +47,19 @@ pub fn propagate<R: Threads + Sync, S: Supports, G: Gate>(
 {
     let points = net.points().len() as u32;
     let mut rounds = 0;
+    let mut kept = None;
     let mut last = None;
     loop {
-        match order(alloc, store.table(), points)? {
-            Found::Cycle(cycle) => return Ok(Outcome::Looped { rounds, cycle }),
-            Found::Order(order) => {
-                rounds += 1;
-                let next = make_round(rt, alloc, net, store, workers, gate, &last)?;
-                if next.is_none() {
-                    return Ok(Outcome::Closed { rounds, order });
-                }
-                last = next;
+        let order = match place(alloc, store.table(), points, kept)? {
+            Placed::InOrder(order) => order,
+            Placed::Round(cycle) => return Ok(Outcome::Looped { rounds, cycle }),
+        };
+        rounds += 1;
+        match make_round(rt, alloc, net, store, workers, gate, &order, &last)? {
+            None => return closed(alloc, store.table(), points, rounds),
+            Some(next) => {
+                kept = order_if(next.stays, order);
+                last = Some(next);
             }
         }
     }
@@ -69,6 +73,7 @@ fn make_round<R: Threads + Sync, S: Supports, G: Gate>(
     store: &mut S,
     workers: u32,
     gate: &G,
+    order: &KeptOrder,
     last: &Option<LastRound>,
 ) -> Result<Option<LastRound>, AllocError>
     requires workers { (1 ≤ workers) × (workers ≤ most_seats) }
@@ -76,6 +81,7 @@ fn make_round<R: Threads + Sync, S: Supports, G: Gate>(
     requires last { IfSome last.now (IsLastRound net.now (S.support store.old).table) }
     ensures after { IfOk result (λ _. S.support store.new ≡ after_round net.now (S.support store.old)) }
     ensures fell { IfOk result (λ last. MatchOption last (round_made net.now (S.support store.old).table ≡ []) (λ last. (round_made net.now (S.support store.old).table ≢ []) × IsLastRound net.now (S.support store.new).table last)) }
+    ensures stays { IfOk result (λ last. IfSome last (λ last. last.stays ≡ true → IsOrder (S.support store.old).table order.now → IsOrder (S.support store.new).table order.now)) }
 {
     // The proof reads here that the network is sound.
     let points = net.points().len() as u32;
@@ -85,7 +91,7 @@ fn make_round<R: Threads + Sync, S: Supports, G: Gate>(
     if fallen.is_empty() {
         return Ok(None);
     }
-    let last = LastRound::of(alloc, points, rows.as_slice(), fallen.len())?;
+    let last = LastRound::of(alloc, points, rows.as_slice(), fallen.len(), order)?;
     Ok(Some(last))
 }
 

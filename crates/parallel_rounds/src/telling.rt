@@ -1,33 +1,41 @@
-ghost use Rattle.std.specs.Prelude.{◌≡◌, ◌<◌, ◌++◌, ◌∷◌, [], length, IfOk, OnOk};
+ghost use Rattle.std.specs.Prelude.{◌≡◌, ◌<◌, ◌++◌, ◌∷◌, [], true, length, IfOk, OnOk};
 ghost use Rattle.std.specs.List.{All, AllPairs};
+ghost use Rattle.closure_model.specs.Orders.{IsOrder};
+ghost use Rattle.closure_model.specs.ReferenceRow.{with_made};
+ghost use Rattle.closure_model.specs.Tables.{Graph};
+ghost use Rattle.parallel_rounds.specs.Adding.{made_in};
 ghost use Rattle.parallel_rounds.specs.Telling.{AreInOrder, AreListed, changed_in, ordinary_made};
 
 use back_propagation::{Made, NewRow};
+use loop_finder::KeptOrder;
 use net_model::{Edge, Items, PointId};
 use std::alloc::{AllocError, Global};
 
 /// What fell in a round: the points in whose rows something did, how many edges fell, and those of them that are ordinary, by the points
-/// in which they end, each list in the order of the points in which they begin.
+/// in which they end, each list in the order of the points in which they begin; and whether an order stays one.
 #[derive(Drop)]
 pub(crate) struct LastRound {
     pub(crate) changed: Vec<PointId>,
     pub(crate) fallen: usize,
     pub(crate) fresh: Vec<Items<Edge>>,
+    pub(crate) stays: bool,
 }
 
 impl LastRound {
-    /// What fell in the rows of a round, for so many points; so many edges fell.
+    /// What fell in the rows of a round, for so many points, and whether an order stays one; so many edges fell.
     pub(crate) fn of(
         alloc: Global,
         points: u32,
         rows: &[NewRow],
         fallen: usize,
+        order: &KeptOrder,
     ) -> Result<LastRound, AllocError>
         requires points { All (λ row. row.target.0 < points) rows.now }
         requires rise { AllPairs (λ one other. one.target.0 < other.target.0) rows.now }
         ensures changed { IfOk result (λ last. last.changed.items ≡ changed_in rows.now) }
         ensures count { IfOk result (λ last. length last.fresh.items ≡ points) }
         ensures fresh { IfOk result (λ last. AreListed rows.now last.fresh.items) }
+        ensures stays { IfOk result (λ last. last.stays ≡ true → (table : Graph) → IsOrder table order.now → IsOrder (with_made table (made_in rows.now)) order.now) }
     {
         let changed = changed_in(alloc, rows)?;
         let fresh = fresh_in(alloc, points, rows)?;
@@ -35,8 +43,21 @@ impl LastRound {
             changed,
             fallen,
             fresh,
+            stays: all_stay(order, rows),
         })
     }
+}
+
+/// Whether all edges that fell in rows go along an order.
+fn all_stay(order: &KeptOrder, rows: &[NewRow]) -> bool
+    ensures { result ≡ true → (table : Graph) → IsOrder table order.now → IsOrder (with_made table (made_in rows.now)) order.now }
+{
+    for row in rows {
+        if !order.stays(row.made.as_slice()) {
+            return false;
+        }
+    }
+    true
 }
 
 /// The targets of the rows in which something fell.
