@@ -43,7 +43,7 @@ Contains-filter_map f (z ∷ zs) x y inside is = by (λ there. Contains-filter_m
     by rest (Some w) some (inl here) = let same : f z ≡ f x = ap f here in let both : w ≡ y = cc in rw some (0, omega arith, both)
     by rest (Some w) some (inr there) = rw some (Contains-tail w (filter_map f zs) y (rest there))
 
-pub Contains-filter_map_from : {X Y : Type 0} (f : X → Option Y) (xs : List X) (y : Y) → Contains (filter_map f xs) y → (x : X) × Contains xs x × (f x ≡ Some y)
+Contains-filter_map_from : {X Y : Type 0} (f : X → Option Y) (xs : List X) (y : Y) → Contains (filter_map f xs) y → (x : X) × Contains xs x × (f x ≡ Some y)
 Contains-filter_map_from f [] y inside = absurd (Contains-none y inside)
 Contains-filter_map_from f (x ∷ xs) y inside = by (λ there. let (z, at, is) = Contains-filter_map_from f xs y there in (z, Contains-tail x xs z at, is)) (f x) refl inside
   where

@@ -1,10 +1,11 @@
 -- The edges that fell in a round, listed, are the fresh edges after it.
-use Rattle.std.proofs.Common.{◌≡◌, ◌≢◌, ◌==◌, ◌⊎◌, ℕ, suc, ◌+◌, ◌<◌, ◌≤◌, ℤ, ◌≤ℤ◌, ◌<ℤ◌, Bool, true, false, not, cond, nat_lt, List, [], ◌∷◌, ◌++◌, length, map, take, get_or, Option, Some, None, refl, ap, sym, subst, ◌∙◌, inl, inr, arith, is_none}
+use Rattle.std.proofs.Common.{◌≡◌, ◌&&◌, ◌≢◌, ◌==◌, ◌⊎◌, ℕ, suc, ◌+◌, ◌<◌, ◌≤◌, ℤ, ◌≤ℤ◌, ◌<ℤ◌, Bool, true, false, not, cond, nat_lt, List, [], ◌∷◌, ◌++◌, length, map, take, get_or, Option, Some, None, refl, ap, sym, subst, ◌∙◌, inl, inr, arith, is_none}
 use Rattle.std.specs.Prelude.{filter, slice_set}
 use Rattle.std.specs.Option.{option_map}
 use Rattle.std.specs.List.{All, AllPairs, Contains, IsDistinct, cons_option, filter_map}
 use Rattle.std.specs.List.Sorted.{IsNonDecreasingBy}
 use Rattle.std.proofs.Math.ListN.{get_or-eq_default}
+use Rattle.std.proofs.lemmas.Bool.{eqb-true}
 use Rattle.std.proofs.lemmas.Bool.Decides.{nat_tests}
 use Rattle.std.proofs.lemmas.List.{take_more, map-append, get_or-take, get_or-set_same, get_or-set_other, get_or_default, length-set, length-take-le}
 use Rattle.std.proofs.lemmas.List.Elements.{All-contains, All-from_recursion, recursion_from_All, filter-append, Contains-append_cases, Contains-append_left, Contains-append_right}
@@ -19,16 +20,17 @@ use Rattle.net_model.specs.declared.part.Edge.{Edge}
 use Rattle.closure_model.specs.FreshEdges.{fresh_at, has_fallen, AreFreshAfter}
 use Rattle.closure_model.specs.Keys.{Key, key_of, edge_of, ordinary_key, all_points}
 use Rattle.closure_model.specs.Orders.{is_among}
-use Rattle.closure_model.specs.ReferenceRow.{ordinary_into, reference_row, with_made, IsBelow, IsRowOf}
+use Rattle.closure_model.specs.ReferenceRow.{same_label, ordinary_into, reference_row, with_made, IsBelow, IsRowOf}
 use Rattle.closure_model.specs.ReferenceRound.{is_same_key, round_made}
 use Rattle.closure_model.specs.Tables.{Graph, weight_of, HasEdge, HasAtMost, IsFor, IsGraph}
 use Rattle.closure_model.specs.declared.rows.Made.{Made}
-use Rattle.closure_model.proofs.Consequences.{all_points_stand, ordinary_from, ordinary_stands, Contains-filter_map_from}
+use Rattle.closure_model.proofs.Consequences.{all_points_stand, ordinary_from, ordinary_stands}
 use Rattle.closure_model.proofs.FreshLemmas.{unfallen_were_there}
 use Rattle.closure_model.proofs.Lists.{Contains-head, Contains-tail, Contains-cases, Contains-none, Contains-map, Contains-map_from, Contains-flat_map, Contains-flat_map_from, Contains-filter_from}
 use Rattle.closure_model.proofs.OrderLemmas.{among_from, from_among}
-use Rattle.closure_model.proofs.RoundLaw.{same_key_is, is_same_key_of}
+use Rattle.closure_model.proofs.RoundLaw.{is_same_key_of}
 use Rattle.closure_model.proofs.RowLaw.{row_result}
+use Rattle.closure_model.proofs.Slots.{both, same_label_is}
 use Rattle.closure_model.proofs.TableLemmas.{all_lowered-has, all_lowered-cases, at_most_gives}
 use Rattle.closure_model.proofs.Weights.{not_below, le_then_lt}
 use Rattle.back_propagation.specs.declared.settling.NewRow.{NewRow}
@@ -37,6 +39,28 @@ use Rattle.parallel_rounds.specs.Targets.{AreRising, AreRowsOfRound}
 use Rattle.parallel_rounds.specs.Telling.{ordinary_made, AreInOrder, AreListed, changed_in}
 use Rattle.parallel_rounds.proofs.Rising.{rising_tail, rising_above, all_rise, all_inside}
 use Rattle.parallel_rounds.proofs.StaleSteps.{one_of, any_of, passes_filter, stays_in_filter}
+
+-- ---- lists and keys
+Contains-filter_map_from : {X Y : Type 0} (f : X → Option Y) (xs : List X) (y : Y) → Contains (filter_map f xs) y → (x : X) × Contains xs x × (f x ≡ Some y)
+Contains-filter_map_from f [] y inside = absurd (Contains-none y inside)
+Contains-filter_map_from f (x ∷ xs) y inside = by (λ there. let (z, at, is) = Contains-filter_map_from f xs y there in (z, Contains-tail x xs z at, is)) (f x) refl inside
+  where
+    by : (Contains (filter_map f xs) y → (z : _) × Contains (x ∷ xs) z × (f z ≡ Some y)) → (o : Option _) → f x ≡ o → Contains (filter_map f (x ∷ xs)) y → (z : _) × Contains (x ∷ xs) z × (f z ≡ Some y)
+    by rest None none inside = rest (rw none at inside)
+    by rest (Some w) some inside = either (Contains-cases w (filter_map f xs) y (rw some at inside))
+      where
+        either : (w ≡ y) ⊎ Contains (filter_map f xs) y → (z : _) × Contains (x ∷ xs) z × (f z ≡ Some y)
+        either (inl here) = (x, Contains-head x xs, some ∙ ap Some here)
+        either (inr there) = rest there
+
+same_key_is : (one other : Edge) → is_same_key one other ≡ true → key_of other ≡ key_of one
+same_key_is one other same =
+    let (tos, rest) = both (one.to.0 == other.to.0) (one.from.0 == other.from.0 && same_label one.label other.label) same in
+    let (froms, labels) = both (one.from.0 == other.from.0) (same_label one.label other.label) rest in
+    let to : other.to ≡ one.to = ap (λ (k : ℕ). record { 0 = k }) (sym (eqb-true one.to.0 other.to.0 tos)) in
+    let from : other.from ≡ one.from = ap (λ (k : ℕ). record { 0 = k }) (sym (eqb-true one.from.0 other.from.0 froms)) in
+    let label : other.label ≡ one.label = sym (same_label_is one.label other.label labels) in
+    λ i. record { to = to i; from = from i; label = label i }
 
 -- ---- loops
 pub changed_more : (rows : List NewRow) (i : ℕ) (row : NewRow) (items new : List PointId) → i < length rows → row ≡ get_or rows i row → items ≡ changed_in (take i rows) → new ≡ items ++ changed_in (row ∷ []) → new ≡ changed_in (take (i + 1) rows)
