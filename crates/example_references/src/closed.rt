@@ -1,5 +1,6 @@
 //! The closing without rounds beside the rounds: the same verdict, table and order.
 
+ghost use Rattle.std.specs.Prelude.{◌≤◌};
 ghost use Rattle.closure_model.specs.Tables.{IsFor};
 
 use labelled_graph::Table;
@@ -7,18 +8,22 @@ use net_model::{Network, PointId};
 use parallel_rounds::Outcome;
 use std::alloc::Global;
 use std::test::Fail;
+use std::thread::Threads;
 use table_closing::close;
 
-/// Whether a network closes as its rounds ended: to their table and order, or to none where they ended in a cycle.
-pub(crate) fn closes_as(
+/// Whether a network is closed by so many workers as its rounds ended: to their table and order, or to none where they ended in a cycle.
+pub(crate) fn closes_as<R: Threads + Sync>(
+    rt: &R,
     alloc: Global,
     net: &Network,
+    workers: u32,
     outcome: &Outcome,
     table: &Table,
 ) -> Result<bool, Fail>
-    requires { IsFor net.now table.now }
+    requires table { IsFor net.now table.now }
+    requires workers { 1 ≤ workers }
 {
-    match (close(alloc, net)?, outcome) {
+    match (close(rt, alloc, net, workers)?, outcome) {
         (None, Outcome::Looped { .. }) => Ok(true),
         (Some(closed), Outcome::Closed { rounds: _, order }) => {
             let same = are_same(alloc, net, &closed.table, table)?;

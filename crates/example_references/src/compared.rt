@@ -1,6 +1,8 @@
 //! The engine beside the slow programs: the same nodes in the same order, as many rounds, and the same end; and the closing without
 //! rounds beside both.
 
+ghost use Rattle.closure_model.specs.Tables.{IsFor};
+
 use crate::closed::closes_as;
 use crate::drawn::{Draws, drawn};
 use crate::ending::Ending;
@@ -9,6 +11,7 @@ use crate::rounds::{base_nodes, rounds};
 use crate::tried::CASES;
 use closure_model::Node;
 use derivation_dag::{Dag, NodeId, Plain, Supports};
+use labelled_graph::Table;
 use net_model::Network;
 use parallel_rounds::{NoGate, Outcome, propagate};
 use std::alloc::Global;
@@ -36,6 +39,39 @@ fn drawn_networks_as_slow(rt: HostRuntime) -> Result<(), Fail> {
     }
     assert!(rt; looped >= 334, "{looped}");
     Ok(())
+}
+
+/// A plan that has rows for three workers: each point comes after the first one, the later the greater its number; a link begins in that.
+#[test]
+fn larger_network_closes_as_rounds(rt: HostRuntime) -> Result<(), Fail> {
+    let parts = star(rt.alloc(), 200)?;
+    try_closing_of(&rt, rt.alloc(), parts.as_str())
+}
+
+/// The lines of that plan, with so many points, fewer than 300, beside the first one and the end of the link.
+fn star(alloc: Global, points: u32) -> Result<String, Fail> {
+    let mut lines = String::new(alloc);
+    lines.push_str("point first|point last|link first 2 5 last")?;
+    for number in 0..points {
+        lines.push_str(format!(in alloc;
+            "|point p{number}|bound a{number} first p{number} 300|bound b{number} p{number} first -{number}"
+        )?.as_str())?;
+    }
+    Ok(lines)
+}
+
+/// Makes the rounds of the network of these parts, closes it, and compares both.
+fn try_closing_of(
+    rt: &(impl Abort + Threads + Sync),
+    alloc: Global,
+    parts: &str,
+) -> Result<(), Fail> {
+    let net = network(alloc, parts)?;
+    // The proof reads here that the network is sound.
+    let _ = net.points();
+    let mut store = Plain::of(alloc, &net)?;
+    let outcome = propagate(rt, alloc, &net, &mut store, 2, &NoGate)?;
+    try_closing(rt, alloc, &net, &outcome, store.table(), parts)
 }
 
 /// Tries as many drawn networks, and says how many end in a cycle.
@@ -84,8 +120,24 @@ fn try_engine(
     let outcome = propagate(rt, alloc, net, &mut store, 2, &NoGate)?;
     assert!(rt; has_nodes(store.dag(), nodes), "{parts}");
     assert!(rt; is_end(&outcome, end), "{parts}");
-    let same = closes_as(alloc, net, &outcome, store.table())?;
-    assert!(rt; same, "{parts}");
+    try_closing(rt, alloc, net, &outcome, store.table(), parts)
+}
+
+/// Closes a network without rounds, by one worker and by seven, and compares what it closes to with what its rounds ended in.
+fn try_closing(
+    rt: &(impl Abort + Threads + Sync),
+    alloc: Global,
+    net: &Network,
+    outcome: &Outcome,
+    table: &Table,
+    parts: &str,
+) -> Result<(), Fail>
+    requires { IsFor net.now table.now }
+{
+    for workers in [1, 7] {
+        let same = closes_as(rt, alloc, net, workers, outcome, table)?;
+        assert!(rt; same, "{workers} {parts}");
+    }
     Ok(())
 }
 

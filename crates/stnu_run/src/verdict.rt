@@ -20,7 +20,7 @@ use parallel_rounds::Outcome;
 use refutations::refutation;
 use std::alloc::{AllocError, Global};
 use std::thread::Threads;
-use table_closing::{Closed, close};
+use table_closing::Closed;
 
 /// The verdict of a network, and by what it is decided.
 #[derive(Drop)]
@@ -44,7 +44,7 @@ pub(crate) fn decide<R: Threads + Sync>(
     ordered_closures_are_controllable();
     // The proof reads here that the network is sound.
     let _ = net.points();
-    match close(alloc, net)? {
+    match workers.close(rt, alloc, net)? {
         Some(closed) => Ok(Verdict::Controllable(closed)),
         None => {
             let certificate = refute(rt, alloc, net, workers)?;

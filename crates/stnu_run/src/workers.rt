@@ -1,8 +1,9 @@
-//! The workers that make the rows of a round.
+//! The workers that make the rows of a round, and test a closed table.
 
 ghost use Rattle.std.specs.Prelude.{◌≡◌, ◌≤◌, option_map, IfOk, IfSome};
 ghost use Rattle.closure_model.specs.Derivations.{StandsOn};
 ghost use Rattle.parallel_rounds.specs.Propagated.{IsPropagated};
+ghost use Rattle.table_closing.specs.Closing.{ClosesTo};
 ghost use Rattle.stnu_run.specs.Workers.{count_of, has_workers, most_workers};
 
 use derivation_dag::Supports;
@@ -12,11 +13,13 @@ use parallel_rounds::{NoGate, Outcome, propagate};
 use std::alloc::{AllocError, Global};
 use std::marker::Model;
 use std::thread::Threads;
+use table_closing::{Closed, close};
 
 /// How many workers there may be.
 const MOST_WORKERS: u64 = 64;
 
-/// The workers that make the rows of a round, from 1 to 64. Contracts do not see how many they are: no answer depends on it.
+/// The workers that make the rows of a round and test a closed table, from 1 to 64. Contracts do not see how many they are: no answer
+/// depends on it.
 #[derive(Drop)]
 pub struct Workers {
     count: u32,
@@ -60,6 +63,19 @@ impl Workers {
         ensures { IfOk result (IsPropagated net.now (S.support store.old) (S.support store.new)) }
     {
         propagate(rt, alloc, net, store, self.count, &NoGate)
+    }
+
+    /// The closure of a network and the order of its points, or `None` exactly where a cycle of negative ordinary edges is derivable.
+    /// `AllocError` comes only for want of memory.
+    pub(crate) fn close<R: Threads + Sync>(
+        &self,
+        rt: &R,
+        alloc: Global,
+        net: &Network,
+    ) -> Result<Option<Closed>, AllocError>
+        ensures { IfOk result (ClosesTo net.now) }
+    {
+        close(rt, alloc, net, self.count)
     }
 }
 

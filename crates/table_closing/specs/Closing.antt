@@ -1,5 +1,5 @@
 -- A table on its way to the closure: it is lowered by derivable edges until every edge that follows is met. This project's own choice.
-use Rattle.std.specs.Prelude.{◌≡◌, IfSome, MatchOption, List, Option, Some, false}
+use Rattle.std.specs.Prelude.{◌≡◌, ◌<◌, ◌+◌, ◌%◌, ℕ, length, IfSome, MatchOption, List, Option, None, Some, false}
 use Rattle.net_model.specs.Network.{Plan, IsPlan}
 use Rattle.net_model.specs.Rules.{no_case, upper_case, lower_case, cross_case, removal}
 use Rattle.net_model.specs.declared.ids.LinkId.{LinkId}
@@ -8,7 +8,7 @@ use Rattle.net_model.specs.declared.part.Edge.{Edge}
 use Rattle.closure_model.specs.Closure.{IsClosure, HoldsDerivable}
 use Rattle.closure_model.specs.Derivable.{IsDerivable}
 use Rattle.closure_model.specs.Orders.{IsOrder, IsCycle, placed_points}
-use Rattle.closure_model.specs.Tables.{Graph, HasEdge, HasAtMost, HasBase, IsAtMost, IsFor, has_at_most}
+use Rattle.closure_model.specs.Tables.{Graph, HasEdge, HasAtMost, HasBase, IsAtMost, IsClosed, IsFor, has_at_most}
 use Rattle.table_closing.specs.declared.closing.Closed.{Closed}
 
 -- a table is on its way to the closure of a network: it is one of the network, has the base edges, and all its edges are derivable
@@ -57,6 +57,16 @@ pub record MeetsAll (net : Plan) (table : Graph) (edge : Edge) : Type 0 where
 abbrev pub MeetsAt : Plan → Graph → (from : PointId) → (to : PointId) → Option LinkId → Type 0
 MeetsAt net table from to label = (edge : Edge) → HasEdge table edge → edge.from ≡ from → edge.to ≡ to → edge.label ≡ label → MeetsAll net table edge
 
+-- a table meets whatever follows from the edges of a row: the ordinary edges into the point of that number, or, after the points, the
+-- edges labelled by the link of the number that is left
+pub record MeetsRow (net : Plan) (table : Graph) (row : ℕ) : Type 0 where
+  pub ordinary : row < length net.points → (edge : Edge) → HasEdge table edge → edge.label ≡ None → edge.to ≡ record { 0 = row } → MeetsAll net table edge
+  pub labelled : (link : LinkId) → row ≡ length net.points + link.0 → (edge : Edge) → HasEdge table edge → edge.label ≡ Some link → MeetsAll net table edge
+
+-- the same of one share of all rows: those whose numbers leave that remainder
+abbrev pub MeetsShare : Plan → Graph → (share shares : ℕ) → Type 0
+MeetsShare net table share shares = (row : ℕ) → row < length net.points + length net.links → row % shares ≡ share → MeetsRow net table row
+
 -- what follows from an edge over a link
 pub record IsOverLinks (net : Plan) (edge : Edge) (given : Option Edge) : Type 0 where
   pub derivable : IfSome given (IsDerivable net)
@@ -80,6 +90,10 @@ pub record IsHeld (table : Graph) (from : PointId) (to : PointId) (label : Optio
 pub record IsUnmet (net : Plan) (table : Graph) (edge : Edge) : Type 0 where
   pub derivable : IsDerivable net edge
   pub missed : has_at_most table edge ≡ false
+
+-- what testing a table comes to: it is closed, or an edge that it does not meet
+abbrev pub TestsTo : Plan → Graph → Option Edge → Type 0
+TestsTo net table found = MatchOption found (IsClosed net table) (IsUnmet net table)
 
 -- a network has derivable edges that are a cycle of negative ordinary edges
 pub record HasDerivableCycle (net : Plan) : Type 0 where

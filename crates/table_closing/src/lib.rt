@@ -9,6 +9,7 @@ mod giving;
 pub mod laws;
 mod lowering;
 mod row;
+mod sharing;
 mod unmet;
 
 pub use closing::{Closed, close};

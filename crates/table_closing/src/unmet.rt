@@ -1,29 +1,56 @@
-ghost use Rattle.std.specs.Prelude.{◌≡◌, ◌<◌, ◌<ℤ◌, pos, length, None, Some, IfSome, MatchOption, slice_get};
+ghost use Rattle.std.specs.Prelude.{◌≡◌, ◌<◌, ◌+◌, ◌<ℤ◌, pos, length, None, Some, IfSome, MatchOption, slice_get};
 ghost use Rattle.closure_model.specs.Derivable.{IsDerivable};
 ghost use Rattle.closure_model.specs.Keys.{IsKey, key_of};
-ghost use Rattle.closure_model.specs.Tables.{HasEdge, HasAtMost, IsClosed, weight_of, has_at_most};
-ghost use Rattle.table_closing.specs.Closing.{IsOnWay, IsUnmet, MeetsRemoval, MeetsOverLinks, MeetsAfter, MeetsAll};
+ghost use Rattle.closure_model.specs.Tables.{HasEdge, HasAtMost, weight_of, has_at_most};
+ghost use Rattle.table_closing.specs.Closing.{IsOnWay, IsUnmet, MeetsRemoval, MeetsOverLinks, MeetsAfter, MeetsAll, MeetsRow, MeetsShare};
 
 use crate::dense::DenseTable;
 use crate::giving::{after, freed, labelled, ordinary, over_link};
 use net_model::{Edge, LinkId, Network, PointId, Weight};
 
-/// An edge that follows from edges of a table and that the table does not meet, if there is one.
-pub(crate) fn unmet(table: &DenseTable, net: &Network) -> Option<Edge>
-    requires { IsOnWay net.now table.now }
-    ensures { MatchOption result (IsClosed net.now table.now) (IsUnmet net.now table.now) }
+/// An edge that follows from an edge of one share of a table and that the table does not meet, if there is one. The shares take the
+/// rows by turns: that of a number has the rows whose numbers leave it as their remainder.
+pub(crate) fn unmet_in_share(
+    table: &DenseTable,
+    net: &Network,
+    share: usize,
+    shares: usize,
+) -> Option<Edge>
+    requires way { IsOnWay net.now table.now }
+    requires shares { 0 < shares }
+    ensures { MatchOption result (MeetsShare net.now table.now share shares) (IsUnmet net.now table.now) }
 {
-    for to in 0..net.points().len() as u32 {
-        if let Some(edge) = unmet_into(table, net, PointId(to)) {
-            return Some(edge);
+    for row in 0..row_count(net) {
+        if row as usize % shares != share {
+            continue;
         }
-    }
-    for link in 0..net.links().len() as u32 {
-        if let Some(edge) = unmet_labelled(table, net, LinkId(link)) {
+        if let Some(edge) = unmet_in_row(table, net, row) {
             return Some(edge);
         }
     }
     None
+}
+
+/// How many rows a table of a network has: one of the ordinary edges into each point, and after them one of the edges labelled by each
+/// link.
+pub(crate) fn row_count(net: &Network) -> u32
+    ensures { result ≡ length net.now.points + length net.now.links }
+{
+    net.points().len() as u32 + net.links().len() as u32
+}
+
+/// An edge that follows from an edge of a row and is not met.
+fn unmet_in_row(table: &DenseTable, net: &Network, row: u32) -> Option<Edge>
+    requires way { IsOnWay net.now table.now }
+    requires row { row < length net.now.points + length net.now.links }
+    ensures { MatchOption result (MeetsRow net.now table.now row) (IsUnmet net.now table.now) }
+{
+    let points = net.points().len() as u32;
+    if row < points {
+        unmet_into(table, net, PointId(row))
+    } else {
+        unmet_labelled(table, net, LinkId(row - points))
+    }
 }
 
 /// An edge that follows from an ordinary edge into a point and is not met.

@@ -1,8 +1,8 @@
-use Rattle.std.proofs.Common.{ap, ◌∙◌}
+use Rattle.std.proofs.Common.{rules, ap, ◌∙◌}
 use Rattle.closure_model.specs.Tables.{Graph}
 use Rattle.closure_model.proofs.RoundClosing.{standing_fits}
 use Rattle.example_references.proofs.compared.try_engine.Goals as goal
 
 -- what stands on a network after rounds has a table for it
-pub closes_as-requires : goal.closes_as-requires
-closes_as-requires g c = ap (λ (t : Graph). t.shape) c.table.ensures ∙ standing_fits c.args.net.now c.points.ensures.sound c.propagate.new.store c.in_ok-outcome.ensures.stands
+pub try_closing-requires : goal.try_closing-requires
+try_closing-requires g c = (search rules, ap (λ (t : Graph). t.shape) c.table.ensures ∙ standing_fits c.args.net.now c.points.ensures.sound c.propagate.new.store c.in_ok-outcome.ensures.stands)

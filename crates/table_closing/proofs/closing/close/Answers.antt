@@ -1,18 +1,19 @@
 use Rattle.std.proofs.Common.{sym, subst, ◌∙◌}
 use Rattle.loop_finder.specs.Found.{IsWhatItSays}
 use Rattle.closure_model.specs.Tables.{HasEdge}
+use Rattle.table_closing.specs.Closing.{TestsTo}
 use Rattle.table_closing.proofs.CopyLemmas.{still_on_way, lowered_to_closure}
 use Rattle.table_closing.proofs.WayLemmas.{way_begins, way_on, way_shortens, closed_way_is_closure, derivable_key, derivable_size, found_order}
 use Rattle.table_closing.proofs.closing.close.Goals as goal
 
 pub dense_of-requires : goal.dense_of-requires
-dense_of-requires c = way_begins c.args.net.now c.in_ok-table.table c.points.ensures.sound c.in_ok-table.ensures.base c.in_ok-table.ensures.shape
+dense_of-requires g c = way_begins c.args.net.now c.in_ok-table.table c.points.ensures.sound c.in_ok-table.ensures.base c.in_ok-table.ensures.shape
 
 pub loop-dense-init : goal.loop-dense-init
-loop-dense-init c = (c.in_ok-deepen.ensures, way_begins c.args.net.now c.in_ok-table.table c.points.ensures.sound c.in_ok-table.ensures.base c.in_ok-table.ensures.shape)
+loop-dense-init g c = (c.in_ok-deepen.ensures, way_begins c.args.net.now c.in_ok-table.table c.points.ensures.sound c.in_ok-table.ensures.base c.in_ok-table.ensures.shape)
 
 pub returns-in-Cycle : goal.returns-in-Cycle
-returns-in-Cycle c = record {
+returns-in-Cycle g c = record {
   table = c.lower_to_dense.new.table;
   cycle = c.in-Cycle.field-0;
   derivable = c.in_ok-lower_to_dense.ensures.of_derivable.derivable;
@@ -21,23 +22,23 @@ returns-in-Cycle c = record {
 }
 
 pub returns-in-None : goal.returns-in-None
-returns-in-None c = record {
-  closure = lowered_to_closure c.args.net.now c.loop-dense.dense c.loop-dense.table c.lower_to_dense.new.table (closed_way_is_closure c.args.net.now c.loop-dense.dense c.loop-dense.invariant.0 c.in-None.ensures) c.in_ok-lower_to_dense.ensures;
+returns-in-None g c = record {
+  closure = lowered_to_closure c.args.net.now c.loop-dense.dense c.loop-dense.table c.lower_to_dense.new.table (closed_way_is_closure c.args.net.now c.loop-dense.dense c.loop-dense.invariant.0 (subst (TestsTo c.args.net.now c.loop-dense.dense) c.in-None.is c.in_ok-unmet-in-Order.ensures)) c.in_ok-lower_to_dense.ensures;
   order = subst (IsWhatItSays c.lower_to_dense.new.table) c.in-Order.is c.in_ok-order.ensures.says;
   placed = found_order c.lower_to_dense.new.table c.in-Order.order (sym c.in-Order.is ∙ c.in_ok-order.ensures.found);
 }
 
 pub lower_to-requires-clause-key : goal.lower_to-requires-clause-key
-lower_to-requires-clause-key c = derivable_key c.args.net.now c.loop-dense.invariant.0.plan c.in-Some.edge c.in-Some.ensures.derivable c.loop-dense.dense c.loop-dense.invariant.0.fits
+lower_to-requires-clause-key g c = derivable_key c.args.net.now c.loop-dense.invariant.0.plan c.in-Some.edge (subst (TestsTo c.args.net.now c.loop-dense.dense) c.in-Some.is c.in_ok-unmet-in-Order.ensures).derivable c.loop-dense.dense c.loop-dense.invariant.0.fits
 
 pub lower_to-requires-clause-weight : goal.lower_to-requires-clause-weight
-lower_to-requires-clause-weight c = derivable_size c.args.net.now c.loop-dense.invariant.0.plan c.in-Some.edge c.in-Some.ensures.derivable
+lower_to-requires-clause-weight g c = derivable_size c.args.net.now c.loop-dense.invariant.0.plan c.in-Some.edge (subst (TestsTo c.args.net.now c.loop-dense.dense) c.in-Some.is c.in_ok-unmet-in-Order.ensures).derivable
 
 pub loop-dense-smaller : goal.loop-dense-smaller
-loop-dense-smaller c = way_shortens c.args.net.now c.loop-dense.dense c.lower_to.new.self c.in-Some.edge c.loop-dense.invariant.0 c.in-Some.ensures c.lower_to.ensures.lowered
+loop-dense-smaller g c = way_shortens c.args.net.now c.loop-dense.dense c.lower_to.new.self c.in-Some.edge c.loop-dense.invariant.0 (subst (TestsTo c.args.net.now c.loop-dense.dense) c.in-Some.is c.in_ok-unmet-in-Order.ensures) c.lower_to.ensures.lowered
 
 pub loop-dense-preserved : goal.loop-dense-preserved
-loop-dense-preserved c = (
-  way_on c.args.net.now c.loop-dense.dense c.lower_to.new.self c.in-Some.edge c.loop-dense.invariant.0 c.in-Some.ensures.derivable c.lower_to.ensures.lowered,
+loop-dense-preserved g c = (
+  way_on c.args.net.now c.loop-dense.dense c.lower_to.new.self c.in-Some.edge c.loop-dense.invariant.0 (subst (TestsTo c.args.net.now c.loop-dense.dense) c.in-Some.is c.in_ok-unmet-in-Order.ensures).derivable c.lower_to.ensures.lowered,
   still_on_way c.args.net.now (HasEdge c.loop-dense.dense) c.loop-dense.table c.lower_to_dense.new.table c.loop-dense.invariant.1 c.in_ok-lower_to_dense.ensures,
 )
