@@ -6,13 +6,13 @@ use Rattle.std.specs.Prelude.{if◌then◌else◌}
 use Rattle.std.proofs.lemmas.List.{append-nil, length-append}
 use Rattle.std.proofs.lemmas.List.Elements.{All-nil, All-cons, All-append, All-head, All-tail}
 use Rattle.std.proofs.lemmas.List.Folds.{concat-append}
-use Rattle.commands.specs.Grammars.{Next, Line, NoLine, Leads, ReadsBy, number_after}
-use Rattle.commands.specs.declared.machines.Stop.{Stop}
-use Rattle.commands.specs.declared.machines.Stop.TheVariants.{LineTooLong, InputTooMuch, InputEnded}
-use Rattle.commands.specs.declared.reading.Step.{Step}
-use Rattle.commands.specs.declared.reading.Step.TheVariants.{Goes, Gives, Refused}
-use Rattle.commands.proofs.GrammarLemmas.{IsOnce, KeepsTo, reads_by}
-use Rattle.commands.proofs.LeadLemmas.{stands_by}
+use Rattle.command_engine.specs.Grammars.{Next, Line, NoLine, Leads, ReadsBy, number_after}
+use Rattle.command_engine.specs.declared.machines.Stop.{Stop}
+use Rattle.command_engine.specs.declared.machines.Stop.TheVariants.{LineTooLong, InputTooMuch, InputEnded}
+use Rattle.command_engine.specs.declared.reading.Step.{Step}
+use Rattle.command_engine.specs.declared.reading.Step.TheVariants.{Goes, Gives, Refused}
+use Rattle.command_engine.proofs.GrammarLemmas.{IsOnce, KeepsTo, reads_by}
+use Rattle.command_engine.proofs.LeadLemmas.{stands_by}
 use Rattle.example_commands.specs.Document.{DeclaresDocument, GoesOn, IsFaultOf, document_grammar, document_reader, empty_document, left_after, stops}
 use Rattle.example_commands.specs.declared.document.Document.{Document}
 use Rattle.example_commands.specs.declared.document.DocumentFault.{DocumentFault}

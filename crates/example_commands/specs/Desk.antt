@@ -4,13 +4,13 @@ use Rattle.std.specs.Str.{bytes_eq}
 use Rattle.std.specs.Fmt.{decimal}
 use Rattle.texts.specs.Printing.{printed_line}
 use Rattle.plan_port.specs.Limits.{most_line}
-use Rattle.commands.specs.Machine.{Machine}
-use Rattle.commands.specs.Phases.{Within}
-use Rattle.commands.specs.declared.endings.End.{End}
-use Rattle.commands.specs.declared.endings.End.TheVariants as ends
-use Rattle.commands.specs.declared.machines.Stop.{Stop}
-use Rattle.commands.specs.declared.machines.Onward.{Onward}
-use Rattle.commands.specs.declared.machines.Onward.TheVariants.{Goes}
+use Rattle.command_engine.specs.Machine.{Machine}
+use Rattle.command_engine.specs.Phases.{Within}
+use Rattle.command_engine.specs.declared.endings.End.{End}
+use Rattle.command_engine.specs.declared.endings.End.TheVariants as ends
+use Rattle.command_engine.specs.declared.machines.Stop.{Stop}
+use Rattle.command_engine.specs.declared.machines.Onward.{Onward}
+use Rattle.command_engine.specs.declared.machines.Onward.TheVariants.{Goes}
 use Rattle.example_commands.specs.Tally.{Begins, tally_machine}
 use Rattle.example_commands.specs.declared.desk.Desk.{Desk}
 use Rattle.example_commands.specs.declared.desk.Desk.TheVariants.{Open, Tallying}

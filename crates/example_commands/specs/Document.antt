@@ -4,14 +4,14 @@ use Rattle.std.specs.List.{All, concat}
 use Rattle.std.specs.Str.{bytes_eq}
 use Rattle.std.specs.Fmt.{decimal}
 use Rattle.texts.specs.Printing.{printed_line}
-use Rattle.commands.specs.Grammars.{Grammar, Next, Line, NoLine}
-use Rattle.commands.specs.Reading.{Reader, Refusing}
-use Rattle.commands.specs.declared.endings.End.{End}
-use Rattle.commands.specs.declared.endings.End.TheVariants as ends
-use Rattle.commands.specs.declared.machines.Stop.{Stop}
-use Rattle.commands.specs.declared.machines.Stop.TheVariants.{InputEnded}
-use Rattle.commands.specs.declared.reading.Step.{Step}
-use Rattle.commands.specs.declared.reading.Step.TheVariants.{Goes, Gives}
+use Rattle.command_engine.specs.Grammars.{Grammar, Next, Line, NoLine}
+use Rattle.command_engine.specs.Reading.{Reader, Refusing}
+use Rattle.command_engine.specs.declared.endings.End.{End}
+use Rattle.command_engine.specs.declared.endings.End.TheVariants as ends
+use Rattle.command_engine.specs.declared.machines.Stop.{Stop}
+use Rattle.command_engine.specs.declared.machines.Stop.TheVariants.{InputEnded}
+use Rattle.command_engine.specs.declared.reading.Step.{Step}
+use Rattle.command_engine.specs.declared.reading.Step.TheVariants.{Goes, Gives}
 use Rattle.example_commands.specs.declared.document.Document.{Document}
 use Rattle.example_commands.specs.declared.document.DocumentFault.{DocumentFault}
 use Rattle.example_commands.specs.declared.document.DocumentFault.TheVariants.{TooLarge, NoEnd}

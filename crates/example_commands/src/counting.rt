@@ -3,7 +3,7 @@
 ghost use Rattle.std.specs.Prelude.{ℕ};
 ghost use Rattle.example_commands.specs.Counting.{counting, refusing, AnswersHowMany, AnswersHowManyEach};
 
-use commands::{Answer, End, Question, Refusal, Step, Stop, Text, Word};
+use command_engine::{Answer, End, Question, Refusal, Step, Stop, Text, Word};
 use plan_port::MOST_LINE;
 use std::alloc::{AllocError, Global};
 use std::thread::Threads;

@@ -1,11 +1,11 @@
 //! A command that answers lines, and then serves another phase through one wrap.
 
 ghost use Rattle.std.specs.Prelude.{◌≡◌};
-ghost use Rattle.commands.specs.Phases.{wrapped};
+ghost use Rattle.command_engine.specs.Phases.{wrapped};
 ghost use Rattle.example_commands.specs.Desk.{desk_machine};
 
 use crate::tally::{FromCount, Tally};
-use commands::{Answer, Begin, Command, End, Onward, Stop, Word};
+use command_engine::{Answer, Begin, Command, End, Onward, Stop, Word};
 use plan_port::MOST_LINE;
 use std::alloc::{AllocError, Global};
 use std::thread::Threads;

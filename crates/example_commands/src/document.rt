@@ -3,7 +3,7 @@
 ghost use Rattle.std.specs.Prelude.{◌≡◌, ◌-◌, length};
 ghost use Rattle.example_commands.specs.Document.{AnswersHowLarge, document_grammar, document_reader, empty_document, refusing};
 
-use commands::{Answer, End, InGrammar, Question, Refusal, Step, Stop, Text, Word};
+use command_engine::{Answer, End, InGrammar, Question, Refusal, Step, Stop, Text, Word};
 use std::alloc::{AllocError, Global};
 use std::thread::Threads;
 

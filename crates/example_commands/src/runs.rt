@@ -4,7 +4,7 @@ use crate::counting::{Counting, HowMany, HowManyEach};
 use crate::desk::Desk;
 use crate::document::{Document, HowLarge};
 use crate::tally::{FromCount, Tally};
-use commands::{Asked, Planned, Status, Then, serve};
+use command_engine::{Asked, Status, TextThenPhase, Then, serve};
 use plan_port::MemoryPort;
 use std::alloc::{AllocError, Global};
 use std::process::Abort;
@@ -113,7 +113,7 @@ fn run(rt: &(impl Threads + Sync), alloc: Global, row: &Row<'_>, port: &mut Memo
         ),
         "desk" => serve(rt, alloc, Desk::Open(0), port),
         _ => {
-            let tally: Planned<FromCount, Counting, Tally> = Planned::Reading(
+            let tally: TextThenPhase<FromCount, Counting, Tally> = TextThenPhase::Reading(
                 FromCount,
                 Counting::BeforeTitle,
             );

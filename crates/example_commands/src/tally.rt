@@ -4,7 +4,7 @@ ghost use Rattle.std.specs.Prelude.{◌≡◌, ℕ, codes};
 ghost use Rattle.std.specs.Str.{bytes_eq};
 ghost use Rattle.example_commands.specs.Tally.{tally_machine, Begins};
 
-use commands::{Answer, Begin, Command, End, Onward, Stop, Word};
+use command_engine::{Answer, Begin, Command, End, Onward, Stop, Word};
 use plan_port::MOST_LINE;
 use std::alloc::{AllocError, Global};
 use std::thread::Threads;

@@ -10,7 +10,7 @@ use Rattle.execution_model.specs.Feeding.{started, IsDueAnswer}
 use Rattle.execution_model.specs.Laws.{IsDispatchedByClosure}
 use Rattle.execution_model.proofs.GraphLemmas.{closures_are_graphs}
 use Rattle.live_executor.specs.Sound.{IsDispatchOf}
-use Rattle.commands.specs.declared.machines.Onward.TheVariants.{Goes}
+use Rattle.command_engine.specs.declared.machines.Onward.TheVariants.{Goes}
 use Rattle.stnu_run.specs.Course.{Course}
 use Rattle.stnu_run.specs.Running.{BeginsExecution, PutsBegun}
 

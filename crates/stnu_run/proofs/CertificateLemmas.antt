@@ -11,13 +11,13 @@ use Rattle.cert_format.specs.declared.read.CertText.TheVariants as text
 use Rattle.cert_format.proofs.OnceLemmas.{one_reading}
 use Rattle.cert_format.proofs.ReadingLemmas.{said_brings, front_refused, front_stops, front_begun}
 use Rattle.plan_port.specs.Limits.{most_line}
-use Rattle.commands.specs.Grammars.{Next, Line, NoLine, Leads, ReadsBy, number_after}
-use Rattle.commands.specs.declared.machines.Stop.{Stop}
-use Rattle.commands.specs.declared.machines.Stop.TheVariants.{LineTooLong as LongStop, InputTooMuch as MuchStop, InputEnded}
-use Rattle.commands.specs.declared.reading.Step.{Step}
-use Rattle.commands.specs.declared.reading.Step.TheVariants.{Goes, Gives, Refused}
-use Rattle.commands.proofs.GrammarLemmas.{IsOnce, KeepsTo, reads_by}
-use Rattle.commands.proofs.LeadLemmas.{stands_by}
+use Rattle.command_engine.specs.Grammars.{Next, Line, NoLine, Leads, ReadsBy, number_after}
+use Rattle.command_engine.specs.declared.machines.Stop.{Stop}
+use Rattle.command_engine.specs.declared.machines.Stop.TheVariants.{LineTooLong as LongStop, InputTooMuch as MuchStop, InputEnded}
+use Rattle.command_engine.specs.declared.reading.Step.{Step}
+use Rattle.command_engine.specs.declared.reading.Step.TheVariants.{Goes, Gives, Refused}
+use Rattle.command_engine.proofs.GrammarLemmas.{IsOnce, KeepsTo, reads_by}
+use Rattle.command_engine.proofs.LeadLemmas.{stands_by}
 use Rattle.stnu_run.specs.CertificateTexts.{certificate_begun, certificate_step, certificate_reader}
 use Rattle.stnu_run.specs.ToJudge.{IsCertificateFault, certificate_texts}
 use Rattle.stnu_run.specs.ToRead.{RefusesFormat}

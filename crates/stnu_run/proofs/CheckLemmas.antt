@@ -4,8 +4,8 @@ use Rattle.texts.specs.Lines.{lines}
 use Rattle.net_model.specs.Network.{Plan}
 use Rattle.strategy_model.specs.Control.{IsControllable}
 use Rattle.cert_format.specs.CertificateWords.{printed_certificate}
-use Rattle.commands.specs.Inputs.{AnswersOrRefuses, AnswersText}
-use Rattle.commands.specs.declared.endings.End.{End}
+use Rattle.command_engine.specs.Inputs.{AnswersOrRefuses, AnswersText}
+use Rattle.command_engine.specs.declared.endings.End.{End}
 use Rattle.stnu_run.specs.Verdict.{controllable_line, refuted_line}
 use Rattle.stnu_run.specs.CheckPromise.{CheckPromise, PutsVerdict}
 use Rattle.stnu_run.specs.Faults.{fault_line, refusing}

@@ -15,15 +15,15 @@ use Rattle.execution_model.specs.Feeding.{Execution, taken, after_feed, first_op
 use Rattle.execution_model.specs.Streams.{Listing}
 use Rattle.execution_model.specs.Timely.{fed_all}
 use Rattle.execution_model.specs.declared.feeding.Why.{Why}
-use Rattle.commands.specs.Runs.{Run}
-use Rattle.commands.specs.declared.endings.End.{End}
-use Rattle.commands.specs.declared.endings.End.TheVariants as ends
+use Rattle.command_engine.specs.Runs.{Run}
+use Rattle.command_engine.specs.declared.endings.End.{End}
+use Rattle.command_engine.specs.declared.endings.End.TheVariants as ends
 use Rattle.stnu_run.specs.Day.{ListLines}
 use Rattle.stnu_run.specs.EventAnswers.{acts_text, due_line}
 use Rattle.stnu_run.specs.EventFaults.{IsNextFault}
 use Rattle.stnu_run.specs.Executing.{executing_machine}
 use Rattle.stnu_run.specs.Faults.{fault_end}
-use Rattle.commands.specs.Inputs.{texts, room_after}
+use Rattle.command_engine.specs.Inputs.{texts, room_after}
 use Rattle.stnu_run.specs.ToRead.{Come}
 use Rattle.stnu_run.specs.declared.faults.Fault.{Fault}
 use Rattle.stnu_run.specs.declared.faults.Fault.TheVariants.{Format, LineTooLong as LongLine, InputTooMuch as MuchInput}

@@ -23,8 +23,8 @@ use Rattle.execution_model.proofs.FittingLemmas.{KeepsTo}
 use Rattle.execution_model.proofs.LawLemmas.{run_of, fed_keeps}
 use Rattle.execution_model.proofs.MomentLemmas.{time_runs_from}
 use Rattle.execution_model.proofs.StreamLemmas.{done_shows}
-use Rattle.commands.specs.declared.endings.End.{End}
-use Rattle.commands.specs.declared.endings.End.TheVariants as ends
+use Rattle.command_engine.specs.declared.endings.End.{End}
+use Rattle.command_engine.specs.declared.endings.End.TheVariants as ends
 use Rattle.stnu_run.specs.Day.{ListLines, IsUnfaithfulWith, PutsListings}
 use Rattle.stnu_run.specs.Due.{moment_after}
 use Rattle.stnu_run.specs.EventAnswers.{acts_text, due_line}

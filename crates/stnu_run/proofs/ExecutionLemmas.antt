@@ -22,11 +22,11 @@ use Rattle.execution_model.specs.Timely.{fed_all}
 use Rattle.execution_model.specs.declared.feeding.Act.{Act}
 use Rattle.execution_model.specs.declared.feeding.Why.{Why}
 use Rattle.execution_model.proofs.StreamLemmas.{done_shows}
-use Rattle.commands.specs.Inputs.{texts, room_after}
-use Rattle.commands.specs.Limits.{most_input}
-use Rattle.commands.specs.Runs.{Run as RunOver}
-use Rattle.commands.specs.declared.endings.End.{End}
-use Rattle.commands.specs.declared.endings.End.TheVariants as ends
+use Rattle.command_engine.specs.Inputs.{texts, room_after}
+use Rattle.command_engine.specs.Limits.{most_input}
+use Rattle.command_engine.specs.Runs.{Run as RunOver}
+use Rattle.command_engine.specs.declared.endings.End.{End}
+use Rattle.command_engine.specs.declared.endings.End.TheVariants as ends
 use Rattle.stnu_run.specs.Day.{Opening, IsUnderway, IsDay, IsUnfaithfulWith, IsRefusedDay, number_of, IsWholeDay, PutsSoFar, PutsDay}
 use Rattle.stnu_run.specs.Due.{moment_after, AnswersDue}
 use Rattle.stnu_run.specs.EventAnswers.{acts_text, due_line, complete_line, why_words, unfinished_words, event_line}

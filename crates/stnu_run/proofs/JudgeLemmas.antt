@@ -10,14 +10,14 @@ use Rattle.cert_checker.specs.Laws.{AcceptedExcludes}
 use Rattle.cert_checker.specs.declared.judgement.Claim.TheVariants.{NotControllable, Controllable}
 use Rattle.cert_checker.specs.declared.judgement.Judgement.{Judgement}
 use Rattle.cert_checker.specs.declared.judgement.Judgement.TheVariants.{Accepted, Refused as Rejected}
-use Rattle.commands.specs.Grammars.{ReadsBy}
-use Rattle.commands.specs.Inputs.{AnswersOrRefuses}
-use Rattle.commands.specs.Pairs.{then_reader}
-use Rattle.commands.specs.Runs.{Runs}
-use Rattle.commands.specs.declared.endings.End.{End}
-use Rattle.commands.specs.declared.pairs.Then.TheVariants.{First}
-use Rattle.commands.proofs.InputLemmas.{answers_text}
-use Rattle.commands.proofs.PairGrammarLemmas.{pair_by}
+use Rattle.command_engine.specs.Grammars.{ReadsBy}
+use Rattle.command_engine.specs.Inputs.{AnswersOrRefuses}
+use Rattle.command_engine.specs.Pairs.{then_reader}
+use Rattle.command_engine.specs.Runs.{Runs}
+use Rattle.command_engine.specs.declared.endings.End.{End}
+use Rattle.command_engine.specs.declared.pairs.Then.TheVariants.{First}
+use Rattle.command_engine.proofs.InputLemmas.{answers_text}
+use Rattle.command_engine.proofs.PairGrammarLemmas.{pair_by}
 use Rattle.stnu_run.specs.CertificateTexts.{certificate_begun, certificate_reader}
 use Rattle.stnu_run.specs.Faults.{fault_line, refusing}
 use Rattle.stnu_run.specs.Judging.{judge_answers, judge_machine, judge_start, judgement_line}

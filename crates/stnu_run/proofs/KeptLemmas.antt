@@ -2,15 +2,15 @@
 use Rattle.std.proofs.Common.{◌≡◌, ◌⊎◌, ℕ, ◌==◌, List, [], ◌++◌, Option, Some, None, refl, sym, ap, ◌∙◌, subst, if◌then◌else◌}
 use Rattle.std.proofs.lemmas.List.{append_cancel_left}
 use Rattle.plan_port.specs.Talk.{Piece, Seen, Talk, WhereTold}
-use Rattle.commands.specs.Breaks.{BreaksForMemory}
-use Rattle.commands.specs.Endings.{status_number}
-use Rattle.commands.specs.Machine.{Machine}
-use Rattle.commands.specs.Runs.{Runs}
-use Rattle.commands.specs.Serves.{Puts, PutsFor, Serves}
-use Rattle.commands.specs.declared.endings.End.{End}
-use Rattle.commands.specs.declared.endings.End.TheVariants.{Done, Refused, Fault, Limit, EventRefused}
-use Rattle.commands.specs.declared.endings.Status.{Status as Ending}
-use Rattle.commands.specs.declared.endings.Status.TheVariants.{Ended, ReadFault, WriteFault, NoMemory}
+use Rattle.command_engine.specs.Breaks.{BreaksForMemory}
+use Rattle.command_engine.specs.Endings.{status_number}
+use Rattle.command_engine.specs.Machine.{Machine}
+use Rattle.command_engine.specs.Runs.{Runs}
+use Rattle.command_engine.specs.Serves.{Puts, PutsFor, Serves}
+use Rattle.command_engine.specs.declared.endings.End.{End}
+use Rattle.command_engine.specs.declared.endings.End.TheVariants.{Done, Refused, Fault, Limit, EventRefused}
+use Rattle.command_engine.specs.declared.endings.Status.{Status as Ending}
+use Rattle.command_engine.specs.declared.endings.Status.TheVariants.{Ended, ReadFault, WriteFault, NoMemory}
 use Rattle.stnu_run.specs.Programs.{Program, Promise, serves, tells, ServesProgram, PromiseHolds, KeepsPromise, KeepsWithoutMemory}
 use Rattle.stnu_run.specs.declared.status.Status.{Status}
 

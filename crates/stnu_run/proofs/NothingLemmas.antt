@@ -3,8 +3,8 @@ use Rattle.std.proofs.Common.{[], inl, inr, refl, sym, ◌∙◌, append-nil}
 use Rattle.std.proofs.lemmas.List.{append_cancel_left}
 use Rattle.plan_port.specs.Talk.{Seen}
 use Rattle.plan_port.proofs.Talks.{WhereTold-same}
-use Rattle.commands.specs.declared.endings.Status.TheVariants.{NoMemory}
-use Rattle.commands.proofs.EndLemmas.{nothing_served}
+use Rattle.command_engine.specs.declared.endings.Status.TheVariants.{NoMemory}
+use Rattle.command_engine.proofs.EndLemmas.{nothing_served}
 use Rattle.stnu_run.specs.Programs.{Program, serves, tells, ServesProgram, KeepsWithoutMemory}
 use Rattle.stnu_run.specs.declared.status.Status.{Status}
 

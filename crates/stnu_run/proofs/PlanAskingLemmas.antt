@@ -2,11 +2,11 @@
 use Rattle.std.proofs.Common.{ℕ, List, inl, inr}
 use Rattle.texts.specs.Lines.{lines}
 use Rattle.net_model.specs.Network.{Plan, IsPlan}
-use Rattle.commands.specs.Asked.{asked_machine}
-use Rattle.commands.specs.Inputs.{AnswersText, AnswersOrRefuses}
-use Rattle.commands.specs.Runs.{Runs}
-use Rattle.commands.specs.declared.endings.End.{End}
-use Rattle.commands.proofs.InputLemmas.{answers_text}
+use Rattle.command_engine.specs.Asked.{asked_machine}
+use Rattle.command_engine.specs.Inputs.{AnswersText, AnswersOrRefuses}
+use Rattle.command_engine.specs.Runs.{Runs}
+use Rattle.command_engine.specs.declared.endings.End.{End}
+use Rattle.command_engine.proofs.InputLemmas.{answers_text}
 use Rattle.stnu_run.specs.Faults.{refusing}
 use Rattle.stnu_run.specs.PlanAsking.{asking}
 use Rattle.stnu_run.specs.PlanText.{plan_begun, plan_reader}

@@ -23,12 +23,12 @@ use Rattle.plan_format.proofs.FaultLemmas.{fault_in_line, fault_one, ends_too_so
 use Rattle.plan_format.proofs.OneReadingLemmas.{one_reading}
 use Rattle.plan_format.proofs.StepLemmas.{advance, one_more}
 use Rattle.plan_port.specs.Limits.{most_line}
-use Rattle.commands.specs.Grammars.{Next, Line, NoLine, Leads, ReadsBy, number_after}
-use Rattle.commands.specs.declared.machines.Stop.{Stop}
-use Rattle.commands.specs.declared.machines.Stop.TheVariants.{LineTooLong as LongStop, InputTooMuch as MuchStop, InputEnded}
-use Rattle.commands.specs.declared.reading.Step.TheVariants.{Goes, Gives, Refused}
-use Rattle.commands.proofs.GrammarLemmas.{IsOnce, KeepsTo, reads_by}
-use Rattle.commands.proofs.LeadLemmas.{stands_by}
+use Rattle.command_engine.specs.Grammars.{Next, Line, NoLine, Leads, ReadsBy, number_after}
+use Rattle.command_engine.specs.declared.machines.Stop.{Stop}
+use Rattle.command_engine.specs.declared.machines.Stop.TheVariants.{LineTooLong as LongStop, InputTooMuch as MuchStop, InputEnded}
+use Rattle.command_engine.specs.declared.reading.Step.TheVariants.{Goes, Gives, Refused}
+use Rattle.command_engine.proofs.GrammarLemmas.{IsOnce, KeepsTo, reads_by}
+use Rattle.command_engine.proofs.LeadLemmas.{stands_by}
 use Rattle.stnu_run.specs.PlanText.{line_of_part, built_step, plan_begun, plan_step, plan_reader}
 use Rattle.stnu_run.specs.ToCheck.{IsPlanFault, RefusesPlan, plan_texts}
 use Rattle.stnu_run.specs.ToRead.{RefusesFormat}

@@ -1,18 +1,18 @@
 -- A program defines at most one pair of bytes and exit status for an input, where its command has at most one reply.
 use Rattle.std.proofs.Common.{◌≡◌, ℕ, List, Bool, true, false, Option, Some, None, sym, ap, ◌∙◌}
-use Rattle.commands.specs.Asked.{asked_machine}
-use Rattle.commands.specs.Endings.{end_number}
-use Rattle.commands.specs.Machine.{Machine}
-use Rattle.commands.specs.Phases.{planned_machine}
-use Rattle.commands.specs.Reading.{Reader, Refusing}
-use Rattle.commands.specs.Single.{IsSingle, IsSingleAnswer}
-use Rattle.commands.specs.declared.asking.Asked.{Asked}
-use Rattle.commands.specs.declared.endings.End.{End}
-use Rattle.commands.specs.declared.machines.Onward.{Onward}
-use Rattle.commands.specs.declared.phases.Planned.{Planned}
-use Rattle.commands.proofs.AskedLemmas.{asked_single}
-use Rattle.commands.proofs.PhaseLemmas.{planned_single}
-use Rattle.commands.proofs.SingleLemmas.{runs_same}
+use Rattle.command_engine.specs.Asked.{asked_machine}
+use Rattle.command_engine.specs.Endings.{end_number}
+use Rattle.command_engine.specs.Machine.{Machine}
+use Rattle.command_engine.specs.Phases.{text_then_phase_machine}
+use Rattle.command_engine.specs.Reading.{Reader, Refusing}
+use Rattle.command_engine.specs.Single.{IsSingle, IsSingleAnswer}
+use Rattle.command_engine.specs.declared.asking.Asked.{Asked}
+use Rattle.command_engine.specs.declared.endings.End.{End}
+use Rattle.command_engine.specs.declared.machines.Onward.{Onward}
+use Rattle.command_engine.specs.declared.phases.TextThenPhase.{TextThenPhase}
+use Rattle.command_engine.proofs.AskedLemmas.{asked_single}
+use Rattle.command_engine.proofs.PhaseLemmas.{text_then_phase_single}
+use Rattle.command_engine.proofs.SingleLemmas.{runs_same}
 use Rattle.stnu_run.specs.DefinedRuns.{program_named, program_for, program_of, command_of, when◌run◌else◌}
 use Rattle.stnu_run.specs.Programs.{Program, Promise, serves, tells, told_number, DefinesOne, EachDefinesOne}
 use Rattle.stnu_run.specs.Requests.{RefusesWords, refuses_words, program_asked}
@@ -33,11 +33,11 @@ asked_defines_one answers reader refusing start promise single =
     single_defines_one (asked_machine answers reader refusing) start promise (asked_single answers reader refusing single)
 
 -- a command of a text and a phase defines one where the phase begins in one way and has at most one reply
-pub planned_defines_one : {B S V F P : Type 0} (begin : B → V → List ℕ → Onward P → Type 0) (reader : Reader S V F) (refusing : Refusing F) (phase : Machine P)
-    (start : Planned B S P) (promise : Promise)
-    → IsSingleAnswer begin → IsSingle phase → DefinesOne (serves (planned_machine begin reader refusing phase) start promise)
-planned_defines_one begin reader refusing phase start promise begins single =
-    single_defines_one (planned_machine begin reader refusing phase) start promise (planned_single begin reader refusing phase begins single)
+pub text_then_phase_defines_one : {B S V F P : Type 0} (begin : B → V → List ℕ → Onward P → Type 0) (reader : Reader S V F) (refusing : Refusing F) (phase : Machine P)
+    (start : TextThenPhase B S P) (promise : Promise)
+    → IsSingleAnswer begin → IsSingle phase → DefinesOne (serves (text_then_phase_machine begin reader refusing phase) start promise)
+text_then_phase_defines_one begin reader refusing phase start promise begins single =
+    single_defines_one (text_then_phase_machine begin reader refusing phase) start promise (text_then_phase_single begin reader refusing phase begins single)
 
 -- an answer without an input is one where at most one is told, and one way to end
 pub told_defines_one : (answers : List ℕ → TellingEnd → Type 0) → ((a b : List ℕ) (x y : TellingEnd) → answers a x → answers b y → (a ≡ b) × (x ≡ y)) → DefinesOne (tells answers)

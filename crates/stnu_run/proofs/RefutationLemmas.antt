@@ -14,7 +14,7 @@ use Rattle.closure_model.proofs.Lists.{Contains-none, Contains-head, Contains-ta
 use Rattle.closure_model.proofs.RoundsLaw.{rounds_end_in_one_way}
 use Rattle.cert_format.specs.declared.certificate.Certificate.{Certificate}
 use Rattle.refutations.specs.Certifying.{certificate_by}
-use Rattle.commands.specs.declared.endings.End.{End}
+use Rattle.command_engine.specs.declared.endings.End.{End}
 use Rattle.stnu_run.specs.Checking.{check_answers}
 use Rattle.stnu_run.specs.Verdict.{PutsControllable, PutsRefuted, IsCertificateOf, Decides}
 

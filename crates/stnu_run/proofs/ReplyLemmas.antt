@@ -1,11 +1,11 @@
 -- A run over lines, by what comes first; and lines that come.
 use Rattle.std.proofs.Common.{◌≡◌, ◌⊎◌, ℕ, ◌-◌, List, [], ◌∷◌, ◌++◌, refl, sym, ap, ◌∙◌, subst, inl, inr, append_assoc}
 use Rattle.texts.specs.Lines.{InputLine, line_size}
-use Rattle.commands.specs.Inputs.{room_after}
-use Rattle.commands.specs.Machine.{Machine}
-use Rattle.commands.specs.Runs.{Here, after_line, Replies, Answers, Run}
-use Rattle.commands.specs.declared.endings.End.{End}
-use Rattle.commands.specs.declared.machines.Onward.TheVariants.{Goes, Ends}
+use Rattle.command_engine.specs.Inputs.{room_after}
+use Rattle.command_engine.specs.Machine.{Machine}
+use Rattle.command_engine.specs.Runs.{Here, after_line, Replies, Answers, Run}
+use Rattle.command_engine.specs.declared.endings.End.{End}
+use Rattle.command_engine.specs.declared.machines.Onward.TheVariants.{Goes, Ends}
 use Rattle.stnu_run.specs.ToRead.{Come}
 
 module _ {C : Type 0} (machine : Machine C) where

@@ -9,17 +9,17 @@ use Rattle.cert_format.specs.declared.certificate.Certificate.{Certificate}
 use Rattle.execution_model.specs.Feeding.{started, IsDueAnswer}
 use Rattle.execution_model.specs.Laws.{setting_of, IsDispatchedByClosure}
 use Rattle.execution_model.specs.Streams.{Listing}
-use Rattle.commands.specs.Asked.{AnswersOutcome}
-use Rattle.commands.specs.Inputs.{AnswersOrRefuses, IsFirstRefusal, room_after}
-use Rattle.commands.specs.Limits.{most_input}
-use Rattle.commands.specs.Phases.{FollowsOutcome, GoesOn}
-use Rattle.commands.specs.Reading.{Outcome, Given, Faulty, reading}
-use Rattle.commands.specs.Runs.{Run as RunOver, Runs, begins}
-use Rattle.commands.specs.declared.endings.End.{End}
-use Rattle.commands.specs.declared.endings.End.TheVariants as ends
-use Rattle.commands.specs.declared.machines.Onward.{Onward}
-use Rattle.commands.proofs.InputLemmas.{IsGivenAt, OutcomeIs, declared_read, outcome_is, outcome_answered}
-use Rattle.commands.proofs.PhaseLemmas.{run_is}
+use Rattle.command_engine.specs.Asked.{AnswersOutcome}
+use Rattle.command_engine.specs.Inputs.{AnswersOrRefuses, IsFirstRefusal, room_after}
+use Rattle.command_engine.specs.Limits.{most_input}
+use Rattle.command_engine.specs.Phases.{FollowsOutcome, GoesOn}
+use Rattle.command_engine.specs.Reading.{Outcome, Given, Faulty, reading}
+use Rattle.command_engine.specs.Runs.{Run as RunOver, Runs, begins}
+use Rattle.command_engine.specs.declared.endings.End.{End}
+use Rattle.command_engine.specs.declared.endings.End.TheVariants as ends
+use Rattle.command_engine.specs.declared.machines.Onward.{Onward}
+use Rattle.command_engine.proofs.InputLemmas.{IsGivenAt, OutcomeIs, declared_read, outcome_is, outcome_answered}
+use Rattle.command_engine.proofs.PhaseLemmas.{run_is}
 use Rattle.stnu_run.specs.Course.{Course}
 use Rattle.stnu_run.specs.Day.{IsWholeDay, IsRefusedDay}
 use Rattle.stnu_run.specs.EventAnswers.{due_line}

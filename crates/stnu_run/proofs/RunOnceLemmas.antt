@@ -22,10 +22,10 @@ use Rattle.execution_model.specs.declared.feeding.Fed.TheVariants as fed
 use Rattle.execution_model.specs.declared.feeding.Finished.{Finished}
 use Rattle.execution_model.specs.declared.feeding.Finished.TheVariants as finished
 use Rattle.execution_model.proofs.MomentLemmas.{length-acted, come_not_due, none_due_no_acts, no_acts_same}
-use Rattle.commands.specs.Single.{IsSingle, IsSingleAnswer}
-use Rattle.commands.specs.declared.endings.End.{End}
-use Rattle.commands.specs.declared.machines.Onward.{Onward}
-use Rattle.commands.specs.declared.machines.Onward.TheVariants.{Goes, Ends}
+use Rattle.command_engine.specs.Single.{IsSingle, IsSingleAnswer}
+use Rattle.command_engine.specs.declared.endings.End.{End}
+use Rattle.command_engine.specs.declared.machines.Onward.{Onward}
+use Rattle.command_engine.specs.declared.machines.Onward.TheVariants.{Goes, Ends}
 use Rattle.stnu_run.specs.Verdict.{controllable_line}
 use Rattle.stnu_run.specs.Course.{Course}
 use Rattle.stnu_run.specs.EventAnswers.{acts_text, due_line, event_fault_line}

@@ -27,7 +27,7 @@ use Rattle.parallel_rounds.specs.declared.outcome.Outcome.TheVariants.{Closed as
 use Rattle.table_closing.specs.Closing.{IsClosedBy, HasDerivableCycle}
 use Rattle.table_closing.specs.declared.closing.Closed.{Closed}
 use Rattle.execution_model.specs.Laws.{IsDispatchedByClosure}
-use Rattle.commands.specs.declared.endings.End.{End}
+use Rattle.command_engine.specs.declared.endings.End.{End}
 use Rattle.stnu_run.specs.Checking.{check_answers}
 use Rattle.stnu_run.specs.CheckPromise.{PutsVerdict}
 use Rattle.stnu_run.specs.Verdict.{IsCertificateOf, Refutes}

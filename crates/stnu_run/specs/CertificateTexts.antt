@@ -8,9 +8,9 @@ use Rattle.cert_format.specs.declared.certificate.Certificate.{Certificate}
 use Rattle.cert_format.specs.declared.read.CertText.{CertText}
 use Rattle.cert_format.specs.declared.read.CertText.TheVariants as text
 use Rattle.plan_port.specs.Limits.{most_line}
-use Rattle.commands.specs.Reading.{Reader}
-use Rattle.commands.specs.declared.reading.Step.{Step}
-use Rattle.commands.specs.declared.reading.Step.TheVariants.{Goes, Gives, Refused}
+use Rattle.command_engine.specs.Reading.{Reader}
+use Rattle.command_engine.specs.declared.reading.Step.{Step}
+use Rattle.command_engine.specs.declared.reading.Step.TheVariants.{Goes, Gives, Refused}
 use Rattle.stnu_run.specs.Faults.{stop_fault}
 use Rattle.stnu_run.specs.declared.faults.Fault.{Fault}
 use Rattle.stnu_run.specs.declared.faults.Fault.TheVariants.{Format}

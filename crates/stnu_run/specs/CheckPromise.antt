@@ -7,8 +7,8 @@ use Rattle.cert_format.specs.declared.certificate.Certificate.{Certificate}
 use Rattle.cert_checker.specs.Judgement.{judgement_of}
 use Rattle.cert_checker.specs.declared.judgement.Claim.TheVariants.{NotControllable}
 use Rattle.cert_checker.specs.declared.judgement.Judgement.TheVariants.{Accepted}
-use Rattle.commands.specs.Inputs.{AnswersText}
-use Rattle.commands.specs.declared.endings.End.{End}
+use Rattle.command_engine.specs.Inputs.{AnswersText}
+use Rattle.command_engine.specs.declared.endings.End.{End}
 use Rattle.stnu_run.specs.Checking.{check_answers}
 use Rattle.stnu_run.specs.Faults.{refusing}
 use Rattle.stnu_run.specs.PlanAsking.{plan_program}

@@ -3,7 +3,7 @@ use Rattle.std.specs.Prelude.{ℕ, List, [], ◌∷◌, Option}
 use Rattle.net_model.specs.Network.{Plan}
 use Rattle.command_words.specs.Arguments.{Arguments, option_at}
 use Rattle.command_words.specs.Syntax.{Syntax}
-use Rattle.commands.specs.declared.endings.End.{End}
+use Rattle.command_engine.specs.declared.endings.End.{End}
 use Rattle.stnu_run.specs.Verdict.{PutsControllable, PutsRefuted, Decides}
 use Rattle.stnu_run.specs.Workers.{has_workers, workers_name}
 

@@ -12,10 +12,10 @@ use Rattle.event_stream.specs.EventText.{EventLine, blank, completed, done, IsLi
 use Rattle.execution_model.specs.Acts.{scheduled}
 use Rattle.execution_model.specs.Laws.{going_on, ended}
 use Rattle.execution_model.specs.Streams.{Listing, IsFaithful}
-use Rattle.commands.specs.Inputs.{texts, room_after}
-use Rattle.commands.specs.Limits.{most_input}
-use Rattle.commands.specs.declared.endings.End.{End}
-use Rattle.commands.specs.declared.endings.End.TheVariants.{Done}
+use Rattle.command_engine.specs.Inputs.{texts, room_after}
+use Rattle.command_engine.specs.Limits.{most_input}
+use Rattle.command_engine.specs.declared.endings.End.{End}
+use Rattle.command_engine.specs.declared.endings.End.TheVariants.{Done}
 use Rattle.stnu_run.specs.Due.{moment_after, AnswersDue}
 use Rattle.stnu_run.specs.EventAnswers.{acts_text, due_line, complete_line}
 use Rattle.stnu_run.specs.ToRead.{Come}

@@ -10,8 +10,8 @@ use Rattle.plan_port.specs.Lines.{Comes, TooLong, TooMuch, coming}
 use Rattle.event_stream.specs.EventText.{IsFaultOf}
 use Rattle.execution_model.specs.Laws.{going_on}
 use Rattle.execution_model.specs.Streams.{Listing, IsFaithful}
-use Rattle.commands.specs.Inputs.{room_after}
-use Rattle.commands.specs.Limits.{most_input}
+use Rattle.command_engine.specs.Inputs.{room_after}
+use Rattle.command_engine.specs.Limits.{most_input}
 use Rattle.stnu_run.specs.Day.{Opening, IsUnderway}
 use Rattle.stnu_run.specs.EventAnswers.{event_fault_line}
 use Rattle.stnu_run.specs.Faults.{fault_line}

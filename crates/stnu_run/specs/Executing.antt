@@ -13,11 +13,11 @@ use Rattle.execution_model.specs.declared.feeding.Fed.{Fed}
 use Rattle.execution_model.specs.declared.feeding.Fed.TheVariants as fed
 use Rattle.execution_model.specs.declared.feeding.Finished.{Finished}
 use Rattle.execution_model.specs.declared.feeding.Finished.TheVariants as finished
-use Rattle.commands.specs.Limits.{least_room}
-use Rattle.commands.specs.Machine.{Machine}
-use Rattle.commands.specs.declared.endings.End.TheVariants as ends
-use Rattle.commands.specs.declared.machines.Onward.{Onward}
-use Rattle.commands.specs.declared.machines.Onward.TheVariants.{Goes, Ends}
+use Rattle.command_engine.specs.Limits.{least_room}
+use Rattle.command_engine.specs.Machine.{Machine}
+use Rattle.command_engine.specs.declared.endings.End.TheVariants as ends
+use Rattle.command_engine.specs.declared.machines.Onward.{Onward}
+use Rattle.command_engine.specs.declared.machines.Onward.TheVariants.{Goes, Ends}
 use Rattle.stnu_run.specs.Course.{Course}
 use Rattle.stnu_run.specs.EventAnswers.{acts_text, due_line, complete_line, NamesPoints, why_words, unfinished_words, event_line, event_fault_line, most_act}
 use Rattle.stnu_run.specs.Faults.{fault_line, fault_end, stop_fault}

@@ -9,8 +9,8 @@ use Rattle.execution_model.specs.Feeding.{Execution, taken, first_open}
 use Rattle.execution_model.specs.Laws.{going_on, ended}
 use Rattle.execution_model.specs.Streams.{Listing, Fits}
 use Rattle.execution_model.specs.declared.feeding.Why.{Why}
-use Rattle.commands.specs.declared.endings.End.{End}
-use Rattle.commands.specs.declared.endings.End.TheVariants as ends
+use Rattle.command_engine.specs.declared.endings.End.{End}
+use Rattle.command_engine.specs.declared.endings.End.TheVariants as ends
 use Rattle.stnu_run.specs.Day.{Opening, IsUnderway, IsWholeDay, IsRefusedDay, number_of, PutsSoFar, PutsDay}
 use Rattle.stnu_run.specs.Due.{IsFedBy}
 use Rattle.stnu_run.specs.EventAnswers.{why_words, unfinished_words, event_line}

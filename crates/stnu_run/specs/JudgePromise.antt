@@ -6,8 +6,8 @@ use Rattle.net_model.specs.Network.{Plan}
 use Rattle.strategy_model.specs.Control.{IsControllable}
 use Rattle.cert_format.specs.declared.certificate.Certificate.{Certificate}
 use Rattle.cert_checker.specs.Judgement.{judgement_of}
-use Rattle.commands.specs.Inputs.{AnswersText}
-use Rattle.commands.specs.declared.endings.End.{End}
+use Rattle.command_engine.specs.Inputs.{AnswersText}
+use Rattle.command_engine.specs.declared.endings.End.{End}
 use Rattle.stnu_run.specs.Faults.{refusing}
 use Rattle.stnu_run.specs.Judging.{judgement_line, judgement_end, judge_machine, judge_start}
 use Rattle.stnu_run.specs.Programs.{Program, or_nothing, serves}

@@ -9,14 +9,14 @@ use Rattle.cert_checker.specs.declared.judgement.Judgement.{Judgement}
 use Rattle.cert_checker.specs.declared.judgement.Judgement.TheVariants.{Accepted, Refused}
 use Rattle.command_words.specs.Arguments.{Arguments}
 use Rattle.command_words.specs.Syntax.{Syntax}
-use Rattle.commands.specs.Machine.{Machine}
-use Rattle.commands.specs.Asked.{asked_machine}
-use Rattle.commands.specs.Pairs.{then_reader}
-use Rattle.commands.specs.declared.asking.Asked.{Asked}
-use Rattle.commands.specs.declared.endings.End.{End}
-use Rattle.commands.specs.declared.endings.End.TheVariants as end
-use Rattle.commands.specs.declared.pairs.Then.{Then}
-use Rattle.commands.specs.declared.pairs.Then.TheVariants.{First}
+use Rattle.command_engine.specs.Machine.{Machine}
+use Rattle.command_engine.specs.Asked.{asked_machine}
+use Rattle.command_engine.specs.Pairs.{then_reader}
+use Rattle.command_engine.specs.declared.asking.Asked.{Asked}
+use Rattle.command_engine.specs.declared.endings.End.{End}
+use Rattle.command_engine.specs.declared.endings.End.TheVariants as end
+use Rattle.command_engine.specs.declared.pairs.Then.{Then}
+use Rattle.command_engine.specs.declared.pairs.Then.TheVariants.{First}
 use Rattle.stnu_run.specs.Faults.{refusing}
 use Rattle.stnu_run.specs.PlanText.{plan_begun, plan_reader}
 use Rattle.stnu_run.specs.CertificateTexts.{certificate_begun, certificate_reader}

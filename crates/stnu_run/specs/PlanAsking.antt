@@ -1,9 +1,9 @@
 -- Commands that read a plan and answer it once. This project's own choice.
 use Rattle.std.specs.Prelude.{ℕ, List}
 use Rattle.net_model.specs.Network.{Plan}
-use Rattle.commands.specs.Asked.{asked_machine}
-use Rattle.commands.specs.declared.asking.Asked.{Asked}
-use Rattle.commands.specs.declared.endings.End.{End}
+use Rattle.command_engine.specs.Asked.{asked_machine}
+use Rattle.command_engine.specs.declared.asking.Asked.{Asked}
+use Rattle.command_engine.specs.declared.endings.End.{End}
 use Rattle.stnu_run.specs.Faults.{refusing}
 use Rattle.stnu_run.specs.PlanText.{plan_begun, plan_reader}
 use Rattle.stnu_run.specs.Programs.{Program, or_nothing, serves}

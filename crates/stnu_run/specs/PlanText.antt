@@ -10,9 +10,9 @@ use Rattle.plan_format.specs.PlanReading.{begun, line_in, advanced, missing}
 use Rattle.plan_format.specs.declared.plan_line.PlanLine.{PlanLine}
 use Rattle.plan_format.specs.declared.plan_line.PlanLine.TheVariants as line
 use Rattle.plan_port.specs.Limits.{most_line}
-use Rattle.commands.specs.Reading.{Reader}
-use Rattle.commands.specs.declared.reading.Step.{Step}
-use Rattle.commands.specs.declared.reading.Step.TheVariants.{Goes, Gives, Refused}
+use Rattle.command_engine.specs.Reading.{Reader}
+use Rattle.command_engine.specs.declared.reading.Step.{Step}
+use Rattle.command_engine.specs.declared.reading.Step.TheVariants.{Goes, Gives, Refused}
 use Rattle.stnu_run.specs.Faults.{stop_fault}
 use Rattle.stnu_run.specs.declared.faults.Fault.{Fault}
 use Rattle.stnu_run.specs.declared.faults.Fault.TheVariants.{Format, Part}

@@ -5,12 +5,12 @@ use Rattle.plan_port.specs.Talk.{Seen, raised}
 use Rattle.plan_port.specs.Writing.{Writes}
 use Rattle.plan_port.specs.declared.writing.Written.{Written}
 use Rattle.plan_port.specs.declared.writing.Written.TheVariants.{All, Part}
-use Rattle.commands.specs.Endings.{end_number, status_number}
-use Rattle.commands.specs.Machine.{Machine}
-use Rattle.commands.specs.Runs.{Runs}
-use Rattle.commands.specs.Serves.{Serves, WhereBothTold}
-use Rattle.commands.specs.declared.endings.End.{End}
-use Rattle.commands.specs.declared.endings.Status.{Status as Ending}
+use Rattle.command_engine.specs.Endings.{end_number, status_number}
+use Rattle.command_engine.specs.Machine.{Machine}
+use Rattle.command_engine.specs.Runs.{Runs}
+use Rattle.command_engine.specs.Serves.{Serves, WhereBothTold}
+use Rattle.command_engine.specs.declared.endings.End.{End}
+use Rattle.command_engine.specs.declared.endings.Status.{Status as Ending}
 use Rattle.stnu_run.specs.declared.status.Status.{Status}
 use Rattle.stnu_run.specs.declared.telling.TellingEnd.{TellingEnd}
 use Rattle.stnu_run.specs.declared.telling.TellingEnd.TheVariants.{Told, WordsRefused}

@@ -8,9 +8,9 @@ use Rattle.cert_checker.specs.Judgement.{judgement_of}
 use Rattle.cert_checker.specs.declared.judgement.Claim.TheVariants.{NotControllable}
 use Rattle.cert_checker.specs.declared.judgement.Judgement.TheVariants.{Accepted}
 use Rattle.execution_model.specs.Streams.{Listing}
-use Rattle.commands.specs.Inputs.{AnswersText, DeclaresBy, IsFirstRefusal}
-use Rattle.commands.specs.declared.endings.End.{End}
-use Rattle.commands.specs.declared.endings.End.TheVariants as ends
+use Rattle.command_engine.specs.Inputs.{AnswersText, DeclaresBy, IsFirstRefusal}
+use Rattle.command_engine.specs.declared.endings.End.{End}
+use Rattle.command_engine.specs.declared.endings.End.TheVariants as ends
 use Rattle.stnu_run.specs.Day.{Opening, IsWholeDay, IsRefusedDay}
 use Rattle.stnu_run.specs.Due.{AnswersDue}
 use Rattle.stnu_run.specs.EventAnswers.{due_line}

@@ -8,13 +8,13 @@ use Rattle.execution_model.specs.Feeding.{Execution, started, IsDueAnswer}
 use Rattle.execution_model.specs.Laws.{setting_of, IsDispatchedByClosure}
 use Rattle.command_words.specs.Arguments.{Arguments, option_at}
 use Rattle.command_words.specs.Syntax.{Syntax}
-use Rattle.commands.specs.Machine.{Machine}
-use Rattle.commands.specs.Phases.{planned_machine}
-use Rattle.commands.specs.declared.endings.End.{End}
-use Rattle.commands.specs.declared.machines.Onward.{Onward}
-use Rattle.commands.specs.declared.machines.Onward.TheVariants.{Goes, Ends}
-use Rattle.commands.specs.declared.phases.Planned.{Planned}
-use Rattle.commands.specs.declared.phases.Planned.TheVariants.{Reading}
+use Rattle.command_engine.specs.Machine.{Machine}
+use Rattle.command_engine.specs.Phases.{text_then_phase_machine}
+use Rattle.command_engine.specs.declared.endings.End.{End}
+use Rattle.command_engine.specs.declared.machines.Onward.{Onward}
+use Rattle.command_engine.specs.declared.machines.Onward.TheVariants.{Goes, Ends}
+use Rattle.command_engine.specs.declared.phases.TextThenPhase.{TextThenPhase}
+use Rattle.command_engine.specs.declared.phases.TextThenPhase.TheVariants.{Reading}
 use Rattle.stnu_run.specs.Course.{Course}
 use Rattle.stnu_run.specs.EventAnswers.{due_line}
 use Rattle.stnu_run.specs.Executing.{executing_machine}
@@ -56,7 +56,7 @@ run_asked arguments = has_workers (option_at 0 arguments)
 
 -- how far the input of `run` was read; nothing is seen of how it begins, in which the number of workers stands
 abbrev pub Running : Type 0
-Running = Planned (Unit {0}) PlanText Course
+Running = TextThenPhase (Unit {0}) PlanText Course
 
 -- before the first line
 abbrev pub run_start : Unit {0} → Running
@@ -64,4 +64,4 @@ run_start run = Reading run plan_begun
 
 -- what `run` means
 abbrev pub run_machine : Machine Running
-run_machine = planned_machine run_begins plan_reader refusing executing_machine
+run_machine = text_then_phase_machine run_begins plan_reader refusing executing_machine

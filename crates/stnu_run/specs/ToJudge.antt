@@ -5,8 +5,8 @@ use Rattle.net_model.specs.declared.format.FormatKind.{FormatKind}
 use Rattle.cert_format.specs.CertificateGrammar.{DeclareCertificate, IsFirstFault, IsFront, Progress}
 use Rattle.cert_format.specs.declared.certificate.Certificate.{Certificate}
 use Rattle.plan_port.specs.Limits.{most_line}
-use Rattle.commands.specs.Grammars.{Grammar}
-use Rattle.commands.specs.Pairs.{then_grammar}
+use Rattle.command_engine.specs.Grammars.{Grammar}
+use Rattle.command_engine.specs.Pairs.{then_grammar}
 use Rattle.stnu_run.specs.ToCheck.{plan_grammar}
 use Rattle.stnu_run.specs.ToRead.{RefusesFormat}
 use Rattle.stnu_run.specs.declared.faults.Fault.{Fault}

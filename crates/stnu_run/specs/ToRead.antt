@@ -4,8 +4,8 @@ use Rattle.texts.specs.Lines.{InputLine, line_size}
 use Rattle.net_model.specs.declared.format.FormatKind.{FormatKind}
 use Rattle.plan_port.specs.Limits.{most_line}
 use Rattle.plan_port.specs.Lines.{Comes, coming}
-use Rattle.commands.specs.Grammars.{Next, Line, NoLine, number_after}
-use Rattle.commands.specs.declared.machines.Stop.TheVariants.{LineTooLong as LongStop, InputTooMuch as MuchStop, InputEnded}
+use Rattle.command_engine.specs.Grammars.{Next, Line, NoLine, number_after}
+use Rattle.command_engine.specs.declared.machines.Stop.TheVariants.{LineTooLong as LongStop, InputTooMuch as MuchStop, InputEnded}
 use Rattle.stnu_run.specs.declared.faults.Fault.{Fault}
 use Rattle.stnu_run.specs.declared.faults.Fault.TheVariants.{Format, LineTooLong, InputTooMuch}
 

@@ -10,8 +10,8 @@ use Rattle.cert_format.specs.CertificateWords.{printed_certificate, HasWeights}
 use Rattle.cert_format.specs.declared.certificate.Certificate.{Certificate}
 use Rattle.refutations.specs.Certifying.{certificate_by}
 use Rattle.execution_model.specs.Laws.{IsDispatchedByClosure}
-use Rattle.commands.specs.declared.endings.End.{End}
-use Rattle.commands.specs.declared.endings.End.TheVariants.{Done, Refused as RefusedEnd}
+use Rattle.command_engine.specs.declared.endings.End.{End}
+use Rattle.command_engine.specs.declared.endings.End.TheVariants.{Done, Refused as RefusedEnd}
 use Rattle.stnu_run.specs.declared.verdict.Verdict.{Verdict}
 use Rattle.stnu_run.specs.declared.verdict.Verdict.TheVariants.{Controllable, Refuted}
 

@@ -7,7 +7,7 @@ ghost use Rattle.stnu_run.specs.ToJudge.{certificate_texts};
 
 use crate::faults::{Fault, stop_fault};
 use cert_format::{CertReader, CertText, Certificate};
-use commands::{InGrammar, Step, Stop, Text};
+use command_engine::{InGrammar, Step, Stop, Text};
 use net_model::WordFault;
 use plan_port::MOST_LINE;
 use std::alloc::{AllocError, Global};

@@ -4,15 +4,15 @@ ghost use Rattle.std.specs.Prelude.{◌≡◌, ◌≤◌, ◌++◌, ◌∷◌, �
 ghost use Rattle.std.specs.Fmt.{decimal};
 ghost use Rattle.std.specs.List.{All};
 ghost use Rattle.net_model.specs.Network.{IsPoint};
-ghost use Rattle.commands.specs.Limits.{least_room};
-ghost use Rattle.commands.specs.Words.{most_word, word_text};
-ghost use Rattle.commands.specs.declared.endings.End.TheVariants.{EventRefused};
+ghost use Rattle.command_engine.specs.Limits.{least_room};
+ghost use Rattle.command_engine.specs.Words.{most_word, word_text};
+ghost use Rattle.command_engine.specs.declared.endings.End.TheVariants.{EventRefused};
 ghost use Rattle.stnu_run.specs.EventAnswers.{name_in, acts_text, act_line, due_line, complete_line, most_act, NamesPoints, why_words, unfinished_words, event_line, event_fault_line};
 ghost use Rattle.stnu_run.specs.Faults.{fault_end};
 ghost use Rattle.stnu_run.specs.declared.faults.Fault.TheVariants.{Format};
 
 use crate::faults::Fault;
-use commands::{Answer, End, Refusal, Word};
+use command_engine::{Answer, End, Refusal, Word};
 use execution_model::{Act, MOST_MOMENT, Why};
 use net_model::{FormatKind, Network, PointId};
 

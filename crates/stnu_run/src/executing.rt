@@ -7,14 +7,14 @@ ghost use Rattle.execution_model.specs.Feeding.{started, IsDueAnswer, most_momen
 ghost use Rattle.live_executor.specs.Sound.{IsDispatchOf};
 ghost use Rattle.event_stream.specs.EventText.{completed, done, said, HasPoints};
 ghost use Rattle.event_stream.specs.Limits as line_limits;
-ghost use Rattle.commands.specs.declared.machines.Onward.TheVariants.{Ends};
+ghost use Rattle.command_engine.specs.declared.machines.Onward.TheVariants.{Ends};
 ghost use Rattle.stnu_run.specs.Executing.{executing_machine, answer_room, AnswersEnd, AnswersEvent, EndsAmong, GoesWith};
 
 use crate::event_answers::{
     MOST_ACT, put_acts, put_complete, put_due, refuse_end, refuse_event, refuse_line,
 };
 use crate::faults::stop_fault;
-use commands::{Answer, Command, End, LEAST_ROOM, Onward, Refusal, Stop};
+use command_engine::{Answer, Command, End, LEAST_ROOM, Onward, Refusal, Stop};
 use dispatch_net::Dispatch;
 use event_stream::{Event, EventReader};
 use execution_model::{Fed, Finished};

@@ -1,10 +1,10 @@
 //! The first refusal of an input.
 
 ghost use Rattle.std.specs.Prelude.{◌≡◌};
-ghost use Rattle.commands.specs.declared.machines.Stop.{Stop};
+ghost use Rattle.command_engine.specs.declared.machines.Stop.{Stop};
 ghost use Rattle.stnu_run.specs.Faults.{refusing, fault_class, fault_number, fault_word, fault_end, stop_fault};
 
-use commands::{Answer, End, Refusal, Stop, Word};
+use command_engine::{Answer, End, Refusal, Stop, Word};
 use net_model::{BuildFault, FormatKind};
 
 /// The first refusal of an input, with the number of its line.

@@ -2,9 +2,9 @@
 
 ghost use Rattle.std.specs.Prelude.{◌≡◌, ℕ, List};
 ghost use Rattle.net_model.specs.Network.{Plan, IsPlan};
-ghost use Rattle.commands.specs.Inputs.{AnswersText};
-ghost use Rattle.commands.specs.Single.{IsSingleAnswer};
-ghost use Rattle.commands.specs.declared.endings.End.{End};
+ghost use Rattle.command_engine.specs.Inputs.{AnswersText};
+ghost use Rattle.command_engine.specs.Single.{IsSingleAnswer};
+ghost use Rattle.command_engine.specs.declared.endings.End.{End};
 ghost use Rattle.stnu_run.specs.Faults.{refusing};
 ghost use Rattle.stnu_run.specs.PlanAsking.{asking};
 ghost use Rattle.stnu_run.specs.Programs.{or_nothing};
@@ -13,7 +13,7 @@ ghost use Rattle.stnu_run.specs.ToCheck.{plan_grammar};
 use crate::plan_text::PlanText;
 use crate::promising::Promising;
 use crate::requests::Request;
-use commands::{Asked, Question};
+use command_engine::{Asked, Question};
 use net_model::Network;
 use std::alloc::Global;
 

@@ -6,7 +6,7 @@ ghost use Rattle.stnu_run.specs.PlanText.{plan_reader, plan_begun, built_step};
 ghost use Rattle.stnu_run.specs.ToCheck.{plan_texts};
 
 use crate::faults::{Fault, stop_fault};
-use commands::{InGrammar, Step, Stop, Text};
+use command_engine::{InGrammar, Step, Stop, Text};
 use net_model::{Network, WordFault};
 use plan_format::{DeclarationFault, PlanLine, PlanReader};
 use plan_port::MOST_LINE;

@@ -2,15 +2,15 @@
 
 ghost use Rattle.std.specs.Prelude.{◌≡◌, ◌⊎◌, ◌≤◌, ℕ, List, [], map, string_bytes};
 ghost use Rattle.plan_port.specs.Talk.{Piece};
-ghost use Rattle.commands.specs.Breaks.{BreaksForMemory};
-ghost use Rattle.commands.specs.Limits.{least_room};
+ghost use Rattle.command_engine.specs.Breaks.{BreaksForMemory};
+ghost use Rattle.command_engine.specs.Limits.{least_room};
 ghost use Rattle.stnu_run.specs.Programs.{Promise, PromiseHolds, EachDefinesOne, ServesProgram, KeepsPromise, HasCauses, KeepsWithoutMemory, serves};
 ghost use Rattle.stnu_run.specs.Requests.{program_by};
 
 use crate::requests::{Request, request_in};
 use crate::status::Status;
 use crate::telling::{RefusedWords, tell};
-use commands::{Command, serve};
+use command_engine::{Command, serve};
 use plan_port::Port;
 use std::alloc::{AllocError, Global};
 use std::thread::Threads;

@@ -1,7 +1,7 @@
 //! The command `run`: a plan, and then the execution of its network over lines of events.
 
 ghost use Rattle.std.specs.Prelude.{◌≡◌, ◌≤◌, [], length, IfOk, OnOk};
-ghost use Rattle.commands.specs.Machine.{HasRoom};
+ghost use Rattle.command_engine.specs.Machine.{HasRoom};
 ghost use Rattle.execution_model.specs.Feeding.{IsDueAnswer};
 ghost use Rattle.execution_model.specs.Laws.{IsDispatchedByClosure};
 ghost use Rattle.stnu_run.specs.Executing.{executing_machine, answer_room};
@@ -18,8 +18,8 @@ use crate::verdict::{Verdict, decide, put_refuted};
 use crate::workers::Workers;
 use closure_model::laws::base_stands;
 use closure_model::{order_laws, round_laws};
+use command_engine::{Answer, Begin, Onward, TextThenPhase, Word};
 use command_words::{Arguments, Syntax};
-use commands::{Answer, Begin, Onward, Planned, Word};
 use derivation_dag::Supports;
 use dispatch_net::Dispatch;
 use event_stream::laws::lines_have_one_reading;
@@ -68,7 +68,7 @@ impl Request for Run {
 }
 
 /// The command: how far its input was read.
-pub type Running = Planned<Run, PlanText, Executing>;
+pub type Running = TextThenPhase<Run, PlanText, Executing>;
 
 impl Begin<Network> for Run {
     type Phase = Executing;
@@ -99,7 +99,7 @@ impl Promising for Running {
     ghost promise = { λ run. or_nothing RunPromise };
 
     fn begun(alloc: Global, request: Run) -> Running {
-        Planned::Reading(request, PlanText::new(alloc))
+        TextThenPhase::Reading(request, PlanText::new(alloc))
     }
 
     fn keeps_its_promise() {

@@ -9,7 +9,7 @@ ghost use Rattle.stnu_run.specs.Requests.{RefusesWords};
 ghost use Rattle.stnu_run.specs.declared.telling.TellingEnd.{TellingEnd};
 
 use crate::status::Status;
-use commands::{Answer, Word};
+use command_engine::{Answer, Word};
 use plan_port::{Port, Written, write_all};
 use std::alloc::{AllocError, Global};
 use std::thread::Threads;

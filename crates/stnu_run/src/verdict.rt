@@ -12,7 +12,7 @@ use cert_checker::laws::accepted_excludes;
 use cert_format::{Certificate, print_certificate};
 use closure_model::laws::cycles_are_in_closures;
 use closure_model::order_laws::orders_exclude_cycles;
-use commands::{Answer, End, Word};
+use command_engine::{Answer, End, Word};
 use controllability::laws::ordered_closures_are_controllable;
 use derivation_dag::Plain;
 use net_model::Network;

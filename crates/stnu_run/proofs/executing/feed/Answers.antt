@@ -4,7 +4,7 @@ use Rattle.net_model.specs.Network.{IsPoint}
 use Rattle.net_model.specs.declared.ids.PointId.{PointId}
 use Rattle.execution_model.specs.Feeding.{IsFed}
 use Rattle.execution_model.specs.declared.feeding.Act.{Act}
-use Rattle.commands.specs.declared.machines.Onward.TheVariants.{Ends}
+use Rattle.command_engine.specs.declared.machines.Onward.TheVariants.{Ends}
 use Rattle.event_stream.specs.EventText.{completed}
 use Rattle.stnu_run.specs.Course.{Course}
 use Rattle.stnu_run.specs.Executing.{AnswersEvent}

@@ -1,6 +1,6 @@
 use Rattle.std.proofs.Common.{subst}
 use Rattle.event_stream.specs.EventText.{said}
-use Rattle.commands.specs.declared.machines.Onward.TheVariants.{Ends}
+use Rattle.command_engine.specs.declared.machines.Onward.TheVariants.{Ends}
 use Rattle.stnu_run.specs.Course.{Course}
 use Rattle.stnu_run.specs.Executing.{TakesEvent}
 use Rattle.stnu_run.proofs.FeedingLemmas.{told_answers, fault_answers}

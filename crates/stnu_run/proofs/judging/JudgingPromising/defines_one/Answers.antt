@@ -1,4 +1,4 @@
-use Rattle.commands.specs.Pairs.{then_reader}
+use Rattle.command_engine.specs.Pairs.{then_reader}
 use Rattle.stnu_run.specs.CertificateTexts.{certificate_reader}
 use Rattle.stnu_run.specs.Faults.{refusing}
 use Rattle.stnu_run.specs.JudgePromise.{JudgePromise}

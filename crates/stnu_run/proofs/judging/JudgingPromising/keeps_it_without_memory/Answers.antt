@@ -1,6 +1,6 @@
 use Rattle.std.proofs.Common.{inl}
-use Rattle.commands.proofs.AskedLemmas.{wants_before_answer}
-use Rattle.commands.specs.Pairs.{then_reader}
+use Rattle.command_engine.proofs.AskedLemmas.{wants_before_answer}
+use Rattle.command_engine.specs.Pairs.{then_reader}
 use Rattle.stnu_run.specs.CertificateTexts.{certificate_reader}
 use Rattle.stnu_run.specs.Faults.{refusing}
 use Rattle.stnu_run.specs.Judging.{judge_answers, judge_start}

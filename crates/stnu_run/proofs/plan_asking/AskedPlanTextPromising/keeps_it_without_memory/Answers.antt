@@ -1,5 +1,5 @@
 use Rattle.std.proofs.Common.{inl}
-use Rattle.commands.proofs.AskedLemmas.{wants_before_answer}
+use Rattle.command_engine.proofs.AskedLemmas.{wants_before_answer}
 use Rattle.stnu_run.specs.Faults.{refusing}
 use Rattle.stnu_run.specs.PlanText.{plan_begun, plan_reader}
 use Rattle.stnu_run.proofs.plan_asking.AskedPlanTextPromising.keeps_it_without_memory.Goals as goal

@@ -1,5 +1,5 @@
 use Rattle.std.proofs.Common.{inl}
-use Rattle.commands.proofs.PhaseLemmas.{wants_while_reading}
+use Rattle.command_engine.proofs.PhaseLemmas.{wants_while_reading}
 use Rattle.stnu_run.specs.Executing.{executing_machine}
 use Rattle.stnu_run.specs.Faults.{refusing}
 use Rattle.stnu_run.specs.PlanText.{plan_begun, plan_reader}

@@ -1,0 +1,79 @@
+-- The input of a command that reads a text and answers once, by the grammar of the text: what it declares, and its first refusal.
+-- This project's own choice.
+use Rattle.std.specs.Prelude.{◌≡◌, ◌⊎◌, ℕ, ◌-◌, List, [], ◌∷◌, ◌++◌, map}
+use Rattle.texts.specs.Lines.{InputLine, input_lines, lines, line_size}
+use Rattle.plan_port.specs.Lines.{Coming, Comes, TooLong, TooMuch, coming}
+use Rattle.command_engine.specs.Grammars.{Grammar, Next, Line, NoLine}
+use Rattle.command_engine.specs.Limits.{most_input}
+use Rattle.command_engine.specs.Reading.{Refusing}
+use Rattle.command_engine.specs.declared.endings.End.{End}
+use Rattle.command_engine.specs.declared.machines.Stop.TheVariants.{LineTooLong, InputTooMuch, InputEnded}
+
+-- the bytes of lines
+abbrev pub texts : List InputLine → List (List ℕ)
+texts lines = map (λ line. line.text) lines
+
+-- how many bytes an input may still have after these lines
+abbrev pub room_after : ℕ → List InputLine → ℕ
+room_after room [] = room
+room_after room (line ∷ lines) = room_after (room - line_size line) lines
+
+-- what comes, by what comes of the next line
+abbrev pub next_by : Coming → List ℕ → Next
+next_by Comes text = Line text
+next_by TooLong text = NoLine LineTooLong
+next_by TooMuch text = NoLine InputTooMuch
+
+-- what comes where these lines are still to come, of which the first may have so many bytes, and all together so many
+abbrev pub next_of : (longest room : ℕ) → List InputLine → Next
+next_of longest room [] = NoLine InputEnded
+next_of longest room (line ∷ others) = next_by (coming longest room line) line.text
+
+module _ {V F : Type 0} (grammar : Grammar V F) where
+  -- these lines come after those before them: one more is wanted each time, and it is not too long, or the input too much by it
+  abbrev pub ComeAfter : (before : List (List ℕ)) (room : ℕ) → List InputLine → Type 0
+  ComeAfter before room [] = Unit {0}
+  ComeAfter before room (line ∷ lines) =
+      (longest : ℕ) × grammar.longest before longest × (coming longest room line ≡ Comes)
+      × ComeAfter (before ++ line.text ∷ []) (room - line_size line) lines
+
+  -- the first refusal of an input: the lines before it come, and what comes next is refused
+  pub record IsFirstRefusal (input : List InputLine) (fault : F) : Type 0 where
+    pub before : List InputLine
+    pub rest : List InputLine
+    pub longest : ℕ
+    pub divided : input ≡ before ++ rest
+    pub come : ComeAfter [] most_input before
+    pub wanted : grammar.longest (texts before) longest
+    pub refused : grammar.refuses (texts before) (next_of longest (room_after most_input before) rest) fault
+
+  -- the first lines of an input come and declare a value; the rest stands after the text, and decides nothing
+  pub record DeclaresBy (used rest : List InputLine) (value : V) : Type 0 where
+    pub come : ComeAfter [] most_input used
+    pub declared : grammar.declares (texts (used ++ rest)) value (texts rest)
+
+  -- an input declares a value by first lines that come
+  pub record DeclaresWithinLimits (input : List InputLine) (value : V) : Type 0 where
+    pub used : List InputLine
+    pub rest : List InputLine
+    pub divided : input ≡ used ++ rest
+    pub declares : DeclaresBy used rest value
+
+  module _ (refusing : Refusing F) where
+    -- the line of a refusal is put, and the run ends as it says
+    abbrev pub PutsRefusal : F → List ℕ → End → Type 0
+    PutsRefusal fault put end = (put ≡ refusing.line fault) × (end ≡ refusing.end fault)
+
+    -- the input declares a value, and what is put answers it; or the first refusal of the input is put
+    abbrev pub AnswersOrRefuses : (V → List ℕ → End → Type 0) → (input put : List ℕ) → End → Type 0
+    AnswersOrRefuses answers input put end =
+        ((value : V) × (after : List (List ℕ)) × grammar.declares (lines input) value after × answers value put end)
+        ⊎ ((fault : F) × IsFirstRefusal (input_lines input) fault × PutsRefusal fault put end)
+
+    -- What a command promises that reads a text and answers once. `answers`: it puts the answer to what the input declares, or the
+    -- first refusal of the input. `declared`: where the input declares a value by lines that come, it puts the answer to that.
+    -- `refuses`: where the input has a first refusal, it puts that.
+    pub record AnswersText (answering : V → List ℕ → End → Type 0) (input put : List ℕ) (end : End) : Type 0 where
+      pub answers : AnswersOrRefuses answering input put end
+      pub declared : (value : V) → DeclaresWithinLimits (input_lines input) value → answering value put end
+      pub refuses : (fault : F) → IsFirstRefusal (input_lines input) fault → PutsRefusal fault put end

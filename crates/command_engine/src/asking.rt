@@ -1,0 +1,79 @@
+//! Commands that read a text and answer once what it says.
+
+ghost use Rattle.std.specs.Prelude.{◌≡◌, ℕ, ◌≤◌, List, [], IfOk};
+ghost use Rattle.std.specs.Thread.{IsSync};
+ghost use Rattle.command_engine.specs.Asked.{Refuses, RepliesToStep, asked_machine};
+ghost use Rattle.command_engine.specs.declared.endings.End.{End};
+
+use crate::answers::Answer;
+use crate::endings::End;
+use crate::machines::{Command, Onward, Stop};
+use crate::reading::{Step, Text};
+use crate::refusals::Refusal;
+use std::alloc::{AllocError, Global};
+use std::thread::Threads;
+
+/// A question that is answered once, to a value of a type.
+pub trait Question<V>: Drop {
+    /// To a value this answer is given, and so the run ends.
+    ghost answers: { Self → V → List ℕ → End → Type 0 };
+
+    /// Puts the answer to a value into the buffer, which is empty. `AllocError` comes only for want of memory.
+    fn answer<R: Threads + Sync>(
+        self,
+        rt: &R,
+        alloc: Global,
+        answer: &mut Answer,
+        value: V,
+    ) -> Result<End, AllocError>
+        // An implementation does not learn this from the bound `Sync`.
+        requires shared { IsSync R.row }
+        requires fresh { answer.old.text ≡ [] }
+        ensures { IfOk result (λ end. answers self value answer.new.text end) };
+}
+
+/// The command that is made of a question and a text: it reads the text, and puts the answer to what it says, or the line of
+/// its first fault.
+#[derive(Drop)]
+pub struct Asked<Q, T> {
+    pub question: Q,
+    pub text: T,
+}
+
+impl<Q: Question<T::Value>, T: Text> Command for Asked<Q, T> {
+    ghost machine = { asked_machine Q.answers T.reader T.Fault.refusing };
+
+    fn longest(&self) -> u32 {
+        self.text.longest()
+    }
+
+    fn take_line<R: Threads + Sync>(
+        self,
+        rt: &R,
+        alloc: Global,
+        answer: &mut Answer,
+        number: u32,
+        line: &[u8],
+    ) -> Result<Onward<Asked<Q, T>>, AllocError> {
+        let Asked { question, text } = self;
+        match text.read_line(alloc, number, line)? {
+            Step::Goes(text) => Ok(Onward::Goes(Asked { question, text })),
+            Step::Gives(value) => Ok(Onward::Ends(question.answer(rt, alloc, answer, value)?)),
+            Step::Refused(fault) => Ok(refuse(answer, fault)),
+        }
+    }
+
+    fn stop(&self, answer: &mut Answer, number: u32, stop: Stop) -> End {
+        let fault = self.text.stop(number, stop);
+        fault.put(answer);
+        fault.end()
+    }
+}
+
+/// Puts the line of a refusal into the buffer, and ends the run so.
+pub fn refuse<C, F: Refusal>(answer: &mut Answer, fault: F) -> Onward<C>
+    ensures { Refuses F.refusing fault answer.new.text result }
+{
+    fault.put(answer);
+    Onward::Ends(fault.end())
+}

@@ -1,0 +1,92 @@
+//! Laws about commands, each the contract of a function without parameters.
+
+ghost use Rattle.std.specs.Prelude.{◌≡◌, ℕ, List, []};
+ghost use Rattle.texts.specs.Lines.{InputLine, input_lines};
+ghost use Rattle.command_engine.specs.Runs.{Here, Runs, begins};
+ghost use Rattle.command_engine.specs.Single.{IsSingle, IsSingleAnswer, IsFront};
+ghost use Rattle.command_engine.specs.Reading.{reading};
+ghost use Rattle.command_engine.specs.Asked.{asked_machine, AnswersOutcome};
+ghost use Rattle.command_engine.specs.Inputs.{AnswersText};
+ghost use Rattle.command_engine.specs.Pairs.{then_reader, then_reading};
+ghost use Rattle.command_engine.specs.Phases.{WantsNone, text_then_phase_machine, FollowsOutcome};
+ghost use Rattle.command_engine.specs.Breaks.{WithinReply, WantsMemory, BreaksForMemory};
+ghost use Rattle.plan_port.specs.Talk.{Piece};
+ghost use Rattle.command_engine.specs.declared.endings.End.{End};
+
+use crate::asking::Question;
+use crate::machines::Command;
+use crate::pairs::Then;
+use crate::phases::{Begin, TextThenPhase};
+use crate::reading::{InGrammar, Text};
+
+/// A command that has at most one reply has at most one run over an input.
+pub fn single_runs<C: Command>()
+    ensures { IsSingle C.machine → (start : C) (input a b : List ℕ) (x y : End)
+        → Runs C.machine start input a x → Runs C.machine start input b y → (a ≡ b) × (x ≡ y) }
+{}
+
+/// What was put up to a failed put at a reply, and what was put up to a line at which there was no memory, is a front of what
+/// the whole run puts, where the command has at most one reply.
+pub fn broken_runs_are_fronts<C: Command>()
+    ensures put { IsSingle C.machine → (start : C) (input put whole : List ℕ) (end : End)
+        → Runs C.machine start input whole end → WithinReply C.machine start input put → IsFront put whole }
+    ensures memory { IsSingle C.machine → (start : C) (input put whole : List ℕ) (pieces : List Piece) (end : End)
+        → Runs C.machine start input whole end → WantsMemory C.machine start input put pieces → IsFront put whole }
+{}
+
+/// A command that asks has at most one reply where its question has at most one answer.
+pub fn asked_is_single<T: Text, Q: Question<T::Value>>()
+    ensures { IsSingleAnswer Q.answers → IsSingle (asked_machine Q.answers T.reader T.Fault.refusing) }
+{}
+
+/// A command of a text and a phase has at most one reply where the phase begins in one way and has at most one.
+pub fn text_then_phase_is_single<T: Text, B: Begin<T::Value>>()
+    ensures { IsSingleAnswer B.begins → IsSingle B.Phase.machine
+        → IsSingle (text_then_phase_machine B.begins T.reader T.Fault.refusing B.Phase.machine) }
+{}
+
+/// A run of a command that reads a text puts the answer to what the text says, or the line of its first fault.
+pub fn asked_runs<T: Text, Q: Question<T::Value>>()
+    ensures { (question : Q) (text : T) (input put : List ℕ) (end : End)
+        → Runs (asked_machine Q.answers T.reader T.Fault.refusing) (record { question = question; text = text }) input put end
+        → AnswersOutcome Q.answers T.reader T.Fault.refusing question (reading T.reader (begins text) (input_lines input)) put end }
+{}
+
+/// A command that reads a text and answers once puts, by the grammar of the text, the answer to what the input declares, or the first
+/// refusal of the input.
+pub fn asked_answers<T: InGrammar, Q: Question<T::Value>>()
+    ensures { (question : Q) (input put : List ℕ) (end : End)
+        → Runs (asked_machine Q.answers T.reader T.Fault.refusing) (record { question = question; text = T.beginning }) input put end
+        → AnswersText (T.grammar 0) T.Fault.refusing (Q.answers question) input put end }
+{
+    T::reads_by_grammar();
+}
+
+/// The reading of a text and another is that of the first, and then that of the second over the lines that are left.
+pub fn pair_reads<A: Text, B: Text<Fault = A::Fault>>()
+    ensures { (first : A) (second : B) (lines : List InputLine)
+        → reading (then_reader A.reader B.reader) (begins (Then.First first second)) lines
+        ≡ then_reading A.reader B.reader second (reading A.reader (begins first) lines) }
+{}
+
+/// A run of a command that asks, which breaks off for want of memory, has put nothing.
+pub fn asked_wants<T: Text, Q: Question<T::Value>>()
+    ensures { (question : Q) (text : T) (input untaken put : List ℕ) (pieces : List Piece)
+        → BreaksForMemory (asked_machine Q.answers T.reader T.Fault.refusing) (record { question = question; text = text }) input untaken put pieces
+        → put ≡ [] }
+{}
+
+/// A run of a command that reads a text and then serves a phase is the reading of the text, and then a run of the phase over
+/// the lines that are left.
+pub fn text_then_phase_runs<T: Text, B: Begin<T::Value>>()
+    ensures { (start : B) (text : T) (input put : List ℕ) (end : End)
+        → Runs (text_then_phase_machine B.begins T.reader T.Fault.refusing B.Phase.machine) (TextThenPhase.Reading start text) input put end
+        → FollowsOutcome B.begins T.reader T.Fault.refusing B.Phase.machine start (reading T.reader (begins text) (input_lines input)) put end }
+{}
+
+/// Where the phase wants no memory, a run that breaks off for want of it has put nothing.
+pub fn text_then_phase_wants<T: Text, B: Begin<T::Value>>()
+    ensures { WantsNone B.Phase.machine → (start : B) (text : T) (input untaken put : List ℕ) (pieces : List Piece)
+        → BreaksForMemory (text_then_phase_machine B.begins T.reader T.Fault.refusing B.Phase.machine) (TextThenPhase.Reading start text) input untaken put pieces
+        → put ≡ [] }
+{}

@@ -1,9 +1,0 @@
-use Rattle.std.proofs.Common.{◌≡◌, ◌≤◌, ◌++◌, drop}
-use Rattle.commands.specs.Words.{words_after}
-use Rattle.commands.proofs.answers.Answer.push_others.Given as goal
-
-abbrev pub invariant-loop-word : goal.invariant-loop-word
-invariant-loop-word l = record {
-  goes_on : l.self.text ++ words_after (drop l.word-index l.words) ≡ l.initial.self.text ++ words_after l.words;
-  capacity : l.initial.self.capacity ≤ l.self.capacity;
-}

@@ -1,8 +1,0 @@
-use Rattle.std.proofs.Common.{arith}
-use Rattle.commands.specs.declared.words.Word.TheVariants.{Number}
-use Rattle.commands.proofs.WordLemmas.{most_size-at}
-use Rattle.commands.proofs.answers.Answer.put_others.Goals as goal
-
-pub put_bytes-requires : goal.put_bytes-requires
-put_bytes-requires c =
-    omega (arith, c.requires, c.loop-word.invariant.room, c.loop-word.invariant.capacity, most_size-at c.args.words.now c.loop-word.word-index (Number 0) c.loop-word-test.true)
