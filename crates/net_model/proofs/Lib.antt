@@ -9,3 +9,6 @@ pub mod RuleLemmas
 pub mod PartsLemmas
 pub mod NumberLemmas
 pub mod PlaceLemmas
+pub mod FillingLemmas
+pub mod EditLemmas
+pub mod EditKeeping

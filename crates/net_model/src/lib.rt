@@ -1,7 +1,10 @@
 //! Temporal networks with uncertainty: names, points, bounds, links, and what a list of parts builds.
 #![tactic(auto)]
 
+mod applying;
+mod edit;
 mod fault;
+mod filling;
 mod format;
 mod ids;
 mod items;
@@ -12,6 +15,7 @@ mod network;
 mod part;
 pub mod text;
 
+pub use edit::{Edit, EditFault, User};
 pub use fault::BuildFault;
 pub use format::{FormatFault, FormatKind, TextFault, WordFault};
 pub use ids::{BoundId, LinkId, PointId, Weight};
