@@ -6,6 +6,7 @@ pub mod Rules
 pub mod LooseRules
 pub mod Laws
 pub mod Building
+pub mod Editing
 pub mod Formats
 pub mod NetworkParts
 pub mod Stored

@@ -1,6 +1,7 @@
 //! Temporal networks with uncertainty: names, points, bounds, links, and what a list of parts builds.
 #![tactic(auto)]
 
+mod edit;
 mod fault;
 mod format;
 mod ids;
@@ -12,6 +13,7 @@ mod network;
 mod part;
 pub mod text;
 
+pub use edit::{Edit, EditFault, User};
 pub use fault::BuildFault;
 pub use format::{FormatFault, FormatKind, TextFault, WordFault};
 pub use ids::{BoundId, LinkId, PointId, Weight};
