@@ -4,8 +4,8 @@ use Rattle.std.specs.Prelude.{slice_get, is_none}
 use Rattle.std.specs.Option.{option_and_then}
 use Rattle.std.proofs.lemmas.Option.{slice_get-get_or, get_or_from_slice_get}
 use Rattle.net_model.specs.Network.{Plan, IsPlan, point_named, activation}
-use Rattle.net_model.specs.declared.edit.Edit.{Edit}
 use Rattle.net_model.specs.declared.edit.Edit.TheVariants as edits
+use Rattle.net_model.specs.declared.edit.Edit.{Edit}
 use Rattle.net_model.specs.declared.ids.BoundId.{BoundId}
 use Rattle.net_model.specs.declared.ids.LinkId.{LinkId}
 use Rattle.net_model.specs.declared.ids.PointId.{PointId}
@@ -14,11 +14,11 @@ use Rattle.net_model.specs.declared.part.Link.{Link}
 use Rattle.net_model.proofs.Accepted.{Makes}
 use Rattle.closure_model.proofs.Basing.{at_place}
 use Rattle.closure_model.proofs.Nodes.{listed_at}
-use Rattle.derivation_edits.specs.Taken.{name_of, point_in, bound_in, link_in, is_new_bound, is_new_link}
+use Rattle.derivation_edits.specs.Taken.{name_of, point_in, bound_in, link_in, renumbering, is_new_bound, is_new_link}
 use Rattle.derivation_edits.specs.TakenAway.{unnumbered_link, HasEditedParts, AddsBound, SetsBound, AddsLink, SetsLink, TakesBound, TakesLink, BringsBound, BringsLink, EditsBringBounds, EditsBringLinks}
 use Rattle.derivation_edits.proofs.ByNames.{bound_placed, link_placed, at_named}
-use Rattle.derivation_edits.proofs.Staying.{link_sound}
 use Rattle.derivation_edits.proofs.Coming.{BoundStood, LinkStood, bound_comes, link_comes, dropped_bound_gone, dropped_link_gone}
+use Rattle.derivation_edits.proofs.Staying.{link_sound}
 use Rattle.derivation_edits.proofs.TakenLemmas.{makes, bound_back, link_back, takes_bound, bound_taken, takes_link, link_taken}
 
 none_is : {A : Type 0} (o : Option A) → is_none o ≡ true → o ≡ None
@@ -31,7 +31,7 @@ module _ (old : Plan) (edit : Edit) (new : Plan) (before : IsPlan old) (after : 
     -- where a bound of its name stood, it is new exactly where that one is taken away
     new_by : (place : BoundId) (was : Bound) → slice_get old.bounds place.0 ≡ Some was → was.name ≡ bound.name → is_new_bound old edit new bound ≡ is_none (bound_in old edit new was)
     new_by place was there name =
-        ap (λ (o : Option BoundId). is_none (option_and_then (λ (b : BoundId). option_and_then (bound_in old edit new) (slice_get old.bounds b.0)) o)) (bound_placed old before bound.name place was there name)
+        ap (λ (o : Option BoundId). is_none (option_and_then (renumbering old edit new).bounds o)) (bound_placed old before bound.name place was there name)
         ∙ ap (λ (o : Option Bound). is_none (option_and_then (bound_in old edit new) o)) there
 
     came : AddsBound edit bound.name ⊎ BoundStood old bound.name
@@ -63,7 +63,7 @@ module _ (old : Plan) (edit : Edit) (new : Plan) (before : IsPlan old) (after : 
     brought : BringsBound old edit bound → is_new_bound old edit new bound ≡ true
     brought (inl (from, to, most, adds)) =
         let (added, name, fresh, is) = subst (λ (e : Edit). Makes old e has.made) adds (makes old edit new before after has) in
-        ap (λ (o : Option BoundId). is_none (option_and_then (λ (b : BoundId). option_and_then (bound_in old edit new) (slice_get old.bounds b.0)) o)) fresh
+        ap (λ (o : Option BoundId). is_none (option_and_then (renumbering old edit new).bounds o)) fresh
     brought (inr (inl sets)) = by came
       where
         by : AddsBound edit bound.name ⊎ BoundStood old bound.name → is_new_bound old edit new bound ≡ true
@@ -90,8 +90,8 @@ module _ (old : Plan) (edit : Edit) (new : Plan) (before : IsPlan old) (after : 
 
     link_new_by : (place : LinkId) (was : Link) → slice_get old.links place.0 ≡ Some was → slice_get old.points was.to.0 ≡ Some name → is_new_link old edit new link ≡ is_none (link_in old edit new was)
     link_new_by place was there is =
-        ap (λ (o : Option PointId). is_none (option_and_then (λ (p : PointId). option_and_then (λ (l : LinkId). option_and_then (link_in old edit new) (slice_get old.links l.0)) (activation old p)) o)) (back_to was is)
-        ∙ (ap (λ (o : Option LinkId). is_none (option_and_then (λ (l : LinkId). option_and_then (link_in old edit new) (slice_get old.links l.0)) o)) (link_placed old before was.to place was there refl)
+        ap (λ (o : Option PointId). is_none (option_and_then (λ (p : PointId). option_and_then (renumbering old edit new).links (activation old p)) o)) (back_to was is)
+        ∙ (ap (λ (o : Option LinkId). is_none (option_and_then (renumbering old edit new).links o)) (link_placed old before was.to place was there refl)
         ∙ ap (λ (o : Option Link). is_none (option_and_then (link_in old edit new) o)) there)
 
     -- a link that ended in the point of its name
@@ -152,8 +152,8 @@ module _ (old : Plan) (edit : Edit) (new : Plan) (before : IsPlan old) (after : 
     link_brought (inl (from, low, high, adds)) =
         let (added, ends, fresh, is) = subst (λ (e : Edit). Makes old e has.made) adds (makes old edit new before after has) in
         let back : point_in new old link.to ≡ Some added.to = ap (option_and_then (point_named old)) named ∙ ends in
-        ap (λ (o : Option PointId). is_none (option_and_then (λ (p : PointId). option_and_then (λ (l : LinkId). option_and_then (link_in old edit new) (slice_get old.links l.0)) (activation old p)) o)) back
-        ∙ ap (λ (o : Option LinkId). is_none (option_and_then (λ (l : LinkId). option_and_then (link_in old edit new) (slice_get old.links l.0)) o)) fresh
+        ap (λ (o : Option PointId). is_none (option_and_then (λ (p : PointId). option_and_then (renumbering old edit new).links (activation old p)) o)) back
+        ∙ ap (λ (o : Option LinkId). is_none (option_and_then (renumbering old edit new).links o)) fresh
     link_brought (inr (inl sets)) = by link_came
       where
         by : AddsLink edit name ⊎ Stood → is_new_link old edit new link ≡ true
