@@ -12,3 +12,4 @@ pub mod PlaceLemmas
 pub mod FillingLemmas
 pub mod EditLemmas
 pub mod EditKeeping
+pub mod Accepted
