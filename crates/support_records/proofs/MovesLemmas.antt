@@ -6,7 +6,7 @@ use Rattle.net_model.specs.Network.{Plan}
 use Rattle.net_model.specs.declared.ids.BoundId.{BoundId}
 use Rattle.net_model.specs.declared.ids.LinkId.{LinkId}
 use Rattle.derivation_edits.specs.Taken.{bound_in, link_in, renumbering}
-use Rattle.derivation_edits.specs.declared.edit.Edit.{Edit}
+use Rattle.net_model.specs.declared.edit.Edit.{Edit}
 use Rattle.support_records.specs.Moves.{moves_of, AreMoves}
 use Rattle.support_records.specs.declared.moves.Moves.{Moves}
 

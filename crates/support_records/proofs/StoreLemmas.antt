@@ -9,7 +9,7 @@ use Rattle.closure_model.specs.declared.derivation.Node.{Node}
 use Rattle.closure_model.proofs.Made.{premises_earlier}
 use Rattle.derivation_edits.specs.Following.{Renumbering, Following, none_followed, placed, follow_node, followed, moved_node, followed_support}
 use Rattle.derivation_edits.specs.Taken.{renumbering, new_base_nodes}
-use Rattle.derivation_edits.specs.declared.edit.Edit.{Edit}
+use Rattle.net_model.specs.declared.edit.Edit.{Edit}
 use Rattle.derivation_edits.proofs.ByNames.{names_renumber_all}
 use Rattle.derivation_edits.proofs.FollowedStanding.{followed_stands}
 use Rattle.derivation_edits.proofs.Keeping.{kept_is_what_rests_on_nothing_taken}

@@ -4,7 +4,7 @@ use Rattle.net_model.specs.Network.{Plan}
 use Rattle.closure_model.specs.Derivations.{Support, StandsOn, IsDerivationList, IsTableOf}
 use Rattle.closure_model.specs.declared.derivation.Node.{Node}
 use Rattle.closure_model.specs.declared.derivation.NodeId.{NodeId}
-use Rattle.derivation_edits.specs.declared.edit.Edit.{Edit}
+use Rattle.net_model.specs.declared.edit.Edit.{Edit}
 use Rattle.derivation_edits.specs.Following.{Renumbering, followed, followed_support}
 use Rattle.derivation_edits.specs.FollowingLaws.{AreKept}
 use Rattle.derivation_edits.specs.Taken.{renumbering, new_base_nodes}

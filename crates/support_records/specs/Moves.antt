@@ -6,7 +6,7 @@ use Rattle.net_model.specs.Network.{Plan}
 use Rattle.net_model.specs.declared.ids.PointId.{PointId}
 use Rattle.closure_model.specs.Derivations.{IsDerivationList, base_nodes}
 use Rattle.closure_model.specs.declared.derivation.Node.{Node}
-use Rattle.derivation_edits.specs.declared.edit.Edit.{Edit}
+use Rattle.net_model.specs.declared.edit.Edit.{Edit}
 use Rattle.derivation_edits.specs.Following.{Renumbering, IsRenumbering}
 use Rattle.derivation_edits.specs.Taken.{point_in, renumbering}
 use Rattle.support_records.specs.Newly.{new_nodes}

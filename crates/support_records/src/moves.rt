@@ -6,8 +6,7 @@ ghost use Rattle.support_records.specs.Moves.{moves_of, AreMoves};
 use crate::naming::{bound_in, link_in};
 use crate::points::Points;
 use closure_model::{Node, NodeId, Rule};
-use derivation_edits::Edit;
-use net_model::{BoundId, Edge, LinkId, Network, PointId};
+use net_model::{BoundId, Edge, Edit, LinkId, Network, PointId};
 use std::alloc::{AllocError, Global};
 
 /// The numbers that points, bounds and links of a network have in the edited one, by the numbers that they had. A bound or a link that is

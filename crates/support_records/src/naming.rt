@@ -4,8 +4,7 @@ ghost use Rattle.std.specs.Prelude.{◌≡◌};
 ghost use Rattle.derivation_edits.specs.Taken.{sets_bound, sets_link, is_point, is_same_bound, is_same_link, same_place, same_link_place, bound_in, link_in};
 
 use crate::points::Points;
-use derivation_edits::Edit;
-use net_model::{Bound, BoundId, Link, LinkId, Name, PointId};
+use net_model::{Bound, BoundId, Edit, Link, LinkId, Name, PointId};
 
 fn sets_bound(edit: &Edit, bound: &Name) -> bool
     ensures { result ≡ sets_bound edit.now bound.now }

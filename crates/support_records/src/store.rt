@@ -6,9 +6,8 @@ use crate::following::follow_into;
 use crate::moves::Moves;
 use closure_model::{Node, NodeId};
 use derivation_dag::{Dag, Plain, Supports};
-use derivation_edits::Edit;
 use labelled_graph::Table;
-use net_model::{Edge, Network};
+use net_model::{Edge, Edit, Network};
 use std::alloc::{AllocError, Global};
 use std::marker::Model;
 
