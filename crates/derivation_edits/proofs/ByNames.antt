@@ -16,7 +16,7 @@ use Rattle.net_model.specs.declared.ids.PointId.{PointId}
 use Rattle.net_model.specs.declared.part.Bound.{Bound}
 use Rattle.net_model.specs.declared.part.Link.{Link}
 use Rattle.closure_model.proofs.Nodes.{chained}
-use Rattle.derivation_edits.specs.declared.edit.Edit.{Edit}
+use Rattle.net_model.specs.declared.edit.Edit.{Edit}
 use Rattle.derivation_edits.specs.Following.{IsRenumbering, moved_bound, moved_link}
 use Rattle.derivation_edits.specs.FollowingLaws.{NamesRenumber}
 use Rattle.derivation_edits.specs.Taken.{sets_bound, sets_link, name_of, point_in, is_point, is_same_bound, is_same_link, same_place, bound_in, same_link_place, link_in, renumbering}

@@ -9,7 +9,7 @@ use Rattle.net_model.specs.Network.{Plan, IsPlan, bound_named}
 use Rattle.net_model.specs.declared.ids.BoundId.{BoundId}
 use Rattle.net_model.specs.declared.ids.PointId.{PointId}
 use Rattle.net_model.specs.declared.part.Bound.{Bound}
-use Rattle.derivation_edits.specs.declared.edit.Edit.{Edit}
+use Rattle.net_model.specs.declared.edit.Edit.{Edit}
 use Rattle.derivation_edits.specs.Taken.{sets_bound, point_in, is_point, is_same_bound, same_place, bound_in, renumbering}
 use Rattle.derivation_edits.specs.Withdrawn.{BoundsKeepEnds, IsWithdrawn, is_dropped, is_set, differs, TakenIsWithdrawn}
 use Rattle.derivation_edits.proofs.ByNames.{SameBound, bound_in_gives, bound_found}

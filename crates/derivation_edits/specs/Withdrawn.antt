@@ -3,7 +3,7 @@ use Rattle.std.specs.Prelude.{◌≡◌, ◌≢◌, ◌↔◌, true, Some, None,
 use Rattle.net_model.specs.Network.{Plan, IsPlan, bound_named}
 use Rattle.net_model.specs.declared.ids.BoundId.{BoundId}
 use Rattle.net_model.specs.declared.part.Bound.{Bound}
-use Rattle.derivation_edits.specs.declared.edit.Edit.{Edit}
+use Rattle.net_model.specs.declared.edit.Edit.{Edit}
 use Rattle.derivation_edits.specs.Taken.{sets_bound, point_in, renumbering}
 
 -- a bound that stands in both networks stands between the same points
