@@ -9,8 +9,10 @@ ghost use Rattle.plan_session.specs.Sessions.{IsSound, Opens, FollowsEdit, IsDis
 
 use crate::answers::Report;
 use cert_format::Certificate;
+use controllability::laws::{ordered_closures_are_controllable, standing_cycles_exclude};
 use derivation_dag::Supports;
 use dispatch_net::Dispatch;
+use dispatch_net::laws::closures_may_dispatch;
 use net_model::{Edit, Network};
 use parallel_rounds::{Gate, Outcome, propagate};
 use refutations::refutation;
@@ -18,6 +20,7 @@ use std::alloc::{AllocError, Global};
 use std::marker::Model;
 use std::thread::Threads;
 use support_records::Store;
+use table_histories::laws::later_nodes_fall;
 
 /// The derivations of a network, from which rounds were made, and how these ended.
 #[derive(Debug, Drop)]
@@ -70,6 +73,7 @@ impl Propagated {
         requires sound { IsSound old.now self.old }
         ensures { IfOk result (FollowsEdit old.now edit.now new.now self.old self.new) }
     {
+        later_nodes_fall();
         let withdrawn = self.store.follow(alloc, old, edit, new)?;
         let outcome = propagate(rt, alloc, new, &mut self.store, workers, gate)?;
         let rounds = rounds_of(&outcome);
@@ -86,6 +90,8 @@ impl Propagated {
         requires { IsSound net.now self.now }
         ensures { IsTrue result ↔ IsControllable net.now }
     {
+        ordered_closures_are_controllable();
+        standing_cycles_exclude();
         // The proof reads here that the network is sound.
         let _ = net.points();
         match self.outcome {
@@ -104,6 +110,9 @@ impl Propagated {
         requires never { ¬ IsControllable net.now }
         ensures { IfOk result (Refutes net.now) }
     {
+        ordered_closures_are_controllable();
+        // The proof reads here that the network is sound.
+        let _ = net.points();
         match &self.outcome {
             Outcome::Closed { .. } => unreachable!(),
             Outcome::Looped { cycle, .. } => {
@@ -120,6 +129,10 @@ impl Propagated {
         requires controllable { IsControllable net.now }
         ensures { IfOk result (IsDispatchOfClosure net.now) }
     {
+        standing_cycles_exclude();
+        closures_may_dispatch();
+        // The proof reads here that the network is sound.
+        let _ = net.points();
         match &self.outcome {
             Outcome::Closed { order, .. } => {
                 Dispatch::of(alloc, net, self.store.table(), order.as_slice())

@@ -13,6 +13,7 @@ use cert_format::Certificate;
 use dispatch_net::Dispatch;
 use net_model::{Edit, EditFault, Network};
 use parallel_rounds::{Gate, NoGate};
+use refutations::laws::certificates_are_one;
 use std::alloc::{AllocError, Global};
 use std::marker::Model;
 use std::thread::Threads;
@@ -104,6 +105,8 @@ impl Session {
         requires numbers { HasPlanNumbers self.old.net → HasPlanNumbers new }
         ensures { AnswersEdit self.old edit.now result self.new }
     {
+        // The proof reads here that the new network is sound.
+        let _ = new.points();
         let Some(mut opened) = self.opened.take() else {
             return Err(SessionFault::Broken);
         };
@@ -141,6 +144,7 @@ impl Session {
         ensures answers { AnswersProof self.now result }
         ensures one { (other : Certificate) → IsCertificateOf self.now.net other → IfOk result (λ cert. cert ≡ other) }
     {
+        certificates_are_one();
         if self.opened.is_none() {
             return Err(AskFault::Broken);
         }
