@@ -35,10 +35,10 @@ link_place_is : (o : Option ℕ) (id : LinkId) → option_map {U = LinkId} (λ (
 link_place_is None id is = absurd cc
 link_place_is (Some k) id is = ap (option_map (λ (p : LinkId). p.0)) is
 
-same_bytes : (x y : List ℕ) → bytes_eq x y ≡ true → x ≡ y
+pub same_bytes : (x y : List ℕ) → bytes_eq x y ≡ true → x ≡ y
 same_bytes x y is = (bytes_eq-Decides x y).0 is
 
-bytes_itself : (x y : List ℕ) → x ≡ y → bytes_eq x y ≡ true
+pub bytes_itself : (x y : List ℕ) → x ≡ y → bytes_eq x y ≡ true
 bytes_itself x y is = (bytes_eq-Decides x y).1 is
 
 module _ (net : Plan) (plan : IsPlan net) where
