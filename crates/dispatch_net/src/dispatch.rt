@@ -6,7 +6,7 @@ ghost use Rattle.strategy_model.specs.Plays.{IsInstant};
 ghost use Rattle.closure_model.specs.Tables.{IsFor, IsGraph, IsWeight};
 ghost use Rattle.dispatch_net.specs.Dispatchable.{MayDispatch, lower_bounds_in, waits_in, conditions_in, dispatchable, conditions_at, IsDispatchBy, moments_of, with_moments};
 ghost use Rattle.dispatch_net.specs.Execution.{ExecutionSatisfies};
-ghost use Rattle.dispatch_net.specs.Held.{AreInOrder, link_ending};
+ghost use Rattle.dispatch_net.specs.Held.{IsSlimOrWhole, link_ending};
 ghost use Rattle.dispatch_net.specs.Slim.{slimmed};
 
 use crate::made::Made;
@@ -79,7 +79,8 @@ impl Dispatch {
 
     /// The links of the network, in order of number.
     pub fn links(&self) -> &[Link]
-        ensures { result.now ≡ self.now.links }
+        ensures links { result.now ≡ self.now.links }
+        ensures kept { IsSlimOrWhole self.now.links self.now.made self.now.kept }
     {
         self.made.links()
     }

@@ -30,19 +30,19 @@ module _ (setting : Setting) (rank : PointId → ℕ) (ranked : IsRankedNetwork 
   same_points = ap (λ (n : ℕ). map (λ k. let p : PointId = record { 0 = k } in p) (range_with_len 0 n)) (length-map setting.dispatch (slim_conditions setting.links setting.dispatch))
 
   -- ---- completions and refusals look at the links alone
-  same_completions : (listed : List PointId) (moments : Moments) (moment : ℕ) → completions_taken slim moments moment listed ≡ completions_taken setting moments moment listed
+  pub same_completions : (listed : List PointId) (moments : Moments) (moment : ℕ) → completions_taken slim moments moment listed ≡ completions_taken setting moments moment listed
   same_completions [] moments moment = refl
   same_completions (point ∷ others) moments moment = ap (option_map_or Err (refusal_of setting moments moment point)) (same_completions others (completed_at moments moment point) moment)
 
-  same_overdue : (moment : ℕ) (moments : Moments) → none_overdue slim moment moments ≡ none_overdue setting moment moments
+  pub same_overdue : (moment : ℕ) (moments : Moments) → none_overdue slim moment moments ≡ none_overdue setting moment moments
   same_overdue moment moments =
       ap (λ (ps : List PointId). option_map_or Err (option_and_then (overdue_why setting moments) (find (is_overdue setting moments moment) ps)) (Ok moments)) same_points
 
-  abbrev settled : Setting → (moment : ℕ) → Result Moments Why → Result Moments Why
+  abbrev pub settled : Setting → (moment : ℕ) → Result Moments Why → Result Moments Why
   settled by_what moment (Ok moments) = none_overdue by_what moment moments
   settled by_what moment (Err why) = Err why
 
-  same_settled : (moment : ℕ) (r : Result Moments Why) → settled slim moment r ≡ settled setting moment r
+  pub same_settled : (moment : ℕ) (r : Result Moments Why) → settled slim moment r ≡ settled setting moment r
   same_settled moment (Ok moments) = same_overdue moment moments
   same_settled moment (Err why) = refl
 
