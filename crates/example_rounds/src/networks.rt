@@ -3,7 +3,7 @@
 ghost use Rattle.std.specs.Prelude.{◌<◌, length, IfSome};
 ghost use Rattle.reduction_rules.specs.Weights.{IsWeight};
 
-use net_model::{BuildFault, Edge, LinkId, Name, Network, Part, PointId};
+use net_model::{BuildFault, Edge, Edit, LinkId, Name, Network, Part, PointId};
 use std::alloc::Global;
 use std::test::Fail;
 
@@ -42,6 +42,40 @@ fn link_part(
     to: Option<&str>,
 ) -> Option<Part> {
     Some(Part::Link(name(from)?, number(low)?, number(high)?, name(to)?))
+}
+
+/// The edit of some words: `add` and a part that is a link, `drop` or `set` with a bound, a link or a point.
+pub(crate) fn edit(words: &str) -> Option<Edit> {
+    match words.split_once(' ')? {
+        ("add", line) => added(part(line)?),
+        ("drop", item) => dropped(item),
+        ("set", item) => set(item),
+        _ => None,
+    }
+}
+
+fn added(part: Part) -> Option<Edit> {
+    match part {
+        Part::Link(from, low, high, to) => Some(Edit::AddLink(from, low, high, to)),
+        _ => None,
+    }
+}
+
+fn dropped(item: &str) -> Option<Edit> {
+    match item.split_once(' ')? {
+        ("point", word) => Some(Edit::DropPoint(name(Some(word))?)),
+        ("bound", word) => Some(Edit::DropBound(name(Some(word))?)),
+        ("link", word) => Some(Edit::DropLink(name(Some(word))?)),
+        _ => None,
+    }
+}
+
+fn set(item: &str) -> Option<Edit> {
+    let mut words = item.split_whitespace();
+    match words.next()? {
+        "bound" => Some(Edit::SetBound(name(words.next())?, number(words.next())?)),
+        _ => None,
+    }
 }
 
 fn push_parts(parts: &mut Vec<Part>, lines: &str) -> Result<(), Fail> {
