@@ -5,6 +5,8 @@
 #[cfg(test)]
 mod certificates;
 #[cfg(test)]
+mod edits;
+#[cfg(test)]
 mod events;
 #[cfg(test)]
 mod names;
@@ -14,3 +16,5 @@ mod networks;
 mod plans;
 #[cfg(test)]
 mod rows;
+#[cfg(test)]
+mod steps;
