@@ -1,0 +1,4 @@
+pub mod BackLemmas
+pub mod ReadLemmas
+pub mod ViewLemmas
+pub mod WritingLemmas

@@ -1,0 +1,43 @@
+-- What the bytes of a document say. This project's own choice; what a JSON text is (RFC 8259) is read as `serde_json` reads it.
+use Rattle.std.specs.Prelude.{◌≡◌, ℕ, List, ◌++◌, Option, Some, None, option_map, Result, Ok, Err, if◌then◌else◌}
+use Rattle.std.specs.Str.{is_utf8}
+use Rattle.net_model.specs.declared.part.Part.{Part}
+use Rattle.serde_json.specs.Data.{Data}
+use Rattle.serde_json.specs.Read.{read}
+use Rattle.plan_json.specs.declared.fault.JsonFault.{JsonFault}
+use Rattle.plan_json.specs.declared.fault.JsonFault.TheVariants.{NotJson, Shape, BadName, NumberLimit, OutOfMemory}
+use Rattle.plan_json.specs.Document.{Fault, shape, bad_name, number_limit, document_parts, ◌>>=◌}
+
+-- the value of the bytes, where they have a reading as a JSON text
+abbrev pub json_value : List ℕ → Option Data
+json_value bytes = if is_utf8 bytes then read bytes else None
+
+-- the parts that the bytes declare, or the first fault of their document; none where they have no reading
+abbrev pub declared : List ℕ → Option (Result (List Part) Fault)
+declared bytes = option_map document_parts (json_value bytes)
+
+-- the fault that was answered is that of what is read, unless memory ran out
+abbrev pub Fails : {Y : Type 0} → JsonFault → Result Y Fault → Type 0
+Fails NotJson read = ⊥
+Fails (Shape list place) read = read ≡ Err (shape list place)
+Fails (BadName list place) read = read ≡ Err (bad_name list place)
+Fails (NumberLimit list place) read = read ≡ Err (number_limit list place)
+Fails OutOfMemory read = Unit {0}
+
+-- the answer is what is read, unless memory ran out
+abbrev pub Gives : {X Y : Type 0} → (X → Y) → Result X JsonFault → Result Y Fault → Type 0
+Gives seen (Ok x) read = read ≡ Ok (seen x)
+Gives seen (Err fault) read = Fails fault read
+
+-- with what stood before
+abbrev pub with_front : {X : Type 0} → List X → Result (List X) Fault → Result (List X) Fault
+with_front front read = read >>= λ rest. Ok (front ++ rest)
+
+-- the answer is what the bytes say, unless memory ran out
+abbrev pub Answers : {X : Type 0} → (X → List Part) → Result X JsonFault → Option (Result (List Part) Fault) → Type 0
+Answers seen (Ok x) said = said ≡ Some (Ok (seen x))
+Answers seen (Err NotJson) said = said ≡ None
+Answers seen (Err (Shape member place)) said = said ≡ Some (Err (shape member place))
+Answers seen (Err (BadName member place)) said = said ≡ Some (Err (bad_name member place))
+Answers seen (Err (NumberLimit member place)) said = said ≡ Some (Err (number_limit member place))
+Answers seen (Err OutOfMemory) said = Unit {0}
