@@ -43,7 +43,7 @@ unfolding link_part link_form
 link_back place points link from to low high = rw (whole_back link.low low, whole_back link.high high, from, to, low, high) refl
 
 -- the shortest duration is within the limit where the longest is
-low_within : (low high : ℤ) → pos 1 ≤ℤ low → low ≤ℤ high → within_limit high ≡ true → within_limit low ≡ true
+pub low_within : (low high : ℤ) → pos 1 ≤ℤ low → low ≤ℤ high → within_limit high ≡ true → within_limit low ≡ true
 low_within low high positive interval within = grind (arith, nat_tests)
 
 -- points are read back

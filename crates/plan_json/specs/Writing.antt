@@ -1,5 +1,8 @@
 -- The document of a network, and its text. This project's own choice.
-use Rattle.std.specs.Prelude.{◌≡◌, ℕ, List, map, codes, Some, Ok}
+use Rattle.std.specs.Prelude.{◌≡◌, ℕ, List, [], ◌∷◌, ◌++◌, map, codes, Some, Ok}
+use Rattle.std.specs.List.{All, join_with_byte}
+use Rattle.texts.specs.Lines.{lines}
+use Rattle.texts.specs.Words.{words}
 use Rattle.json.specs.Layout.{pretty}
 use Rattle.json.specs.Tree.{json_tokens}
 use Rattle.net_model.specs.Network.{Plan, IsPlan, HasPlanNumbers}
@@ -10,7 +13,7 @@ use Rattle.net_model.specs.declared.part.Link.{Link}
 use Rattle.net_model.specs.declared.part.Part.{Part}
 use Rattle.plan_json.specs.Document.{document_parts}
 use Rattle.plan_json.specs.Reading.{declared}
-use Rattle.serde_json.specs.Data.{Data, number, unsigned, string, array, object, no_members, member}
+use Rattle.serde_json.specs.Data.{Data, Members, number, unsigned, string, array, object, no_members, member}
 use Rattle.serde_json.specs.Find.{of_integer}
 use Rattle.serde_json.specs.View.{items_of}
 use Rattle.serde_json.specs.Written.{outline}
@@ -32,12 +35,15 @@ link_data points link =
     (member (codes "to") (string (point_name points link.to)) no_members))))
 
 -- the document of a network, its members in alphabetical order
-abbrev pub document_of : Plan → Data
-document_of net =
-    object (member (codes "bounds") (array (items_of (map (bound_data net.points) net.bounds)))
+abbrev pub members_of_document : Plan → Members
+members_of_document net =
+    member (codes "bounds") (array (items_of (map (bound_data net.points) net.bounds)))
     (member (codes "links") (array (items_of (map (link_data net.points) net.links)))
     (member (codes "points") (array (items_of (map string net.points)))
-    (member (codes "stnu") (number (unsigned 1)) no_members))))
+    (member (codes "stnu") (number (unsigned 1)) no_members)))
+
+abbrev pub document_of : Plan → Data
+document_of net = object (members_of_document net)
 
 -- the text of a document, in the pretty layout of `serde_json`: its tokens, and a line for each item and member, two blanks deeper for
 -- each bracket
@@ -49,6 +55,18 @@ pub record ReadsBack (text : List ℕ) (net : Plan) : Type 0 where
   pub parts : List Part
   pub said : declared text ≡ Some (Ok parts)
   pub same : built parts ≡ Ok net
+
+-- A text that can stand before a line `end` in an input, and is read there whole: its lines, none of which has `end` as its only word, with
+-- byte 10 between.
+pub record StandsBeforeEnd (text : List ℕ) : Type 0 where
+  pub pieces : List (List ℕ)
+  pub text_is : text ≡ join_with_byte 10 pieces
+  pub inside : All (λ piece. ¬ (words piece ≡ codes "end" ∷ [])) pieces
+  pub lines_are : (rest : List ℕ) → lines (text ++ 10 ∷ rest) ≡ pieces ++ lines rest
+
+-- the text of the document of a network does
+abbrev pub DocumentsStandInInputs : Type 0
+DocumentsStandInInputs = (net : Plan) → IsPlan net → HasPlanNumbers net → StandsBeforeEnd (document_text (document_of net))
 
 -- the document of a network declares its parts
 abbrev pub DocumentsReadBack : Type 0
