@@ -90,10 +90,10 @@ const ROOMS: &str =
 
 /// How a port gives its bytes: so many of a take at most, where that is above 0, and which take and which put fails.
 #[derive(Clone, Copy)]
-struct Calls {
-    cut: u32,
-    failing_take: u32,
-    failing_put: u32,
+pub(crate) struct Calls {
+    pub(crate) cut: u32,
+    pub(crate) failing_take: u32,
+    pub(crate) failing_put: u32,
 }
 
 /// The room of a port when it is made and after the run, and whether it keeps all bytes put.
@@ -217,7 +217,7 @@ fn expect_steady_run<R: Abort + Threads + Sync>(
     expect_put(rt, alloc, row, port.written())
 }
 
-fn try_row<R: Abort + Threads + Sync>(
+pub(crate) fn try_row<R: Abort + Threads + Sync>(
     rt: &R,
     alloc: Global,
     text: &str,

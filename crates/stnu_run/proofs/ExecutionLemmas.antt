@@ -35,8 +35,9 @@ use Rattle.stnu_run.specs.Executing.{executing_machine}
 use Rattle.stnu_run.specs.ExecutionPromise.{PutsLast, IsRefusedBy, EndsRefused, ExecutionPromise}
 use Rattle.stnu_run.specs.Faults.{fault_end}
 use Rattle.stnu_run.specs.Verdict.{controllable_line}
+use Rattle.plan_json.specs.declared.fault.JsonFault.TheVariants as json
 use Rattle.stnu_run.specs.declared.faults.Fault.{Fault}
-use Rattle.stnu_run.specs.declared.faults.Fault.TheVariants.{Format, Part, LineTooLong, InputTooMuch}
+use Rattle.stnu_run.specs.declared.faults.Fault.TheVariants.{Format, Part, Document, DocumentTooLong, LineTooLong, InputTooMuch}
 use Rattle.stnu_run.proofs.CourseLemmas.{OverEvents, over_events, Decides, IsDecided, EndsAt, ends_so, fault_there}
 use Rattle.stnu_run.proofs.DayLemmas.{ExecutionLaws, lists_within, puts_listings, all_come, acts_left, faithful_fed, fed_faithful, taken_faithful, closed_faithful, faithful_closed, unfaithful_there, whole_there}
 use Rattle.stnu_run.proofs.DueLemmas.{fed_by, due_answered}
@@ -49,6 +50,9 @@ fault_ends_so (Format number kind.NumberLimit) = inl refl
 fault_ends_so (Format number k) = inr refl
 fault_ends_so (Part number (part.Limit which place)) = inl refl
 fault_ends_so (Part number why) = inr refl
+fault_ends_so (Document (json.NumberLimit member place)) = inl refl
+fault_ends_so (Document why) = inr refl
+fault_ends_so (DocumentTooLong number) = inl refl
 fault_ends_so (LineTooLong number) = inl refl
 fault_ends_so (InputTooMuch number) = inl refl
 

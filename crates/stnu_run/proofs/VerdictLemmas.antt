@@ -29,6 +29,7 @@ use Rattle.table_closing.specs.declared.closing.Closed.{Closed}
 use Rattle.execution_model.specs.Laws.{IsDispatchedByClosure}
 use Rattle.command_engine.specs.declared.endings.End.{End}
 use Rattle.stnu_run.specs.Checking.{check_answers}
+use Rattle.stnu_run.specs.declared.plan_input.PlanForm.{PlanForm}
 use Rattle.stnu_run.specs.CheckPromise.{PutsVerdict}
 use Rattle.stnu_run.specs.Verdict.{IsCertificateOf, Refutes}
 
@@ -93,6 +94,6 @@ module _ (laws : Laws) (net : Plan) (instant : IsInstant net) where
       ap (judgement_of net) same ∙ laws.accepted net is.after is.cycle of.lines of.walk instant.sound stands cycle by
 
   -- the answer to a network is its verdict
-  pub verdict_put : (answer : List ℕ) (end : End) → check_answers tt net answer end → PutsVerdict net answer end
-  verdict_put answer end (inl controllable) = inl controllable
-  verdict_put answer end (inr (never, (cert, of, puts))) = inr (never, (cert, certificate_accepted cert of, puts))
+  pub verdict_put : (form : PlanForm) (answer : List ℕ) (end : End) → check_answers form net answer end → PutsVerdict net answer end
+  verdict_put form answer end (inl controllable) = inl controllable
+  verdict_put form answer end (inr (never, (cert, of, puts))) = inr (never, (cert, certificate_accepted cert of, puts))

@@ -7,4 +7,4 @@ returns c = λ check net put end plan answered. verdict_put (record {
   stand = c.rounds_stand.ensures;
   met = c.cycles_are_met.ensures;
   accepted = c.refutations_are_accepted.ensures;
-}) net (record { sound = plan }) put end answered
+}) net (record { sound = plan }) check put end answered

@@ -13,4 +13,4 @@ returns-in-Controllable-clause-begins g c =
     let net = c.args.value in
     let put = c.begin_execution.new.answer.text in
     let verdict : IsVerdict net (Controllable c.in-Controllable.closed) = subst (IsVerdict net) c.in-Controllable.is c.in_ok-closed.ensures in
-    IfOk-weaker c.begin_execution.result (BeginsExecution net put) (run_begins tt net put) (λ onward begins. inl (verdict.0, begins)) c.begin_execution.ensures.begins
+    IfOk-weaker c.begin_execution.result (BeginsExecution net put) (run_begins c.args.self net put) (λ onward begins. inl (verdict.0, begins)) c.begin_execution.ensures.begins

@@ -2,7 +2,7 @@ use Rattle.stnu_run.proofs.RunLemmas.{run_keeps}
 use Rattle.stnu_run.proofs.running.RunningPromising.keeps_its_promise.Goals as goal
 
 pub returns : goal.returns
-returns c = run_keeps (record {
+returns c = λ form. run_keeps form (record {
   base = c.base_stands.ensures;
   stand = c.rounds_stand.ensures;
   met = c.cycles_are_met.ensures;
