@@ -13,3 +13,4 @@ pub mod PlaceLemmas
 pub mod FillingLemmas
 pub mod EditLemmas
 pub mod EditKeeping
+pub mod ByNameLemmas
