@@ -1,8 +1,7 @@
 -- Plans as documents are read by their grammar, whatever stands before them in the input.
-use Rattle.std.proofs.Common.{◌≡◌, ◌⊎◌, ℕ, ◌+◌, ◌-◌, Bool, true, false, List, [], ◌∷◌, ◌++◌, length, Option, Some, None, Result, Ok, Err, refl, sym, ap, ◌∙◌, subst, true≢false, append_assoc, codes, if◌then◌else◌}
+use Rattle.std.proofs.Common.{◌≡◌, ℕ, ◌-◌, Bool, true, false, List, [], ◌∷◌, ◌++◌, length, Option, Some, None, Result, Ok, Err, refl, sym, ap, ◌∙◌, subst, true≢false, append_assoc, codes, if◌then◌else◌}
 use Rattle.std.specs.Prelude.{unwrap_or}
 use Rattle.std.specs.List.{All}
-use Rattle.std.specs.Str.{bytes_eq}
 use Rattle.std.proofs.lemmas.List.Elements.{All-nil, All-head, All-tail, All-push}
 use Rattle.std.proofs.lemmas.Slice.Eq.{bytes_eq-Decides}
 use Rattle.texts.specs.Words.{words}
@@ -23,7 +22,7 @@ use Rattle.command_engine.proofs.GrammarLemmas.{IsOnce, KeepsTo, reads_by}
 use Rattle.command_engine.proofs.LeadLemmas.{stands_by}
 use Rattle.stnu_run.specs.DocumentSoFar.{DocumentSoFar}
 use Rattle.stnu_run.specs.DocumentTexts.{DeclaresDocument, IsDocumentFault, IsEndLine, IsInside, RefusesDocument, bytes_of, document_texts, left_after, most_document, told}
-use Rattle.stnu_run.specs.PlanDocument.{are_end, document_begun, document_reader, document_step, document_stop, line_step, parts_step, with_line}
+use Rattle.stnu_run.specs.PlanDocument.{are_end, document_begun, document_reader, document_step, document_stop, parts_step, with_line}
 use Rattle.stnu_run.specs.declared.faults.Fault.{Fault}
 use Rattle.stnu_run.specs.declared.faults.Fault.TheVariants.{Part as PartFault, Document}
 use Rattle.stnu_run.proofs.NetworkLemmas.{no_memory}

@@ -19,7 +19,7 @@ use Rattle.stnu_run.specs.PlanInput.{form_by, json_name}
 use Rattle.stnu_run.specs.Requests.{asked_by}
 use Rattle.stnu_run.specs.Showing.{show_asked, show_syntax}
 use Rattle.stnu_run.specs.WordLaws.{SayFormAndWorkers, SayForms, form_words}
-use Rattle.stnu_run.specs.Workers.{most_workers, workers_name, count_in, count_of, workers_of, has_workers, SpellsWorkers, SaysCount, SayWithWorkers, HasWorkers, DifferInWorkers, WorkersDecideNothing}
+use Rattle.stnu_run.specs.Workers.{most_workers, workers_name, count_in, count_of, workers_of, has_workers, SpellsWorkers, SaysCount, HasWorkers, DifferInWorkers, WorkersDecideNothing}
 use Rattle.stnu_run.specs.declared.judging.Judge.{Judge}
 use Rattle.stnu_run.specs.declared.showing.Show.{Show}
 use Rattle.stnu_run.specs.declared.plan_input.PlanForm.{PlanForm}

@@ -1,5 +1,5 @@
 -- A plan as a JSON document in an input: the lines before the first line whose only word is `end`. This project's own choice.
-use Rattle.std.specs.Prelude.{◌≡◌, ◌⊎◌, ℕ, ◌-◌, ◌+◌, List, [], ◌∷◌, ◌++◌, length, Option, Some, None, Result, Ok, Err}
+use Rattle.std.specs.Prelude.{◌≡◌, ℕ, ◌-◌, List, [], ◌∷◌, ◌++◌, length, Option, Some, None, Result, Ok, Err}
 use Rattle.std.specs.List.{All, join_with_byte}
 use Rattle.texts.specs.Words.{words}
 use Rattle.net_model.specs.Building.{built, place_of}
