@@ -10,7 +10,7 @@ use crate::certificate_text::CertificateText;
 use crate::plan_input::{PlanForm, PlanInput};
 use crate::promising::Promising;
 use crate::requests::Request;
-use cert_checker::laws::accepted_excludes;
+use cert_checker::laws::{accepted_controls, accepted_excludes};
 use cert_checker::{Judgement, judge};
 use cert_format::Certificate;
 use command_engine::{Answer, Asked, End, Question, Then, Word};
@@ -31,12 +31,12 @@ impl Question<(Network, Certificate)> for Judge {
 
     fn answer<R: Threads + Sync>(
         self,
-        _rt: &R,
+        rt: &R,
         alloc: Global,
         answer: &mut Answer,
         value: (Network, Certificate),
     ) -> Result<End, AllocError> {
-        let judgement = judge(&value.0, &value.1)?;
+        let judgement = judge(rt, alloc, &value.0, &value.1)?;
         put_judgement(alloc, answer, judgement)?;
         Ok(judgement_end(judgement))
     }
@@ -82,6 +82,7 @@ impl Promising for Judging {
 
     fn keeps_its_promise() {
         accepted_excludes();
+        accepted_controls();
     }
 
     fn keeps_it_without_memory() {}
