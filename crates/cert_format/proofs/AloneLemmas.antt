@@ -26,8 +26,11 @@ pub words_said : (said : CertText) (line : List (List ℕ)) → line ≡ text_wo
 words_said text.Blank line same spelling = absurd spelling
 words_said text.Header line same spelling = same
 words_said text.Refutation line same spelling = same
+words_said text.Table line same spelling = same
 words_said (text.Line rule) line same spelling = (same, spelling)
 words_said (text.Walk i) line same spelling = (same, spelling)
+words_said (text.Order point) line same spelling = (same, spelling)
+words_said (text.Entry entry) line same spelling = (same, spelling)
 words_said text.End line same spelling = same
 
 begun_ok : (first : List ℕ) (others : List (List ℕ)) (said : CertText) (found : Option Keyword) → keyword_of first ≡ found → begun_by found others ≡ Ok said → AreWordsOf said (first ∷ others)
@@ -64,8 +67,11 @@ pub alone_read : (said : CertText) (line : List (List ℕ)) → AreWordsOf said 
 alone_read text.Blank line is = alone_blank line is
 alone_read text.Header line is = spelled_read text.Header line is tt
 alone_read text.Refutation line is = spelled_read text.Refutation line is tt
+alone_read text.Table line is = spelled_read text.Table line is tt
 alone_read (text.Line rule) line is = spelled_read (text.Line rule) line is.0 is.1
 alone_read (text.Walk i) line is = spelled_read (text.Walk i) line is.0 is.1
+alone_read (text.Order point) line is = spelled_read (text.Order point) line is.0 is.1
+alone_read (text.Entry entry) line is = spelled_read (text.Entry entry) line is.0 is.1
 alone_read text.End line is = spelled_read text.End line is tt
 
 header_err : (others : List (List ℕ)) (fault : FormatKind) → header_line others ≡ Err fault → fault ≡ UnknownWord
@@ -81,6 +87,7 @@ begun_among : (found : Option Keyword) (others : List (List ℕ)) (fault : Forma
 begun_among None others fault read = read
 begun_among (Some keyword.Certificate) others fault read = ap (λ (k : FormatKind). Err k) (sym (header_err others fault read))
 begun_among (Some keyword.Refutation) others fault read = read
+begun_among (Some keyword.Table) others fault read = read
 begun_among (Some keyword.Bound) others fault read = read
 begun_among (Some keyword.Link) others fault read = read
 begun_among (Some keyword.No) others fault read = read
@@ -89,6 +96,9 @@ begun_among (Some keyword.Low) others fault read = read
 begun_among (Some keyword.Cross) others fault read = read
 begun_among (Some keyword.Drop) others fault read = read
 begun_among (Some keyword.Walk) others fault read = read
+begun_among (Some keyword.Order) others fault read = read
+begun_among (Some keyword.Edge) others fault read = read
+begun_among (Some keyword.Upper) others fault read = read
 begun_among (Some keyword.End) others fault read = read
 
 no_header : (line : List (List ℕ)) (fault : FormatKind) → cert_text line ≡ Err fault → line ≢ header_words

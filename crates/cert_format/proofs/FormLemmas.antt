@@ -10,7 +10,7 @@ use Rattle.cert_format.specs.Limits.{most_written_weight, most_line_number}
 use Rattle.cert_format.specs.Kind.{has_label}
 use Rattle.cert_format.specs.Keywords.{spelled, keyword_of}
 use Rattle.cert_format.specs.LineForms.{Place, name, line_number, weight, places, Fits, Departs, DepartFirst, IsFaultAmong, unknown_word, word_count, wrong_word}
-use Rattle.cert_format.specs.CertificateLines.{number_of, weight_of, unlabelled, labelled, bound_line, link_line, no_line, up_line, low_line, cross_line, drop_line, rule, walk_line, lone_word, line_of}
+use Rattle.cert_format.specs.CertificateLines.{number_of, weight_of, unlabelled, labelled, bound_line, link_line, no_line, up_line, low_line, cross_line, drop_line, rule, walk_line, order_line, edge_line, upper_line, entry, lone_word, line_of}
 use Rattle.cert_format.specs.CertificateWords.{header_words}
 use Rattle.cert_format.specs.CertificateGrammar.{admits, IsFaultIn}
 use Rattle.cert_format.specs.CertificateText.{admitted, refused_in, line_in}
@@ -18,6 +18,7 @@ use Rattle.cert_format.specs.declared.keyword.Keyword.{Keyword}
 use Rattle.cert_format.specs.declared.keyword.Keyword.TheVariants as keyword
 use Rattle.cert_format.specs.declared.kind.LineKind.{LineKind}
 use Rattle.cert_format.specs.declared.kind.LineKind.TheVariants as kind
+use Rattle.cert_format.specs.declared.entry.Entry.{Entry}
 use Rattle.cert_format.specs.declared.line.CertLine.{CertLine}
 use Rattle.cert_format.specs.declared.read.CertText.{CertText}
 use Rattle.cert_format.specs.declared.read.CertText.TheVariants as text
@@ -137,6 +138,32 @@ walk_err (a ∷ []) fault read =
     inr (refl, number_step [] a [] fault _ (λ x more. absurd (cc)) read)
 walk_err (a ∷ z ∷ others) fault read = inl (λ same. omega arith, cc)
 
+order_err : (others : List (List ℕ)) (fault : FormatKind) → order_line others ≡ Err fault → IsWrong keyword.Order others fault
+order_err [] fault read = inl (λ same. omega arith, cc)
+order_err (a ∷ []) fault read =
+    inr (refl, name_step [] a [] fault _ (λ x more. absurd (cc)) read)
+order_err (a ∷ z ∷ others) fault read = inl (λ same. omega arith, cc)
+
+edge_err : (others : List (List ℕ)) (fault : FormatKind) → edge_line others ≡ Err fault → IsWrong keyword.Edge others fault
+edge_err [] fault read = inl (λ same. omega arith, cc)
+edge_err (a ∷ []) fault read = inl (λ same. omega arith, cc)
+edge_err (a ∷ b ∷ []) fault read = inl (λ same. omega arith, cc)
+edge_err (a ∷ b ∷ c ∷ []) fault read =
+    inr (refl, name_step (name ∷ weight ∷ []) a (b ∷ c ∷ []) fault _ (λ x more. name_step (weight ∷ []) b (c ∷ []) fault _ (λ y more. weight_step [] c [] fault _ (λ u more. absurd (cc)) more) more) read)
+edge_err (a ∷ b ∷ c ∷ z ∷ others) fault read = inl (λ same. omega arith, cc)
+
+upper_err : (others : List (List ℕ)) (fault : FormatKind) → upper_line others ≡ Err fault → IsWrong keyword.Upper others fault
+upper_err [] fault read = inl (λ same. omega arith, cc)
+upper_err (a ∷ []) fault read = inl (λ same. omega arith, cc)
+upper_err (a ∷ b ∷ []) fault read = inl (λ same. omega arith, cc)
+upper_err (a ∷ b ∷ c ∷ []) fault read =
+    inr (refl, name_step (name ∷ weight ∷ []) a (b ∷ c ∷ []) fault _ (λ x more. name_step (weight ∷ []) b (c ∷ []) fault _ (λ y more. weight_step [] c [] fault _ (λ u more. absurd (cc)) more) more) read)
+upper_err (a ∷ b ∷ c ∷ z ∷ others) fault read = inl (λ same. omega arith, cc)
+
+entry_err : (read : Result Entry FormatKind) (fault : FormatKind) → entry read ≡ Err fault → read ≡ Err fault
+entry_err (Ok e) fault read = absurd (cc)
+entry_err (Err why) fault read = cc
+
 rule_err : (read : Result CertLine FormatKind) (fault : FormatKind) → rule read ≡ Err fault → read ≡ Err fault
 rule_err (Ok line) fault read = absurd (cc)
 rule_err (Err why) fault read = cc
@@ -149,6 +176,7 @@ lone_err said (word ∷ others) fault read = inl (λ same. omega arith, cc)
 line_of_err : (first : Keyword) (others : List (List ℕ)) (fault : FormatKind) → first ≢ keyword.Certificate → line_of first others ≡ Err fault → IsWrong first others fault
 line_of_err keyword.Certificate others fault other read = absurd (other refl)
 line_of_err keyword.Refutation others fault other read = lone_err text.Refutation others fault read
+line_of_err keyword.Table others fault other read = lone_err text.Table others fault read
 line_of_err keyword.Bound others fault other read = bound_err others fault (rule_err (bound_line others) fault read)
 line_of_err keyword.Link others fault other read = link_err others fault (rule_err (link_line others) fault read)
 line_of_err keyword.No others fault other read = no_err others fault (rule_err (no_line others) fault read)
@@ -157,6 +185,9 @@ line_of_err keyword.Low others fault other read = low_err others fault (rule_err
 line_of_err keyword.Cross others fault other read = cross_err others fault (rule_err (cross_line others) fault read)
 line_of_err keyword.Drop others fault other read = drop_err others fault (rule_err (drop_line others) fault read)
 line_of_err keyword.Walk others fault other read = walk_err others fault read
+line_of_err keyword.Order others fault other read = order_err others fault read
+line_of_err keyword.Edge others fault other read = edge_err others fault (entry_err (edge_line others) fault read)
+line_of_err keyword.Upper others fault other read = upper_err others fault (entry_err (upper_line others) fault read)
 line_of_err keyword.End others fault other read = lone_err text.End others fault read
 
 -- what is read where lines of some first words may come, by the first word
@@ -208,6 +239,10 @@ refused_err section.Rules (Ok said) fault other refused = absurd (cc)
 refused_err section.Rules (Err why) fault other refused = refused
 refused_err section.Walk (Ok said) fault other refused = absurd (cc)
 refused_err section.Walk (Err why) fault other refused = refused
+refused_err section.Order (Ok said) fault other refused = absurd (cc)
+refused_err section.Order (Err why) fault other refused = refused
+refused_err section.Entries (Ok said) fault other refused = absurd (cc)
+refused_err section.Entries (Err why) fault other refused = refused
 
 header_refused : (read : Result CertText FormatKind) (fault : FormatKind) → refused_in section.Header read ≡ Err fault → fault ≡ NoHeader
 header_refused (Ok said) fault refused = absurd (cc)
@@ -240,4 +275,14 @@ line_err section.Walk (first ∷ others) fault read =
     elim (choice (is_remark first) (Ok text.Blank) (refused_in section.Walk (admitted section.Walk (keyword_of first) others)) (Err fault) read) [
       | inl remark ↦ absurd (let wrong : Ok text.Blank ≡ Err fault = remark.1 in cc)
       | inr filled ↦ among_err (admits section.Walk) first others fault refl filled.0 (admitted_among section.Walk (keyword_of first) others fault (refused_err section.Walk (admitted section.Walk (keyword_of first) others) fault (λ same. cc) filled.1))
+    ]
+line_err section.Order (first ∷ others) fault read =
+    elim (choice (is_remark first) (Ok text.Blank) (refused_in section.Order (admitted section.Order (keyword_of first) others)) (Err fault) read) [
+      | inl remark ↦ absurd (let wrong : Ok text.Blank ≡ Err fault = remark.1 in cc)
+      | inr filled ↦ among_err (admits section.Order) first others fault refl filled.0 (admitted_among section.Order (keyword_of first) others fault (refused_err section.Order (admitted section.Order (keyword_of first) others) fault (λ same. cc) filled.1))
+    ]
+line_err section.Entries (first ∷ others) fault read =
+    elim (choice (is_remark first) (Ok text.Blank) (refused_in section.Entries (admitted section.Entries (keyword_of first) others)) (Err fault) read) [
+      | inl remark ↦ absurd (let wrong : Ok text.Blank ≡ Err fault = remark.1 in cc)
+      | inr filled ↦ among_err (admits section.Entries) first others fault refl filled.0 (admitted_among section.Entries (keyword_of first) others fault (refused_err section.Entries (admitted section.Entries (keyword_of first) others) fault (λ same. cc) filled.1))
     ]

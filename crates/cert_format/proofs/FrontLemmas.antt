@@ -1,21 +1,23 @@
 -- The front of a certificate: it is read, a line that may come makes it longer, and it can be continued to a certificate.
-use Rattle.std.proofs.Common.{◌≡◌, ◌≢◌, ℕ, ◌≤◌, ◌+◌, Bool, true, false, cond, List, [], ◌∷◌, ◌++◌, map, length, Result, Ok, refl, sym, ap, ◌∙◌, subst, append_assoc, arith}
+use Rattle.std.proofs.Common.{◌≡◌, ◌≢◌, ℕ, ◌≤◌, ◌+◌, Bool, true, false, cond, IsTrue, Option, None, Some, List, [], ◌∷◌, ◌++◌, map, length, Result, Ok, refl, sym, ap, ◌∙◌, subst, append_assoc, arith}
 use Rattle.std.specs.List.{All, AllByRecursion}
 use Rattle.std.proofs.lemmas.List.{append-nil, map-append, append_cancel_right}
-use Rattle.std.proofs.lemmas.List.Elements.{recursion_from_All, All-push}
+use Rattle.std.proofs.lemmas.List.Elements.{recursion_from_All, All-push, All-from_recursion}
 use Rattle.texts.specs.Words.{are_passed_over, words}
 use Rattle.texts.specs.Lines.{lines}
+use Rattle.net_model.specs.Names.{is_name}
 use Rattle.net_model.specs.declared.format.FormatFault.{FormatFault}
 use Rattle.cert_format.specs.Limits.{most_line_number}
-use Rattle.cert_format.specs.CertificateWords.{rule_word, line_words, walk_words, refutation_words, header_words, end_words, certificate_words, IsSpelledLine, IsSpelled}
-use Rattle.cert_format.specs.CertificateGrammar.{Progress, filled_words, DeclareCertificate, admits, begun, certificate_of, front_words, IsReached, IsFront, IsCertificateText}
+use Rattle.cert_format.specs.CertificateWords.{rule_word, entry_word, line_words, walk_words, order_words, entry_words, refutation_words, table_words, header_words, end_words, certificate_words, IsSpelledLine, IsSpelledEntry, IsSpelled}
+use Rattle.cert_format.specs.CertificateGrammar.{Progress, filled_words, DeclareCertificate, admits, begun, certificate_by, certificate_of, front_words, IsReached, AreSpelled, IsFront, IsCertificateText}
 use Rattle.cert_format.specs.CertificateText.{Declared, advanced, certificate_part, certificate_text, line_in, said_from, read_from}
 use Rattle.cert_format.specs.declared.keyword.Keyword.TheVariants as keyword
 use Rattle.cert_format.specs.declared.kind.LineKind.{LineKind}
 use Rattle.cert_format.specs.declared.kind.LineKind.TheVariants as kind
+use Rattle.cert_format.specs.declared.entry.Entry.{Entry}
 use Rattle.cert_format.specs.declared.line.CertLine.{CertLine}
 use Rattle.cert_format.specs.declared.certificate.Certificate.{Certificate}
-use Rattle.cert_format.specs.declared.certificate.Certificate.TheVariants.{Refutation}
+use Rattle.cert_format.specs.declared.certificate.Certificate.TheVariants.{Refutation, TableProof}
 use Rattle.cert_format.specs.declared.read.CertText.{CertText}
 use Rattle.cert_format.specs.declared.read.CertText.TheVariants as text
 use Rattle.cert_format.specs.declared.section.Section.{Section}
@@ -47,16 +49,22 @@ spelled_on : (t : CertText) → GoesOn t → IsSpelledText t
 spelled_on text.Blank on = on
 spelled_on text.Header on = on
 spelled_on text.Refutation on = on
+spelled_on text.Table on = on
 spelled_on (text.Line line) on = on
 spelled_on (text.Walk i) on = on
+spelled_on (text.Order point) on = on
+spelled_on (text.Entry entry) on = on
 spelled_on text.End on = absurd on
 
 said_on : (t : CertText) (p : Progress) (number : ℕ) (others : List (List ℕ)) (next : Progress → Result Declared FormatFault) → GoesOn t → said_from p number (Ok t) others next ≡ next (advanced p t)
 said_on text.Blank p number others next on = refl
 said_on text.Header p number others next on = refl
 said_on text.Refutation p number others next on = refl
+said_on text.Table p number others next on = refl
 said_on (text.Line line) p number others next on = refl
 said_on (text.Walk i) p number others next on = refl
+said_on (text.Order point) p number others next on = refl
+said_on (text.Entry entry) p number others next on = refl
 said_on text.End p number others next on = absurd on
 
 -- from what was read, lines that may come reach what is read with them
@@ -96,40 +104,65 @@ reaches_read [] more p q number said reaches spelled =
 reaches_read (line ∷ front) more p q number said reaches spelled =
     reaches_by (are_passed_over (words line)) line front more p q number said refl (λ r later reaches spelled. reaches_read front more r q (number + 1) later reaches spelled) reaches spelled
 
+-- what was read, in a section
+abbrev pub put : Section → List CertLine → List ℕ → List (List ℕ) → List Entry → Progress
+put s lines walk order entries = record { section = s; lines = lines; walk = walk; order = order; entries = entries }
+
+abbrev pub at : Section → Progress → Progress
+at s r = put s r.lines r.walk r.order r.entries
+
+same_put : (s : Section) (lines lines' : List CertLine) (walk walk' : List ℕ) (order order' : List (List ℕ)) (entries entries' : List Entry) → lines ≡ lines' → walk ≡ walk' → order ≡ order' → entries ≡ entries' → put s lines walk order entries ≡ put s lines' walk' order' entries'
+same_put s lines lines' walk walk' order order' entries entries' p q r t =
+    ap (λ (x : List CertLine). put s x walk order entries) p
+    ∙ (ap (λ (x : List ℕ). put s lines' x order entries) q
+    ∙ (ap (λ (x : List (List ℕ)). put s lines' walk' x entries) r
+    ∙ ap (λ (x : List Entry). put s lines' walk' order' x) t))
+
 -- the texts with which a section is reached
-abbrev front_texts : Section → List CertLine → List ℕ → List CertText
-front_texts section.Header lines walk = []
-front_texts section.Kind lines walk = text.Header ∷ []
-front_texts section.Rules lines walk = text.Header ∷ text.Refutation ∷ map text.Line lines
-front_texts section.Walk lines walk = text.Header ∷ text.Refutation ∷ (map text.Line lines ++ map text.Walk walk)
+abbrev front_texts : Section → Progress → List CertText
+front_texts section.Header r = []
+front_texts section.Kind r = text.Header ∷ []
+front_texts section.Rules r = text.Header ∷ text.Refutation ∷ map text.Line r.lines
+front_texts section.Walk r = text.Header ∷ text.Refutation ∷ (map text.Line r.lines ++ map text.Walk r.walk)
+front_texts section.Order r = text.Header ∷ text.Table ∷ map text.Order r.order
+front_texts section.Entries r = text.Header ∷ text.Table ∷ (map text.Order r.order ++ map text.Entry r.entries)
 
-words_of_walk : (walk : List ℕ) → map text_words (map text.Walk walk) ≡ map walk_words walk
-words_of_walk [] = refl
-words_of_walk (i ∷ walk) = ap (λ (ws : List (List (List ℕ))). walk_words i ∷ ws) (words_of_walk walk)
+-- the words of texts of one kind, and of more after them
+words_of_texts : {A : Type 0} (say : A → CertText) (spell : A → List (List ℕ)) (xs : List A) (more : List CertText) → ((x : A) → text_words (say x) ≡ spell x) → map text_words (map say xs ++ more) ≡ map spell xs ++ map text_words more
+words_of_texts say spell [] more each = refl
+words_of_texts say spell (x ∷ xs) more each =
+    ap (λ (w : List (List ℕ)). w ∷ map text_words (map say xs ++ more)) (each x) ∙ ap (λ (ws : List (List (List ℕ))). spell x ∷ ws) (words_of_texts say spell xs more each)
 
-words_of_lines : (lines : List CertLine) (more : List CertText) → map text_words (map text.Line lines ++ more) ≡ map line_words lines ++ map text_words more
-words_of_lines [] more = refl
-words_of_lines (line ∷ lines) more = ap (λ (ws : List (List (List ℕ))). line_words line ∷ ws) (words_of_lines lines more)
+words_of_all : {A : Type 0} (say : A → CertText) (spell : A → List (List ℕ)) (xs : List A) → ((x : A) → text_words (say x) ≡ spell x) → map text_words (map say xs) ≡ map spell xs
+words_of_all say spell xs each =
+    ap (map text_words) (sym (append-nil (map say xs))) ∙ words_of_texts say spell xs [] each ∙ append-nil (map spell xs)
 
-abbrev pub after_two : List (List (List ℕ)) → List (List (List ℕ))
-after_two others = header_words ∷ refutation_words ∷ others
+words_of_both : {A B : Type 0} (say : A → CertText) (spell : A → List (List ℕ)) (also : B → CertText) (spells : B → List (List ℕ)) (xs : List A) (ys : List B) → ((x : A) → text_words (say x) ≡ spell x) → ((y : B) → text_words (also y) ≡ spells y) → map text_words (map say xs ++ map also ys) ≡ map spell xs ++ map spells ys
+words_of_both say spell also spells xs ys each every =
+    words_of_texts say spell xs (map also ys) each ∙ ap (λ (ws : List (List (List ℕ))). map spell xs ++ ws) (words_of_all also spells ys every)
 
-words_of_front : (s : Section) (lines : List CertLine) (walk : List ℕ) → front_words s lines walk ≡ map text_words (front_texts s lines walk)
-words_of_front section.Header lines walk = refl
-words_of_front section.Kind lines walk = refl
-words_of_front section.Rules lines walk =
-    ap after_two (sym (append-nil (map line_words lines)) ∙ sym (words_of_lines lines []) ∙ ap (map text_words) (append-nil (map text.Line lines)))
-words_of_front section.Walk lines walk =
-    ap after_two (sym (words_of_lines lines (map text.Walk walk) ∙ ap (λ (ws : List (List (List ℕ))). map line_words lines ++ ws) (words_of_walk walk)))
+-- the header, a second line, and others
+abbrev pub after_two : List (List ℕ) → List (List (List ℕ)) → List (List (List ℕ))
+after_two second others = header_words ∷ second ∷ others
 
-abbrev pub progress : Section → List CertLine → List ℕ → Progress
-progress s lines walk = record { section = s; lines = lines; walk = walk }
+words_of_front : (s : Section) (r : Progress) → front_words s r ≡ map text_words (front_texts s r)
+words_of_front section.Header r = refl
+words_of_front section.Kind r = refl
+words_of_front section.Rules r = ap (after_two refutation_words) (sym (words_of_all text.Line line_words r.lines (λ x. refl)))
+words_of_front section.Walk r =
+    ap (after_two refutation_words) (sym (words_of_both text.Line line_words text.Walk walk_words r.lines r.walk (λ x. refl) (λ y. refl)))
+words_of_front section.Order r = ap (after_two table_words) (sym (words_of_all text.Order order_words r.order (λ x. refl)))
+words_of_front section.Entries r =
+    ap (after_two table_words) (sym (words_of_both text.Order order_words text.Entry entry_words r.order r.entries (λ x. refl) (λ y. refl)))
 
-reaches_walk : (lines : List CertLine) (before walk : List ℕ) → AllByRecursion (λ i. i ≤ most_line_number) walk → Reaches (progress section.Walk lines before) (map text.Walk walk) (progress section.Walk lines (before ++ walk))
-reaches_walk lines before [] within = ap (progress section.Walk lines) (sym (append-nil before))
-reaches_walk lines before (i ∷ walk) within =
-    let all : before ++ i ∷ [] ++ walk ≡ before ++ i ∷ walk = append_assoc before (i ∷ []) walk in
-    (refl, within.0, subst (λ (ws : List ℕ). Reaches (progress section.Walk lines (before ++ i ∷ [])) (map text.Walk walk) (progress section.Walk lines ws)) all (reaches_walk lines (before ++ i ∷ []) walk within.1))
+-- texts of one kind that are read one after another, each longer by one
+module _ {A : Type 0} (say : A → CertText) (goes : List A → Progress) (P : A → Type 0) (moves : (before : List A) (x : A) → advanced (goes before) (say x) ≡ goes (before ++ x ∷ [])) (may : (before : List A) (x : A) → admits (goes before).section (text_word (say x)) ≡ true) (on : (x : A) → P x → GoesOn (say x)) where
+  reaches_more : (before xs : List A) → AllByRecursion P xs → Reaches (goes before) (map say xs) (goes (before ++ xs))
+  reaches_more before [] spelled = ap goes (sym (append-nil before))
+  reaches_more before (x ∷ xs) spelled =
+      let all : before ++ x ∷ [] ++ xs ≡ before ++ x ∷ xs = append_assoc before (x ∷ []) xs in
+      let rest : Reaches (goes (before ++ x ∷ [])) (map say xs) (goes (before ++ x ∷ xs)) = subst (λ (ys : List A). Reaches (goes (before ++ x ∷ [])) (map say xs) (goes ys)) all (reaches_more (before ++ x ∷ []) xs spelled.1) in
+      (may before x, on x spelled.0, subst (λ (p : Progress). Reaches p (map say xs) (goes (before ++ x ∷ xs))) (sym (moves before x)) rest)
 
 kind_may_come : (k : LineKind) → admits section.Rules (rule_word k) ≡ true
 kind_may_come (kind.Bound name) = refl
@@ -140,123 +173,228 @@ kind_may_come (kind.Low name j) = refl
 kind_may_come (kind.Cross name j) = refl
 kind_may_come (kind.Drop j) = refl
 
-reaches_lines : (before lines : List CertLine) → AllByRecursion IsSpelledLine lines → Reaches (progress section.Rules before []) (map text.Line lines) (progress section.Rules (before ++ lines) [])
-reaches_lines before [] spelled = ap (λ (ls : List CertLine). progress section.Rules ls []) (sym (append-nil before))
-reaches_lines before (line ∷ lines) spelled =
-    let all : before ++ line ∷ [] ++ lines ≡ before ++ line ∷ lines = append_assoc before (line ∷ []) lines in
-    (kind_may_come line.kind, spelled.0, subst (λ (ls : List CertLine). Reaches (progress section.Rules (before ++ line ∷ []) []) (map text.Line lines) (progress section.Rules ls [])) all (reaches_lines (before ++ line ∷ []) lines spelled.1))
+entry_may_come : (label : Option (List ℕ)) → (admits section.Order (entry_word label) ≡ true) × (admits section.Entries (entry_word label) ≡ true)
+entry_may_come None = (refl, refl)
+entry_may_come (Some label) = (refl, refl)
 
-reaches_front : (s : Section) (lines : List CertLine) (walk : List ℕ) → IsReached s lines walk → AllByRecursion IsSpelledLine lines → AllByRecursion (λ i. i ≤ most_line_number) walk → Reaches begun (front_texts s lines walk) (progress s lines walk)
-reaches_front section.Header lines walk reached spelled within =
-    ap (λ (ls : List CertLine). progress section.Header ls []) (sym reached.0) ∙ ap (progress section.Header lines) (sym reached.1)
-reaches_front section.Kind lines walk reached spelled within =
-    (refl, tt, ap (λ (ls : List CertLine). progress section.Kind ls []) (sym reached.0) ∙ ap (progress section.Kind lines) (sym reached.1))
-reaches_front section.Rules lines walk reached spelled within =
-    (refl, tt, (refl, tt, subst (λ (ws : List ℕ). Reaches (progress section.Rules [] []) (map text.Line lines) (progress section.Rules lines ws)) (sym reached) (reaches_lines [] lines spelled)))
-reaches_front section.Walk lines [] reached spelled within = absurd (reached refl)
-reaches_front section.Walk lines (i ∷ walk) reached spelled within =
-    (refl, tt, (refl, tt, reaches-append (map text.Line lines) (map text.Walk (i ∷ walk)) (progress section.Rules [] []) (progress section.Rules lines []) (progress section.Walk lines (i ∷ walk)) (reaches_lines [] lines spelled) (refl, within.0, reaches_walk lines (i ∷ []) walk within.1)))
+reaches_lines : (lines : List CertLine) → AllByRecursion IsSpelledLine lines → Reaches (put section.Rules [] [] [] []) (map text.Line lines) (put section.Rules lines [] [] [])
+reaches_lines lines spelled =
+    reaches_more text.Line (λ ls. put section.Rules ls [] [] []) IsSpelledLine (λ before x. refl) (λ before x. kind_may_come x.kind) (λ x is. is) [] lines spelled
+
+reaches_walk : (lines : List CertLine) (i : ℕ) (walk : List ℕ) → AllByRecursion (λ i. i ≤ most_line_number) walk → Reaches (put section.Walk lines (i ∷ []) [] []) (map text.Walk walk) (put section.Walk lines (i ∷ walk) [] [])
+reaches_walk lines i walk within =
+    reaches_more text.Walk (λ ws. put section.Walk lines ws [] []) (λ i. i ≤ most_line_number) (λ before x. refl) (λ before x. refl) (λ x is. is) (i ∷ []) walk within
+
+reaches_order : (order : List (List ℕ)) → AllByRecursion (λ point. IsTrue (is_name point)) order → Reaches (put section.Order [] [] [] []) (map text.Order order) (put section.Order [] [] order [])
+reaches_order order named =
+    reaches_more text.Order (λ ps. put section.Order [] [] ps []) (λ point. IsTrue (is_name point)) (λ before x. refl) (λ before x. refl) (λ x is. is) [] order named
+
+reaches_entries : (order : List (List ℕ)) (entry : Entry) (entries : List Entry) → AllByRecursion IsSpelledEntry entries → Reaches (put section.Entries [] [] order (entry ∷ [])) (map text.Entry entries) (put section.Entries [] [] order (entry ∷ entries))
+reaches_entries order entry entries spelled =
+    reaches_more text.Entry (λ es. put section.Entries [] [] order es) IsSpelledEntry (λ before x. refl) (λ before x. (entry_may_come x.label).1) (λ x is. is) (entry ∷ []) entries spelled
+
+-- what was read, by recursion
+record AreSpelledEach (r : Progress) : Type 0 where
+  lines : AllByRecursion IsSpelledLine r.lines
+  walk : AllByRecursion (λ i. i ≤ most_line_number) r.walk
+  order : AllByRecursion (λ point. IsTrue (is_name point)) r.order
+  entries : AllByRecursion IsSpelledEntry r.entries
+
+spelled_each : (r : Progress) → AreSpelled r → AreSpelledEach r
+spelled_each r spelled = record {
+  lines = recursion_from_All IsSpelledLine r.lines spelled.0;
+  walk = recursion_from_All (λ i. i ≤ most_line_number) r.walk spelled.1;
+  order = recursion_from_All (λ point. IsTrue (is_name point)) r.order spelled.2;
+  entries = recursion_from_All IsSpelledEntry r.entries spelled.3;
+}
+
+walk_reached : (lines : List CertLine) (walk : List ℕ) → walk ≢ [] → AllByRecursion IsSpelledLine lines → AllByRecursion (λ i. i ≤ most_line_number) walk → Reaches (put section.Rules [] [] [] []) (map text.Line lines ++ map text.Walk walk) (put section.Walk lines walk [] [])
+walk_reached lines [] some spelled within = absurd (some refl)
+walk_reached lines (i ∷ walk) some spelled within =
+    reaches-append (map text.Line lines) (map text.Walk (i ∷ walk)) (put section.Rules [] [] [] []) (put section.Rules lines [] [] []) (put section.Walk lines (i ∷ walk) [] []) (reaches_lines lines spelled) (refl, within.0, reaches_walk lines i walk within.1)
+
+entries_reached : (order : List (List ℕ)) (entries : List Entry) → entries ≢ [] → AllByRecursion (λ point. IsTrue (is_name point)) order → AllByRecursion IsSpelledEntry entries → Reaches (put section.Order [] [] [] []) (map text.Order order ++ map text.Entry entries) (put section.Entries [] [] order entries)
+entries_reached order [] some named spelled = absurd (some refl)
+entries_reached order (e ∷ entries) some named spelled =
+    reaches-append (map text.Order order) (map text.Entry (e ∷ entries)) (put section.Order [] [] [] []) (put section.Order [] [] order []) (put section.Entries [] [] order (e ∷ entries)) (reaches_order order named) ((entry_may_come e.label).0, spelled.0, reaches_entries order e entries spelled.1)
+
+-- what is reached is what was read, where nothing else was
+reaches_same : (p q r : Progress) (texts : List CertText) → Reaches p texts q → q ≡ r → Reaches p texts r
+reaches_same p q r texts reaches same = subst (λ (x : Progress). Reaches p texts x) same reaches
+
+reaches_front : (s : Section) (r : Progress) → IsReached s r → AreSpelledEach r → Reaches begun (front_texts s r) (at s r)
+reaches_front section.Header r reached spelled =
+    same_put section.Header [] r.lines [] r.walk [] r.order [] r.entries (sym reached.0.0) (sym reached.0.1) (sym reached.1.0) (sym reached.1.1)
+reaches_front section.Kind r reached spelled =
+    (refl, tt, same_put section.Kind [] r.lines [] r.walk [] r.order [] r.entries (sym reached.0.0) (sym reached.0.1) (sym reached.1.0) (sym reached.1.1))
+reaches_front section.Rules r reached spelled =
+    (refl, tt, (refl, tt, reaches_same (put section.Rules [] [] [] []) (put section.Rules r.lines [] [] []) (at section.Rules r) (map text.Line r.lines) (reaches_lines r.lines spelled.lines) (same_put section.Rules r.lines r.lines [] r.walk [] r.order [] r.entries refl (sym reached.0) (sym reached.1.0) (sym reached.1.1))))
+reaches_front section.Walk r reached spelled =
+    (refl, tt, (refl, tt, reaches_same (put section.Rules [] [] [] []) (put section.Walk r.lines r.walk [] []) (at section.Walk r) (map text.Line r.lines ++ map text.Walk r.walk) (walk_reached r.lines r.walk reached.0 spelled.lines spelled.walk) (same_put section.Walk r.lines r.lines r.walk r.walk [] r.order [] r.entries refl refl (sym reached.1.0) (sym reached.1.1))))
+reaches_front section.Order r reached spelled =
+    (refl, tt, (refl, tt, reaches_same (put section.Order [] [] [] []) (put section.Order [] [] r.order []) (at section.Order r) (map text.Order r.order) (reaches_order r.order spelled.order) (same_put section.Order [] r.lines [] r.walk r.order r.order [] r.entries (sym reached.1.0) (sym reached.1.1) refl (sym reached.0))))
+reaches_front section.Entries r reached spelled =
+    (refl, tt, (refl, tt, reaches_same (put section.Order [] [] [] []) (put section.Entries [] [] r.order r.entries) (at section.Entries r) (map text.Order r.order ++ map text.Entry r.entries) (entries_reached r.order r.entries reached.0 spelled.order spelled.entries) (same_put section.Entries [] r.lines [] r.walk r.order r.order r.entries r.entries (sym reached.1.0) (sym reached.1.1) refl refl)))
 
 -- a front of a certificate is read as what it says
 pub front_read : (front : List (List ℕ)) (p : Progress) → IsFront front p → (more : List (List ℕ)) → read_from begun 1 (front ++ more) ≡ read_from p (1 + length front) more
 front_read front p is more =
-    reaches_read front more begun p 1 (front_texts p.section p.lines p.walk) (reaches_front p.section p.lines p.walk is.reached (recursion_from_All IsSpelledLine p.lines is.spelled_lines) (recursion_from_All (λ i. i ≤ most_line_number) p.walk is.spelled_walk)) (is.said ∙ words_of_front p.section p.lines p.walk)
+    reaches_read front more begun p 1 (front_texts p.section p) (reaches_front p.section p is.reached (spelled_each p is.spelled)) (is.said ∙ words_of_front p.section p)
 
 -- the words of a certificate are those of its front, and `end`
-pub certificate_front : (lines : List CertLine) (walk : List ℕ) → after_two (map line_words lines ++ map walk_words walk) ++ end_words ∷ [] ≡ certificate_words (Refutation lines walk)
-certificate_front lines walk = ap after_two (append_assoc (map line_words lines) (map walk_words walk) (end_words ∷ []))
+pub certificate_front : (second : List (List ℕ)) (xs ys : List (List (List ℕ))) → after_two second (xs ++ ys) ++ end_words ∷ [] ≡ after_two second (xs ++ (ys ++ end_words ∷ []))
+certificate_front second xs ys = ap (after_two second) (append_assoc xs ys (end_words ∷ []))
+
+-- the lists of a refutation, and of a table proof
+abbrev pub of_refutation : Section → List CertLine → List ℕ → Progress
+of_refutation s lines walk = put s lines walk [] []
+
+abbrev pub of_table : Section → List (List ℕ) → List Entry → Progress
+of_table s order entries = put s [] [] order entries
+
+no_names : All (λ (point : List ℕ). IsTrue (is_name point)) []
+no_names = All-from_recursion (λ (point : List ℕ). IsTrue (is_name point)) [] tt
+
+no_entries : All IsSpelledEntry []
+no_entries = All-from_recursion IsSpelledEntry [] tt
+
+no_lines : All IsSpelledLine []
+no_lines = All-from_recursion IsSpelledLine [] tt
+
+no_walk : All (λ (i : ℕ). i ≤ most_line_number) []
+no_walk = All-from_recursion (λ (i : ℕ). i ≤ most_line_number) [] tt
+
+-- the front that is read before an `end` line with which a certificate is declared
+record IsEnded (front : List (List ℕ)) (c : Certificate) (p : Progress) : Type 0 where
+  may : admits p.section keyword.End ≡ true
+  same : certificate_of p ≡ c
+  is : IsFront front p
 
 -- the section in which a walk ends
-ended_front : (front : List (List ℕ)) (lines : List CertLine) (walk : List ℕ) → IsSpelled (Refutation lines walk) → filled_words front ≡ after_two (map line_words lines ++ map walk_words walk) → (s : Section) × (admits s keyword.End ≡ true) × IsFront front (progress s lines walk)
-ended_front front lines [] spelled said =
-    (section.Rules, refl, record { said = said ∙ ap after_two (append-nil (map line_words lines)); reached = refl; spelled_lines = spelled.0; spelled_walk = spelled.1 })
-ended_front front lines (i ∷ walk) spelled said =
-    (section.Walk, refl, record { said = said; reached = λ none. absurd (cc); spelled_lines = spelled.0; spelled_walk = spelled.1 })
+refutation_ended : (front : List (List ℕ)) (lines : List CertLine) (walk : List ℕ) → IsSpelled (Refutation lines walk) → filled_words front ≡ after_two refutation_words (map line_words lines ++ map walk_words walk) → (p : Progress) × IsEnded front (Refutation lines walk) p
+refutation_ended front lines [] spelled said =
+    (of_refutation section.Rules lines [], record { may = refl; same = refl; is = record { said = said ∙ ap (after_two refutation_words) (append-nil (map line_words lines)); reached = (refl, (refl, refl)); spelled = (spelled.0, spelled.1, no_names, no_entries) } })
+refutation_ended front lines (i ∷ walk) spelled said =
+    (of_refutation section.Walk lines (i ∷ walk), record { may = refl; same = refl; is = record { said = said; reached = (λ none. absurd (cc), (refl, refl)); spelled = (spelled.0, spelled.1, no_names, no_entries) } })
 
--- the front of lines that declare a certificate
-pub declared_front : (all : List (List ℕ)) (c : Certificate) (after : List (List ℕ)) (d : DeclareCertificate all c after) → (p : Progress) × (admits p.section keyword.End ≡ true) × (certificate_of p ≡ c) × IsFront d.front p
-declared_front all (Refutation lines walk) after d =
+-- and the one in which a table ends
+table_ended : (front : List (List ℕ)) (order : List (List ℕ)) (entries : List Entry) → IsSpelled (TableProof order entries) → filled_words front ≡ after_two table_words (map order_words order ++ map entry_words entries) → (p : Progress) × IsEnded front (TableProof order entries) p
+table_ended front order [] spelled said =
+    (of_table section.Order order [], record { may = refl; same = refl; is = record { said = said ∙ ap (after_two table_words) (append-nil (map order_words order)); reached = (refl, (refl, refl)); spelled = (no_lines, no_walk, spelled.0, spelled.1) } })
+table_ended front order (e ∷ entries) spelled said =
+    (of_table section.Entries order (e ∷ entries), record { may = refl; same = refl; is = record { said = said; reached = (λ none. absurd (cc), (refl, refl)); spelled = (no_lines, no_walk, spelled.0, spelled.1) } })
+
+-- what stands before the `end` line of a certificate
+before_end : (all : List (List ℕ)) (c : Certificate) (after : List (List ℕ)) (d : DeclareCertificate all c after) (body : List (List (List ℕ))) → body ++ end_words ∷ [] ≡ certificate_words c → filled_words d.front ≡ body
+before_end all c after d body same =
     let filled : are_passed_over (words d.last) ≡ false = ap are_passed_over d.ends in
     let last : filled_words (d.last ∷ []) ≡ end_words ∷ [] = filled_line d.last end_words filled d.ends in
-    let whole : filled_words d.front ++ end_words ∷ [] ≡ after_two (map line_words lines ++ map walk_words walk) ++ end_words ∷ [] = ap (λ (ws : List (List (List ℕ))). filled_words d.front ++ ws) (sym last) ∙ sym (filled-append d.front (d.last ∷ [])) ∙ d.said ∙ sym (certificate_front lines walk) in
-    let (s, may, is) = ended_front d.front lines walk d.spelled (append_cancel_right (filled_words d.front) (after_two (map line_words lines ++ map walk_words walk)) (end_words ∷ []) whole) in
-    (progress s lines walk, may, refl, is)
+    let whole : filled_words d.front ++ end_words ∷ [] ≡ body ++ end_words ∷ [] = ap (λ (ws : List (List (List ℕ))). filled_words d.front ++ ws) (sym last) ∙ sym (filled-append d.front (d.last ∷ [])) ∙ d.said ∙ sym same in
+    append_cancel_right (filled_words d.front) body (end_words ∷ []) whole
+
+-- the front of lines that declare a certificate
+declared_front : (all : List (List ℕ)) (c : Certificate) (after : List (List ℕ)) (d : DeclareCertificate all c after) → (p : Progress) × IsEnded d.front c p
+declared_front all (Refutation lines walk) after d =
+    refutation_ended d.front lines walk d.spelled (before_end all (Refutation lines walk) after d (after_two refutation_words (map line_words lines ++ map walk_words walk)) (certificate_front refutation_words (map line_words lines) (map walk_words walk)))
+declared_front all (TableProof order entries) after d =
+    table_ended d.front order entries d.spelled (before_end all (TableProof order entries) after d (after_two table_words (map order_words order ++ map entry_words entries)) (certificate_front table_words (map order_words order) (map entry_words entries)))
 
 -- lines that declare a certificate are read as it
 pub declared_read : (all : List (List ℕ)) (c : Certificate) (after : List (List ℕ)) → DeclareCertificate all c after → read_from begun 1 all ≡ Ok (record { certificate = c; after = after })
 declared_read all c after d =
-    let (p, may, same, is) = declared_front all c after d in
-    let last : line_in p.section (words d.last) ≡ Ok text.End = ap (line_in p.section) d.ends ∙ text_read p.section text.End may tt in
+    let (p, ended) = declared_front all c after d in
+    let last : line_in p.section (words d.last) ≡ Ok text.End = ap (line_in p.section) d.ends ∙ text_read p.section text.End ended.may tt in
     let declared : Certificate → Result Declared FormatFault = λ e. Ok (record { certificate = e; after = after }) in
-    ap (read_from begun 1) d.whole ∙ front_read d.front p is (d.last ∷ after) ∙ rw last (ap declared same)
+    ap (read_from begun 1) d.whole ∙ front_read d.front p ended.is (d.last ∷ after) ∙ rw last (ap declared ended.same)
 
-no_rule : (k : LineKind) → admits section.Walk (rule_word k) ≡ false
-no_rule (kind.Bound name) = refl
-no_rule (kind.Link name) = refl
-no_rule (kind.No i j) = refl
-no_rule (kind.Up i j) = refl
-no_rule (kind.Low name j) = refl
-no_rule (kind.Cross name j) = refl
-no_rule (kind.Drop j) = refl
+-- where no rule line may come, and where no entry
+no_rule : (s : Section) (k : LineKind) → s ≢ section.Rules → admits s (rule_word k) ≡ false
+no_rule section.Rules k other = absurd (other refl)
+no_rule s (kind.Bound name) other = refl
+no_rule s (kind.Link name) other = refl
+no_rule s (kind.No i j) other = refl
+no_rule s (kind.Up i j) other = refl
+no_rule s (kind.Low name j) other = refl
+no_rule s (kind.Cross name j) other = refl
+no_rule s (kind.Drop j) other = refl
 
-no_rule_first : (k : LineKind) → (admits section.Header (rule_word k) ≡ false) × (admits section.Kind (rule_word k) ≡ false)
-no_rule_first (kind.Bound name) = (refl, refl)
-no_rule_first (kind.Link name) = (refl, refl)
-no_rule_first (kind.No i j) = (refl, refl)
-no_rule_first (kind.Up i j) = (refl, refl)
-no_rule_first (kind.Low name j) = (refl, refl)
-no_rule_first (kind.Cross name j) = (refl, refl)
-no_rule_first (kind.Drop j) = (refl, refl)
+no_entry : (s : Section) (label : Option (List ℕ)) → s ≢ section.Order → s ≢ section.Entries → admits s (entry_word label) ≡ false
+no_entry section.Order label other another = absurd (other refl)
+no_entry section.Entries label other another = absurd (another refl)
+no_entry s None other another = refl
+no_entry s (Some label) other another = refl
 
-filled_push : (walk : List ℕ) (i : ℕ) → walk ++ i ∷ [] ≢ []
-filled_push [] i = λ none. absurd (cc)
-filled_push (first ∷ walk) i = λ none. absurd (cc)
+refuted : {b : Bool} → b ≡ false → b ≡ true → ⊥
+refuted no_is yes_is = let wrong : false ≡ true = sym no_is ∙ yes_is in cc
+
+filled_push : {A : Type 0} (xs : List A) (x : A) → xs ++ x ∷ [] ≢ []
+filled_push [] x = λ none. absurd (cc)
+filled_push (first ∷ xs) x = λ none. absurd (cc)
+
+-- one more line after two lists of them
+longer_by : {A B : Type 0} (second : List (List ℕ)) (spell : A → List (List ℕ)) (spells : B → List (List ℕ)) (xs : List A) (ys : List B) (y : B) → after_two second (map spell xs ++ map spells ys) ++ spells y ∷ [] ≡ after_two second (map spell xs ++ map spells (ys ++ y ∷ []))
+longer_by second spell spells xs ys y =
+    ap (after_two second) (append_assoc (map spell xs) (map spells ys) (spells y ∷ []) ∙ ap (λ (ws : List (List (List ℕ))). map spell xs ++ ws) (sym (map-append spells ys (y ∷ []))))
+
+first_of : {A B : Type 0} (second : List (List ℕ)) (spell : A → List (List ℕ)) (spells : B → List (List ℕ)) (xs : List A) (ys : List B) (y : B) → ys ≡ [] → after_two second (map spell xs) ++ spells y ∷ [] ≡ after_two second (map spell xs ++ map spells (ys ++ y ∷ []))
+first_of second spell spells xs ys y none =
+    sym (ap (λ (zs : List _). after_two second (map spell xs ++ map spells (zs ++ y ∷ []))) none)
 
 -- a line that may come after a front, with which it is a longer one
-front_next : (t : CertText) (s : Section) (lines : List CertLine) (walk : List ℕ) (longer : List (List ℕ)) → filled_words longer ≡ front_words s lines walk ++ text_words t ∷ [] → admits s (text_word t) ≡ true → GoesOn t → IsReached s lines walk → All IsSpelledLine lines → All (λ i. i ≤ most_line_number) walk → IsFront longer (advanced (progress s lines walk) t)
-front_next text.Blank s lines walk longer said may on reached spelled within = absurd on
-front_next text.End s lines walk longer said may on reached spelled within = absurd on
-front_next text.Header section.Header lines walk longer said may on reached spelled within = record { said = said; reached = reached; spelled_lines = spelled; spelled_walk = within }
-front_next text.Header section.Kind lines walk longer said may on reached spelled within = absurd (cc)
-front_next text.Header section.Rules lines walk longer said may on reached spelled within = absurd (cc)
-front_next text.Header section.Walk lines walk longer said may on reached spelled within = absurd (cc)
-front_next text.Refutation section.Header lines walk longer said may on reached spelled within = absurd (cc)
-front_next text.Refutation section.Kind lines walk longer said may on reached spelled within = record {
-  said = said ∙ ap (λ (ls : List CertLine). after_two (map line_words ls)) (sym reached.0);
-  reached = reached.1;
-  spelled_lines = spelled;
-  spelled_walk = within;
+front_next : (t : CertText) (s : Section) (r : Progress) (longer : List (List ℕ)) → filled_words longer ≡ front_words s r ++ text_words t ∷ [] → admits s (text_word t) ≡ true → GoesOn t → IsReached s r → AreSpelled r → IsFront longer (advanced (at s r) t)
+front_next text.Blank s r longer said may on reached spelled = absurd on
+front_next text.End s r longer said may on reached spelled = absurd on
+front_next text.Header section.Header r longer said may on reached spelled = record { said = said; reached = reached; spelled = spelled }
+front_next text.Header s r longer said may on reached spelled = absurd (cc)
+front_next text.Refutation section.Kind r longer said may on reached spelled = record {
+  said = said ∙ ap (λ (ls : List CertLine). after_two refutation_words (map line_words ls)) (sym reached.0.0);
+  reached = (reached.0.1, reached.1);
+  spelled = spelled;
 }
-front_next text.Refutation section.Rules lines walk longer said may on reached spelled within = absurd (cc)
-front_next text.Refutation section.Walk lines walk longer said may on reached spelled within = absurd (cc)
-front_next (text.Line line) section.Header lines walk longer said may on reached spelled within = absurd (let wrong : false ≡ true = sym (no_rule_first line.kind).0 ∙ may in cc)
-front_next (text.Line line) section.Kind lines walk longer said may on reached spelled within = absurd (let wrong : false ≡ true = sym (no_rule_first line.kind).1 ∙ may in cc)
-front_next (text.Line line) section.Rules lines walk longer said may on reached spelled within = record {
-  said = said ∙ ap after_two (sym (map-append line_words lines (line ∷ [])));
+front_next text.Refutation s r longer said may on reached spelled = absurd (cc)
+front_next text.Table section.Kind r longer said may on reached spelled = record {
+  said = said ∙ ap (λ (ps : List (List ℕ)). after_two table_words (map order_words ps)) (sym reached.1.0);
+  reached = (reached.1.1, reached.0);
+  spelled = spelled;
+}
+front_next text.Table s r longer said may on reached spelled = absurd (cc)
+front_next (text.Line line) section.Rules r longer said may on reached spelled = record {
+  said = said ∙ ap (after_two refutation_words) (sym (map-append line_words r.lines (line ∷ [])));
   reached = reached;
-  spelled_lines = All-push IsSpelledLine lines line spelled on;
-  spelled_walk = within;
+  spelled = (All-push IsSpelledLine r.lines line spelled.0 on, spelled.1, spelled.2, spelled.3);
 }
-front_next (text.Line line) section.Walk lines walk longer said may on reached spelled within = absurd (let wrong : false ≡ true = sym (no_rule line.kind) ∙ may in cc)
-front_next (text.Walk i) section.Header lines walk longer said may on reached spelled within = absurd (cc)
-front_next (text.Walk i) section.Kind lines walk longer said may on reached spelled within = absurd (cc)
-front_next (text.Walk i) section.Rules lines walk longer said may on reached spelled within =
-    let one : walk ++ i ∷ [] ≡ i ∷ [] = ap (λ (ws : List ℕ). ws ++ i ∷ []) reached in
-    record {
-      said = said ∙ ap (λ (ws : List ℕ). after_two (map line_words lines ++ map walk_words ws)) (sym one);
-      reached = filled_push walk i;
-      spelled_lines = spelled;
-      spelled_walk = All-push (λ k. k ≤ most_line_number) walk i within on;
-    }
-front_next (text.Walk i) section.Walk lines walk longer said may on reached spelled within = record {
-  said = said ∙ ap after_two (append_assoc (map line_words lines) (map walk_words walk) (walk_words i ∷ []) ∙ ap (λ (ws : List (List (List ℕ))). map line_words lines ++ ws) (sym (map-append walk_words walk (i ∷ []))));
-  reached = filled_push walk i;
-  spelled_lines = spelled;
-  spelled_walk = All-push (λ k. k ≤ most_line_number) walk i within on;
+front_next (text.Line line) s r longer said may on reached spelled = absurd (refuted (no_rule s line.kind (λ same. cc)) may)
+front_next (text.Walk i) section.Rules r longer said may on reached spelled = record {
+  said = said ∙ first_of refutation_words line_words walk_words r.lines r.walk i reached.0;
+  reached = (filled_push r.walk i, reached.1);
+  spelled = (spelled.0, All-push (λ k. k ≤ most_line_number) r.walk i spelled.1 on, spelled.2, spelled.3);
 }
+front_next (text.Walk i) section.Walk r longer said may on reached spelled = record {
+  said = said ∙ longer_by refutation_words line_words walk_words r.lines r.walk i;
+  reached = (filled_push r.walk i, reached.1);
+  spelled = (spelled.0, All-push (λ k. k ≤ most_line_number) r.walk i spelled.1 on, spelled.2, spelled.3);
+}
+front_next (text.Walk i) s r longer said may on reached spelled = absurd (cc)
+front_next (text.Order point) section.Order r longer said may on reached spelled = record {
+  said = said ∙ ap (after_two table_words) (sym (map-append order_words r.order (point ∷ [])));
+  reached = reached;
+  spelled = (spelled.0, spelled.1, All-push (λ p. IsTrue (is_name p)) r.order point spelled.2 on, spelled.3);
+}
+front_next (text.Order point) s r longer said may on reached spelled = absurd (cc)
+front_next (text.Entry entry) section.Order r longer said may on reached spelled = record {
+  said = said ∙ first_of table_words order_words entry_words r.order r.entries entry reached.0;
+  reached = (filled_push r.entries entry, reached.1);
+  spelled = (spelled.0, spelled.1, spelled.2, All-push IsSpelledEntry r.entries entry spelled.3 on);
+}
+front_next (text.Entry entry) section.Entries r longer said may on reached spelled = record {
+  said = said ∙ longer_by table_words order_words entry_words r.order r.entries entry;
+  reached = (filled_push r.entries entry, reached.1);
+  spelled = (spelled.0, spelled.1, spelled.2, All-push IsSpelledEntry r.entries entry spelled.3 on);
+}
+front_next (text.Entry entry) s r longer said may on reached spelled = absurd (refuted (no_entry s entry.label (λ same. cc) (λ same. cc)) may)
 
 -- one more line that is not blank
-said_with : (front : List (List ℕ)) (line : List ℕ) (p : Progress) (said : List (List ℕ)) → IsFront front p → are_passed_over (words line) ≡ false → words line ≡ said → filled_words (front ++ line ∷ []) ≡ front_words p.section p.lines p.walk ++ said ∷ []
+said_with : (front : List (List ℕ)) (line : List ℕ) (p : Progress) (said : List (List ℕ)) → IsFront front p → are_passed_over (words line) ≡ false → words line ≡ said → filled_words (front ++ line ∷ []) ≡ front_words p.section p ++ said ∷ []
 said_with front line p said is filled same =
     filled-append front (line ∷ [])
     ∙ (ap (λ (ws : List (List (List ℕ))). filled_words front ++ ws) (filled_line line said filled same)
@@ -264,23 +402,33 @@ said_with front line p said is filled same =
 
 pub front_text : (front : List (List ℕ)) (line : List ℕ) (p : Progress) (t : CertText) → IsFront front p → are_passed_over (words line) ≡ false → words line ≡ text_words t → admits p.section (text_word t) ≡ true → GoesOn t → IsFront (front ++ line ∷ []) (advanced p t)
 front_text front line p t is filled same may on =
-    front_next t p.section p.lines p.walk (front ++ line ∷ []) (said_with front line p (text_words t) is filled same) may on is.reached is.spelled_lines is.spelled_walk
+    front_next t p.section p (front ++ line ∷ []) (said_with front line p (text_words t) is filled same) may on is.reached is.spelled
 
 -- one more blank line
 pub front_blank : (front : List (List ℕ)) (line : List ℕ) (p : Progress) → IsFront front p → are_passed_over (words line) ≡ true → IsFront (front ++ line ∷ []) p
 front_blank front line p is blank = record {
   said = filled-append front (line ∷ []) ∙ ap (λ (ws : List (List (List ℕ))). filled_words front ++ ws) (filled_blank line blank) ∙ append-nil (filled_words front) ∙ is.said;
   reached = is.reached;
-  spelled_lines = is.spelled_lines;
-  spelled_walk = is.spelled_walk;
+  spelled = is.spelled;
 }
 
-whole_words : (s : Section) (lines : List CertLine) (walk : List ℕ) → admits s keyword.End ≡ true → IsReached s lines walk → front_words s lines walk ++ end_words ∷ [] ≡ certificate_words (Refutation lines walk)
-whole_words section.Header lines walk may reached = absurd (cc)
-whole_words section.Kind lines walk may reached = absurd (cc)
-whole_words section.Rules lines walk may reached =
-    ap (λ (ws : List ℕ). after_two (map line_words lines ++ (map walk_words ws ++ end_words ∷ []))) (sym reached)
-whole_words section.Walk lines walk may reached = certificate_front lines walk
+whole_words : (s : Section) (r : Progress) → admits s keyword.End ≡ true → IsReached s r → front_words s r ++ end_words ∷ [] ≡ certificate_words (certificate_by s r)
+whole_words section.Header r may reached = absurd (cc)
+whole_words section.Kind r may reached = absurd (cc)
+whole_words section.Rules r may reached =
+    ap (λ (ws : List ℕ). after_two refutation_words (map line_words r.lines ++ (map walk_words ws ++ end_words ∷ []))) (sym reached.0)
+whole_words section.Walk r may reached = certificate_front refutation_words (map line_words r.lines) (map walk_words r.walk)
+whole_words section.Order r may reached =
+    ap (λ (es : List Entry). after_two table_words (map order_words r.order ++ (map entry_words es ++ end_words ∷ []))) (sym reached.0)
+whole_words section.Entries r may reached = certificate_front table_words (map order_words r.order) (map entry_words r.entries)
+
+spelled_whole : (s : Section) (r : Progress) → AreSpelled r → IsSpelled (certificate_by s r)
+spelled_whole section.Header r spelled = (spelled.0, spelled.1)
+spelled_whole section.Kind r spelled = (spelled.0, spelled.1)
+spelled_whole section.Rules r spelled = (spelled.0, spelled.1)
+spelled_whole section.Walk r spelled = (spelled.0, spelled.1)
+spelled_whole section.Order r spelled = (spelled.2, spelled.3)
+spelled_whole section.Entries r spelled = (spelled.2, spelled.3)
 
 -- the `end` line after a front
 pub front_end : (front : List (List ℕ)) (line : List ℕ) (p : Progress) (after : List (List ℕ)) → IsFront front p → words line ≡ end_words → admits p.section keyword.End ≡ true → DeclareCertificate (front ++ line ∷ after) (certificate_of p) after
@@ -288,9 +436,9 @@ front_end front line p after is same may = record {
   front = front;
   last = line;
   whole = refl;
-  said = said_with front line p end_words is (ap are_passed_over same) same ∙ whole_words p.section p.lines p.walk may is.reached;
+  said = said_with front line p end_words is (ap are_passed_over same) same ∙ whole_words p.section p may is.reached;
   ends = same;
-  spelled = (is.spelled_lines, is.spelled_walk);
+  spelled = spelled_whole p.section p is.spelled;
 }
 
 -- every text of the grammar is read

@@ -87,6 +87,8 @@ fault_in section.Header line k l a b = a.2 ∙ sym b.2
 fault_in section.Kind line k l a b = fault_among (admits section.Kind) line k l a b
 fault_in section.Rules line k l a b = fault_among (admits section.Rules) line k l a b
 fault_in section.Walk line k l a b = fault_among (admits section.Walk) line k l a b
+fault_in section.Order line k l a b = fault_among (admits section.Order) line k l a b
+fault_in section.Entries line k l a b = fault_among (admits section.Entries) line k l a b
 
 -- after a line that brings something a certificate can come
 brought : (front : List (List ℕ)) (line : List ℕ) (p : Progress) (t : CertText) → Brings front line (Ok t) (advanced p t) → CanBecomeCertificate (front ++ line ∷ [])
@@ -94,8 +96,11 @@ brought front line p text.End brings = ([], certificate_of p, [], subst (λ (all
 brought front line p text.Blank brings = can_become (front ++ line ∷ []) p brings.1
 brought front line p text.Header brings = can_become (front ++ line ∷ []) (advanced p text.Header) brings.1
 brought front line p text.Refutation brings = can_become (front ++ line ∷ []) (advanced p text.Refutation) brings.1
+brought front line p text.Table brings = can_become (front ++ line ∷ []) (advanced p text.Table) brings.1
 brought front line p (text.Line rule) brings = can_become (front ++ line ∷ []) (advanced p (text.Line rule)) brings.1
 brought front line p (text.Walk i) brings = can_become (front ++ line ∷ []) (advanced p (text.Walk i)) brings.1
+brought front line p (text.Order point) brings = can_become (front ++ line ∷ []) (advanced p (text.Order point)) brings.1
+brought front line p (text.Entry entry) brings = can_become (front ++ line ∷ []) (advanced p (text.Entry entry)) brings.1
 
 -- a line that a front excludes is read with its fault
 refused_read : (front : List (List ℕ)) (line : List ℕ) (p : Progress) (kind : FormatKind) (read : Result CertText FormatKind) → IsFront front p → (CanBecomeCertificate (front ++ line ∷ []) → ⊥) → IsFaultIn p.section (words line) kind → line_in p.section (words line) ≡ read → read ≡ Err kind

@@ -1,5 +1,5 @@
 -- Lines are read as the grammar says: they declare what is read of them, or have the first fault that is answered.
-use Rattle.std.proofs.Common.{◌≡◌, ℕ, ◌≤◌, ◌+◌, true, List, [], ◌∷◌, ◌++◌, length, Result, Ok, Err, refl, sym, ap, ◌∙◌, subst, append_assoc, inl, inr}
+use Rattle.std.proofs.Common.{◌≡◌, ℕ, ◌≤◌, ◌+◌, true, List, [], ◌∷◌, ◌++◌, length, Result, Ok, Err, refl, sym, ap, ◌∙◌, subst, append_assoc, inl, inr, IsTrue}
 use Rattle.std.specs.Result.{IfOk, IfErr}
 use Rattle.std.proofs.lemmas.List.{append-nil, length_push}
 use Rattle.std.proofs.lemmas.List.Elements.{All-weaker, All-from_recursion}
@@ -7,6 +7,7 @@ use Rattle.texts.specs.Words.{are_passed_over, words}
 use Rattle.texts.specs.Lines.{lines}
 use Rattle.texts.specs.Printing.{joined}
 use Rattle.texts.proofs.PrintingLemmas.{words-joined}
+use Rattle.net_model.specs.Names.{is_name}
 use Rattle.net_model.specs.declared.format.FormatKind.{FormatKind}
 use Rattle.net_model.specs.declared.format.FormatFault.{FormatFault}
 use Rattle.net_model.specs.declared.format.WordFault.{WordFault}
@@ -14,13 +15,12 @@ use Rattle.net_model.specs.declared.format.WordFault.TheVariants as word
 use Rattle.net_model.specs.declared.format.TextFault.{TextFault}
 use Rattle.net_model.specs.declared.format.TextFault.TheVariants as whole
 use Rattle.cert_format.specs.Limits.{most_line_number}
-use Rattle.cert_format.specs.CertificateWords.{header_words, refutation_words, end_words, IsSpelledLine, IsSpelled, IsWeight, HasWeights}
+use Rattle.cert_format.specs.CertificateWords.{header_words, refutation_words, end_words, IsSpelledLine, IsSpelledEntry, IsSpelled, IsWeight, IsEntryWeight, HasWeights}
 use Rattle.cert_format.specs.CertificateGrammar.{Progress, DeclareCertificate, CanBecomeCertificate, IsFirstFault, IsFront, IsCertificateText, FaultIsFirst, admits, begun, certificate_of, missing}
 use Rattle.cert_format.specs.CertificateText.{Declared, Brings, SaysLine, SaysText, advanced, certificate_part, certificate_text, fault_after, line_in, said_from, read_from}
 use Rattle.cert_format.specs.declared.keyword.Keyword.TheVariants as keyword
-use Rattle.cert_format.specs.declared.line.CertLine.{CertLine}
 use Rattle.cert_format.specs.declared.certificate.Certificate.{Certificate}
-use Rattle.cert_format.specs.declared.certificate.Certificate.TheVariants.{Refutation}
+use Rattle.cert_format.specs.declared.certificate.Certificate.TheVariants.{Refutation, TableProof}
 use Rattle.cert_format.specs.declared.read.CertText.{CertText}
 use Rattle.cert_format.specs.declared.read.CertText.TheVariants as text
 use Rattle.cert_format.specs.declared.section.Section.{Section}
@@ -28,7 +28,7 @@ use Rattle.cert_format.specs.declared.section.Section.TheVariants as section
 use Rattle.cert_format.proofs.SaidLemmas.{IsPlaced, line_is}
 use Rattle.cert_format.proofs.RoundTripLemmas.{written_header, written_refutation, written_end}
 use Rattle.cert_format.proofs.FormLemmas.{line_err}
-use Rattle.cert_format.proofs.FrontLemmas.{front_blank, front_text, front_end, front_read, declared_read}
+use Rattle.cert_format.proofs.FrontLemmas.{at, front_blank, front_text, front_end, front_read, declared_read}
 
 header_line : List ℕ
 header_line = joined header_words
@@ -59,22 +59,22 @@ with_line front line (more, c, after, d) =
 ended : (front : List (List ℕ)) (p : Progress) → IsFront front p → admits p.section keyword.End ≡ true → CanBecomeCertificate front
 ended front p is may = (last_line ∷ [], certificate_of p, [], front_end front last_line p [] is last_said may)
 
-kind_ended : (front : List (List ℕ)) (lines : List CertLine) (walk : List ℕ) → IsFront front (record { section = section.Kind; lines = lines; walk = walk }) → CanBecomeCertificate front
-kind_ended front lines walk is =
-    let p : Progress = record { section = section.Kind; lines = lines; walk = walk } in
-    with_line front second_line (ended (front ++ second_line ∷ []) (advanced p text.Refutation) (front_text front second_line p text.Refutation is (ap are_passed_over second_said) second_said refl tt) refl)
+kind_ended : (front : List (List ℕ)) (r : Progress) → IsFront front (at section.Kind r) → CanBecomeCertificate front
+kind_ended front r is =
+    with_line front second_line (ended (front ++ second_line ∷ []) (advanced (at section.Kind r) text.Refutation) (front_text front second_line (at section.Kind r) text.Refutation is (ap are_passed_over second_said) second_said refl tt) refl)
 
-continued : (s : Section) (front : List (List ℕ)) (lines : List CertLine) (walk : List ℕ) → IsFront front (record { section = s; lines = lines; walk = walk }) → CanBecomeCertificate front
-continued section.Header front lines walk is =
-    let p : Progress = record { section = section.Header; lines = lines; walk = walk } in
-    with_line front header_line (kind_ended (front ++ header_line ∷ []) lines walk (front_text front header_line p text.Header is (ap are_passed_over header_said) header_said refl tt))
-continued section.Kind front lines walk is = kind_ended front lines walk is
-continued section.Rules front lines walk is = ended front (record { section = section.Rules; lines = lines; walk = walk }) is refl
-continued section.Walk front lines walk is = ended front (record { section = section.Walk; lines = lines; walk = walk }) is refl
+continued : (s : Section) (front : List (List ℕ)) (r : Progress) → IsFront front (at s r) → CanBecomeCertificate front
+continued section.Header front r is =
+    with_line front header_line (kind_ended (front ++ header_line ∷ []) r (front_text front header_line (at section.Header r) text.Header is (ap are_passed_over header_said) header_said refl tt))
+continued section.Kind front r is = kind_ended front r is
+continued section.Rules front r is = ended front (at section.Rules r) is refl
+continued section.Walk front r is = ended front (at section.Walk r) is refl
+continued section.Order front r is = ended front (at section.Order r) is refl
+continued section.Entries front r is = ended front (at section.Entries r) is refl
 
 -- the front of a certificate can be continued to one
 pub can_become : (front : List (List ℕ)) (p : Progress) → IsFront front p → CanBecomeCertificate front
-can_become front p is = continued p.section front p.lines p.walk is
+can_become front p is = continued p.section front p is
 
 -- lines that are read with a fault declare no certificate
 no_certificate : (all : List (List ℕ)) (c : Certificate) (after : List (List ℕ)) (fault : FormatFault) → read_from begun 1 all ≡ Err fault → DeclareCertificate all c after → ⊥
@@ -123,10 +123,15 @@ placed_brings : (front : List (List ℕ)) (line : List ℕ) (p : Progress) (t : 
 placed_brings front line p text.Blank is placed = absurd placed.spelling
 placed_brings front line p text.Header is placed = (placed.words, front_text front line p text.Header is placed.filled placed.words placed.may tt)
 placed_brings front line p text.Refutation is placed = (placed.words, front_text front line p text.Refutation is placed.filled placed.words placed.may tt)
+placed_brings front line p text.Table is placed = (placed.words, front_text front line p text.Table is placed.filled placed.words placed.may tt)
 placed_brings front line p (text.Line rule) is placed =
     ((placed.words, placed.spelling), front_text front line p (text.Line rule) is placed.filled placed.words placed.may placed.spelling)
 placed_brings front line p (text.Walk i) is placed =
     ((placed.words, placed.spelling), front_text front line p (text.Walk i) is placed.filled placed.words placed.may placed.spelling)
+placed_brings front line p (text.Order point) is placed =
+    ((placed.words, placed.spelling), front_text front line p (text.Order point) is placed.filled placed.words placed.may placed.spelling)
+placed_brings front line p (text.Entry entry) is placed =
+    ((placed.words, placed.spelling), front_text front line p (text.Entry entry) is placed.filled placed.words placed.may placed.spelling)
 placed_brings front line p text.End is placed = λ after. front_end front line p after is placed.words placed.may
 
 pub said_brings : (front : List (List ℕ)) (line : List ℕ) (p : Progress) (t : CertText) → IsFront front p → line_in p.section (words line) ≡ Ok t → Brings front line (Ok t) (advanced p t)
@@ -164,10 +169,16 @@ reads_by (Ok text.Header) front others line p read is later =
     moved front others line (advanced p text.Header) (later (front ++ line ∷ []) (advanced p text.Header) (said_brings front line p text.Header is read).1)
 reads_by (Ok text.Refutation) front others line p read is later =
     moved front others line (advanced p text.Refutation) (later (front ++ line ∷ []) (advanced p text.Refutation) (said_brings front line p text.Refutation is read).1)
+reads_by (Ok text.Table) front others line p read is later =
+    moved front others line (advanced p text.Table) (later (front ++ line ∷ []) (advanced p text.Table) (said_brings front line p text.Table is read).1)
 reads_by (Ok (text.Line rule)) front others line p read is later =
     moved front others line (advanced p (text.Line rule)) (later (front ++ line ∷ []) (advanced p (text.Line rule)) (said_brings front line p (text.Line rule) is read).1)
 reads_by (Ok (text.Walk i)) front others line p read is later =
     moved front others line (advanced p (text.Walk i)) (later (front ++ line ∷ []) (advanced p (text.Walk i)) (said_brings front line p (text.Walk i) is read).1)
+reads_by (Ok (text.Order point)) front others line p read is later =
+    moved front others line (advanced p (text.Order point)) (later (front ++ line ∷ []) (advanced p (text.Order point)) (said_brings front line p (text.Order point) is read).1)
+reads_by (Ok (text.Entry entry)) front others line p read is later =
+    moved front others line (advanced p (text.Entry entry)) (later (front ++ line ∷ []) (advanced p (text.Entry entry)) (said_brings front line p (text.Entry entry) is read).1)
 
 reads_after : (rest front : List (List ℕ)) (p : Progress) → IsFront front p → ReadsSo (front ++ rest) (read_from p (length front + 1) rest)
 reads_after [] front p is =
@@ -177,7 +188,11 @@ reads_after (line ∷ rest) front p is =
 
 -- no line is a front
 pub front_begun : IsFront [] begun
-front_begun = record { said = refl; reached = (refl, refl); spelled_lines = All-from_recursion IsSpelledLine [] tt; spelled_walk = All-from_recursion (λ i. i ≤ most_line_number) [] tt }
+front_begun = record {
+  said = refl;
+  reached = ((refl, refl), (refl, refl));
+  spelled = (All-from_recursion IsSpelledLine [] tt, All-from_recursion (λ i. i ≤ most_line_number) [] tt, All-from_recursion (λ point. IsTrue (is_name point)) [] tt, All-from_recursion IsSpelledEntry [] tt);
+}
 
 -- lines are what is read of them
 pub lines_read : (all : List (List ℕ)) → ReadsSo all (read_from begun 1 all)
@@ -200,6 +215,7 @@ answer_is_text bytes (Err fault) says = tt
 
 spelled_weights : (c : Certificate) → IsSpelled c → HasWeights c
 spelled_weights (Refutation lines walk) spelled = All-weaker IsSpelledLine IsWeight (λ line is. is.weight) lines spelled.0
+spelled_weights (TableProof order entries) spelled = All-weaker IsSpelledEntry IsEntryWeight (λ entry is. is.weight) entries spelled.1
 
 -- the weights of an answer are within their limit
 pub answer_weights : (bytes : List ℕ) (answer : Result Certificate TextFault) → SaysText answer (certificate_text bytes) → IfOk answer (λ c. HasWeights c)

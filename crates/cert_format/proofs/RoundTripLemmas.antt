@@ -12,16 +12,17 @@ use Rattle.texts.specs.Printing.{joined}
 use Rattle.texts.proofs.PrintingLemmas.{IsPrintable, IsPrintableLine, words-joined, lines-printed}
 use Rattle.net_model.proofs.SpellingLemmas.{printable_name, printable_natural, printable_integer}
 use Rattle.cert_format.specs.Keywords.{spelled}
-use Rattle.cert_format.specs.CertificateWords.{rule_word, operand_words, label_words, line_words, walk_words, header_words, refutation_words, end_words, certificate_words, printed_certificate, AreOperands, IsSpelledLine, IsSpelled}
+use Rattle.cert_format.specs.CertificateWords.{rule_word, operand_words, label_words, line_words, walk_words, order_words, entry_word, entry_words, header_words, refutation_words, table_words, end_words, certificate_words, printed_certificate, AreOperands, IsSpelledLine, IsSpelledEntry, IsSpelled}
 use Rattle.cert_format.specs.CertificateText.{certificate_text}
 use Rattle.cert_format.specs.CertificateGrammar.{filled_words, IsCertificateText}
 use Rattle.cert_format.specs.declared.keyword.Keyword.{Keyword}
 use Rattle.cert_format.specs.declared.keyword.Keyword.TheVariants as keyword
 use Rattle.cert_format.specs.declared.kind.LineKind.{LineKind}
 use Rattle.cert_format.specs.declared.kind.LineKind.TheVariants as kind
+use Rattle.cert_format.specs.declared.entry.Entry.{Entry}
 use Rattle.cert_format.specs.declared.line.CertLine.{CertLine}
 use Rattle.cert_format.specs.declared.certificate.Certificate.{Certificate}
-use Rattle.cert_format.specs.declared.certificate.Certificate.TheVariants.{Refutation}
+use Rattle.cert_format.specs.declared.certificate.Certificate.TheVariants.{Refutation, TableProof}
 use Rattle.cert_format.specs.Limits.{most_written_weight, most_line_number}
 use Rattle.cert_format.proofs.WordLemmas.{no_remark}
 use Rattle.cert_format.proofs.FrontLemmas.{after_two, certificate_front, grammar_read}
@@ -29,6 +30,7 @@ use Rattle.cert_format.proofs.FrontLemmas.{after_two, certificate_front, grammar
 printable_keyword : (k : Keyword) → IsPrintable (spelled k)
 printable_keyword keyword.Certificate = record { filled = omega arith; plain = (omega arith, (omega arith, (omega arith, (omega arith, (omega arith, (omega arith, (omega arith, (omega arith, (omega arith, (omega arith, (omega arith, tt))))))))))) }
 printable_keyword keyword.Refutation = record { filled = omega arith; plain = (omega arith, (omega arith, (omega arith, (omega arith, (omega arith, (omega arith, (omega arith, (omega arith, (omega arith, (omega arith, tt)))))))))) }
+printable_keyword keyword.Table = record { filled = omega arith; plain = (omega arith, (omega arith, (omega arith, (omega arith, (omega arith, tt))))) }
 printable_keyword keyword.Bound = record { filled = omega arith; plain = (omega arith, (omega arith, (omega arith, (omega arith, (omega arith, tt))))) }
 printable_keyword keyword.Link = record { filled = omega arith; plain = (omega arith, (omega arith, (omega arith, (omega arith, tt)))) }
 printable_keyword keyword.No = record { filled = omega arith; plain = (omega arith, (omega arith, tt)) }
@@ -37,6 +39,9 @@ printable_keyword keyword.Low = record { filled = omega arith; plain = (omega ar
 printable_keyword keyword.Cross = record { filled = omega arith; plain = (omega arith, (omega arith, (omega arith, (omega arith, (omega arith, tt))))) }
 printable_keyword keyword.Drop = record { filled = omega arith; plain = (omega arith, (omega arith, (omega arith, (omega arith, tt)))) }
 printable_keyword keyword.Walk = record { filled = omega arith; plain = (omega arith, (omega arith, (omega arith, (omega arith, tt)))) }
+printable_keyword keyword.Order = record { filled = omega arith; plain = (omega arith, (omega arith, (omega arith, (omega arith, (omega arith, tt))))) }
+printable_keyword keyword.Edge = record { filled = omega arith; plain = (omega arith, (omega arith, (omega arith, (omega arith, tt)))) }
+printable_keyword keyword.Upper = record { filled = omega arith; plain = (omega arith, (omega arith, (omega arith, (omega arith, (omega arith, tt))))) }
 printable_keyword keyword.End = record { filled = omega arith; plain = (omega arith, (omega arith, (omega arith, tt))) }
 
 printable_one : IsPrintable (codes "1")
@@ -79,26 +84,39 @@ written_line line spelled = record {
 written_walk : (i : ℕ) → i ≤ most_line_number → IsWritten (walk_words i)
 written_walk i within = record { printable = (printable_keyword keyword.Walk, (printable_number i within, tt)); filled = refl }
 
+written_order : (point : List ℕ) → IsTrue (is_name point) → IsWritten (order_words point)
+written_order point named = record { printable = (printable_keyword keyword.Order, (printable_name point named, tt)); filled = refl }
+
+written_entry : (entry : Entry) → IsSpelledEntry entry → IsWritten (entry_words entry)
+written_entry entry spelled = record {
+  printable = (printable_keyword (entry_word entry.label), (printable_name entry.from spelled.from, both IsPrintable (label_words entry.to) _ (printable_label entry.to spelled.to) (both IsPrintable (label_words entry.label) _ (printable_label entry.label spelled.label) (printable_weight entry.weight spelled.weight, tt))));
+  filled = no_remark (entry_word entry.label) (entry.from ∷ (label_words entry.to ++ (label_words entry.label ++ signed_decimal entry.weight ∷ [])));
+}
+
 pub written_header : IsWritten header_words
 written_header = record { printable = (printable_keyword keyword.Certificate, (printable_one, tt)); filled = refl }
 
 pub written_refutation : IsWritten refutation_words
 written_refutation = record { printable = (printable_keyword keyword.Refutation, tt); filled = refl }
 
+pub written_table : IsWritten table_words
+written_table = record { printable = (printable_keyword keyword.Table, tt); filled = refl }
+
 pub written_end : IsWritten end_words
 written_end = record { printable = (printable_keyword keyword.End, tt); filled = refl }
 
-all_walk : (walk : List ℕ) → AllByRecursion (λ i. i ≤ most_line_number) walk → AllByRecursion IsWritten (map walk_words walk ++ end_words ∷ [])
-all_walk [] within = (written_end, tt)
-all_walk (i ∷ walk) within = (written_walk i within.0, all_walk walk within.1)
-
-all_lines : (lines : List CertLine) (walk : List ℕ) → AllByRecursion IsSpelledLine lines → AllByRecursion (λ i. i ≤ most_line_number) walk → AllByRecursion IsWritten (map line_words lines ++ (map walk_words walk ++ end_words ∷ []))
-all_lines [] walk spelled within = all_walk walk within
-all_lines (line ∷ lines) walk spelled within = (written_line line spelled.0, all_lines lines walk spelled.1 within)
+-- lines of one kind, and more after them
+all_more : {A : Type 0} (spell : A → List (List ℕ)) (P : A → Type 0) (xs : List A) (more : List (List (List ℕ))) → ((x : A) → P x → IsWritten (spell x)) → AllByRecursion P xs → AllByRecursion IsWritten more → AllByRecursion IsWritten (map spell xs ++ more)
+all_more spell P [] more each spelled written = written
+all_more spell P (x ∷ xs) more each spelled written = (each x spelled.0, all_more spell P xs more each spelled.1 written)
 
 all_written : (c : Certificate) → IsSpelled c → AllByRecursion IsWritten (certificate_words c)
 all_written (Refutation lines walk) spelled =
-    (written_header, (written_refutation, all_lines lines walk (recursion_from_All IsSpelledLine lines spelled.0) (recursion_from_All (λ i. i ≤ most_line_number) walk spelled.1)))
+    let steps = all_more walk_words (λ i. i ≤ most_line_number) walk (end_words ∷ []) written_walk (recursion_from_All (λ i. i ≤ most_line_number) walk spelled.1) (written_end, tt) in
+    (written_header, (written_refutation, all_more line_words IsSpelledLine lines _ written_line (recursion_from_All IsSpelledLine lines spelled.0) steps))
+all_written (TableProof order entries) spelled =
+    let rows = all_more entry_words IsSpelledEntry entries (end_words ∷ []) written_entry (recursion_from_All IsSpelledEntry entries spelled.1) (written_end, tt) in
+    (written_header, (written_table, all_more order_words (λ point. IsTrue (is_name point)) order _ written_order (recursion_from_All (λ point. IsTrue (is_name point)) order spelled.0) rows))
 
 all_printable : (text : List (List (List ℕ))) → AllByRecursion IsWritten text → AllByRecursion IsPrintableLine text
 all_printable [] written = tt
@@ -110,22 +128,27 @@ filled_joined [] written = refl
 filled_joined (line ∷ text) written =
     rw (words-joined line written.0.printable, written.0.filled) (ap (λ (others : List (List (List ℕ))). line ∷ others) (filled_joined text written.1))
 
-printed_is_text : (c : Certificate) → IsSpelled c → IsCertificateText (printed_certificate c) c
+printed_by : (c : Certificate) (body : List (List (List ℕ))) → body ++ end_words ∷ [] ≡ certificate_words c → IsSpelled c → IsCertificateText (printed_certificate c) c
 unfolding printed_certificate
-printed_is_text (Refutation lines walk) spelled =
-    let written = all_written (Refutation lines walk) spelled in
-    let body : List (List (List ℕ)) = after_two (map line_words lines ++ map walk_words walk) in
-    let all : map joined (certificate_words (Refutation lines walk)) ≡ map joined body ++ joined end_words ∷ [] = ap (map joined) (sym (certificate_front lines walk)) ∙ map-append joined body (end_words ∷ []) in (
+printed_by c body same spelled =
+    let written = all_written c spelled in
+    let all : map joined (certificate_words c) ≡ map joined body ++ joined end_words ∷ [] = ap (map joined) (sym same) ∙ map-append joined body (end_words ∷ []) in (
       [],
       record {
         front = map joined body;
         last = joined end_words;
-        whole = lines-printed (certificate_words (Refutation lines walk)) (all_printable (certificate_words (Refutation lines walk)) written) ∙ all;
-        said = ap filled_words (sym all) ∙ filled_joined (certificate_words (Refutation lines walk)) written;
+        whole = lines-printed (certificate_words c) (all_printable (certificate_words c) written) ∙ all;
+        said = ap filled_words (sym all) ∙ filled_joined (certificate_words c) written;
         ends = words-joined end_words written_end.printable;
         spelled = spelled;
       },
     )
+
+printed_is_text : (c : Certificate) → IsSpelled c → IsCertificateText (printed_certificate c) c
+printed_is_text (Refutation lines walk) spelled =
+    printed_by (Refutation lines walk) (after_two refutation_words (map line_words lines ++ map walk_words walk)) (certificate_front refutation_words (map line_words lines) (map walk_words walk)) spelled
+printed_is_text (TableProof order entries) spelled =
+    printed_by (TableProof order entries) (after_two table_words (map order_words order ++ map entry_words entries)) (certificate_front table_words (map order_words order) (map entry_words entries)) spelled
 
 -- a printed certificate is read back
 pub printed_read : (c : Certificate) → IsSpelled c → certificate_text (printed_certificate c) ≡ Ok c

@@ -12,14 +12,15 @@ use Rattle.net_model.proofs.SpellingLemmas.{spelled_natural, spelled_integer}
 use Rattle.net_model.proofs.ReadingLemmas.{choice, bind_ok, name_ok, word_is}
 use Rattle.cert_format.specs.Kind.{has_label}
 use Rattle.cert_format.specs.Keywords.{spelled, keywords, keyword_of}
-use Rattle.cert_format.specs.CertificateLines.{number_of, weight_of, unlabelled, labelled, bound_line, link_line, no_line, up_line, low_line, cross_line, drop_line, rule, walk_line, header_line, lone_word, line_of}
-use Rattle.cert_format.specs.CertificateWords.{rule_word, operand_words, label_words, line_words, AreOperands, IsSpelledLine}
+use Rattle.cert_format.specs.CertificateLines.{number_of, weight_of, unlabelled, labelled, bound_line, link_line, no_line, up_line, low_line, cross_line, drop_line, rule, walk_line, order_line, edge_line, upper_line, entry, header_line, lone_word, line_of}
+use Rattle.cert_format.specs.CertificateWords.{rule_word, operand_words, label_words, line_words, entry_word, entry_words, AreOperands, IsSpelledLine, IsSpelledEntry}
 use Rattle.cert_format.specs.CertificateGrammar.{admits}
 use Rattle.cert_format.specs.CertificateText.{admitted, refused_in, line_in}
 use Rattle.cert_format.specs.declared.keyword.Keyword.{Keyword}
 use Rattle.cert_format.specs.declared.keyword.Keyword.TheVariants as keyword
 use Rattle.cert_format.specs.declared.kind.LineKind.{LineKind}
 use Rattle.cert_format.specs.declared.kind.LineKind.TheVariants as kind
+use Rattle.cert_format.specs.declared.entry.Entry.{Entry}
 use Rattle.cert_format.specs.declared.line.CertLine.{CertLine}
 use Rattle.cert_format.specs.declared.read.CertText.{CertText}
 use Rattle.cert_format.specs.declared.read.CertText.TheVariants as text
@@ -225,6 +226,62 @@ walk_is (a ∷ []) said read =
     subst (λ (t : CertText). IsSaid keyword.Walk (a ∷ []) t) same (record { words = ap (λ (w : List ℕ). codes "walk" ∷ w ∷ []) is.0; spelling = is.1; first_word = refl })
 walk_is (a ∷ b ∷ others) said read = absurd (cc)
 
+order_is : (others : List (List ℕ)) (said : CertText) → order_line others ≡ Ok said → IsSaid keyword.Order others said
+order_is [] said read = absurd (cc)
+order_is (a ∷ []) said read =
+    let first = bind_ok (name_of a) _ said read in
+    let is = name_ok a first.0 first.1 in
+    let same : text.Order first.0 ≡ said = cc in
+    subst (λ (t : CertText). IsSaid keyword.Order (a ∷ []) t) same (record { words = ap (λ (w : List ℕ). codes "order" ∷ w ∷ []) is.0; spelling = is.1; first_word = refl })
+order_is (a ∷ b ∷ others) said read = absurd (cc)
+
+-- a first word and what stands after it are the words of an entry
+record IsEntered (first : Keyword) (others : List (List ℕ)) (entry : Entry) : Type 0 where
+  words : spelled first ∷ others ≡ entry_words entry
+  spelling : IsSpelledEntry entry
+  first_word : entry_word entry.label ≡ first
+
+edge_is : (others : List (List ℕ)) (entry : Entry) → edge_line others ≡ Ok entry → IsEntered keyword.Edge others entry
+edge_is [] entry read = absurd (cc)
+edge_is (a ∷ []) entry read = absurd (cc)
+edge_is (a ∷ b ∷ []) entry read = absurd (cc)
+edge_is (a ∷ b ∷ c ∷ []) entry read =
+    let from = bind_ok (name_of a) _ entry read in
+    let to = bind_ok (name_of b) _ entry from.2 in
+    let weight = bind_ok (weight_of c) _ entry to.2 in
+    let x = name_ok a from.0 from.1 in
+    let y = name_ok b to.0 to.1 in
+    let w = weight_ok c weight.0 weight.1 in
+    let made : Entry = record { from = from.0; to = Some to.0; label = None; weight = weight.0; one_end = refl } in
+    let same : made ≡ entry = cc in
+    let is : IsEntered keyword.Edge (a ∷ b ∷ c ∷ []) made = record { words = ap (λ (ws : List (List ℕ)). spelled keyword.Edge ∷ ws) (three _ _ _ _ _ _ x.0 y.0 w.0); spelling = record { from = x.1; to = y.1; label = tt; weight = w.1 }; first_word = refl } in
+    subst (λ (e : Entry). IsEntered keyword.Edge (a ∷ b ∷ c ∷ []) e) same is
+edge_is (a ∷ b ∷ c ∷ z ∷ others) entry read = absurd (cc)
+
+upper_is : (others : List (List ℕ)) (entry : Entry) → upper_line others ≡ Ok entry → IsEntered keyword.Upper others entry
+upper_is [] entry read = absurd (cc)
+upper_is (a ∷ []) entry read = absurd (cc)
+upper_is (a ∷ b ∷ []) entry read = absurd (cc)
+upper_is (a ∷ b ∷ c ∷ []) entry read =
+    let from = bind_ok (name_of a) _ entry read in
+    let label = bind_ok (name_of b) _ entry from.2 in
+    let weight = bind_ok (weight_of c) _ entry label.2 in
+    let x = name_ok a from.0 from.1 in
+    let y = name_ok b label.0 label.1 in
+    let w = weight_ok c weight.0 weight.1 in
+    let made : Entry = record { from = from.0; to = None; label = Some label.0; weight = weight.0; one_end = refl } in
+    let same : made ≡ entry = cc in
+    let is : IsEntered keyword.Upper (a ∷ b ∷ c ∷ []) made = record { words = ap (λ (ws : List (List ℕ)). spelled keyword.Upper ∷ ws) (three _ _ _ _ _ _ x.0 y.0 w.0); spelling = record { from = x.1; to = tt; label = y.1; weight = w.1 }; first_word = refl } in
+    subst (λ (e : Entry). IsEntered keyword.Upper (a ∷ b ∷ c ∷ []) e) same is
+upper_is (a ∷ b ∷ c ∷ z ∷ others) entry read = absurd (cc)
+
+entry_said : (first : Keyword) (others : List (List ℕ)) (read : Result Entry FormatKind) (said : CertText) → ((e : Entry) → read ≡ Ok e → IsEntered first others e) → entry read ≡ Ok said → IsSaid first others said
+entry_said first others (Ok e) said is read =
+    let same : text.Entry e ≡ said = cc in
+    let r = is e refl in
+    subst (λ (t : CertText). IsSaid first others t) same (record { words = r.words; spelling = r.spelling; first_word = r.first_word })
+entry_said first others (Err kind) said is read = absurd (cc)
+
 lone_is : (first : Keyword) (alone said : CertText) (others : List (List ℕ)) → IsSaid first [] alone → lone_word alone others ≡ Ok said → IsSaid first others said
 lone_is first alone said [] is read =
     let same : alone ≡ said = cc in
@@ -234,6 +291,7 @@ lone_is first alone said (word ∷ others) is read = absurd (cc)
 pub line_of_is : (first : Keyword) (others : List (List ℕ)) (said : CertText) → line_of first others ≡ Ok said → IsSaid first others said
 line_of_is keyword.Certificate others said read = header_is others said read
 line_of_is keyword.Refutation others said read = lone_is keyword.Refutation text.Refutation said others (record { words = refl; spelling = tt; first_word = refl }) read
+line_of_is keyword.Table others said read = lone_is keyword.Table text.Table said others (record { words = refl; spelling = tt; first_word = refl }) read
 line_of_is keyword.Bound others said read = rule_said keyword.Bound others (bound_line others) said (bound_is others) read
 line_of_is keyword.Link others said read = rule_said keyword.Link others (link_line others) said (link_is others) read
 line_of_is keyword.No others said read = rule_said keyword.No others (no_line others) said (no_is others) read
@@ -242,6 +300,9 @@ line_of_is keyword.Low others said read = rule_said keyword.Low others (low_line
 line_of_is keyword.Cross others said read = rule_said keyword.Cross others (cross_line others) said (cross_is others) read
 line_of_is keyword.Drop others said read = rule_said keyword.Drop others (drop_line others) said (drop_is others) read
 line_of_is keyword.Walk others said read = walk_is others said read
+line_of_is keyword.Order others said read = order_is others said read
+line_of_is keyword.Edge others said read = entry_said keyword.Edge others (edge_line others) said (edge_is others) read
+line_of_is keyword.Upper others said read = entry_said keyword.Upper others (upper_line others) said (upper_is others) read
 line_of_is keyword.End others said read = lone_is keyword.End text.End said others (record { words = refl; spelling = tt; first_word = refl }) read
 
 find_passes : (test : Keyword → Bool) (ks : List Keyword) (k : Keyword) → find test ks ≡ Some k → test k ≡ true
@@ -260,10 +321,14 @@ refused_ok section.Header (Ok t) said read = read
 refused_ok section.Kind (Ok t) said read = read
 refused_ok section.Rules (Ok t) said read = read
 refused_ok section.Walk (Ok t) said read = read
+refused_ok section.Order (Ok t) said read = read
+refused_ok section.Entries (Ok t) said read = read
 refused_ok section.Header (Err kind) said read = absurd (cc)
 refused_ok section.Kind (Err kind) said read = absurd (cc)
 refused_ok section.Rules (Err kind) said read = absurd (cc)
 refused_ok section.Walk (Err kind) said read = absurd (cc)
+refused_ok section.Order (Err kind) said read = absurd (cc)
+refused_ok section.Entries (Err kind) said read = absurd (cc)
 
 admitted_ok : (s : Section) (first : Option Keyword) (others : List (List ℕ)) (said : CertText) → admitted s first others ≡ Ok said → (k : Keyword) × (first ≡ Some k) × (admits s k ≡ true) × (line_of k others ≡ Ok said)
 admitted_ok s None others said read = absurd (cc)

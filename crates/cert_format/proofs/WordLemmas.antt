@@ -1,6 +1,6 @@
 -- The line that spells a text is read as that text, and no other line is.
 use Rattle.std.proofs.Common.{◌≡◌, ℕ, ℤ, ◌≤◌, true, false, List, [], ◌∷◌, ◌++◌, Option, None, Some, Result, Ok, refl, ap, ◌∙◌, arith, unsigned_abs, IsTrue, codes}
-use Rattle.std.specs.Option.{is_some, IfSome}
+use Rattle.std.specs.Option.{is_some, is_none, IfSome}
 use Rattle.std.specs.Fmt.{decimal, signed_decimal}
 use Rattle.net_model.specs.Names.{is_name}
 use Rattle.texts.specs.Words.{are_passed_over}
@@ -9,28 +9,32 @@ use Rattle.net_model.proofs.SpellingLemmas.{natural_spelled, integer_spelled}
 use Rattle.net_model.proofs.ReadingLemmas.{name_read}
 use Rattle.cert_format.specs.Kind.{has_label}
 use Rattle.cert_format.specs.Keywords.{spelled, keyword_of}
-use Rattle.cert_format.specs.CertificateLines.{number_of, weight_of, unlabelled, labelled, rule, line_of}
-use Rattle.cert_format.specs.CertificateWords.{rule_word, operand_words, label_words, line_words, walk_words, header_words, refutation_words, end_words, AreOperands, IsSpelledLine}
+use Rattle.cert_format.specs.CertificateLines.{number_of, weight_of, unlabelled, labelled, rule, edge_line, upper_line, entry, line_of}
+use Rattle.cert_format.specs.CertificateWords.{rule_word, operand_words, label_words, line_words, walk_words, order_words, entry_word, entry_words, header_words, refutation_words, table_words, end_words, AreOperands, IsSpelledLine, IsSpelledEntry}
 use Rattle.cert_format.specs.CertificateGrammar.{admits}
 use Rattle.cert_format.specs.CertificateText.{line_in}
 use Rattle.cert_format.specs.declared.keyword.Keyword.{Keyword}
 use Rattle.cert_format.specs.declared.keyword.Keyword.TheVariants as keyword
 use Rattle.cert_format.specs.declared.kind.LineKind.{LineKind}
 use Rattle.cert_format.specs.declared.kind.LineKind.TheVariants as kind
+use Rattle.cert_format.specs.declared.entry.Entry.{Entry}
 use Rattle.cert_format.specs.declared.line.CertLine.{CertLine}
 use Rattle.cert_format.specs.declared.read.CertText.{CertText}
 use Rattle.cert_format.specs.declared.read.CertText.TheVariants as text
 use Rattle.cert_format.specs.Limits.{most_written_weight, most_line_number}
 use Rattle.cert_format.specs.declared.section.Section.{Section}
-use Rattle.cert_format.proofs.EdgeLemmas.{same_line}
+use Rattle.cert_format.proofs.EdgeLemmas.{same_line, same_entry}
 
 -- the words of a line, by what it says
 abbrev pub text_words : CertText → List (List ℕ)
 text_words text.Blank = []
 text_words text.Header = header_words
 text_words text.Refutation = refutation_words
+text_words text.Table = table_words
 text_words (text.Line line) = line_words line
 text_words (text.Walk i) = walk_words i
+text_words (text.Order point) = order_words point
+text_words (text.Entry entry) = entry_words entry
 text_words text.End = end_words
 
 -- its first word
@@ -38,8 +42,11 @@ abbrev pub text_word : CertText → Keyword
 text_word text.Blank = keyword.End
 text_word text.Header = keyword.Certificate
 text_word text.Refutation = keyword.Refutation
+text_word text.Table = keyword.Table
 text_word (text.Line line) = rule_word line.kind
 text_word (text.Walk i) = keyword.Walk
+text_word (text.Order point) = keyword.Order
+text_word (text.Entry entry) = entry_word entry.label
 text_word text.End = keyword.End
 
 -- what it says can be spelled
@@ -47,8 +54,11 @@ abbrev pub IsSpelledText : CertText → Type 0
 IsSpelledText text.Blank = ⊥
 IsSpelledText text.Header = Unit {0}
 IsSpelledText text.Refutation = Unit {0}
+IsSpelledText text.Table = Unit {0}
 IsSpelledText (text.Line line) = IsSpelledLine line
 IsSpelledText (text.Walk i) = i ≤ most_line_number
+IsSpelledText (text.Order point) = IsTrue (is_name point)
+IsSpelledText (text.Entry entry) = IsSpelledEntry entry
 IsSpelledText text.End = Unit {0}
 
 number_read : (n : ℕ) → n ≤ most_line_number → number_of (decimal n) ≡ Ok n
@@ -98,9 +108,30 @@ edge_read (kind.Drop j) from to None weight fits ops f t l w =
     rw (number_read j ops) (relabelled (kind.Drop j) from to None weight refl fits (unlabelled (kind.Drop j) refl from to (signed_decimal weight)) (unlabelled_read (kind.Drop j) refl from to weight f t w))
 edge_read (kind.Drop j) from to (Some label) weight fits ops f t l w = absurd (cc)
 
+-- an entry, however it is known that one end is there
+abbrev pub entry_of : (from : List ℕ) (to label : Option (List ℕ)) (weight : ℤ) → is_none to ≡ is_some label → Entry
+entry_of from to label weight fits = record { from = from; to = to; label = label; weight = weight; one_end = fits }
+
+reentered : (from : List ℕ) (to label : Option (List ℕ)) (weight : ℤ) (p q : is_none to ≡ is_some label) (read : Result Entry FormatKind) → read ≡ Ok (entry_of from to label weight p) → entry read ≡ Ok (text.Entry (entry_of from to label weight q))
+reentered from to label weight p q read said =
+    ap entry said ∙ ap (λ (e : Entry). Ok (text.Entry e)) (same_entry from to label weight p q)
+
+-- what stands after the first word of an entry
+abbrev pub entry_tail : (from : List ℕ) (to label : Option (List ℕ)) (weight : ℤ) → List (List ℕ)
+entry_tail from to label weight = from ∷ (label_words to ++ (label_words label ++ signed_decimal weight ∷ []))
+
+entry_read : (from : List ℕ) (to label : Option (List ℕ)) (weight : ℤ) (fits : is_none to ≡ is_some label) → IsTrue (is_name from) → IfSome to (λ t. IsTrue (is_name t)) → IfSome label (λ l. IsTrue (is_name l)) → unsigned_abs weight ≤ most_written_weight → line_of (entry_word label) (entry_tail from to label weight) ≡ Ok (text.Entry (entry_of from to label weight fits))
+entry_read from (Some to) None weight fits f t l w =
+    reentered from (Some to) None weight refl fits (edge_line (entry_tail from (Some to) None weight)) (rw (name_read from f, name_read to t, weight_read weight w) refl)
+entry_read from None (Some label) weight fits f t l w =
+    reentered from None (Some label) weight refl fits (upper_line (entry_tail from None (Some label) weight)) (rw (name_read from f, name_read label l, weight_read weight w) refl)
+entry_read from None None weight fits f t l w = absurd (cc)
+entry_read from (Some to) (Some label) weight fits f t l w = absurd (cc)
+
 pub keyword_spelled : (k : Keyword) → keyword_of (spelled k) ≡ Some k
 keyword_spelled keyword.Certificate = refl
 keyword_spelled keyword.Refutation = refl
+keyword_spelled keyword.Table = refl
 keyword_spelled keyword.Bound = refl
 keyword_spelled keyword.Link = refl
 keyword_spelled keyword.No = refl
@@ -109,11 +140,15 @@ keyword_spelled keyword.Low = refl
 keyword_spelled keyword.Cross = refl
 keyword_spelled keyword.Drop = refl
 keyword_spelled keyword.Walk = refl
+keyword_spelled keyword.Order = refl
+keyword_spelled keyword.Edge = refl
+keyword_spelled keyword.Upper = refl
 keyword_spelled keyword.End = refl
 
 pub no_remark : (k : Keyword) (others : List (List ℕ)) → are_passed_over (spelled k ∷ others) ≡ false
 no_remark keyword.Certificate others = refl
 no_remark keyword.Refutation others = refl
+no_remark keyword.Table others = refl
 no_remark keyword.Bound others = refl
 no_remark keyword.Link others = refl
 no_remark keyword.No others = refl
@@ -122,6 +157,9 @@ no_remark keyword.Low others = refl
 no_remark keyword.Cross others = refl
 no_remark keyword.Drop others = refl
 no_remark keyword.Walk others = refl
+no_remark keyword.Order others = refl
+no_remark keyword.Edge others = refl
+no_remark keyword.Upper others = refl
 no_remark keyword.End others = refl
 
 -- a line that begins with a word that may come is read
@@ -135,25 +173,35 @@ abbrev pub text_tail : CertText → List (List ℕ)
 text_tail text.Blank = []
 text_tail text.Header = codes "1" ∷ []
 text_tail text.Refutation = []
+text_tail text.Table = []
 text_tail (text.Line line) = rule_tail line.kind line.from line.to line.label line.weight
 text_tail (text.Walk i) = decimal i ∷ []
+text_tail (text.Order point) = point ∷ []
+text_tail (text.Entry entry) = entry_tail entry.from entry.to entry.label entry.weight
 text_tail text.End = []
 
 pub words_of_text : (said : CertText) → IsSpelledText said → text_words said ≡ spelled (text_word said) ∷ text_tail said
 words_of_text text.Blank spelling = absurd spelling
 words_of_text text.Header spelling = refl
 words_of_text text.Refutation spelling = refl
+words_of_text text.Table spelling = refl
 words_of_text (text.Line line) spelling = refl
 words_of_text (text.Walk i) spelling = refl
+words_of_text (text.Order point) spelling = refl
+words_of_text (text.Entry entry) spelling = refl
 words_of_text text.End spelling = refl
 
 pub tail_read : (said : CertText) → IsSpelledText said → line_of (text_word said) (text_tail said) ≡ Ok said
 tail_read text.Blank spelling = absurd spelling
 tail_read text.Header spelling = refl
 tail_read text.Refutation spelling = refl
+tail_read text.Table spelling = refl
 tail_read (text.Line line) spelling =
     edge_read line.kind line.from line.to line.label line.weight line.labelled spelling.operands spelling.from spelling.to spelling.label spelling.weight
 tail_read (text.Walk i) spelling = rw (number_read i spelling) refl
+tail_read (text.Order point) spelling = rw (name_read point spelling) refl
+tail_read (text.Entry entry) spelling =
+    entry_read entry.from entry.to entry.label entry.weight entry.one_end spelling.from spelling.to spelling.label spelling.weight
 tail_read text.End spelling = refl
 
 -- the line that spells a text is read as that text

@@ -1,9 +1,10 @@
 -- The grammar of the texts of certificates: their lines and sections, the certificate that lines declare, and their first
 -- fault. This project's own choice.
-use Rattle.std.specs.Prelude.{◌≡◌, ◌≢◌, ℕ, ◌+◌, ◌≤◌, Bool, true, false, List, [], ◌∷◌, ◌++◌, map, length, if◌then◌else◌}
+use Rattle.std.specs.Prelude.{◌≡◌, ◌≢◌, ℕ, ◌+◌, ◌≤◌, Bool, true, false, IsTrue, List, [], ◌∷◌, ◌++◌, map, length, if◌then◌else◌}
 use Rattle.std.specs.List.{All}
 use Rattle.texts.specs.Words.{are_passed_over, words}
 use Rattle.texts.specs.Lines.{lines}
+use Rattle.net_model.specs.Names.{is_name}
 use Rattle.net_model.specs.declared.format.FormatKind.{FormatKind}
 use Rattle.net_model.specs.declared.format.FormatKind.TheVariants.{NoHeader, NoEnd}
 use Rattle.net_model.specs.declared.format.FormatFault.{FormatFault}
@@ -13,24 +14,29 @@ use Rattle.net_model.specs.declared.format.WordFault.{WordFault}
 use Rattle.net_model.specs.declared.format.WordFault.TheVariants as word
 use Rattle.cert_format.specs.Limits.{most_line_number}
 use Rattle.cert_format.specs.LineForms.{IsFaultAmong}
-use Rattle.cert_format.specs.CertificateWords.{line_words, walk_words, header_words, refutation_words, end_words, certificate_words, IsSpelledLine, IsSpelled}
+use Rattle.cert_format.specs.Keywords.{is_of_refutation, is_of_table}
+use Rattle.cert_format.specs.CertificateWords.{line_words, walk_words, order_words, entry_words, header_words, refutation_words, table_words, end_words, certificate_words, IsSpelledLine, IsSpelledEntry, IsSpelled}
 use Rattle.cert_format.specs.declared.keyword.Keyword.{Keyword}
 use Rattle.cert_format.specs.declared.keyword.Keyword.TheVariants as keyword
 use Rattle.cert_format.specs.declared.section.Section.{Section}
 use Rattle.cert_format.specs.declared.section.Section.TheVariants as section
 use Rattle.cert_format.specs.declared.line.CertLine.{CertLine}
+use Rattle.cert_format.specs.declared.entry.Entry.{Entry}
 use Rattle.cert_format.specs.declared.read.CertText.{CertText}
 use Rattle.cert_format.specs.declared.read.CertText.TheVariants as text
 use Rattle.cert_format.specs.declared.certificate.Certificate.{Certificate}
-use Rattle.cert_format.specs.declared.certificate.Certificate.TheVariants.{Refutation}
+use Rattle.cert_format.specs.declared.certificate.Certificate.TheVariants.{Refutation, TableProof}
 
 -- how a line is spelled, by what it says
 abbrev pub AreWordsOf : CertText → List (List ℕ) → Type 0
 AreWordsOf text.Blank words = are_passed_over words ≡ true
 AreWordsOf text.Header words = words ≡ header_words
 AreWordsOf text.Refutation words = words ≡ refutation_words
+AreWordsOf text.Table words = words ≡ table_words
 AreWordsOf (text.Line line) words = (words ≡ line_words line) × IsSpelledLine line
 AreWordsOf (text.Walk i) words = (words ≡ walk_words i) × (i ≤ most_line_number)
+AreWordsOf (text.Order point) words = (words ≡ order_words point) × IsTrue (is_name point)
+AreWordsOf (text.Entry entry) words = (words ≡ entry_words entry) × IsSpelledEntry entry
 AreWordsOf text.End words = words ≡ end_words
 
 -- a line says this
@@ -64,47 +70,73 @@ CanBecomeCertificate front = (more : List (List ℕ)) × (certificate : Certific
 abbrev pub admits : Section → Keyword → Bool
 admits section.Header keyword.Certificate = true
 admits section.Kind keyword.Refutation = true
-admits section.Rules keyword.Certificate = false
-admits section.Rules keyword.Refutation = false
-admits section.Rules others = true
+admits section.Kind keyword.Table = true
+admits section.Rules first = is_of_refutation first
 admits section.Walk keyword.Walk = true
 admits section.Walk keyword.End = true
+admits section.Order first = is_of_table first
+admits section.Entries keyword.Edge = true
+admits section.Entries keyword.Upper = true
+admits section.Entries keyword.End = true
 admits others first = false
 
--- what was read of a certificate: the section that is reached, the rule lines and the walk so far
+-- what was read of a certificate: the section that is reached, and so far the rule lines and the walk of a refutation, the order
+-- and the entries of a table proof
 pub record Progress : Type 0 where
   pub section : Section
   pub lines : List CertLine
   pub walk : List ℕ
+  pub order : List (List ℕ)
+  pub entries : List Entry
 
 -- before the first line
 abbrev pub begun : Progress
-begun = record { section = section.Header; lines = []; walk = [] }
+begun = record { section = section.Header; lines = []; walk = []; order = []; entries = [] }
 
--- the certificate of which all was read
+-- the certificate of which all was read, by the section in which it ends
+abbrev pub certificate_by : Section → Progress → Certificate
+certificate_by section.Order read = TableProof read.order read.entries
+certificate_by section.Entries read = TableProof read.order read.entries
+certificate_by others read = Refutation read.lines read.walk
+
 abbrev pub certificate_of : Progress → Certificate
-certificate_of read = Refutation read.lines read.walk
+certificate_of read = certificate_by read.section read
 
 -- how the lines are spelled with which a section is reached
-abbrev pub front_words : Section → List CertLine → List ℕ → List (List (List ℕ))
-front_words section.Header lines walk = []
-front_words section.Kind lines walk = header_words ∷ []
-front_words section.Rules lines walk = header_words ∷ refutation_words ∷ map line_words lines
-front_words section.Walk lines walk = header_words ∷ refutation_words ∷ (map line_words lines ++ map walk_words walk)
+abbrev pub front_words : Section → Progress → List (List (List ℕ))
+front_words section.Header read = []
+front_words section.Kind read = header_words ∷ []
+front_words section.Rules read = header_words ∷ refutation_words ∷ map line_words read.lines
+front_words section.Walk read = header_words ∷ refutation_words ∷ (map line_words read.lines ++ map walk_words read.walk)
+front_words section.Order read = header_words ∷ table_words ∷ map order_words read.order
+front_words section.Entries read = header_words ∷ table_words ∷ (map order_words read.order ++ map entry_words read.entries)
+
+-- nothing was read of a refutation, or of a table proof
+abbrev pub NoRefutation : Progress → Type 0
+NoRefutation read = (read.lines ≡ []) × (read.walk ≡ [])
+
+abbrev pub NoTable : Progress → Type 0
+NoTable read = (read.order ≡ []) × (read.entries ≡ [])
 
 -- what may have been read where a section is reached
-abbrev pub IsReached : Section → List CertLine → List ℕ → Type 0
-IsReached section.Header lines walk = (lines ≡ []) × (walk ≡ [])
-IsReached section.Kind lines walk = (lines ≡ []) × (walk ≡ [])
-IsReached section.Rules lines walk = walk ≡ []
-IsReached section.Walk lines walk = walk ≢ []
+abbrev pub IsReached : Section → Progress → Type 0
+IsReached section.Header read = NoRefutation read × NoTable read
+IsReached section.Kind read = NoRefutation read × NoTable read
+IsReached section.Rules read = (read.walk ≡ []) × NoTable read
+IsReached section.Walk read = (read.walk ≢ []) × NoTable read
+IsReached section.Order read = (read.entries ≡ []) × NoRefutation read
+IsReached section.Entries read = (read.entries ≢ []) × NoRefutation read
+
+-- what was read can be spelled: the rule lines, the walk, the order and the entries
+abbrev pub AreSpelled : Progress → Type 0
+AreSpelled read =
+    All IsSpelledLine read.lines × All (λ i. i ≤ most_line_number) read.walk × All (λ point. IsTrue (is_name point)) read.order × All IsSpelledEntry read.entries
 
 -- the front of a certificate: its lines are spelled as what was read of it, with blank lines between
 pub record IsFront (front : List (List ℕ)) (read : Progress) : Type 0 where
-  pub said : filled_words front ≡ front_words read.section read.lines read.walk
-  pub reached : IsReached read.section read.lines read.walk
-  pub spelled_lines : All IsSpelledLine read.lines
-  pub spelled_walk : All (λ i. i ≤ most_line_number) read.walk
+  pub said : filled_words front ≡ front_words read.section read
+  pub reached : IsReached read.section read
+  pub spelled : AreSpelled read
 
 -- the fault of a line in a section
 abbrev pub IsFaultIn : Section → List (List ℕ) → FormatKind → Type 0

@@ -14,6 +14,7 @@ use Rattle.cert_format.specs.declared.keyword.Keyword.TheVariants as keyword
 use Rattle.cert_format.specs.declared.kind.LineKind.{LineKind}
 use Rattle.cert_format.specs.declared.kind.LineKind.TheVariants as kind
 use Rattle.cert_format.specs.declared.line.CertLine.{CertLine}
+use Rattle.cert_format.specs.declared.entry.Entry.{Entry}
 use Rattle.cert_format.specs.declared.read.CertText.{CertText}
 use Rattle.cert_format.specs.declared.read.CertText.TheVariants as text
 
@@ -108,12 +109,49 @@ walk_line (first ∷ []) = do
   Ok (text.Walk i)
 walk_line others = Err WordCount
 
+-- POINT, after `order`
+abbrev pub order_line : List (List ℕ) → Result CertText FormatKind
+order_line (point ∷ []) = do
+  n ← name_of point
+  Ok (text.Order n)
+order_line others = Err WordCount
+
+-- FROM TO W, of an entry without a label
+abbrev pub edge_entry : (from to weight : List ℕ) → Result Entry FormatKind
+edge_entry from to weight = do
+  x ← name_of from
+  y ← name_of to
+  w ← weight_of weight
+  Ok (record { from = x; to = Some y; label = None; weight = w; one_end = refl })
+
+abbrev pub edge_line : List (List ℕ) → Result Entry FormatKind
+edge_line (from ∷ to ∷ weight ∷ []) = edge_entry from to weight
+edge_line others = Err WordCount
+
+-- FROM LABEL W, of an entry with a label
+abbrev pub upper_entry : (from label weight : List ℕ) → Result Entry FormatKind
+upper_entry from label weight = do
+  x ← name_of from
+  l ← name_of label
+  w ← weight_of weight
+  Ok (record { from = x; to = None; label = Some l; weight = w; one_end = refl })
+
+abbrev pub upper_line : List (List ℕ) → Result Entry FormatKind
+upper_line (from ∷ label ∷ weight ∷ []) = upper_entry from label weight
+upper_line others = Err WordCount
+
+-- an entry
+abbrev pub entry : Result Entry FormatKind → Result CertText FormatKind
+entry read = do
+  e ← read
+  Ok (text.Entry e)
+
 -- 1, after `certificate`
 abbrev pub header_line : List (List ℕ) → Result CertText FormatKind
 header_line (version ∷ []) = if bytes_eq version (codes "1") then Ok text.Header else Err UnknownWord
 header_line others = Err UnknownWord
 
--- nothing, after `refutation` or `end`
+-- nothing, after `refutation`, `table` or `end`
 abbrev pub lone_word : CertText → List (List ℕ) → Result CertText FormatKind
 lone_word said [] = Ok said
 lone_word said others = Err WordCount
@@ -122,6 +160,7 @@ lone_word said others = Err WordCount
 abbrev pub line_of : Keyword → List (List ℕ) → Result CertText FormatKind
 line_of keyword.Certificate others = header_line others
 line_of keyword.Refutation others = lone_word text.Refutation others
+line_of keyword.Table others = lone_word text.Table others
 line_of keyword.Bound others = rule (bound_line others)
 line_of keyword.Link others = rule (link_line others)
 line_of keyword.No others = rule (no_line others)
@@ -130,6 +169,9 @@ line_of keyword.Low others = rule (low_line others)
 line_of keyword.Cross others = rule (cross_line others)
 line_of keyword.Drop others = rule (drop_line others)
 line_of keyword.Walk others = walk_line others
+line_of keyword.Order others = order_line others
+line_of keyword.Edge others = entry (edge_line others)
+line_of keyword.Upper others = entry (upper_line others)
 line_of keyword.End others = lone_word text.End others
 
 -- a line by the word with which it begins

@@ -40,8 +40,11 @@ abbrev pub advanced : Progress → CertText → Progress
 advanced read text.Blank = read
 advanced read text.Header = record read { section = section.Kind }
 advanced read text.Refutation = record read { section = section.Rules }
+advanced read text.Table = record read { section = section.Order }
 advanced read (text.Line line) = record read { lines = read.lines ++ line ∷ [] }
 advanced read (text.Walk i) = record read { section = section.Walk; walk = read.walk ++ i ∷ [] }
+advanced read (text.Order point) = record read { order = read.order ++ point ∷ [] }
+advanced read (text.Entry entry) = record read { section = section.Entries; entries = read.entries ++ entry ∷ [] }
 advanced read text.End = read
 
 -- a certificate that was read, and the lines after it

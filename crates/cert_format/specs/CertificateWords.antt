@@ -11,8 +11,9 @@ use Rattle.cert_format.specs.declared.keyword.Keyword.TheVariants as keyword
 use Rattle.cert_format.specs.declared.kind.LineKind.{LineKind}
 use Rattle.cert_format.specs.declared.kind.LineKind.TheVariants as kind
 use Rattle.cert_format.specs.declared.line.CertLine.{CertLine}
+use Rattle.cert_format.specs.declared.entry.Entry.{Entry}
 use Rattle.cert_format.specs.declared.certificate.Certificate.{Certificate}
-use Rattle.cert_format.specs.declared.certificate.Certificate.TheVariants.{Refutation}
+use Rattle.cert_format.specs.declared.certificate.Certificate.TheVariants.{Refutation, TableProof}
 
 -- the first word of a rule line
 abbrev pub rule_word : LineKind → Keyword
@@ -49,6 +50,22 @@ line_words line =
 abbrev pub walk_words : ℕ → List (List ℕ)
 walk_words i = codes "walk" ∷ decimal i ∷ []
 
+-- the words of a line of the order
+abbrev pub order_words : List ℕ → List (List ℕ)
+order_words point = codes "order" ∷ point ∷ []
+
+-- the first word of an entry, by its label
+abbrev pub entry_word : Option (List ℕ) → Keyword
+entry_word None = keyword.Edge
+entry_word (Some label) = keyword.Upper
+
+-- the words of an entry: its first word, FROM, TO or LABEL, and W
+abbrev pub entry_words : Entry → List (List ℕ)
+entry_words entry =
+    spelled (entry_word entry.label)
+    ∷ entry.from
+    ∷ (label_words entry.to ++ (label_words entry.label ++ signed_decimal entry.weight ∷ []))
+
 -- the words of the header, of the second line and of the last one
 abbrev pub header_words : List (List ℕ)
 header_words = codes "certificate" ∷ codes "1" ∷ []
@@ -56,12 +73,17 @@ header_words = codes "certificate" ∷ codes "1" ∷ []
 abbrev pub refutation_words : List (List ℕ)
 refutation_words = codes "refutation" ∷ []
 
+abbrev pub table_words : List (List ℕ)
+table_words = codes "table" ∷ []
+
 abbrev pub end_words : List (List ℕ)
 end_words = codes "end" ∷ []
 
--- the lines of a certificate: the header, `refutation`, its rule lines, its walk and `end`
+-- the lines of a certificate: the header, `refutation`, its rule lines, its walk and `end`; or the header, `table`, its
+-- order, its entries and `end`
 abbrev pub certificate_words : Certificate → List (List (List ℕ))
 certificate_words (Refutation lines walk) = header_words ∷ refutation_words ∷ (map line_words lines ++ (map walk_words walk ++ end_words ∷ []))
+certificate_words (TableProof order entries) = header_words ∷ table_words ∷ (map order_words order ++ (map entry_words entries ++ end_words ∷ []))
 
 -- the printed text of a certificate
 unfoldable pub printed_certificate : Certificate → List ℕ
@@ -89,10 +111,22 @@ pub record IsSpelledLine (line : CertLine) : Type 0 where
   pub label : IfSome line.label (λ label. IsTrue (is_name label))
   pub weight : IsWeight line
 
+abbrev pub IsEntryWeight : Entry → Type 0
+IsEntryWeight entry = unsigned_abs entry.weight ≤ most_written_weight
+
+-- an entry that can be spelled
+pub record IsSpelledEntry (entry : Entry) : Type 0 where
+  pub from : IsTrue (is_name entry.from)
+  pub to : IfSome entry.to (λ to. IsTrue (is_name to))
+  pub label : IfSome entry.label (λ label. IsTrue (is_name label))
+  pub weight : IsEntryWeight entry
+
 -- a certificate whose weights are within their limit
 abbrev pub HasWeights : Certificate → Type 0
 HasWeights (Refutation lines walk) = All IsWeight lines
+HasWeights (TableProof order entries) = All IsEntryWeight entries
 
 -- a certificate that can be spelled
 abbrev pub IsSpelled : Certificate → Type 0
 IsSpelled (Refutation lines walk) = All IsSpelledLine lines × All (λ i. i ≤ most_line_number) walk
+IsSpelled (TableProof order entries) = All (λ point. IsTrue (is_name point)) order × All IsSpelledEntry entries

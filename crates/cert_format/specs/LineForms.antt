@@ -9,7 +9,7 @@ use Rattle.net_model.specs.declared.format.FormatKind.TheVariants.{UnknownWord, 
 use Rattle.cert_format.specs.Limits.{most_written_weight, most_line_number}
 use Rattle.cert_format.specs.Keywords.{spelled}
 use Rattle.cert_format.specs.declared.keyword.Keyword.{Keyword}
-use Rattle.cert_format.specs.declared.keyword.Keyword.TheVariants.{Certificate, Refutation, Bound, Link, No, Up, Low, Cross, Drop, Walk, End}
+use Rattle.cert_format.specs.declared.keyword.Keyword.TheVariants.{Certificate, Refutation, Table, Bound, Link, No, Up, Low, Cross, Drop, Walk, Order, Edge, Upper, End}
 
 -- what a line asks for in a place after its first word
 pub data Place : Type 0 where
@@ -22,6 +22,7 @@ pub data Place : Type 0 where
 abbrev pub places : Keyword → List Place
 places Certificate = version ∷ []
 places Refutation = []
+places Table = []
 places Bound = name ∷ name ∷ name ∷ weight ∷ []
 places Link = name ∷ name ∷ name ∷ weight ∷ []
 places No = line_number ∷ line_number ∷ name ∷ name ∷ weight ∷ []
@@ -30,6 +31,9 @@ places Low = name ∷ line_number ∷ name ∷ name ∷ weight ∷ []
 places Cross = name ∷ line_number ∷ name ∷ name ∷ name ∷ weight ∷ []
 places Drop = line_number ∷ name ∷ name ∷ weight ∷ []
 places Walk = line_number ∷ []
+places Order = name ∷ []
+places Edge = name ∷ name ∷ weight ∷ []
+places Upper = name ∷ name ∷ weight ∷ []
 places End = []
 
 -- a word spells a whole number from 0: it is `0`, or digits of which the first is not 0

@@ -1,5 +1,6 @@
+use crate::entry::Entry;
 use crate::line::CertLine;
-use net_model::Items;
+use net_model::{Items, Name};
 
 /// A proof that what it says of a network is so.
 #[derive(Debug, Drop)]
@@ -9,5 +10,11 @@ pub enum Certificate {
     Refutation {
         lines: Items<CertLine>,
         walk: Items<u64>,
+    },
+    /// Some strategy controls the network: `entries` are edges from which the rules give no other ones, and in `order` each
+    /// negative ordinary one goes from a later point to an earlier one.
+    TableProof {
+        order: Items<Name>,
+        entries: Items<Entry>,
     },
 }

@@ -5,6 +5,7 @@ ghost use Rattle.std.specs.Prelude.{◌≡◌};
 pub(crate) enum Keyword {
     Certificate,
     Refutation,
+    Table,
     Bound,
     Link,
     No,
@@ -13,15 +14,19 @@ pub(crate) enum Keyword {
     Cross,
     Drop,
     Walk,
+    Order,
+    Edge,
+    Upper,
     End,
 }
 
 impl Keyword {
-    ghost use Rattle.cert_format.specs.Keywords.{spelled, keyword_of};
+    ghost use Rattle.cert_format.specs.Keywords.{spelled, keyword_of, is_of_refutation, is_of_table};
 
-    const ALL: [Keyword; 11] = [
+    const ALL: [Keyword; 15] = [
         Keyword::Certificate,
         Keyword::Refutation,
+        Keyword::Table,
         Keyword::Bound,
         Keyword::Link,
         Keyword::No,
@@ -30,6 +35,9 @@ impl Keyword {
         Keyword::Cross,
         Keyword::Drop,
         Keyword::Walk,
+        Keyword::Order,
+        Keyword::Edge,
+        Keyword::Upper,
         Keyword::End,
     ];
 
@@ -40,6 +48,7 @@ impl Keyword {
         match self {
             Keyword::Certificate => b"certificate",
             Keyword::Refutation => b"refutation",
+            Keyword::Table => b"table",
             Keyword::Bound => b"bound",
             Keyword::Link => b"link",
             Keyword::No => b"no",
@@ -48,8 +57,34 @@ impl Keyword {
             Keyword::Cross => b"cross",
             Keyword::Drop => b"drop",
             Keyword::Walk => b"walk",
+            Keyword::Order => b"order",
+            Keyword::Edge => b"edge",
+            Keyword::Upper => b"upper",
             Keyword::End => b"end",
         }
+    }
+
+    /// Whether a line of a refutation after its second one begins with the word.
+    pub(crate) fn is_of_refutation(self) -> bool
+        ensures { result ≡ is_of_refutation self }
+    {
+        match self {
+            Keyword::Bound | Keyword::Link | Keyword::No | Keyword::Up => true,
+            Keyword::Low | Keyword::Cross | Keyword::Drop => true,
+            Keyword::Walk | Keyword::End => true,
+            Keyword::Certificate | Keyword::Refutation | Keyword::Table => false,
+            Keyword::Order | Keyword::Edge | Keyword::Upper => false,
+        }
+    }
+
+    /// Whether a line of a table proof after its second one begins with the word.
+    pub(crate) fn is_of_table(self) -> bool
+        ensures { result ≡ is_of_table self }
+    {
+        matches!(
+            self,
+            Keyword::Order | Keyword::Edge | Keyword::Upper | Keyword::End
+        )
     }
 
     /// The first word that a word is, or `None` where it is none of them.

@@ -1,7 +1,8 @@
-//! The text of certificates: proofs that no strategy controls a network, line by line.
+//! The text of certificates, line by line: proofs that no strategy controls a network, or that one does.
 #![tactic(auto)]
 
 mod certificate;
+mod entry;
 mod keyword;
 mod kind;
 pub mod laws;
@@ -15,6 +16,7 @@ mod section;
 mod whole;
 
 pub use certificate::Certificate;
+pub use entry::Entry;
 pub use kind::LineKind;
 pub use limits::{MOST_LINE_NUMBER, MOST_WEIGHT, limits_are_defined};
 pub use line::CertLine;

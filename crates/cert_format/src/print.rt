@@ -7,9 +7,10 @@ ghost use Rattle.net_model.specs.Names.{is_name};
 ghost use Rattle.texts.specs.Printing.{after_blank, printed_line};
 ghost use Rattle.cert_format.specs.Limits.{most_line_number};
 ghost use Rattle.cert_format.specs.CertificateText.{certificate_text};
-ghost use Rattle.cert_format.specs.CertificateWords.{rule_word, operand_words, label_words, line_words, walk_words, printed_certificate, AreOperands, IsWeight, IsSpelledLine, HasWeights};
+ghost use Rattle.cert_format.specs.CertificateWords.{rule_word, operand_words, label_words, line_words, walk_words, entry_word, entry_words, order_words, printed_certificate, IsEntryWeight, IsSpelledEntry, AreOperands, IsWeight, IsSpelledLine, HasWeights};
 
 use crate::certificate::Certificate;
+use crate::entry::Entry;
 use crate::keyword::Keyword;
 use crate::kind::LineKind;
 use crate::line::CertLine;
@@ -17,8 +18,8 @@ use net_model::Name;
 use std::alloc::{AllocError, Global};
 use texts::push_line;
 
-/// The text of a certificate: the header, `refutation`, the rule lines and the walk in their order, and `end`, with one
-/// blank between words and a line end after each line. Each weight must be below 10^18 in size. It reads back to the same
+/// The text of a certificate: the header, `refutation`, the rule lines and the walk in their order, and `end`, or the header,
+/// `table`, the order, the entries and `end`, with one blank between words and a line end after each line. Each weight must be below 10^18 in size. It reads back to the same
 /// certificate. `AllocError` comes only for want of memory.
 pub fn print_certificate(alloc: Global, certificate: &Certificate) -> Result<Vec<u8>, AllocError>
     requires { HasWeights certificate.now }
@@ -28,6 +29,9 @@ pub fn print_certificate(alloc: Global, certificate: &Certificate) -> Result<Vec
     match certificate {
         Certificate::Refutation { lines, walk } => {
             print_refutation(alloc, lines.as_slice(), walk.as_slice())
+        }
+        Certificate::TableProof { order, entries } => {
+            print_table(alloc, order.as_slice(), entries.as_slice())
         }
     }
 }
@@ -44,6 +48,65 @@ fn print_refutation(alloc: Global, lines: &[CertLine], walk: &[u64]) -> Result<V
     push_walk(alloc, &mut out, walk)?;
     push_line(&mut out, b"end", &[])?;
     Ok(out)
+}
+
+fn print_table(alloc: Global, order: &[Name], entries: &[Entry]) -> Result<Vec<u8>, AllocError>
+    requires { All IsEntryWeight entries.now }
+    ensures text { IfOk result (λ text. text.items ≡ printed_certificate (Certificate.TableProof order.now entries.now)) }
+    ensures back { IfOk result (λ text. certificate_text text.items ≡ Ok (Certificate.TableProof order.now entries.now)) }
+{
+    let mut out = Vec::new(alloc);
+    push_line(&mut out, b"certificate", &[b"1".as_slice()])?;
+    push_line(&mut out, b"table", &[])?;
+    push_order(&mut out, order)?;
+    push_entries(alloc, &mut out, entries)?;
+    push_line(&mut out, b"end", &[])?;
+    Ok(out)
+}
+
+fn push_order(out: &mut Vec<u8>, order: &[Name]) -> Result<(), AllocError>
+    ensures text { OnOk result (out.new.items ≡ out.old.items ++ flat_map (λ point. printed_line (order_words point)) order.now) }
+    ensures spelled { OnOk result (All (λ point. IsTrue (is_name point)) order.now) }
+{
+    for point in order {
+        push_line(out, b"order", &[point.bytes()])?;
+    }
+    Ok(())
+}
+
+fn push_entries(alloc: Global, out: &mut Vec<u8>, entries: &[Entry]) -> Result<(), AllocError>
+    requires { All IsEntryWeight entries.now }
+    ensures text { OnOk result (out.new.items ≡ out.old.items ++ flat_map (λ entry. printed_line (entry_words entry)) entries.now) }
+    ensures spelled { OnOk result (All IsSpelledEntry entries.now) }
+{
+    for entry in entries {
+        push_entry(alloc, out, entry)?;
+    }
+    Ok(())
+}
+
+fn push_entry(alloc: Global, out: &mut Vec<u8>, entry: &Entry) -> Result<(), AllocError>
+    requires { IsEntryWeight entry.now }
+    ensures text { OnOk result (out.new.items ≡ out.old.items ++ printed_line (entry_words entry.now)) }
+    ensures spelled { OnOk result (IsSpelledEntry entry.now) }
+{
+    out.extend_from_slice(entry_word(&entry.label).spelled())?;
+    push_word(out, entry.from.bytes())?;
+    push_label(out, &entry.to)?;
+    push_label(out, &entry.label)?;
+    push_word(out, entry.weight.to_string(alloc)?.as_bytes())?;
+    out.push(b'\n')?;
+    Ok(())
+}
+
+/// The first word of an entry, by its label.
+fn entry_word(label: &Option<Name>) -> Keyword
+    ensures { result ≡ entry_word label.now }
+{
+    match label {
+        None => Keyword::Edge,
+        Some(_) => Keyword::Upper,
+    }
 }
 
 fn push_rules(alloc: Global, out: &mut Vec<u8>, lines: &[CertLine]) -> Result<(), AllocError>
@@ -105,6 +168,7 @@ fn push_operands(alloc: Global, out: &mut Vec<u8>, kind: &LineKind) -> Result<()
     }
 }
 
+/// One blank and a name, where there is one.
 fn push_label(out: &mut Vec<u8>, label: &Option<Name>) -> Result<(), AllocError>
     ensures text { OnOk result (out.new.items ≡ out.old.items ++ flat_map after_blank (label_words label.now)) }
     ensures spelled { OnOk result (IfSome label.now (λ label. IsTrue (is_name label))) }

@@ -6,8 +6,9 @@ ghost use Rattle.texts.specs.Words.{words};
 ghost use Rattle.cert_format.specs.Kind.{has_label};
 ghost use Rattle.cert_format.specs.declared.read.CertText.{CertText};
 ghost use Rattle.cert_format.specs.CertificateGrammar.{IsFaultAlone, IsLine};
-ghost use Rattle.cert_format.specs.CertificateLines.{cert_text, line_of, header_line, lone_word, walk_line, bound_line, link_line, no_line, up_line, low_line, cross_line, drop_line, unlabelled, labelled, number_of, weight_of};
+ghost use Rattle.cert_format.specs.CertificateLines.{cert_text, line_of, header_line, lone_word, walk_line, order_line, edge_line, edge_entry, upper_line, upper_entry, bound_line, link_line, no_line, up_line, low_line, cross_line, drop_line, unlabelled, labelled, number_of, weight_of};
 
+use crate::entry::Entry;
 use crate::keyword::Keyword;
 use crate::kind::LineKind;
 use crate::limits::{MOST_LINE_NUMBER, MOST_WEIGHT};
@@ -23,10 +24,16 @@ pub enum CertText {
     Header,
     /// The second line, `refutation`.
     Refutation,
+    /// The second line, `table`.
+    Table,
     /// A rule line.
     Line(CertLine),
     /// An edge of the walk: the number of its rule line.
     Walk(u64),
+    /// A point of the order.
+    Order(Name),
+    /// An entry of the table.
+    Entry(Entry),
     /// The last line, `end`.
     End,
 }
@@ -70,6 +77,7 @@ pub(crate) fn line_of(keyword: Keyword, rest: &[u8]) -> Result<CertText, FormatK
     match keyword {
         Keyword::Certificate => header_line(rest),
         Keyword::Refutation => lone_word(CertText::Refutation, rest),
+        Keyword::Table => lone_word(CertText::Table, rest),
         Keyword::Bound => Ok(CertText::Line(bound_line(rest)?)),
         Keyword::Link => Ok(CertText::Line(link_line(rest)?)),
         Keyword::No => Ok(CertText::Line(no_line(rest)?)),
@@ -78,6 +86,9 @@ pub(crate) fn line_of(keyword: Keyword, rest: &[u8]) -> Result<CertText, FormatK
         Keyword::Cross => Ok(CertText::Line(cross_line(rest)?)),
         Keyword::Drop => Ok(CertText::Line(drop_line(rest)?)),
         Keyword::Walk => walk_line(rest),
+        Keyword::Order => order_line(rest),
+        Keyword::Edge => Ok(CertText::Entry(edge_line(rest)?)),
+        Keyword::Upper => Ok(CertText::Entry(upper_line(rest)?)),
         Keyword::End => lone_word(CertText::End, rest),
     }
 }
@@ -113,6 +124,61 @@ fn walk_line(rest: &[u8]) -> Result<CertText, FormatKind>
     let (first, rest) = text::word(rest)?;
     text::no_more(rest)?;
     Ok(CertText::Walk(number(first)?))
+}
+
+/// What stands after `order`.
+fn order_line(rest: &[u8]) -> Result<CertText, FormatKind>
+    ensures { result ≡ order_line (words rest.now) }
+{
+    let (point, rest) = text::word(rest)?;
+    text::no_more(rest)?;
+    Ok(CertText::Order(text::name(point)?))
+}
+
+/// What stands after `edge`.
+fn edge_line(rest: &[u8]) -> Result<Entry, FormatKind>
+    ensures { result ≡ edge_line (words rest.now) }
+{
+    let (from, rest) = text::word(rest)?;
+    let (to, rest) = text::word(rest)?;
+    let (weight, rest) = text::word(rest)?;
+    text::no_more(rest)?;
+    edge_entry(from, to, weight)
+}
+
+/// An entry without a label.
+fn edge_entry(from: &[u8], to: &[u8], weight: &[u8]) -> Result<Entry, FormatKind>
+    ensures { result ≡ edge_entry from.now to.now weight.now }
+{
+    Ok(Entry {
+        from: text::name(from)?,
+        to: Some(text::name(to)?),
+        label: None,
+        weight: weight_of(weight)?,
+    })
+}
+
+/// What stands after `upper`.
+fn upper_line(rest: &[u8]) -> Result<Entry, FormatKind>
+    ensures { result ≡ upper_line (words rest.now) }
+{
+    let (from, rest) = text::word(rest)?;
+    let (label, rest) = text::word(rest)?;
+    let (weight, rest) = text::word(rest)?;
+    text::no_more(rest)?;
+    upper_entry(from, label, weight)
+}
+
+/// An entry with a label.
+fn upper_entry(from: &[u8], label: &[u8], weight: &[u8]) -> Result<Entry, FormatKind>
+    ensures { result ≡ upper_entry from.now label.now weight.now }
+{
+    Ok(Entry {
+        from: text::name(from)?,
+        to: None,
+        label: Some(text::name(label)?),
+        weight: weight_of(weight)?,
+    })
 }
 
 /// What stands after `bound`.

@@ -3,21 +3,24 @@
 ghost use Rattle.std.specs.Prelude.{◌≡◌, ◌++◌, ◌∷◌, [], OnOk, OnErr};
 
 use crate::certificate::Certificate;
+use crate::entry::Entry;
 use crate::line::CertLine;
 use crate::placed::line_in;
 use crate::read::CertText;
 use crate::section::Section;
-use net_model::{FormatKind, Items, WordFault};
+use net_model::{FormatKind, Items, Name, WordFault};
 use std::alloc::{AllocError, Global};
 use std::marker::Model;
 
 /// A certificate of which lines are read one after another. Contracts see it as what was read: the section that is
-/// reached, the rule lines and the walk lines.
+/// reached, the rule lines and the walk lines of a refutation, and the order and the entries of a table proof.
 #[derive(Debug, Drop)]
 pub struct CertReader {
     section: Section,
     lines: Vec<CertLine>,
     walk: Vec<u64>,
+    order: Vec<Name>,
+    entries: Vec<Entry>,
 }
 
 impl Model for CertReader {
@@ -25,7 +28,7 @@ impl Model for CertReader {
 
     ghost Value = { Progress };
 
-    ghost view = { λ r. record { section = r.section; lines = r.lines.items; walk = r.walk.items } };
+    ghost view = { λ r. record { section = r.section; lines = r.lines.items; walk = r.walk.items; order = r.order.items; entries = r.entries.items } };
 }
 
 impl CertReader {
@@ -43,6 +46,8 @@ impl CertReader {
             section: Section::Header,
             lines: Vec::new(alloc),
             walk: Vec::new(alloc),
+            order: Vec::new(alloc),
+            entries: Vec::new(alloc),
         }
     }
 
@@ -93,10 +98,16 @@ impl CertReader {
             CertText::Blank | CertText::End => {}
             CertText::Header => self.section = Section::Kind,
             CertText::Refutation => self.section = Section::Rules,
+            CertText::Table => self.section = Section::Order,
             CertText::Line(line) => push(&mut self.lines, *line)?,
             CertText::Walk(number) => {
                 self.walk.push(*number)?;
                 self.section = Section::Walk;
+            }
+            CertText::Order(point) => self.order.push(*point)?,
+            CertText::Entry(entry) => {
+                push_entry(&mut self.entries, *entry)?;
+                self.section = Section::Entries;
             }
         }
         Ok(())
@@ -107,13 +118,21 @@ impl CertReader {
         ensures { result ≡ certificate_of self }
     {
         let CertReader {
-            section: _,
+            section,
             lines,
             walk,
+            order,
+            entries,
         } = self;
-        Certificate::Refutation {
-            lines: Items::new(lines),
-            walk: Items::new(walk),
+        match section {
+            Section::Order | Section::Entries => Certificate::TableProof {
+                order: Items::new(order),
+                entries: Items::new(entries),
+            },
+            _ => Certificate::Refutation {
+                lines: Items::new(lines),
+                walk: Items::new(walk),
+            },
         }
     }
 }
@@ -132,6 +151,26 @@ fn push(lines: &mut Vec<CertLine>, line: CertLine) -> Result<(), AllocError>
     } = line;
     lines.push(CertLine {
         kind,
+        from,
+        to,
+        label,
+        weight,
+    })?;
+    Ok(())
+}
+
+/// One entry more, put together in the same way.
+fn push_entry(entries: &mut Vec<Entry>, entry: Entry) -> Result<(), AllocError>
+    ensures kept { OnOk result (entries.new.items ≡ entries.old.items ++ entry ∷ []) }
+    ensures refused { OnErr result (entries.new.items ≡ entries.old.items) }
+{
+    let Entry {
+        from,
+        to,
+        label,
+        weight,
+    } = entry;
+    entries.push(Entry {
         from,
         to,
         label,

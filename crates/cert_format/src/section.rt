@@ -6,12 +6,16 @@ use net_model::FormatKind;
 pub enum Section {
     /// The header, `certificate 1`.
     Header,
-    /// What the certificate is: `refutation`.
+    /// What the certificate is: `refutation` or `table`.
     Kind,
     /// Rule lines, then walk lines, then the end.
     Rules,
     /// Walk lines, then the end.
     Walk,
+    /// Lines of the order, then entries, then the end.
+    Order,
+    /// Entries, then the end.
+    Entries,
 }
 
 impl Section {
@@ -24,9 +28,11 @@ impl Section {
     {
         match self {
             Section::Header => first == Keyword::Certificate,
-            Section::Kind => first == Keyword::Refutation,
-            Section::Rules => !matches!(first, Keyword::Certificate | Keyword::Refutation),
+            Section::Kind => matches!(first, Keyword::Refutation | Keyword::Table),
+            Section::Rules => first.is_of_refutation(),
             Section::Walk => matches!(first, Keyword::Walk | Keyword::End),
+            Section::Order => first.is_of_table(),
+            Section::Entries => matches!(first, Keyword::Edge | Keyword::Upper | Keyword::End),
         }
     }
 

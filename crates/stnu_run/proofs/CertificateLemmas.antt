@@ -41,8 +41,11 @@ goes_by : (lines : List (List ℕ)) (next : List ℕ) (read : Progress) (said : 
 goes_by lines next read (Ok text.Blank) number to is front goes = on_by lines next read to (said_brings lines next read text.Blank front is).1 goes
 goes_by lines next read (Ok text.Header) number to is front goes = on_by lines next (advanced read text.Header) to (said_brings lines next read text.Header front is).1 goes
 goes_by lines next read (Ok text.Refutation) number to is front goes = on_by lines next (advanced read text.Refutation) to (said_brings lines next read text.Refutation front is).1 goes
+goes_by lines next read (Ok text.Table) number to is front goes = on_by lines next (advanced read text.Table) to (said_brings lines next read text.Table front is).1 goes
 goes_by lines next read (Ok (text.Line rule)) number to is front goes = on_by lines next (advanced read (text.Line rule)) to (said_brings lines next read (text.Line rule) front is).1 goes
 goes_by lines next read (Ok (text.Walk i)) number to is front goes = on_by lines next (advanced read (text.Walk i)) to (said_brings lines next read (text.Walk i) front is).1 goes
+goes_by lines next read (Ok (text.Order point)) number to is front goes = on_by lines next (advanced read (text.Order point)) to (said_brings lines next read (text.Order point) front is).1 goes
+goes_by lines next read (Ok (text.Entry entry)) number to is front goes = on_by lines next (advanced read (text.Entry entry)) to (said_brings lines next read (text.Entry entry) front is).1 goes
 goes_by lines next read (Ok text.End) number to is front goes = absurd (cc)
 goes_by lines next read (Err kind) number to is front goes = absurd (cc)
 
@@ -56,8 +59,11 @@ module _ (past : ℕ) where
   refused_by lines next read (Ok text.Blank) fault is front refuses = absurd (cc)
   refused_by lines next read (Ok text.Header) fault is front refuses = absurd (cc)
   refused_by lines next read (Ok text.Refutation) fault is front refuses = absurd (cc)
+  refused_by lines next read (Ok text.Table) fault is front refuses = absurd (cc)
   refused_by lines next read (Ok (text.Line rule)) fault is front refuses = absurd (cc)
   refused_by lines next read (Ok (text.Walk i)) fault is front refuses = absurd (cc)
+  refused_by lines next read (Ok (text.Order point)) fault is front refuses = absurd (cc)
+  refused_by lines next read (Ok (text.Entry entry)) fault is front refuses = absurd (cc)
   refused_by lines next read (Ok text.End) fault is front refuses = absurd (cc)
   refused_by lines next read (Err kind) fault is front refuses =
       let same : Format (number_after past lines) kind ≡ fault = cc in
@@ -67,8 +73,11 @@ module _ (past : ℕ) where
   gives_by lines next others read (Ok text.Blank) number cert is front gives = absurd (cc)
   gives_by lines next others read (Ok text.Header) number cert is front gives = absurd (cc)
   gives_by lines next others read (Ok text.Refutation) number cert is front gives = absurd (cc)
+  gives_by lines next others read (Ok text.Table) number cert is front gives = absurd (cc)
   gives_by lines next others read (Ok (text.Line rule)) number cert is front gives = absurd (cc)
   gives_by lines next others read (Ok (text.Walk i)) number cert is front gives = absurd (cc)
+  gives_by lines next others read (Ok (text.Order point)) number cert is front gives = absurd (cc)
+  gives_by lines next others read (Ok (text.Entry entry)) number cert is front gives = absurd (cc)
   gives_by lines next others read (Ok text.End) number cert is front gives =
       let same : certificate_of read ≡ cert = cc in
       subst (λ (c : Certificate). DeclareCertificate (lines ++ next ∷ others) c others) same (said_brings lines next read text.End front is others)

@@ -1,0 +1,12 @@
+use Rattle.std.proofs.Common.{◌≡◌, ◌++◌, take, All, IsTrue}
+use Rattle.std.specs.List.{flat_map}
+use Rattle.texts.specs.Printing.{printed_line}
+use Rattle.net_model.specs.Names.{is_name}
+use Rattle.cert_format.specs.CertificateWords.{order_words}
+use Rattle.cert_format.proofs.print.push_order.Given as goal
+
+abbrev pub invariant-loop-point : goal.invariant-loop-point
+invariant-loop-point l = record {
+  text : l.out.items ≡ l.fn.out.items ++ flat_map (λ point. printed_line (order_words point)) (take l.point-index l.order);
+  spelled : All (λ point. IsTrue (is_name point)) (take l.point-index l.order);
+}
