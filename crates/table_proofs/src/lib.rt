@@ -1,0 +1,8 @@
+//! The table proof of a controllable network: its certificate, made from its closure and the order of its points.
+#![tactic(auto)]
+
+mod entries;
+mod names;
+mod proving;
+
+pub use proving::table_proof;
