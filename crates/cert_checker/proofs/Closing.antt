@@ -10,15 +10,16 @@ use Rattle.strategy_model.specs.Control.{IsControllable}
 use Rattle.strategy_model.specs.Edges.{IsWalk, IsNegativeLoop, total}
 use Rattle.strategy_model.specs.Laws.{RulesKeepEdges, RefutationsExcludeStrategies}
 use Rattle.cert_format.specs.declared.certificate.Certificate.{Certificate}
-use Rattle.cert_format.specs.declared.certificate.Certificate.TheVariants.{Refutation}
+use Rattle.cert_format.specs.declared.certificate.Certificate.TheVariants.{Refutation, TableProof}
 use Rattle.cert_format.specs.declared.line.CertLine.{CertLine}
 use Rattle.cert_checker.specs.Lines.{unless, line_at}
 use Rattle.cert_checker.specs.Walk.{WalkPasses, refusal, steps_known, returns_to, is_negative_walk, total_weight, walked, walk_passes}
 use Rattle.cert_checker.specs.Judgement.{lines_pass, refutation_passes, judged, judgement_of}
+use Rattle.cert_checker.specs.Tables.{table_passes}
 use Rattle.cert_checker.specs.Laws.{AcceptedExcludes}
 use Rattle.cert_checker.specs.declared.judgement.CertFault.TheVariants.{WalkBroken, WalkNotNegative}
 use Rattle.cert_checker.specs.declared.judgement.Judgement.TheVariants.{Accepted}
-use Rattle.cert_checker.specs.declared.judgement.Claim.TheVariants.{NotControllable}
+use Rattle.cert_checker.specs.declared.judgement.Claim.TheVariants.{NotControllable, Controllable}
 use Rattle.cert_checker.proofs.Inversion.{bind_ok, unless_ok, negative_ok, contains_line}
 use Rattle.cert_checker.proofs.Naming.{edge_of, point_of, point_of_same}
 use Rattle.cert_checker.proofs.Following.{edges_of}
@@ -69,13 +70,18 @@ module _ (net : Plan) where
       let steps = edges_of net (walked lines walk) in
       exclude net (edges_of net lines) steps instant (derivation net instant.sound keep lines pass) (All-from_recursion (Contains (edges_of net lines)) steps (steps_among lines walk)) loop controllable
 
-accepted_passes : (passes : WalkPasses) → judged passes ≡ Accepted NotControllable → passes ≡ Ok tt
+accepted_passes : (passes : WalkPasses) → judged NotControllable passes ≡ Accepted NotControllable → passes ≡ Ok tt
 accepted_passes (Ok passed) accepted = refl
 accepted_passes (Err refused) accepted = absurd (cc)
+
+other_claim : (passes : WalkPasses) → judged Controllable passes ≡ Accepted NotControllable → ⊥
+other_claim (Ok passed) accepted = cc
+other_claim (Err refused) accepted = cc
 
 excludes_by : RulesKeepEdges → RefutationsExcludeStrategies → (net : Plan) (certificate : Certificate) → IsInstant net → judgement_of net certificate ≡ Accepted NotControllable → IsControllable net → ⊥
 excludes_by keep exclude net (Refutation lines walk) instant accepted =
     refutation_excludes net instant keep exclude lines walk (accepted_passes (refutation_passes net lines walk) accepted)
+excludes_by keep exclude net (TableProof order entries) instant accepted = absurd (other_claim (table_passes net order entries) accepted)
 
 -- an accepted refutation excludes every strategy that controls the network
 pub accepted_excludes : RulesKeepEdges → RefutationsExcludeStrategies → AcceptedExcludes

@@ -7,3 +7,11 @@ pub mod Deriving
 pub mod Closing
 pub mod Refusing
 pub mod RefusalLemmas
+pub mod ListLemmas
+pub mod TableLaw
+pub mod RowLemmas
+pub mod LeastLemmas
+pub mod OrderLemmas
+pub mod OpenLemmas
+pub mod OpensLemmas
+pub mod ScanLemmas

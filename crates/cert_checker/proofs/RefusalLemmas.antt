@@ -21,6 +21,7 @@ use Rattle.cert_checker.specs.declared.judgement.CertFault.{CertFault}
 use Rattle.cert_checker.specs.declared.judgement.CertFault.TheVariants.{UnknownItem, Premise, RuleCondition, Ends, Label, TooLow, WalkBroken, WalkNotNegative, WeightRange}
 use Rattle.cert_checker.specs.declared.judgement.Refusal.{Refusal}
 use Rattle.cert_checker.specs.declared.judgement.Judgement.TheVariants.{Refused}
+use Rattle.cert_checker.specs.declared.judgement.Claim.TheVariants.{NotControllable}
 use Rattle.cert_checker.proofs.Passing.{goes_on}
 
 -- one test after another: the first that fails says so, or a later one
@@ -221,7 +222,7 @@ refused_by : (net : Plan) (lines : List CertLine) (walk : List ℕ) (refused : R
 refused_by net lines walk refused (Ok passed) is fails = inr (record { before = is; own = fails; says = walk_is_said lines walk refused fails })
 refused_by net lines walk refused (Err first) is fails = inl (refused_line net lines refused (is ∙ fails))
 
-refused_is : (passes : WalkPasses) (number : ℕ) (why : CertFault) → judged passes ≡ Refused number why → passes ≡ Err (refusal number why)
+refused_is : (passes : WalkPasses) (number : ℕ) (why : CertFault) → judged NotControllable passes ≡ Refused number why → passes ≡ Err (refusal number why)
 refused_is (Ok passed) number why refused = absurd (cc)
 refused_is (Err r) number why refused =
     let line : r.line ≡ number = cc in

@@ -5,13 +5,14 @@ use Rattle.net_model.specs.Network.{Plan}
 use Rattle.strategy_model.specs.Plays.{IsInstant}
 use Rattle.strategy_model.specs.Laws.{RulesKeepEdges, DerivationsAreTrue}
 use Rattle.cert_format.specs.declared.certificate.Certificate.{Certificate}
-use Rattle.cert_format.specs.declared.certificate.Certificate.TheVariants.{Refutation}
+use Rattle.cert_format.specs.declared.certificate.Certificate.TheVariants.{Refutation, TableProof}
 use Rattle.cert_format.specs.declared.line.CertLine.{CertLine}
 use Rattle.cert_checker.specs.Lines.{Passes, ◌>>=◌, line_passes}
 use Rattle.cert_checker.specs.Walk.{WalkPasses, refusal, walk_passes}
 use Rattle.cert_checker.specs.Judgement.{at_number, lines_pass, refutation_passes, judged, judgement_of}
 use Rattle.cert_checker.specs.Truth.{AreTrue, passed_lines}
 use Rattle.cert_checker.specs.declared.judgement.Refusal.{Refusal}
+use Rattle.cert_checker.specs.declared.judgement.Claim.TheVariants.{NotControllable}
 use Rattle.cert_checker.proofs.Passing.{goes_on}
 use Rattle.cert_checker.specs.Laws.{PassedLinesAreTrue}
 use Rattle.cert_checker.proofs.Deriving.{first_passes, lines_are_true}
@@ -59,7 +60,7 @@ all_pass : (net : Plan) (lines : List CertLine) (walk : WalkPasses) (rules : Wal
 all_pass net lines walk (Ok passed) is passes = is
 all_pass net lines walk (Err first) is passes = absurd (cc)
 
-passed_of : (net : Plan) (lines : List CertLine) (walk : List ℕ) (passes : WalkPasses) → refutation_passes net lines walk ≡ passes → lines_pass net [] (passed_lines (Refutation lines walk) (judged passes)) ≡ Ok tt
+passed_of : (net : Plan) (lines : List CertLine) (walk : List ℕ) (passes : WalkPasses) → refutation_passes net lines walk ≡ passes → lines_pass net [] (passed_lines (Refutation lines walk) (judged NotControllable passes)) ≡ Ok tt
 unfolding refutation_passes
 passed_of net lines walk (Ok passed) is = all_pass net lines (walk_passes lines walk) (lines_pass net [] lines) refl is
 passed_of net lines walk (Err refused) is = before_refused net lines (walk_passes lines walk) (lines_pass net [] lines) refl refused is
@@ -74,3 +75,4 @@ all_passed_true keep derivations = λ net certificate instant. passed_true net k
     passed_true : (net : Plan) → RulesKeepEdges → DerivationsAreTrue → IsInstant net → (certificate : Certificate) → AreTrue net (passed_lines certificate (judgement_of net certificate))
     passed_true net keep derivations instant (Refutation lines walk) =
         lines_are_true net instant.sound keep instant derivations (passed_lines (Refutation lines walk) (judgement_of net (Refutation lines walk))) (passed_lines_pass net lines walk)
+    passed_true net keep derivations instant (TableProof order entries) = lines_are_true net instant.sound keep instant derivations [] refl

@@ -1,14 +1,16 @@
--- The judgement of a certificate: it is accepted, or its first line that does not pass, and why.
+-- The judgement of a certificate: it is accepted, or the first that does not pass, at its line, and why.
 use Rattle.std.specs.Prelude.{ℕ, ◌+◌, List, [], ◌∷◌, ◌++◌, length, Ok, Err}
 use Rattle.net_model.specs.Network.{Plan}
 use Rattle.cert_format.specs.declared.certificate.Certificate.{Certificate}
-use Rattle.cert_format.specs.declared.certificate.Certificate.TheVariants.{Refutation}
+use Rattle.cert_format.specs.declared.certificate.Certificate.TheVariants.{Refutation, TableProof}
 use Rattle.cert_format.specs.declared.line.CertLine.{CertLine}
 use Rattle.cert_checker.specs.Lines.{Passes, ◌>>=◌, line_passes}
 use Rattle.cert_checker.specs.Walk.{WalkPasses, refusal, walk_passes}
+use Rattle.cert_checker.specs.Tables.{table_passes}
 use Rattle.cert_checker.specs.declared.judgement.Judgement.{Judgement}
 use Rattle.cert_checker.specs.declared.judgement.Judgement.TheVariants.{Accepted, Refused}
-use Rattle.cert_checker.specs.declared.judgement.Claim.TheVariants.{NotControllable}
+use Rattle.cert_checker.specs.declared.judgement.Claim.{Claim}
+use Rattle.cert_checker.specs.declared.judgement.Claim.TheVariants.{NotControllable, Controllable}
 
 -- a line is refused at its number
 abbrev pub at_number : ℕ → Passes → WalkPasses
@@ -31,12 +33,14 @@ refutation_passes net lines walk = do
 -- a certificate that is a refutation
 abbrev pub IsRefutation : Certificate → Type 0
 IsRefutation (Refutation lines walk) = Unit {0}
+IsRefutation (TableProof order entries) = ⊥
 
--- the judgement by whether a refutation passes
-abbrev pub judged : WalkPasses → Judgement
-judged (Ok passed) = Accepted NotControllable
-judged (Err refusal) = Refused refusal.line refusal.why
+-- the judgement of a certificate with a claim, by whether it passes
+abbrev pub judged : Claim → WalkPasses → Judgement
+judged claim (Ok passed) = Accepted claim
+judged claim (Err refusal) = Refused refusal.line refusal.why
 
 -- the judgement of a certificate
 abbrev pub judgement_of : Plan → Certificate → Judgement
-judgement_of net (Refutation lines walk) = judged (refutation_passes net lines walk)
+judgement_of net (Refutation lines walk) = judged NotControllable (refutation_passes net lines walk)
+judgement_of net (TableProof order entries) = judged Controllable (table_passes net order entries)

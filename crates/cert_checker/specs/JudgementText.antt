@@ -1,4 +1,4 @@
--- The text of a judgement: accepted with its claim, or refused with the line, the word of the fault and its numbers. This
+-- The text of a judgement: accepted with its claim, or refused with the line, the word of the fault, and its numbers or its name. This
 -- project's own choice.
 use Rattle.std.specs.Prelude.{ℕ, List, ◌++◌, codes}
 use Rattle.std.specs.Fmt.{decimal, signed_decimal}
@@ -7,7 +7,7 @@ use Rattle.cert_checker.specs.declared.judgement.Claim.TheVariants.{NotControlla
 use Rattle.cert_checker.specs.declared.judgement.Judgement.{Judgement}
 use Rattle.cert_checker.specs.declared.judgement.Judgement.TheVariants.{Accepted, Refused}
 use Rattle.cert_checker.specs.declared.judgement.CertFault.{CertFault}
-use Rattle.cert_checker.specs.declared.judgement.CertFault.TheVariants.{UnknownItem, Premise, RuleCondition, Ends, Label, TooLow, WalkBroken, WalkNotNegative, WeightRange}
+use Rattle.cert_checker.specs.declared.judgement.CertFault.TheVariants.{UnknownItem, Premise, RuleCondition, Ends, Label, TooLow, WalkBroken, WalkNotNegative, WeightRange, MissingBound, MissingLink, OrderBroken, NotClosed}
 
 abbrev pub fault_text : CertFault → List ℕ
 fault_text UnknownItem = codes "unknown-item"
@@ -19,6 +19,10 @@ fault_text (TooLow given least) = codes "too-low " ++ signed_decimal given ++ co
 fault_text WalkBroken = codes "walk-broken"
 fault_text (WalkNotNegative total) = codes "walk-not-negative " ++ signed_decimal total
 fault_text WeightRange = codes "weight-range"
+fault_text (MissingBound name) = codes "missing-base bound " ++ name
+fault_text (MissingLink name) = codes "missing-base link " ++ name
+fault_text OrderBroken = codes "order-broken"
+fault_text NotClosed = codes "not-closed"
 
 abbrev pub claim_text : Claim → List ℕ
 claim_text NotControllable = codes "not controllable"

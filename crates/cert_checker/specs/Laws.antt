@@ -11,7 +11,7 @@ use Rattle.cert_checker.specs.Truth.{AreTrue, passed_lines}
 use Rattle.cert_checker.specs.Refusals.{IsRefusedLine, IsRefusedWalk}
 use Rattle.cert_checker.specs.declared.judgement.CertFault.{CertFault}
 use Rattle.cert_checker.specs.declared.judgement.Judgement.TheVariants.{Accepted, Refused}
-use Rattle.cert_checker.specs.declared.judgement.Claim.TheVariants.{NotControllable}
+use Rattle.cert_checker.specs.declared.judgement.Claim.TheVariants.{NotControllable, Controllable}
 
 -- each line that passes is true of every strategy that controls the network
 abbrev pub PassedLinesAreTrue : Type 0
@@ -20,6 +20,10 @@ PassedLinesAreTrue = (net : Plan) (certificate : Certificate) → IsInstant net 
 -- an accepted refutation excludes every strategy that controls the network
 abbrev pub AcceptedExcludes : Type 0
 AcceptedExcludes = (net : Plan) (certificate : Certificate) → IsInstant net → judgement_of net certificate ≡ Accepted NotControllable → IsControllable net → ⊥
+
+-- an accepted table proof gives a strategy that controls the network
+abbrev pub AcceptedControls : Type 0
+AcceptedControls = (net : Plan) (certificate : Certificate) → IsInstant net → judgement_of net certificate ≡ Accepted Controllable → IsControllable net
 
 -- a refused refutation has one line that is refused, or its walk is
 abbrev pub RefusalsAreOfOneLine : Type 0

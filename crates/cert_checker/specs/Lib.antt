@@ -2,6 +2,11 @@ pub mod Lines
 pub mod Walk
 pub mod Judgement
 pub mod Truth
+pub mod Tables
+pub mod Sound
+pub mod Least
+pub mod Orders
+pub mod Reading
 pub mod JudgementText
 pub mod Refusals
 pub mod Laws

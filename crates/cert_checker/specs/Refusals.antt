@@ -7,15 +7,19 @@ use Rattle.cert_checker.specs.Lines.{line_passes}
 use Rattle.cert_checker.specs.Walk.{refusal, total_weight, walked, walk_passes}
 use Rattle.cert_checker.specs.Judgement.{lines_pass}
 use Rattle.cert_checker.specs.declared.judgement.CertFault.{CertFault}
-use Rattle.cert_checker.specs.declared.judgement.CertFault.TheVariants.{TooLow, WalkBroken, WalkNotNegative, WeightRange}
+use Rattle.cert_checker.specs.declared.judgement.CertFault.TheVariants.{TooLow, WalkBroken, WalkNotNegative, WeightRange, MissingBound, MissingLink, OrderBroken, NotClosed}
 
 -- what the fault of a rule line says of that line alone: its numbers are the line's weight and one above it; a weight is
--- beyond the limit; and no fault of a walk is one of a rule line
+-- beyond the limit; and no fault of a walk or of a table is one of a rule line
 abbrev pub FaultSays : CertLine → CertFault → Type 0
 FaultSays line (TooLow given least) = (given ≡ line.weight) × (given <ℤ least)
 FaultSays line WeightRange = most_weight < unsigned_abs line.weight
 FaultSays line WalkBroken = ⊥
 FaultSays line (WalkNotNegative total) = ⊥
+FaultSays line (MissingBound name) = ⊥
+FaultSays line (MissingLink name) = ⊥
+FaultSays line OrderBroken = ⊥
+FaultSays line NotClosed = ⊥
 FaultSays line others = Unit {0}
 
 -- the first rule line that does not pass, at its number, by its own first test that fails

@@ -1,5 +1,5 @@
 -- What the lines of a refutation state, and when it is true.
-use Rattle.std.specs.Prelude.{◌≡◌, ℕ, ◌-◌, List, Option, Some, None, take}
+use Rattle.std.specs.Prelude.{◌≡◌, ℕ, ◌-◌, List, [], Option, Some, None, take}
 use Rattle.std.specs.List.{All}
 use Rattle.std.specs.Option.{option_and_then}
 use Rattle.net_model.specs.Network.{Plan, point_named, activation}
@@ -9,7 +9,7 @@ use Rattle.strategy_model.specs.Control.{Controls}
 use Rattle.strategy_model.specs.Edges.{HoldsOf}
 use Rattle.strategy_model.specs.declared.tree.Tree.{Tree}
 use Rattle.cert_format.specs.declared.certificate.Certificate.{Certificate}
-use Rattle.cert_format.specs.declared.certificate.Certificate.TheVariants.{Refutation}
+use Rattle.cert_format.specs.declared.certificate.Certificate.TheVariants.{Refutation, TableProof}
 use Rattle.cert_format.specs.declared.line.CertLine.{CertLine}
 use Rattle.cert_checker.specs.Lines.{label_of}
 use Rattle.cert_checker.specs.declared.judgement.Judgement.{Judgement}
@@ -39,7 +39,8 @@ IsTrueOf net strategy line = (edge : Edge) × States net line edge × HoldsOf ne
 pub record AreTrue (net : Plan) (lines : List CertLine) : Type 0 where
   pub of_each : (strategy : Tree) → Controls strategy net → All (IsTrueOf net strategy) lines
 
--- the rule lines that passed: all where the certificate is accepted, else those before the line that is refused
+-- the rule lines that passed, of a refutation: all where the certificate is accepted, else those before the line that is refused
 abbrev pub passed_lines : Certificate → Judgement → List CertLine
 passed_lines (Refutation lines walk) (Accepted claim) = lines
+passed_lines (TableProof order entries) judgement = []
 passed_lines (Refutation lines walk) (Refused line why) = take (line - 1) lines

@@ -6,39 +6,62 @@ ghost use Rattle.cert_checker.specs.Truth.{AreTrue, passed_lines};
 use crate::judgement::{Claim, Judgement, Refusal};
 use crate::laws;
 use crate::rules::line_passes;
+use crate::table::judge_table;
 use crate::walk::walk_passes;
 use cert_format::{CertLine, Certificate};
 use net_model::Network;
-use std::alloc::AllocError;
+use std::alloc::{AllocError, Global};
+use std::thread::Threads;
 
-/// The judgement of a certificate of a network: it is accepted, or refused at its first line that does not pass. An
-/// accepted refutation shows that no strategy controls the network (Morris and Muscettola 2005, in this project's form).
-/// Lines are counted from 1 as the certificate counts them, the walk lines after the rule lines. A line's names are tried
-/// first, then its weight, its premises, their labels, the condition of its rule, its ends, and the least weight that the
-/// rule gives; then each step of the walk, whether it is closed, and its total. For a refutation it takes no memory, and the
-/// answer is always `Ok`.
-pub fn judge(net: &Network, cert: &Certificate) -> Result<Judgement, AllocError>
+/// The judgement of a certificate of a network: it is accepted, or refused at the first line that does not pass. An accepted
+/// refutation shows that no strategy controls the network, an accepted table proof that one does (Morris and Muscettola 2005, in
+/// this project's form). Lines are counted from 1 as the certificate counts them, the walk lines after the rule lines and the
+/// entries after the order.
+///
+/// Of a line of a refutation its names are tried first, then its weight, its premises, their labels, the condition of its rule,
+/// its ends, and the least weight that the rule gives; then each step of the walk, whether it is closed, and its total. It takes
+/// no memory, and the answer is always `Ok`.
+///
+/// Of a table proof the names and the weight of each line are tried first; then the edges of the bounds and of the links, at
+/// no line; the order, its points and then the entries; and last for each entry what the rules give with it. The scans go by the
+/// threads of `rt`, and the first refused place is that of one thread. `AllocError` comes only for want of memory.
+pub fn judge<R: Threads + Sync>(
+    rt: &R,
+    alloc: Global,
+    net: &Network,
+    cert: &Certificate,
+) -> Result<Judgement, AllocError>
     ensures ok { IsRefutation cert.now → IsOk result }
     ensures judged { IfOk result (λ judgement. judgement ≡ judgement_of net.now cert.now) }
 
     // What a certificate says is so, whoever wrote it.
     ensures true_lines { IfOk result (λ judgement. AreTrue net.now (passed_lines cert.now judgement)) }
     ensures excludes { result ≡ Ok (Judgement.Accepted Claim.NotControllable) → ¬ IsControllable net.now }
+    ensures controls { result ≡ Ok (Judgement.Accepted Claim.Controllable) → IsControllable net.now }
 {
     laws::passed_lines_are_true();
     laws::accepted_excludes();
+    laws::accepted_controls();
     net.points();
-    judgement_of(net, cert)
+    judgement_of(rt, alloc, net, cert)
 }
 
 /// The judgement of a certificate, whatever it is of.
-fn judgement_of(net: &Network, cert: &Certificate) -> Result<Judgement, AllocError>
+fn judgement_of<R: Threads + Sync>(
+    rt: &R,
+    alloc: Global,
+    net: &Network,
+    cert: &Certificate,
+) -> Result<Judgement, AllocError>
     ensures ok { IsRefutation cert.now → IsOk result }
     ensures judged { IfOk result (λ judgement. judgement ≡ judgement_of net.now cert.now) }
 {
     match cert {
         Certificate::Refutation { lines, walk } => {
             Ok(judge_refutation(net, lines.as_slice(), walk.as_slice()))
+        }
+        Certificate::TableProof { order, entries } => {
+            judge_table(rt, alloc, net, order.as_slice(), entries.as_slice())
         }
     }
 }
@@ -59,8 +82,11 @@ fn judge_refutation(net: &Network, lines: &[CertLine], walk: &[u64]) -> Judgemen
 fn refutation_passes(net: &Network, lines: &[CertLine], walk: &[u64]) -> Result<(), Refusal>
     ensures { result ≡ refutation_passes net.now lines.now walk.now }
 {
-    lines_pass(net, lines)?;
-    walk_passes(lines, walk)
+    // The refusal is taken apart, so that the types of its fields are named here.
+    match lines_pass(net, lines) {
+        Ok(()) => walk_passes(lines, walk),
+        Err(Refusal { line, why }) => Err(Refusal { line, why }),
+    }
 }
 
 /// Each line passes, by the lines before it.

@@ -1,4 +1,4 @@
-use net_model::Weight;
+use net_model::{Name, Weight};
 use std::error::Error;
 use std::fmt;
 
@@ -47,6 +47,16 @@ pub enum CertFault {
     WalkNotNegative { total: i128 },
     /// The weight is beyond 10^12 in size.
     WeightRange,
+    /// No entry has the ends of the bound of this name and a weight of at most its number.
+    MissingBound(Name),
+    /// No entry has the ends and the label of the link that ends in the point of this name, and a weight of at most the
+    /// negative of its longest duration.
+    MissingLink(Name),
+    /// The point stood in the order before, a point is missing in it, or a negative ordinary entry does not go from a later
+    /// point to an earlier one.
+    OrderBroken,
+    /// By a rule the entry gives an edge for which no entry has its ends and its label and a weight of at most its own.
+    NotClosed,
 }
 
 impl fmt::Display for CertFault {
@@ -66,6 +76,10 @@ impl fmt::Display for CertFault {
             CertFault::WalkBroken => f.write_str("walk-broken"),
             CertFault::WalkNotNegative { total } => write!(f, "walk-not-negative {total}"),
             CertFault::WeightRange => f.write_str("weight-range"),
+            CertFault::MissingBound(name) => write!(f, "missing-base bound {name}"),
+            CertFault::MissingLink(name) => write!(f, "missing-base link {name}"),
+            CertFault::OrderBroken => f.write_str("order-broken"),
+            CertFault::NotClosed => f.write_str("not-closed"),
         }
     }
 }
@@ -73,7 +87,7 @@ impl fmt::Display for CertFault {
 impl Error for CertFault {}
 
 /// What is said of a certificate. Lines are counted from 1 as its rules count them: those that are not blank, after
-/// its second line.
+/// its second line; 0 is no line.
 #[derive(Clone, Copy, Debug, PartialEq, Eq)]
 pub enum Judgement {
     /// The certificate proves its claim.

@@ -1,8 +1,9 @@
 //! Laws about the judgement of certificates, each the contract of a function without parameters.
 
-ghost use Rattle.cert_checker.specs.Laws.{AcceptedExcludes, PassedLinesAreTrue, RefusalsAreOfOneLine};
+ghost use Rattle.cert_checker.specs.Laws.{AcceptedControls, AcceptedExcludes, PassedLinesAreTrue, RefusalsAreOfOneLine};
 
 use strategy_model::laws;
+use strategy_model::laws::dispatch;
 
 /// Each rule line that passes is true of every strategy that controls the network.
 pub fn passed_lines_are_true()
@@ -18,6 +19,13 @@ pub fn accepted_excludes()
 {
     laws::rules_keep_edges();
     laws::refutations_exclude_strategies();
+}
+
+/// An accepted table proof gives a strategy that controls the network, whoever wrote it.
+pub fn accepted_controls()
+    ensures { AcceptedControls }
+{
+    dispatch::closed_lists_give_strategies();
 }
 
 /// A refused refutation has one line that is refused, by its own first test that fails, or its walk is.

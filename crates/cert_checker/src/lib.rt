@@ -1,11 +1,19 @@
 //! The judgement of certificates. It goes over the text of a certificate alone, and derives no edge.
 #![tactic(auto)]
 
+mod base;
 mod checking;
+mod closure;
+mod entries;
 mod judgement;
 pub mod laws;
+mod least;
 mod lookup;
+mod order;
+mod row;
 mod rules;
+mod scan;
+mod table;
 mod walk;
 
 pub use checking::judge;

@@ -45,13 +45,13 @@ fn rule_passes(net: &Network, earlier: &[CertLine], line: &CertLine) -> Result<(
     }
 }
 
-fn unless(holds: bool, why: CertFault) -> Result<(), CertFault>
+pub(crate) fn unless(holds: bool, why: CertFault) -> Result<(), CertFault>
     ensures { result ≡ unless holds why }
 {
     if holds { Ok(()) } else { Err(why) }
 }
 
-fn is_in_range(weight: Weight) -> bool
+pub(crate) fn is_in_range(weight: Weight) -> bool
     ensures { result ≡ in_range weight }
 {
     weight.unsigned_abs() <= MOST_WEIGHT

@@ -12,8 +12,11 @@ use net_model::Weight;
 pub(crate) fn walk_passes(lines: &[CertLine], walk: &[u64]) -> Result<(), Refusal>
     ensures { result ≡ walk_passes lines.now walk.now }
 {
-    steps_known(lines, walk)?;
-    is_negative_walk(lines, walk)
+    // The refusal is taken apart, so that the types of its fields are named here.
+    match steps_known(lines, walk) {
+        Ok(()) => is_negative_walk(lines, walk),
+        Err(Refusal { line, why }) => Err(Refusal { line, why }),
+    }
 }
 
 /// Each step is the number of a line.
@@ -41,9 +44,12 @@ fn is_negative_walk(lines: &[CertLine], walk: &[u64]) -> Result<(), Refusal>
     ensures { result ≡ is_negative_walk (length lines.now + 1) (walked lines.now walk.now) }
 {
     let place = lines.len() as u64 + 1;
-    let broken = refusal(place, CertFault::WalkBroken);
-    let (first, rest) = walk.split_first().ok_or(broken)?;
-    let first = line_at(lines, *first).ok_or(broken)?;
+    let Some((first, rest)) = walk.split_first() else {
+        return Err(refusal(place, CertFault::WalkBroken));
+    };
+    let Some(first) = line_at(lines, *first) else {
+        return Err(refusal(place, CertFault::WalkBroken));
+    };
     returns_to(lines, first, rest)?;
     is_negative(place + rest.len() as u64, total_weight(lines, walk))
 }

@@ -15,6 +15,7 @@ use Rattle.cert_format.specs.CertificateWords.{IsWeight}
 use Rattle.cert_format.specs.declared.line.CertLine.{CertLine}
 use Rattle.cert_checker.specs.Judgement.{judged, lines_pass, refutation_passes}
 use Rattle.cert_checker.specs.Walk.{walk_passes}
+use Rattle.cert_checker.specs.declared.judgement.Claim.TheVariants.{NotControllable}
 use Rattle.refutations.specs.Certifying.{line_by, lines_by}
 use Rattle.refutations.specs.Laws.{RefutationsAreAccepted, RefutationsHaveWeights}
 use Rattle.refutations.proofs.Places.{made_from}
@@ -43,7 +44,7 @@ refutations_are_accepted net support (first ∷ points) lines walk plan stands w
     let rules = lines_ok net plan support.nodes stands.derived refutation.steps lines refutation.under are_nodes in
     let closed = whole_walk net plan support stands refutation.steps lines refutation.under are_nodes first points refutation.of_cycle (negative_cycle support.table (first ∷ points) whole) in
     let numbered : walk_passes (lines_by net support.nodes lines) walk ≡ Ok tt = ap (walk_passes (lines_by net support.nodes lines)) refutation.numbered ∙ closed in
-    ap judged (both_pass net (lines_by net support.nodes lines) walk rules numbered)
+    ap (judged NotControllable) (both_pass net (lines_by net support.nodes lines) walk rules numbered)
 
 node_line : (net : Plan) (lines : List NodeId) (o : Option Node) (line : CertLine) → option_map (line_by net lines) o ≡ Some line → (node : Node) × (o ≡ Some node) × (line_by net lines node ≡ line)
 node_line net lines None line is = absurd cc

@@ -9,9 +9,9 @@ pub returns : goal.returns
 returns c =
     let lines = c.args.lines.now in
     let walk = c.args.walk.now in
-    let step = c.in_ok-first.first.now in
-    let rest = c.in_ok-first.rest.now in
-    let line = c.in_ok-first-2.first.now in
+    let step = c.in-Some.first.now in
+    let rest = c.in-Some.rest.now in
+    let line = c.in-Some-line_at.first.now in
     let place = length lines + 1 in
     let here : line_at lines step ≡ Some line = search rules in
     let is : IsFirstAndRest walk step rest = search rules in

@@ -1,0 +1,5 @@
+use Rattle.cert_checker.proofs.TableLaw.{accepted_controls}
+use Rattle.cert_checker.proofs.laws.accepted_controls.Goals as goal
+
+pub returns : goal.returns
+returns c = accepted_controls c.closed_lists_give_strategies.ensures

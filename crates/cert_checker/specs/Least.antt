@@ -1,0 +1,129 @@
+-- The least weight of each key among entries, in rows of words, and what is looked up there.
+use Rattle.std.specs.Prelude.{◌≡◌, ◌<◌, ℕ, ℤ, pos, ◌+ℤ◌, ◌-ℤ◌, ◌&&◌, ◌||◌, not, Bool, false, List, [], ◌∷◌, length, fold, replicate, Option, None, Some, int_lt, int_le, slice_get}
+use Rattle.std.specs.Int.{int_min, int_max}
+use Rattle.std.specs.List.{All, slice_index_or, slice_set}
+use Rattle.std.specs.Option.{option_map_or}
+use Rattle.net_model.specs.Network.{Plan, activation}
+use Rattle.net_model.specs.Rules.{is_ordinary, is_negative, is_labelled_by, moved_to_activation}
+use Rattle.net_model.specs.declared.ids.PointId.{PointId}
+use Rattle.net_model.specs.declared.ids.LinkId.{LinkId}
+use Rattle.net_model.specs.declared.part.Edge.{Edge}
+use Rattle.net_model.specs.declared.part.Link.{Link}
+use Rattle.cert_checker.specs.Tables.{comes_before}
+use Rattle.cert_checker.specs.declared.base.Base.{Base}
+
+-- the word of a key without an entry: the greatest of 64 bits with a sign
+abbrev pub absent : ℤ
+absent = pos 9223372036854775807
+
+-- a row for each target and one for each label, with a word for each point in which an edge may begin
+pub record Weights : Type 0 where
+  pub ordinary : List (List ℤ)
+  pub labelled : List (List ℤ)
+
+abbrev pub row_in : List (List ℤ) → ℕ → List ℤ
+row_in rows place = slice_index_or rows place []
+
+-- the row of the edges that end in a point, or that have a label
+abbrev pub row_by : Weights → PointId → Option LinkId → List ℤ
+row_by table to None = row_in table.ordinary to.0
+row_by table to (Some name) = row_in table.labelled name.0
+
+abbrev pub row_of : Weights → Edge → List ℤ
+row_of table edge = row_by table edge.to edge.label
+
+-- the word of the key of an edge
+abbrev pub weight_in : Weights → Edge → ℤ
+weight_in table edge = slice_index_or (row_of table edge) edge.from.0 absent
+
+-- there is a word for the key of an edge
+abbrev pub IsPlacedIn : Weights → PointId → Option LinkId → ℕ → Type 0
+IsPlacedIn table to None from = (to.0 < length table.ordinary) × (from < length (row_in table.ordinary to.0))
+IsPlacedIn table to (Some name) from = (name.0 < length table.labelled) × (from < length (row_in table.labelled name.0))
+
+abbrev pub IsPlaced : Weights → Edge → Type 0
+IsPlaced table edge = IsPlacedIn table edge.to edge.label edge.from.0
+
+-- there is a row of the edges that end where an edge begins, as long as that of the edge
+abbrev pub IsPlacedBefore : Weights → Edge → Type 0
+IsPlacedBefore table second =
+    (second.from.0 < length table.ordinary) × (length (row_in table.ordinary second.from.0) ≡ length (row_of table second))
+
+-- rows for so many points and so many links, each of which has a word for each point
+pub record IsFor (points links : ℕ) (table : Weights) : Type 0 where
+  pub targets : length table.ordinary ≡ points
+  pub labels : length table.labelled ≡ links
+  pub ordinary_rows : All (λ (row : List ℤ). length row ≡ points) table.ordinary
+  pub labelled_rows : All (λ (row : List ℤ). length row ≡ points) table.labelled
+
+-- a table without entries
+abbrev pub no_weights : ℕ → ℕ → Weights
+no_weights points links = record { ordinary = replicate points (replicate points absent); labelled = replicate links (replicate points absent) }
+
+-- a row, and rows, with one word lowered to a weight
+abbrev pub lowered_row : List ℤ → ℕ → ℤ → List ℤ
+lowered_row row from weight = slice_set row from (int_min (slice_index_or row from absent) weight)
+
+abbrev pub lowered_rows : List (List ℤ) → ℕ → ℕ → ℤ → List (List ℤ)
+lowered_rows rows place from weight = slice_set rows place (lowered_row (row_in rows place) from weight)
+
+abbrev pub with_entry_by : Weights → PointId → Option LinkId → ℕ → ℤ → Weights
+with_entry_by table to None from weight = record table { ordinary = lowered_rows table.ordinary to.0 from weight }
+with_entry_by table to (Some name) from weight = record table { labelled = lowered_rows table.labelled name.0 from weight }
+
+-- a table with one entry more
+abbrev pub with_entry : Weights → Edge → Weights
+with_entry table edge = with_entry_by table edge.to edge.label edge.from.0 edge.weight
+
+-- the table of entries
+abbrev pub least_of : Plan → List Edge → Weights
+least_of net edges = fold with_entry (no_weights (length net.points) (length net.links)) edges
+
+-- the key of an edge has at most its weight
+abbrev pub has_at_most : Weights → Edge → Bool
+has_at_most table edge = int_le (weight_in table edge) edge.weight
+
+abbrev pub lacks : Weights → Base → Bool
+lacks table base = not (has_at_most table base.edge)
+
+-- with a negative weight after it a first premise goes below the word there
+abbrev pub falls : ℤ → ℤ → ℤ → Bool
+falls first there weight = int_lt first absent && int_lt (int_max first (pos 0) +ℤ weight) there
+
+abbrev pub falls_in : List ℤ → List ℤ → ℤ → Bool
+falls_in (first ∷ firsts) (there ∷ others) weight = falls first there weight || falls_in firsts others weight
+falls_in firsts others weight = false
+
+-- with an ordinary edge before this one, and with the link that ends where it begins
+abbrev pub opens_before : Weights → Edge → Bool
+opens_before table second = falls_in (row_in table.ordinary second.from.0) (row_of table second) second.weight
+
+abbrev pub opens_at_link : Weights → Edge → LinkId → Link → Bool
+opens_at_link table second name link = not (is_labelled_by name second) && not (has_at_most table (moved_to_activation link second))
+
+abbrev pub opens_after : Plan → Weights → Edge → Bool
+opens_after net table second =
+    option_map_or (λ name. option_map_or (opens_at_link table second name) (slice_get net.links name.0) false) (activation net second.from) false
+
+-- without its label
+abbrev pub unlabelled : Edge → Link → Edge
+unlabelled edge link = record edge { label = None; weight = int_max edge.weight (pos 0 -ℤ link.low) }
+
+abbrev pub opens_without_label : Plan → Weights → Edge → Bool
+opens_without_label net table edge =
+    option_map_or (λ name. option_map_or (λ link. not (has_at_most table (unlabelled edge link))) (slice_get net.links name.0) false) edge.label false
+
+-- by some rule it gives an edge whose key has no such weight
+abbrev pub opens : Plan → Weights → Edge → Bool
+opens net table second =
+    opens_without_label net table second || (is_negative second && (opens_before table second || opens_after net table second))
+
+-- the places of points in an order, by their numbers
+abbrev pub rises_by : List (Option ℕ) → Edge → Bool
+rises_by places edge =
+    is_ordinary edge && is_negative edge && not (comes_before (slice_index_or places edge.to.0 None) (slice_index_or places edge.from.0 None))
+
+-- the least weights of these edges
+pub record IsTableOf (net : Plan) (edges : List Edge) (table : Weights) : Type 0 where
+  pub least : table ≡ least_of net edges
+  pub shape : IsFor (length net.points) (length net.links) table

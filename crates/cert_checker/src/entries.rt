@@ -1,0 +1,124 @@
+//! The lines of a table proof, each for itself: its names become numbers.
+
+ghost use Rattle.std.specs.Prelude.{◌≡◌, ◌+◌, ◌<◌, ◌^◌, IfOk, OnOk, Ok, [], length};
+ghost use Rattle.cert_checker.specs.Truth.{link_id};
+ghost use Rattle.cert_checker.specs.Tables.{edge_of_entry, entry_passes, labelled_of, ordinary_of, point_passes, read_each};
+ghost use Rattle.cert_checker.specs.Reading.{with_values};
+
+use crate::judgement::{CertFault, Refusal};
+use crate::rules::{is_in_range, unless};
+use cert_format::Entry;
+use net_model::{Edge, LinkId, Name, Network, PointId, Weight};
+use std::alloc::AllocError;
+
+/// Reads the points of the order, whose first line is line 1, or refuses the first line whose point is not in the network.
+pub(crate) fn read_points(
+    net: &Network,
+    order: &[Name],
+    points: &mut Vec<PointId>,
+) -> Result<Result<(), Refusal>, AllocError>
+    requires { points.old.items ≡ [] }
+    ensures { IfOk result (λ read. with_values read points.new.items ≡ read_each (point_passes net.now) 1 order.now) }
+{
+    for (index, name) in order.iter().enumerate() {
+        match point_passes(net, name) {
+            Ok(point) => points.push(point)?,
+            Err(why) => {
+                return Ok(Err(Refusal {
+                    line: index as u64 + 1,
+                    why,
+                }));
+            }
+        }
+    }
+    Ok(Ok(()))
+}
+
+/// Reads the edges of entries, of which the first has this line, or refuses the first entry that does not pass for itself.
+pub(crate) fn read_edges(
+    net: &Network,
+    first: u64,
+    entries: &[Entry],
+    edges: &mut Vec<Edge>,
+) -> Result<Result<(), Refusal>, AllocError>
+    requires empty { edges.old.items ≡ [] }
+    requires lines { first + length entries.now < 2 ^ 64 }
+    ensures { IfOk result (λ read. with_values read edges.new.items ≡ read_each (entry_passes net.now) first entries.now) }
+{
+    for (index, entry) in entries.iter().enumerate() {
+        match entry_passes(net, entry) {
+            Ok(edge) => edges.push(edge)?,
+            Err(why) => {
+                return Ok(Err(Refusal {
+                    line: first + index as u64,
+                    why,
+                }));
+            }
+        }
+    }
+    Ok(Ok(()))
+}
+
+/// A line of the order: its point is in the network.
+fn point_passes(net: &Network, name: &Name) -> Result<PointId, CertFault>
+    ensures { result ≡ point_passes net.now name.now }
+{
+    net.point(name.bytes()).ok_or(CertFault::UnknownItem)
+}
+
+/// An entry: its names are in the network, and its weight is within the limit.
+fn entry_passes(net: &Network, entry: &Entry) -> Result<Edge, CertFault>
+    ensures { result ≡ entry_passes net.now entry.now }
+{
+    let edge = edge_of_entry(net, entry).ok_or(CertFault::UnknownItem)?;
+    unless(is_in_range(entry.weight), CertFault::WeightRange)?;
+    Ok(edge)
+}
+
+/// The edge that an entry states, where its names are in the network.
+fn edge_of_entry(net: &Network, entry: &Entry) -> Option<Edge>
+    ensures { result ≡ edge_of_entry net.now entry.now }
+{
+    match (&entry.to, &entry.label) {
+        (Some(to), _) => ordinary_of(net, &entry.from, to, entry.weight),
+        (None, Some(label)) => labelled_of(net, &entry.from, label, entry.weight),
+        (None, None) => None,
+    }
+}
+
+/// The ordinary edge between the points of two names.
+fn ordinary_of(net: &Network, from: &Name, to: &Name, weight: Weight) -> Option<Edge>
+    ensures { result ≡ ordinary_of net.now from.now to.now weight }
+{
+    let from = net.point(from.bytes())?;
+    let to = net.point(to.bytes())?;
+    Some(Edge {
+        from,
+        to,
+        label: None,
+        weight,
+    })
+}
+
+/// The edge from the point of a name that is labelled by the link that ends in the point of another.
+fn labelled_of(net: &Network, from: &Name, label: &Name, weight: Weight) -> Option<Edge>
+    ensures { result ≡ labelled_of net.now from.now label.now weight }
+{
+    let from = net.point(from.bytes())?;
+    let label = link_id(net, label)?;
+    let link = net.links().get(label.0 as usize)?;
+    Some(Edge {
+        from,
+        to: link.from,
+        label: Some(label),
+        weight,
+    })
+}
+
+/// The link that ends in the point of a name.
+fn link_id(net: &Network, name: &Name) -> Option<LinkId>
+    ensures { result ≡ link_id net.now name.now }
+{
+    let point = net.point(name.bytes())?;
+    net.activation(point)
+}

@@ -1,0 +1,113 @@
+ghost use Rattle.std.specs.Prelude.{◌≡◌, ◌<◌, ◌≤◌, ◌<ℤ◌, pos, length, IfOk, replicate, unsigned_abs};
+ghost use Rattle.net_model.specs.Limits.{most_weight};
+ghost use Rattle.net_model.specs.Edges.{IsEdge};
+ghost use Rattle.cert_checker.specs.Least.{IsFor, IsPlaced, IsPlacedBefore, absent, has_at_most, least_of, no_weights, opens_before, row_of, with_entry};
+ghost use Rattle.cert_checker.specs.Sound.{AreSound};
+
+use crate::row::Row;
+use net_model::{Edge, Network};
+use std::alloc::{AllocError, Global};
+use std::marker::Model;
+
+/// The least weight of each key among entries. Contracts see it as its rows of words.
+#[derive(Debug, Drop)]
+pub(crate) struct LeastWeights {
+    ordinary: Vec<Row>,
+    labelled: Vec<Row>,
+}
+
+impl Model for LeastWeights {
+    ghost use Rattle.cert_checker.specs.Least.{Weights};
+
+    ghost Value = { Weights };
+
+    ghost view = { λ least. record { ordinary = least.ordinary.items; labelled = least.labelled.items } };
+}
+
+impl LeastWeights {
+    /// Those of edges of a network.
+    pub(crate) fn of(
+        alloc: Global,
+        net: &Network,
+        edges: &[Edge],
+    ) -> Result<LeastWeights, AllocError>
+        requires { AreSound net.now edges.now }
+        ensures least { IfOk result (λ least. least ≡ least_of net.now edges.now) }
+        ensures shape { IfOk result (IsFor (length net.now.points) (length net.now.links)) }
+    {
+        let mut least = LeastWeights::without_entries(alloc, net)?;
+        for edge in edges {
+            least.lower(edge);
+        }
+        Ok(least)
+    }
+
+    fn without_entries(alloc: Global, net: &Network) -> Result<LeastWeights, AllocError>
+        ensures { IfOk result (λ least. least ≡ no_weights (length net.now.points) (length net.now.links)) }
+    {
+        let points = net.points().len();
+        Ok(LeastWeights {
+            ordinary: absent_rows(alloc, points, points)?,
+            labelled: absent_rows(alloc, net.links().len(), points)?,
+        })
+    }
+
+    /// Lowers the key of an edge to its weight.
+    fn lower(&mut self, edge: &Edge)
+        requires { IsPlaced self.old edge.now }
+        ensures { self.new ≡ with_entry self.old edge.now }
+    {
+        match edge.label {
+            None => {
+                let row = &mut self.ordinary[edge.to.0 as usize];
+                row.lower(edge);
+            }
+            Some(label) => {
+                let row = &mut self.labelled[label.0 as usize];
+                row.lower(edge);
+            }
+        }
+    }
+
+    /// The row of the edges that end where an edge ends, or that have its label.
+    fn row_of(&self, edge: &Edge) -> &Row
+        requires { IsPlaced self.now edge.now }
+        ensures { result.now ≡ row_of self.now edge.now }
+    {
+        match edge.label {
+            None => &self.ordinary[edge.to.0 as usize],
+            Some(label) => &self.labelled[label.0 as usize],
+        }
+    }
+
+    /// Whether an entry of the key of an edge has at most its weight.
+    pub(crate) fn has_at_most(&self, edge: &Edge) -> bool
+        requires { IsPlaced self.now edge.now }
+        ensures { result ≡ has_at_most self.now edge.now }
+    {
+        self.row_of(edge).get(edge.from) <= edge.weight
+    }
+
+    /// Whether with some ordinary entry before it a negative edge gives one whose key has no such weight.
+    pub(crate) fn opens_before(&self, second: &Edge) -> bool
+        requires placed { IsPlaced self.now second.now }
+        requires before { IsPlacedBefore self.now second.now }
+        requires negative { second.now.weight <ℤ pos 0 }
+        requires weight { unsigned_abs second.now.weight ≤ most_weight }
+        ensures { result ≡ opens_before self.now second.now }
+    {
+        let firsts = &self.ordinary[second.from.0 as usize];
+        firsts.falls_in(self.row_of(second), second)
+    }
+}
+
+/// Rows without weights.
+fn absent_rows(alloc: Global, count: usize, points: usize) -> Result<Vec<Row>, AllocError>
+    ensures { IfOk result (λ rows. rows.items ≡ replicate count (replicate points absent)) }
+{
+    let mut rows = Vec::new(alloc);
+    for _row in 0..count {
+        rows.push(Row::absent(alloc, points)?)?;
+    }
+    Ok(rows)
+}
