@@ -1,9 +1,10 @@
 -- The order of a closure passes: no point stands twice, none is missing, and each negative ordinary edge falls.
-use Rattle.std.proofs.Common.{◌≡◌, ◌≢◌, ℕ, zero, suc, ◌+◌, ◌<◌, ◌≤◌, ◌==◌, Bool, true, false, not, ◌&&◌, List, [], ◌∷◌, ◌++◌, length, get_or, Option, Some, None, Ok, refl, ap, sym, ◌∙◌, subst, arith, ◌⊎◌, inl, inr, append_assoc, length-append}
+use Rattle.std.proofs.Common.{◌≡◌, ◌≢◌, ℕ, zero, suc, ◌+◌, ◌<◌, ◌≤◌, ◌==◌, ℤ, Bool, true, false, not, ◌&&◌, List, [], ◌∷◌, ◌++◌, length, get_or, Option, Some, None, Ok, refl, ap, sym, ◌∙◌, subst, arith, append_assoc, length-append}
 use Rattle.std.specs.Prelude.{nat_lt, int_lt, pos, is_none}
-use Rattle.std.specs.List.{All, AllByRecursion, AllPairs, Contains, list_any, list_all, position, enumerate_from}
+use Rattle.std.specs.List.{AllPairs, Contains, list_any, list_all, position, enumerate_from}
 use Rattle.std.specs.Option.{option_map_or}
 use Rattle.std.proofs.lemmas.Bool.Decides.{nat_tests}
+use Rattle.std.proofs.lemmas.List.{get_or_append_left, get_or_at}
 use Rattle.std.proofs.lemmas.List.Quantifiers.{position-Some}
 use Rattle.std.proofs.lemmas.List.Folds.{list_any_none}
 use Rattle.net_model.specs.Network.{Plan}
@@ -12,10 +13,9 @@ use Rattle.net_model.specs.declared.ids.PointId.{PointId}
 use Rattle.net_model.specs.declared.ids.LinkId.{LinkId}
 use Rattle.net_model.specs.declared.part.Edge.{Edge}
 use Rattle.strategy_model.specs.Plays.{same_point}
-use Rattle.closure_model.specs.Keys.{key_of, ordinary_key, shape_of}
+use Rattle.closure_model.specs.Keys.{Shape, ordinary_key}
 use Rattle.closure_model.specs.Orders.{goes, IsOrder}
 use Rattle.closure_model.specs.Tables.{Graph, weight_of, HasEdge, IsFor, edges_of}
-use Rattle.closure_model.proofs.BaseLemmas.{all_contained}
 use Rattle.closure_model.proofs.TableLemmas.{listed_edge}
 use Rattle.cert_checker.specs.Lines.{◌>>=◌, unless}
 use Rattle.cert_checker.specs.Tables.{stand_once, is_complete, place_in, comes_before, rises, placed_passes, order_passes, none_refused}
@@ -34,7 +34,16 @@ other_number m n apart = grind (arith, nat_tests, apart)
 
 -- a point does not stand among those before it
 new_here : (earlier : List PointId) (point : PointId) (points : List PointId) → Apart (earlier ++ point ∷ points) → list_any (same_point point) earlier ≡ false
-new_here earlier point points apart = list_any_none (same_point point) earlier (λ k d inside. ?)
+new_here earlier point points apart = list_any_none (same_point point) earlier (λ k d inside. differs k d inside)
+  where
+    long : length earlier < length (earlier ++ point ∷ points)
+    long = let sum = length-append earlier (point ∷ points) in omega (arith, sum)
+
+    differs : (k : ℕ) (d : PointId) → k < length earlier → same_point point (get_or earlier k d) ≡ false
+    differs k d inside =
+        let here = get_or_append_left earlier (point ∷ points) d k inside in
+        let last = get_or_at earlier point points d (length earlier) refl in
+        other_number point.0 (get_or earlier k d).0 (λ same. apart k (length earlier) d inside long (ap (λ (p : PointId). p.0) here ∙ (sym same ∙ ap (λ (p : PointId). p.0) (sym last))))
 
 once : (earlier points : List PointId) → Apart (earlier ++ points) → stand_once earlier points ≡ Ok tt
 once earlier [] apart = refl
@@ -157,4 +166,4 @@ module _ (net : Plan) (table : Graph) (order : List PointId) (fits : IsFor net t
       from_zero n = omega arith
 
       placed : (point : PointId) → point.0 < length net.points → Contains order point
-      placed point inside = is.whole point (subst (λ (s : _). point.0 < s.points) (sym fits) inside)
+      placed point inside = is.whole point (subst (λ (s : Shape). point.0 < s.points) (sym fits) inside)

@@ -15,7 +15,6 @@ use Rattle.cert_format.specs.declared.entry.Entry.{Entry}
 use Rattle.cert_checker.specs.Lines.{◌>>=◌, there, unless, in_range}
 use Rattle.cert_checker.specs.Tables.{edge_of_entry, labelled_by, point_passes, entry_passes, at_line, read_each}
 use Rattle.cert_checker.specs.Truth.{link_id}
-use Rattle.cert_checker.specs.declared.judgement.Refusal.{Refusal}
 use Rattle.cert_checker.specs.declared.judgement.CertFault.{CertFault}
 use Rattle.cert_checker.specs.declared.judgement.CertFault.TheVariants.{UnknownItem, WeightRange}
 use Rattle.refutations.specs.Certifying.{point_name, link_name}

@@ -1,8 +1,8 @@
 -- The edges of a sound table are those of its rows, one after another.
-use Rattle.std.proofs.Common.{◌≡◌, ℕ, List, [], ◌∷◌, ◌++◌, map, refl, ap, sym, ◌∙◌}
+use Rattle.std.proofs.Common.{◌≡◌, ℕ, ◌+◌, List, [], ◌∷◌, ◌++◌, length, map, refl, ap, sym, ◌∙◌, arith}
 use Rattle.std.specs.Option.{option_map}
-use Rattle.std.specs.List.{All, Contains, filter_map, flat_map, range_with_len, AllByRecursion}
-use Rattle.std.proofs.lemmas.List.{map_push, append-nil}
+use Rattle.std.specs.List.{All, Contains, filter_map, flat_map, range_with_len}
+use Rattle.std.proofs.lemmas.List.{append-nil, map-append}
 use Rattle.std.proofs.lemmas.List.Elements.{filter_map-append}
 use Rattle.std.proofs.lemmas.List.FromFn.{map-range_with_len_more}
 use Rattle.std.proofs.lemmas.Grind.{flat_map-append}
@@ -11,13 +11,14 @@ use Rattle.net_model.specs.Edges.{IsEdge}
 use Rattle.net_model.specs.declared.ids.PointId.{PointId}
 use Rattle.net_model.specs.declared.part.Edge.{Edge}
 use Rattle.closure_model.specs.Closure.{IsClosure}
-use Rattle.closure_model.specs.Keys.{Key, edge_of, all_points, row_keys}
+use Rattle.closure_model.specs.Keys.{Key, Shape, edge_of, all_points, row_keys}
 use Rattle.closure_model.specs.Tables.{Graph, weight_of, HasEdge, edges_of, row_of, edges_at, IsGraph}
 use Rattle.closure_model.proofs.BaseLemmas.{all_contained}
 use Rattle.closure_model.proofs.Listed.{edges_listed, row_listed}
 use Rattle.closure_model.proofs.Lists.{Contains-filter_from, Contains-head, Contains-tail}
 use Rattle.closure_model.proofs.OrderLemmas.{in_points}
 use Rattle.closure_model.proofs.TableLemmas.{listed_edge}
+use Rattle.table_proofs.specs.Proving.{entry_of}
 use Rattle.table_proofs.proofs.ClosureLemmas.{edge_is, is_graph}
 
 module _ (table : Graph) where
@@ -47,3 +48,17 @@ module _ (table : Graph) where
 pub row_edges : (net : Plan) (table : Graph) (to : PointId) → IsPlan net → IsClosure net table → All (IsEdge net) (row_of table to)
 row_edges net table to plan closure =
     all_contained (IsEdge net) (row_of table to) (λ edge among. edge_is net table plan closure edge (listed_edge table edge (Contains-filter_from _ (edges_of table) edge among)))
+
+module _ (net : Plan) (table : Graph) where
+  -- one row more
+  pub rows_more : (k : ℕ) → map (entry_of net) (rows_before table (k + 1)) ≡ map (entry_of net) (rows_before table k) ++ map (entry_of net) (row_of table (record { 0 = k }))
+  rows_more k =
+      let number : ℕ → PointId = λ n. record { 0 = n } in
+      ap (λ (points : List PointId). map (entry_of net) (flat_map (row_of table) points)) (map-range_with_len_more number 0 k k (omega arith))
+      ∙ (ap (map (entry_of net)) (flat_map-append (row_of table) (map number (range_with_len 0 k)) (number k ∷ []) ∙ ap (λ (row : List Edge). rows_before table k ++ row) (append-nil (row_of table (number k))))
+      ∙ map-append (entry_of net) (rows_before table k) (row_of table (number k)))
+
+  -- all rows
+  pub all_rows : (k : ℕ) → IsPlan net → IsClosure net table → k ≡ length net.points → rows_before table k ≡ edges_of table
+  all_rows k plan closure is =
+      ap (λ (n : ℕ). rows_before table n) (is ∙ ap (λ (s : Shape). s.points) (sym closure.for_network)) ∙ rows_whole table (is_graph net table plan closure)

@@ -4,23 +4,19 @@ use Rattle.std.specs.Prelude.{find, int_le}
 use Rattle.std.specs.List.{All, AllByRecursion, Contains, list_any, filter_map, cons_option, position, enumerate_from}
 use Rattle.std.proofs.lemmas.Bool.Decides.{nat_tests}
 use Rattle.std.proofs.lemmas.Int.{ints}
-use Rattle.std.proofs.lemmas.List.{map-append}
-use Rattle.std.proofs.lemmas.List.Elements.{All-contains, All-from_recursion}
+use Rattle.std.proofs.lemmas.List.Elements.{All-contains, All-from_recursion, Contains-append_left, Contains-append_right}
 use Rattle.std.proofs.lemmas.List.Folds.{list_any_none}
 use Rattle.net_model.proofs.Positions.{None_from_fails}
 use Rattle.net_model.specs.Network.{Plan}
 use Rattle.net_model.specs.Rules.{Follows, by_no_case, by_upper_case, by_lower_case, by_cross_case, by_removal, bound_edge, link_edge, no_case, upper_case, lower_case, cross_case, removal}
 use Rattle.net_model.specs.declared.ids.LinkId.{LinkId}
-use Rattle.net_model.specs.declared.part.Bound.{Bound}
 use Rattle.net_model.specs.declared.part.Edge.{Edge}
 use Rattle.net_model.specs.declared.part.Link.{Link}
 use Rattle.closure_model.specs.Keys.{key_of, edge_of}
 use Rattle.closure_model.specs.Tables.{Graph, weight_of, HasAtMost, HasBase, IsClosed, edges_of, base_edges}
-use Rattle.closure_model.proofs.Lists.{each-append, Contains-head, Contains-tail, Contains-map, Contains-cases, Contains-none}
+use Rattle.closure_model.proofs.Lists.{each-append, each-map, Contains-head, Contains-tail, Contains-map, Contains-cases, Contains-none}
 use Rattle.closure_model.proofs.TableLemmas.{at_most_gives, edge_listed}
 use Rattle.cert_checker.specs.Tables.{same_label_id, same_key, stands_among, refused_at, none_refused, base_of_bound, base_of_link, base_of, is_missing, none_missing, base_stands, link_ids, conclusions, is_open}
-use Rattle.cert_checker.specs.Walk.{WalkPasses}
-use Rattle.cert_checker.specs.declared.base.Base.{Base}
 use Rattle.cert_checker.specs.declared.judgement.CertFault.{CertFault}
 use Rattle.cert_checker.specs.declared.judgement.CertFault.TheVariants.{NotClosed}
 use Rattle.cert_checker.proofs.ListLemmas.{passes_some}
@@ -83,25 +79,15 @@ module _ (table : Graph) where
       (both (same_key entry edge) (int_le entry.weight edge.weight) key (le_test weight edge.weight less))
 
   -- ---- the base
-  bounds_mapped : (bounds : List Bound) → map (λ (base : Base). base.edge) (map base_of_bound bounds) ≡ map bound_edge bounds
-  bounds_mapped [] = refl
-  bounds_mapped (bound ∷ bounds) = ap (λ (es : List Edge). bound_edge bound ∷ es) (bounds_mapped bounds)
-
-  links_mapped : (net : Plan) (links : List (ℕ × Link)) → map (λ (base : Base). base.edge) (map (base_of_link net) links) ≡ map (λ (e : ℕ × Link). link_edge (record { 0 = e.0 }) e.1) links
-  links_mapped net [] = refl
-  links_mapped net (link ∷ links) = ap (λ (es : List Edge). link_edge (record { 0 = link.0 }) link.1 ∷ es) (links_mapped net links)
-
-  base_mapped : (net : Plan) → map (λ (base : Base). base.edge) (base_of net) ≡ base_edges net
-  base_mapped net =
-      map-append (λ (base : Base). base.edge) (map base_of_bound net.bounds) (map (base_of_link net) (enumerate_from 0 net.links))
-      ∙ (ap (λ (es : List Edge). es ++ map (λ (base : Base). base.edge) (map (base_of_link net) (enumerate_from 0 net.links))) (bounds_mapped net.bounds)
-      ∙ ap (λ (es : List Edge). map bound_edge net.bounds ++ es) (links_mapped net (enumerate_from 0 net.links)))
-
   pub base_there : (net : Plan) → HasBase net table → base_stands net edges ≡ Ok tt
   base_there net has =
-      let at : (base : Base) → Contains (base_of net) base → HasAtMost table base.edge = λ base among.
-          All-contains (HasAtMost table) (base_edges net) base.edge has (subst (λ (es : List Edge). Contains es base.edge) (base_mapped net) (Contains-map (λ (b : Base). b.edge) (base_of net) base among)) in
-      ap none_missing (nothing_found (is_missing edges) (base_of net) (each_of (λ base. is_missing edges base ≡ false) (base_of net) (λ base among. not_is (stands_among edges base.edge) (stands base.edge (at base among)))))
+      let numbered : List (ℕ × Link) = enumerate_from 0 net.links in
+      let at : (edge : Edge) → Contains (base_edges net) edge → not (stands_among edges edge) ≡ false = λ edge among. not_is (stands_among edges edge) (stands edge (All-contains (HasAtMost table) (base_edges net) edge has among)) in
+      let link_of : ℕ × Link → Edge = λ e. link_edge (record { 0 = e.0 }) e.1 in
+      let bounds = each_of (λ bound. is_missing edges (base_of_bound bound) ≡ false) net.bounds (λ bound among. at (bound_edge bound) (Contains-append_left (map bound_edge net.bounds) (map link_of numbered) (bound_edge bound) (Contains-map bound_edge net.bounds bound among))) in
+      let links = each_of (λ link. is_missing edges (base_of_link net link) ≡ false) numbered (λ link among. at (link_of link) (Contains-append_right (map bound_edge net.bounds) (map link_of numbered) (link_of link) (Contains-map link_of numbered link among))) in
+      ap none_missing (nothing_found (is_missing edges) (base_of net) (each-append (λ base. is_missing edges base ≡ false) (map base_of_bound net.bounds) (map (base_of_link net) numbered)
+      (each-map (λ base. is_missing edges base ≡ false) base_of_bound net.bounds bounds) (each-map (λ base. is_missing edges base ≡ false) (base_of_link net) numbered links)))
 
   -- ---- the closure
   module _ (net : Plan) (closed : IsClosed net table) where

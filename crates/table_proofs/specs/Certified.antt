@@ -1,5 +1,6 @@
--- The certificate of a controllable network: its table proof, by its closure and the order in which the points of that are placed.
-use Rattle.std.specs.Prelude.{◌≡◌, None}
+-- The certificate of a network: where it is controllable its table proof, by its closure and the order in which the points of that are
+-- placed, else that of its refutation.
+use Rattle.std.specs.Prelude.{◌≡◌, ◌⊎◌, None}
 use Rattle.net_model.specs.Network.{Plan}
 use Rattle.strategy_model.specs.Control.{IsControllable}
 use Rattle.closure_model.specs.Closure.{IsClosure}
@@ -10,6 +11,7 @@ use Rattle.cert_format.specs.declared.certificate.Certificate.{Certificate}
 use Rattle.cert_checker.specs.Judgement.{judgement_of}
 use Rattle.cert_checker.specs.declared.judgement.Judgement.TheVariants.{Accepted}
 use Rattle.cert_checker.specs.declared.judgement.Claim.TheVariants.{Controllable}
+use Rattle.refutations.specs.Refuting.{Refutes}
 use Rattle.table_proofs.specs.Proving.{table_proof_of}
 
 -- a certificate is that of the closure of a network, all of whose points are placed
@@ -27,6 +29,10 @@ pub record Proves (net : Plan) (cert : Certificate) : Type 0 where
   pub accepted : judgement_of net cert ≡ Accepted Controllable
   pub weights : HasWeights cert
 
--- a network has one table proof at most
-abbrev pub TableProofsAreOne : Type 0
-TableProofsAreOne = (net : Plan) (cert other : Certificate) → IsTableProofOf net cert → IsTableProofOf net other → cert ≡ other
+-- a certificate decides a network: it proves the network controllable, or it refutes it
+abbrev pub Certifies : Plan → Certificate → Type 0
+Certifies net cert = Proves net cert ⊎ Refutes net cert
+
+-- a network has one certificate at most that decides it
+abbrev pub CertificatesAreOne : Type 0
+CertificatesAreOne = (net : Plan) (cert other : Certificate) → Certifies net cert → Certifies net other → cert ≡ other

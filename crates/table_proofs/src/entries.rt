@@ -1,6 +1,6 @@
 //! The entries of a table proof, made from the edges of a table.
 
-ghost use Rattle.std.specs.Prelude.{◌≡◌, ◌++◌, map, IfOk, OnOk};
+ghost use Rattle.std.specs.Prelude.{◌≡◌, ◌++◌, ◌∷◌, [], map, IfOk, OnOk};
 ghost use Rattle.std.specs.List.{All};
 ghost use Rattle.net_model.specs.Edges.{IsEdge};
 ghost use Rattle.net_model.specs.Network.{IsPoint};
@@ -44,29 +44,30 @@ fn push_row(
 {
     let row = table.entries(to);
     for entry in row {
-        entries.push(entry_of(net, &entry.edge_into(to)))?;
+        push_edge(entries, net, &entry.edge_into(to))?;
     }
     Ok(())
 }
 
-/// An edge as an entry.
-fn entry_of(net: &Network, edge: &Edge) -> Entry
+/// One edge more as an entry.
+fn push_edge(entries: &mut Vec<Entry>, net: &Network, edge: &Edge) -> Result<(), AllocError>
     requires { IsEdge net.now edge.now }
-    ensures { result ≡ entry_of net.now edge.now }
+    ensures { OnOk result (entries.new.items ≡ entries.old.items ++ entry_of net.now edge.now ∷ []) }
 {
     let from = point_name(net, edge.from);
     match edge.label {
-        None => Entry {
+        None => entries.push(Entry {
             from,
             to: Some(point_name(net, edge.to)),
             label: None,
             weight: edge.weight,
-        },
-        Some(label) => Entry {
+        })?,
+        Some(label) => entries.push(Entry {
             from,
             to: None,
             label: Some(link_name(net, label)),
             weight: edge.weight,
-        },
+        })?,
     }
+    Ok(())
 }

@@ -2,6 +2,9 @@ ghost use Rattle.std.specs.Prelude.{◌≡◌, IfOk};
 ghost use Rattle.closure_model.specs.Closure.{IsClosure};
 ghost use Rattle.closure_model.specs.Orders.{IsOrder};
 ghost use Rattle.cert_format.specs.CertificateWords.{HasWeights};
+ghost use Rattle.cert_checker.specs.Judgement.{judgement_of};
+ghost use Rattle.cert_checker.specs.declared.judgement.Judgement.TheVariants.{Accepted};
+ghost use Rattle.cert_checker.specs.declared.judgement.Claim.TheVariants.{Controllable};
 ghost use Rattle.table_proofs.specs.Proving.{table_proof_of};
 
 use crate::entries::entries_of;
@@ -13,7 +16,7 @@ use std::alloc::{AllocError, Global};
 
 /// The table proof of a network, by its closure and an order of the points of that: its order lines are the points in that order, and its
 /// entries are the edges of the closure, by the number of the point in which they end, then by that of the point in which they begin, the
-/// ordinary one before the labelled ones, and those by the number of their link. `AllocError` comes only for want of memory.
+/// ordinary one before the labelled ones, and those by the number of their link. The judge accepts it. `AllocError` comes only for want of memory.
 pub fn table_proof(
     alloc: Global,
     net: &Network,
@@ -23,6 +26,7 @@ pub fn table_proof(
     requires closure { IsClosure net.now table.now }
     requires order { IsOrder table.now order.now }
     ensures proof { IfOk result (λ certificate. certificate ≡ table_proof_of net.now table.now order.now) }
+    ensures accepted { IfOk result (λ certificate. judgement_of net.now certificate ≡ Accepted Controllable) }
     ensures weights { IfOk result HasWeights }
 {
     // The proof reads here that the network is sound.
