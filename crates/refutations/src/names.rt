@@ -1,4 +1,4 @@
-//! The names of what a rule line states.
+//! The names of what a line of a certificate states.
 
 ghost use Rattle.std.specs.Prelude.{◌≡◌, ◌<◌, length};
 ghost use Rattle.net_model.specs.Network.{IsPoint};
@@ -6,7 +6,8 @@ ghost use Rattle.refutations.specs.Certifying.{point_name, bound_name, link_name
 
 use net_model::{BoundId, LinkId, Name, Network, PointId};
 
-pub(crate) fn point_name(net: &Network, point: PointId) -> Name
+/// The name of a point.
+pub fn point_name(net: &Network, point: PointId) -> Name
     requires { IsPoint net.now point }
     ensures { result ≡ point_name net.now point }
 {
@@ -21,7 +22,7 @@ pub(crate) fn bound_name(net: &Network, bound: BoundId) -> Name
 }
 
 /// The name of the contingent point of a link.
-pub(crate) fn link_name(net: &Network, link: LinkId) -> Name
+pub fn link_name(net: &Network, link: LinkId) -> Name
     requires { link.0 < length net.now.links }
     ensures { result ≡ link_name net.now link }
 {
