@@ -1,0 +1,34 @@
+//! Laws about what is kept of a derivation list, each the contract of a function without parameters.
+
+ghost use Rattle.derivation_edits.specs.Withdrawn.{TakenIsWithdrawn};
+ghost use Rattle.derivation_edits.specs.FollowingLaws.{KeptIsDerived, KeptIsWhatRestsOnNothingTaken, FollowedStands, NamesRenumber, NewBaseIsWhole};
+
+/// What is kept of a derivation list of the old network is one of the new network: each kept node is by its rule there.
+pub fn kept_is_derived()
+    ensures { KeptIsDerived }
+{}
+
+/// Exactly the nodes that rest on nothing taken away are kept, in their order.
+pub fn kept_rests_on_nothing_taken()
+    ensures { KeptIsWhatRestsOnNothingTaken }
+{}
+
+/// What stands on the old network stands, when it has followed the edit, on the edited one.
+pub fn followed_stands()
+    ensures { FollowedStands }
+{}
+
+/// The numbers that names have in the edited network are a renumbering.
+pub fn names_renumber()
+    ensures { NamesRenumber }
+{}
+
+/// The base nodes of new bounds and links are the new base nodes.
+pub fn new_base_is_whole()
+    ensures { NewBaseIsWhole }
+{}
+
+/// Exactly the bounds that the edit drops or sets, and those with different numbers, have no number in the new network.
+pub fn taken_is_withdrawn()
+    ensures { TakenIsWithdrawn }
+{}

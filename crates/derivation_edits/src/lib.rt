@@ -1,0 +1,8 @@
+//! What an edit of a network takes away from a derivation list, and what is kept of it: each node that rests on nothing taken away, with
+//! the numbers of the edited network. Definitions and laws: nothing here makes an edge.
+#![tactic(auto)]
+
+mod edit;
+pub mod laws;
+
+pub use edit::{Edit, EditFault, User};
