@@ -1,69 +1,10 @@
-//! Networks by the lines of their parts, and edges by words.
+//! Points, links and edges of networks by words.
 
 ghost use Rattle.std.specs.Prelude.{◌<◌, length, IfSome};
 ghost use Rattle.reduction_rules.specs.Weights.{IsWeight};
 
-use net_model::{BuildFault, Edge, LinkId, Name, Network, Part, PointId};
-use std::alloc::Global;
-use std::test::Fail;
-
-fn name(word: Option<&str>) -> Option<Name> {
-    Name::new(word?.as_bytes()).ok()
-}
-
-fn number(word: Option<&str>) -> Option<i64> {
-    word?.parse().ok()
-}
-
-/// The part of a line: `point NAME`, `bound NAME FROM TO MOST` or `link FROM LOW HIGH TO`.
-fn part(line: &str) -> Option<Part> {
-    let mut words = line.split_whitespace();
-    match words.next()? {
-        "point" => Some(Part::Point(name(words.next())?)),
-        "bound" => bound(words.next(), words.next(), words.next(), words.next()),
-        "link" => link_part(words.next(), words.next(), words.next(), words.next()),
-        _ => None,
-    }
-}
-
-fn bound(
-    item: Option<&str>,
-    from: Option<&str>,
-    to: Option<&str>,
-    most: Option<&str>,
-) -> Option<Part> {
-    Some(Part::Bound(name(item)?, name(from)?, name(to)?, number(most)?))
-}
-
-fn link_part(
-    from: Option<&str>,
-    low: Option<&str>,
-    high: Option<&str>,
-    to: Option<&str>,
-) -> Option<Part> {
-    Some(Part::Link(name(from)?, number(low)?, number(high)?, name(to)?))
-}
-
-fn push_parts(parts: &mut Vec<Part>, lines: &str) -> Result<(), Fail> {
-    for line in lines.split('|') {
-        parts.push(part(line).ok_or("no part")?)?;
-    }
-    Ok(())
-}
-
-/// The network of these lines, with `|` between them.
-pub(crate) fn network(alloc: Global, lines: &str) -> Result<Network, Fail> {
-    let mut parts = Vec::new(alloc);
-    push_parts(&mut parts, lines)?;
-    built(alloc, parts.as_slice())
-}
-
-fn built(alloc: Global, parts: &[Part]) -> Result<Network, Fail> {
-    if parts.len() > u32::MAX as usize {
-        return Err(BuildFault::OutOfMemory.into());
-    }
-    Ok(Network::build(alloc, parts)?)
-}
+pub(crate) use example_plans::network;
+use net_model::{Edge, LinkId, Network, PointId};
 
 /// The point of a name.
 pub(crate) fn point(net: &Network, name: &str) -> Option<PointId>

@@ -4,6 +4,7 @@ ghost use Rattle.std.specs.Prelude.{◌≡◌, length};
 ghost use Rattle.closure_model.specs.ReferenceRow.{HasWeightsWithin};
 ghost use Rattle.closure_model.specs.Tables.{IsFor};
 
+use crate::gates::Meeting;
 use crate::networks::network;
 use crate::workers::base;
 use derivation_dag::Plain;
@@ -94,6 +95,9 @@ fn try_stale<R: Threads + Sync + Abort>(
     assert!(rt; targets.as_slice() == [PointId(0), PointId(2)].as_slice());
     let rows = round_of(rt, alloc, table, net, targets.as_slice(), 2, &gate)?;
     assert!(rt; rows.len() == 2 && gate.was_called(1, 0, 1));
+    let meeting = Meeting::of(2);
+    round_of(rt, alloc, table, net, targets.as_slice(), 2, &meeting)?;
+    assert!(rt; meeting.was_met(2), "two workers make rows at once");
     Ok(())
 }
 

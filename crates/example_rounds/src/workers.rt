@@ -4,6 +4,7 @@ ghost use Rattle.std.specs.Prelude.{◌≡◌, length, IfOk};
 ghost use Rattle.closure_model.specs.ReferenceRow.{HasWeightsWithin};
 ghost use Rattle.closure_model.specs.Tables.{IsFor};
 
+use crate::gates::{Meeting, TURNS};
 use crate::networks::network;
 use back_propagation::NewRow;
 use labelled_graph::Table;
@@ -22,8 +23,9 @@ const PLAN: &str = "point A|point C|point D|bound b1 D C 1|bound b2 C D -1|link 
 /// The targets of the rows of its base table, and how many edges fall in each.
 const ROWS: [(u32, usize); 3] = [(0, 4), (1, 0), (2, 2)];
 
-/// How often a gate looks, at most, whether the other rows have begun.
-const TURNS: u64 = 500_000_000;
+/// A plan of 20 points.
+const TWENTY: &str =
+    "point a|point b|point c|point d|point e|point f|point g|point h|point i|point j|point k|point l|point m|point n|point o|point p|point q|point r|point s|point t|bound early b a -2|bound late a b 9";
 
 /// Whether rows are those of the plan, in order.
 fn are_rows(rows: &[NewRow]) -> bool {
@@ -117,6 +119,22 @@ fn try_held<R: Threads + Sync + Abort>(
     Ok(())
 }
 
+/// A round of twenty rows by seven workers, each of which begins one before any goes on.
+fn try_seven<R: Threads + Sync + Abort>(
+    rt: &R,
+    alloc: Global,
+    net: &Network,
+    table: &Table,
+) -> Result<(), Fail>
+    requires fits { IsFor net.now table.now }
+    requires within { HasWeightsWithin net.now table.now }
+{
+    let gate = Meeting::of(7);
+    let rows = round(rt, alloc, table, net, 7, &gate)?;
+    assert!(rt; rows.len() == 20 && gate.was_met(20));
+    Ok(())
+}
+
 /// The base table of a network.
 pub(crate) fn base(alloc: Global, net: &Network) -> Result<Table, Fail>
     ensures fits { IfOk result (λ table. IsFor net.now table) }
@@ -147,4 +165,11 @@ fn rows_begin_while_one_is_held(rt: HostRuntime) -> Result<(), Fail> {
         try_held(&rt, rt.alloc(), &net, &table, target)?;
     }
     Ok(())
+}
+
+#[test]
+fn seven_workers_make_rows_at_once(rt: HostRuntime) -> Result<(), Fail> {
+    let net = network(rt.alloc(), TWENTY)?;
+    let table = base(rt.alloc(), &net)?;
+    try_seven(&rt, rt.alloc(), &net, &table)
 }

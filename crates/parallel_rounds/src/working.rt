@@ -9,7 +9,7 @@ ghost use Rattle.parallel_rounds.specs.Gathering.{CanMakeRows};
 ghost use Rattle.parallel_rounds.specs.Telling.{CanTell};
 ghost use Rattle.parallel_rounds.specs.Working.{IsWorked, LeftOff};
 
-use crate::gate::Gate;
+use crate::gate::{Gate, Passed};
 use crate::parts::Task;
 use back_propagation::{NewRow, row, row_after};
 use labelled_graph::Table;
@@ -66,37 +66,38 @@ pub(crate) fn draw_rows<G: Gate>(
     let mut rows = Vec::new(alloc);
     while let Some(number) = board.draw(seat) {
         let target = task.targets[number as usize];
-        task.gate.before(target.0);
-        add_row(alloc, task, target, &mut rows)?;
+        let passed = Passed::through(task.gate, target);
+        add_row(alloc, task, passed, &mut rows)?;
     }
     Ok(rows)
 }
 
-/// Makes the row of a target, and puts it at the end of others.
+/// Makes the row of a target for which the gate was called, and puts it at the end of others.
 fn add_row<G>(
     alloc: Global,
     task: &Task<G>,
-    target: PointId,
+    passed: Passed,
     rows: &mut Vec<NewRow>,
 ) -> Result<(), AllocError>
     requires fits { IsFor task.now.net.now task.now.table.now }
     requires within { HasWeightsWithin task.now.net.now task.now.table.now }
-    requires target { IsPoint task.now.net.now target }
+    requires target { IsPoint task.now.net.now passed }
     requires told { CanTell task.now.net.now task.now.table.now task.now.told task.now.fresh.now }
-    ensures { OnOk result (rows.new.items ≡ rows.old.items ++ new_row task.now.net.now task.now.table.now target ∷ []) }
+    ensures { OnOk result (rows.new.items ≡ rows.old.items ++ new_row task.now.net.now task.now.table.now passed ∷ []) }
 {
-    rows.push(row_of(alloc, task, target)?)?;
+    rows.push(row_of(alloc, task, passed)?)?;
     Ok(())
 }
 
 /// The row of a target: where the task tells what fell in the last round, from that alone.
-fn row_of<G>(alloc: Global, task: &Task<G>, target: PointId) -> Result<NewRow, AllocError>
+fn row_of<G>(alloc: Global, task: &Task<G>, passed: Passed) -> Result<NewRow, AllocError>
     requires fits { IsFor task.now.net.now task.now.table.now }
     requires within { HasWeightsWithin task.now.net.now task.now.table.now }
-    requires target { IsPoint task.now.net.now target }
+    requires target { IsPoint task.now.net.now passed }
     requires told { CanTell task.now.net.now task.now.table.now task.now.told task.now.fresh.now }
-    ensures { IfOk result (λ row. row ≡ new_row task.now.net.now task.now.table.now target) }
+    ensures { IfOk result (λ row. row ≡ new_row task.now.net.now task.now.table.now passed) }
 {
+    let target = passed.target();
     if task.told {
         row_after(alloc, task.table, task.net, target, task.fresh)
     } else {

@@ -1,0 +1,26 @@
+//! The networks of tests, by the lines of their plans.
+#![tactic(auto)]
+
+use net_model::{Network, WordFault};
+use plan_format::PlanReader;
+use std::alloc::Global;
+use std::test::Fail;
+
+/// The network of the lines of a plan, without its first and its last, with `|` between them. It fails where a line is no line of a plan, where a
+/// part is refused, and for want of memory.
+pub fn network(alloc: Global, lines: &str) -> Result<Network, Fail> {
+    let mut reader = PlanReader::new(alloc);
+    read_lines(&mut reader, lines)?;
+    Ok(reader.build(alloc)?)
+}
+
+fn read_lines(reader: &mut PlanReader, lines: &str) -> Result<(), WordFault> {
+    reader.read_line(1, b"stnu 1")?;
+    let mut number: u32 = 1;
+    for line in lines.split('|') {
+        number = number.saturating_add(1);
+        reader.read_line(number, line.as_bytes())?;
+    }
+    reader.read_line(number.saturating_add(1), b"end")?;
+    Ok(())
+}
