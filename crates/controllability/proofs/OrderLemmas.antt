@@ -14,11 +14,11 @@ use Rattle.closure_model.specs.Keys.{Key, Shape, ordinary_key}
 use Rattle.closure_model.specs.Orders.{goes, IsOrder, IsCycle}
 use Rattle.closure_model.specs.Derivable.{IsDerivable}
 use Rattle.closure_model.specs.Tables.{Graph, HasEdge, edges_of, weight_of}
-use Rattle.closure_model.proofs.LawProofs.{derivable_are_edges}
+use Rattle.closure_model.proofs.LawProofs.{derivable_are_edges, standing_is_derivable}
 use Rattle.closure_model.proofs.Lists.{each-weaker}
 use Rattle.closure_model.proofs.TableLemmas.{listed_edge}
 use Rattle.strategy_model.specs.Edges.{IsWalk, IsNegativeOrdinary, HasNoNegativeCycle}
-use Rattle.controllability.specs.Laws.{OrderedClosuresAreControllable, CyclesOfTablesExclude}
+use Rattle.controllability.specs.Laws.{OrderedClosuresAreControllable, CyclesOfTablesExclude, StandingCyclesExclude}
 use Rattle.controllability.proofs.ClosureLemmas.{closure_derivable, closures_decide, derivable_cycles_exclude}
 
 -- a negative ordinary edge of a table goes from its first point to its second
@@ -127,3 +127,6 @@ cycles_of_tables_exclude net table cycle instant derivable is controllable =
     let (point, gone) = gone_round table cycle is in
     let all = All-from_recursion (IsDerivable net) gone.edges (each-weaker (HasEdge table) (IsDerivable net) derivable gone.edges gone.has) in
     derivable_cycles_exclude net gone.edges instant all (point, gone.walk, gone.some, gone.negative) controllable
+
+pub standing_cycles_exclude : StandingCyclesExclude
+standing_cycles_exclude net support cycle instant stands is = cycles_of_tables_exclude net support.table cycle instant (standing_is_derivable net support stands) is

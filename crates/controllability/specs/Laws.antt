@@ -7,6 +7,7 @@ use Rattle.net_model.specs.declared.part.Edge.{Edge}
 use Rattle.closure_model.specs.Tables.{Graph, edges_of, IsFor, IsClosed, IsGraph}
 use Rattle.closure_model.specs.Derivable.{IsDerivable}
 use Rattle.closure_model.specs.Closure.{IsClosure, HoldsDerivable}
+use Rattle.closure_model.specs.Derivations.{Support, StandsOn}
 use Rattle.closure_model.specs.Orders as orders
 use Rattle.strategy_model.specs.Situations.{IsSituation}
 use Rattle.strategy_model.specs.Plays.{IsInstant}
@@ -42,6 +43,10 @@ OrderedClosuresAreControllable = (net : Plan) (table : Graph) (order : List Poin
 -- and it is not where a table of derivable edges, closed or not, has a cycle
 abbrev pub CyclesOfTablesExclude : Type 0
 CyclesOfTablesExclude = (net : Plan) (table : Graph) (cycle : List PointId) → IsInstant net → HoldsDerivable net table → orders.IsCycle table cycle → IsControllable net → ⊥
+
+-- so it is not where a table that stands on it with its derivation list has a cycle, whatever led to the list
+abbrev pub StandingCyclesExclude : Type 0
+StandingCyclesExclude = (net : Plan) (support : Support) (cycle : List PointId) → IsInstant net → StandsOn net support → orders.IsCycle support.table cycle → IsControllable net → ⊥
 
 -- a schedule is the earliest of a situation exactly where it is that of the lower bounds and waits of the closure
 abbrev pub ClosuresDispatchEarliest : Type 0

@@ -1,6 +1,6 @@
 //! Laws about derivable edges, closed tables and the closure, each the contract of a function without parameters.
 
-ghost use Rattle.controllability.specs.Laws.{DerivableAreTrue, DerivableCyclesExclude, ClosedTablesAreClosedLists, ClosuresAreClosedLists, ClosuresDecide, OrderedClosuresAreControllable, CyclesOfTablesExclude, ClosuresDispatchEarliest};
+ghost use Rattle.controllability.specs.Laws.{DerivableAreTrue, DerivableCyclesExclude, ClosedTablesAreClosedLists, ClosuresAreClosedLists, ClosuresDecide, OrderedClosuresAreControllable, CyclesOfTablesExclude, StandingCyclesExclude, ClosuresDispatchEarliest};
 
 /// Every derivable edge is true of every strategy that controls the network.
 pub fn derivable_are_true()
@@ -35,6 +35,11 @@ pub fn ordered_closures_are_controllable()
 /// A network is not controllable where a table of derivable edges has a cycle of negative ordinary edges.
 pub fn cycles_of_tables_exclude()
     ensures { CyclesOfTablesExclude }
+{}
+
+/// A network is not controllable where a table that stands on it with its derivation list has a cycle, whatever led to the list.
+pub fn standing_cycles_exclude()
+    ensures { StandingCyclesExclude }
 {}
 
 /// A schedule is the earliest of a situation exactly where it is that of the lower bounds and waits of the closure.

@@ -1,11 +1,16 @@
 -- What plain supports hold: a list, and the table of the least edges of its nodes.
-use Rattle.std.specs.Prelude.{◌≡◌, ℤ, Option, Some, None}
+use Rattle.std.specs.Prelude.{◌≡◌, ℤ, [], Option, Some, None}
 use Rattle.std.specs.List.{All}
+use Rattle.net_model.specs.Network.{Plan}
 use Rattle.net_model.specs.declared.part.Edge.{Edge}
-use Rattle.closure_model.specs.Keys.{key_of}
-use Rattle.closure_model.specs.Tables.{Graph, with_edge, without_key, table_of, IsWeight}
+use Rattle.closure_model.specs.Keys.{key_of, shape_of}
+use Rattle.closure_model.specs.Tables.{Graph, no_edges, with_edge, without_key, table_of, IsWeight}
 use Rattle.closure_model.specs.Derivations.{Support, edges_of_nodes}
 use Rattle.closure_model.specs.declared.derivation.Node.{Node}
+
+-- no node, and the table of a network without edges
+abbrev pub no_support : Plan → Support
+no_support net = record { nodes = []; table = no_edges (shape_of net) }
 
 -- the table is that of the list, and all weights are such as a table may hold
 pub record IsSupported (support : Support) : Type 0 where

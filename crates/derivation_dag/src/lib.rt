@@ -13,5 +13,5 @@ mod supports;
 
 pub use closure_model::{Item, Node, NodeId, Rule};
 pub use dag::Dag;
-pub use plain::Plain;
+pub use plain::{Plain, bound_node, link_node};
 pub use supports::Supports;

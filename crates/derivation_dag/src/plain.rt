@@ -1,11 +1,12 @@
-ghost use Rattle.std.specs.Prelude.{◌≡◌, ◌++◌, map, IfOk, IfSome, IsSome, OnOk, ◌≤◌, unsigned_abs};
+ghost use Rattle.std.specs.Prelude.{◌≡◌, ◌++◌, length, map, IfOk, IfSome, IsSome, OnOk, ◌≤◌, unsigned_abs};
 ghost use Rattle.std.specs.List.{enumerate_from};
+ghost use Rattle.net_model.specs.Edges.{IsEdge};
 ghost use Rattle.net_model.specs.Limits.{most_size};
 ghost use Rattle.net_model.specs.Rules.{bound_edge, link_edge};
 ghost use Rattle.closure_model.specs.Keys.{key_of, IsKey};
-ghost use Rattle.closure_model.specs.Tables.{weight_of, IsWeight};
-ghost use Rattle.closure_model.specs.Derivations.{base_support, bound_node, link_node, StandsOn};
-ghost use Rattle.derivation_dag.specs.Supported.{restored};
+ghost use Rattle.closure_model.specs.Tables.{weight_of, IsFor, IsWeight};
+ghost use Rattle.closure_model.specs.Derivations.{base_support, bound_node, link_node, with_node, IsGiven, StandsOn};
+ghost use Rattle.derivation_dag.specs.Supported.{no_support, restored};
 
 use crate::dag::Dag;
 use crate::keyed::KeyedDag;
@@ -55,6 +56,32 @@ impl Plain {
         Ok(Plain { list, table })
     }
 
+    /// The list without nodes, with the table of a network without edges. `AllocError` comes only for want of memory.
+    pub fn without_nodes(alloc: Global, net: &Network) -> Result<Plain, AllocError>
+        ensures { IfOk result (λ plain. plain ≡ no_support net.now) }
+    {
+        let table = Table::without_edges(alloc, net)?;
+        let list = KeyedDag::new(alloc);
+        Ok(Plain { list, table })
+    }
+
+    /// Puts a node at the end of the list and its edge into the table, as `accept` does, also where the table has as little for its key
+    /// already. `AllocError` comes only for want of memory.
+    pub fn add(&mut self, net: &Network, node: Node) -> Result<NodeId, AllocError>
+        requires for_network { IsFor net.now self.old.table }
+        requires edge { IsEdge net.now node.edge }
+        requires follows { IsGiven net.now self.old.nodes node }
+        ensures { IfOk result (λ id. (id.0 ≡ length self.old.nodes) × (self.new ≡ with_node self.old node)) }
+    {
+        // The proof reads here that the network is sound.
+        let _ = net.points();
+        if self.table.has_at_most(&node.edge) {
+            Ok(self.list.push(net, node)?)
+        } else {
+            self.accept(net, node)
+        }
+    }
+
     /// The list.
     pub fn dag(&self) -> &Dag
         ensures { result.now ≡ self.now.nodes }
@@ -93,9 +120,7 @@ fn push_bounds(list: &mut KeyedDag, net: &Network) -> Result<(), AllocError>
     ensures { OnOk result (list.new ≡ list.old ++ map bound_node (enumerate_from 0 net.now.bounds)) }
 {
     for (place, bound) in net.bounds().iter().enumerate() {
-        let rule = Rule::Bound(BoundId(place as u32));
-        let edge = bound_edge(bound);
-        list.push(net, Node { rule, edge })?;
+        list.push(net, bound_node(BoundId(place as u32), bound))?;
     }
     Ok(())
 }
@@ -104,17 +129,30 @@ fn push_links(list: &mut KeyedDag, net: &Network) -> Result<(), AllocError>
     ensures { OnOk result (list.new ≡ list.old ++ map link_node (enumerate_from 0 net.now.links)) }
 {
     for (place, link) in net.links().iter().enumerate() {
-        let name = LinkId(place as u32);
-        let edge = link_edge(name, link);
-        list.push(
-            net,
-            Node {
-                rule: Rule::Link(name),
-                edge,
-            },
-        )?;
+        list.push(net, link_node(LinkId(place as u32), link))?;
     }
     Ok(())
+}
+
+/// The base node of a bound, which has this number.
+pub fn bound_node(id: BoundId, bound: &Bound) -> Node
+    ensures { result ≡ bound_node (id.0, bound.now) }
+{
+    Node {
+        rule: Rule::Bound(id),
+        edge: bound_edge(bound),
+    }
+}
+
+/// The base node of a link, which has this number. The link has a longest duration that a network may have.
+pub fn link_node(id: LinkId, link: &Link) -> Node
+    requires { unsigned_abs link.now.high ≤ most_size }
+    ensures { result ≡ link_node (id.0, link.now) }
+{
+    Node {
+        rule: Rule::Link(id),
+        edge: link_edge(id, link),
+    }
 }
 
 fn bound_edge(bound: &Bound) -> Edge

@@ -16,7 +16,7 @@ use Rattle.net_model.specs.declared.ids.PointId.{PointId}
 use Rattle.net_model.specs.declared.part.Bound.{Bound}
 use Rattle.net_model.specs.declared.part.Link.{Link}
 use Rattle.closure_model.proofs.Nodes.{chained}
-use Rattle.derivation_edits.specs.declared.edit.Edit.{Edit}
+use Rattle.net_model.specs.declared.edit.Edit.{Edit}
 use Rattle.derivation_edits.specs.Following.{IsRenumbering, moved_bound, moved_link}
 use Rattle.derivation_edits.specs.FollowingLaws.{NamesRenumber}
 use Rattle.derivation_edits.specs.Taken.{sets_bound, sets_link, name_of, point_in, is_point, is_same_bound, is_same_link, same_place, bound_in, same_link_place, link_in, renumbering}
@@ -35,10 +35,10 @@ link_place_is : (o : Option ℕ) (id : LinkId) → option_map {U = LinkId} (λ (
 link_place_is None id is = absurd cc
 link_place_is (Some k) id is = ap (option_map (λ (p : LinkId). p.0)) is
 
-same_bytes : (x y : List ℕ) → bytes_eq x y ≡ true → x ≡ y
+pub same_bytes : (x y : List ℕ) → bytes_eq x y ≡ true → x ≡ y
 same_bytes x y is = (bytes_eq-Decides x y).0 is
 
-bytes_itself : (x y : List ℕ) → x ≡ y → bytes_eq x y ≡ true
+pub bytes_itself : (x y : List ℕ) → x ≡ y → bytes_eq x y ≡ true
 bytes_itself x y is = (bytes_eq-Decides x y).1 is
 
 module _ (net : Plan) (plan : IsPlan net) where

@@ -19,7 +19,7 @@ use Rattle.net_model.specs.declared.part.Edge.{Edge}
 use Rattle.closure_model.proofs.Basing.{numbered_at}
 use Rattle.closure_model.proofs.Lists.{Contains-head, Contains-tail, Contains-cases, Contains-none, Contains-map, Contains-map_from}
 use Rattle.closure_model.proofs.Nodes.{chained}
-use Rattle.derivation_edits.specs.declared.edit.Edit.{Edit}
+use Rattle.net_model.specs.declared.edit.Edit.{Edit}
 use Rattle.derivation_edits.specs.Following.{Renumbering, moved_edge, IsMovedBase, AreNewBase}
 use Rattle.derivation_edits.specs.FollowingLaws.{NewBaseIsWhole}
 use Rattle.derivation_edits.specs.Taken.{point_in, bound_in, link_in, renumbering, is_new_bound, is_new_link, new_base_nodes}

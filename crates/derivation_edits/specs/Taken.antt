@@ -12,8 +12,8 @@ use Rattle.net_model.specs.declared.part.Bound.{Bound}
 use Rattle.net_model.specs.declared.part.Link.{Link}
 use Rattle.closure_model.specs.Derivations.{bound_node, link_node}
 use Rattle.closure_model.specs.declared.derivation.Node.{Node}
-use Rattle.derivation_edits.specs.declared.edit.Edit.{Edit}
-use Rattle.derivation_edits.specs.declared.edit.Edit.TheVariants as edits
+use Rattle.net_model.specs.declared.edit.Edit.{Edit}
+use Rattle.net_model.specs.declared.edit.Edit.TheVariants as edits
 use Rattle.derivation_edits.specs.Following.{Renumbering}
 
 -- an edit sets the bound of a name

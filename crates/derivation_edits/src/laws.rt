@@ -1,6 +1,6 @@
 //! Laws about what is kept of a derivation list, each the contract of a function without parameters.
 
-ghost use Rattle.derivation_edits.specs.Withdrawn.{TakenIsWithdrawn};
+ghost use Rattle.derivation_edits.specs.TakenAway.{EditsTakeBounds, EditsTakeLinks};
 ghost use Rattle.derivation_edits.specs.FollowingLaws.{KeptIsDerived, KeptIsWhatRestsOnNothingTaken, FollowedStands, NamesRenumber, NewBaseIsWhole};
 
 /// What is kept of a derivation list of the old network is one of the new network: each kept node is by its rule there.
@@ -28,7 +28,12 @@ pub fn new_base_is_whole()
     ensures { NewBaseIsWhole }
 {}
 
-/// Exactly the bounds that the edit drops or sets, and those with different numbers, have no number in the new network.
-pub fn taken_is_withdrawn()
-    ensures { TakenIsWithdrawn }
+/// Exactly the bounds that the edit drops or sets, and those that stand in the new network with another number, have no number there.
+pub fn edits_take_bounds()
+    ensures { EditsTakeBounds }
+{}
+
+/// Exactly the links that the edit drops or sets, and those that stand in the new network with other durations, have no number there.
+pub fn edits_take_links()
+    ensures { EditsTakeLinks }
 {}

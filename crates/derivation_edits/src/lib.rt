@@ -2,7 +2,4 @@
 //! the numbers of the edited network. Definitions and laws: nothing here makes an edge.
 #![tactic(auto)]
 
-mod edit;
 pub mod laws;
-
-pub use edit::{Edit, EditFault, User};

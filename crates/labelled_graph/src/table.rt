@@ -54,6 +54,20 @@ impl Table {
         Ok(table)
     }
 
+    /// The table of a network without edges. `AllocError` comes only for want of memory.
+    pub fn without_edges(alloc: Global, net: &Network) -> Result<Table, AllocError>
+        ensures { IfOk result (λ table. table ≡ no_edges (shape_of net.now)) }
+    {
+        let points = net.points();
+        let links = net.links();
+        let mut activations = Vec::new(alloc);
+        for link in links {
+            activations.push(link.from)?;
+        }
+        let rows = empty_rows(alloc, points.len() as u32)?;
+        Ok(Table { rows, activations })
+    }
+
     /// The weight of the ordinary edge between two points, if there is one.
     pub fn weight(&self, from: PointId, to: PointId) -> Option<Weight>
         requires from_point { from.0 < self.now.shape.points }
@@ -76,6 +90,15 @@ impl Table {
         let to = self.activations[link.0 as usize];
         let row = &self.rows[to.0 as usize];
         row.get(from, Some(link))
+    }
+
+    /// Whether the key of an edge has a weight that is no greater.
+    pub fn has_at_most(&self, edge: &Edge) -> bool
+        requires { IsKey self.now.shape (key_of edge.now) }
+        ensures { result ≡ has_at_most self.now edge.now }
+    {
+        self.weight_at(edge)
+            .is_some_and(|weight| weight <= edge.weight)
     }
 
     /// Gives the key of an edge its weight where the key has none or a greater one, and says whether it did. Nothing else changes.
@@ -148,20 +171,6 @@ impl Table {
         Ok(Table { rows, activations })
     }
 
-    /// The table of a network without edges.
-    fn without_edges(alloc: Global, net: &Network) -> Result<Table, AllocError>
-        ensures { IfOk result (λ table. table ≡ no_edges (shape_of net.now)) }
-    {
-        let points = net.points();
-        let links = net.links();
-        let mut activations = Vec::new(alloc);
-        for link in links {
-            activations.push(link.from)?;
-        }
-        let rows = empty_rows(alloc, points.len() as u32)?;
-        Ok(Table { rows, activations })
-    }
-
     fn lower_to_bounds(&mut self, bounds: &[Bound]) -> Result<(), AllocError>
         requires { All (λ bound. IsEdgeFor self.old.shape (bound_edge bound)) bounds.now }
         ensures { OnOk result (self.new ≡ fold lowered self.old (map bound_edge bounds.now)) }
@@ -181,15 +190,6 @@ impl Table {
             self.lower_to(&edge_of_link(LinkId(place as u32), link))?;
         }
         Ok(())
-    }
-
-    /// Whether the key of an edge has a weight that is no greater.
-    fn has_at_most(&self, edge: &Edge) -> bool
-        requires { IsKey self.now.shape (key_of edge.now) }
-        ensures { result ≡ has_at_most self.now edge.now }
-    {
-        self.weight_at(edge)
-            .is_some_and(|weight| weight <= edge.weight)
     }
 
     /// The weight of the key of an edge, if it has one.

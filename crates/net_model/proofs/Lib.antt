@@ -9,3 +9,4 @@ pub mod RuleLemmas
 pub mod PartsLemmas
 pub mod NumberLemmas
 pub mod PlaceLemmas
+pub mod Accepted

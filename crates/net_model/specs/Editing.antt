@@ -1,6 +1,6 @@
 -- What an edit makes of a network, or why it is refused. This project's own choice.
-use Rattle.std.specs.Prelude.{◌≡◌, ◌==◌, ◌||◌, ◌-◌, ◌+◌, ℕ, ℤ, Bool, true, false, List, ◌++◌, map, take, drop, Option, Some, None, Result, Ok, Err, nat_lt, pos, int_lt, not, if◌then◌else◌, slice_get, codes}
-use Rattle.std.specs.List.{position, slice_set}
+use Rattle.std.specs.Prelude.{◌≡◌, ◌==◌, ◌||◌, ◌-◌, ℕ, ℤ, Bool, true, false, List, map, Option, Some, None, Result, Ok, Err, nat_lt, pos, int_lt, not, if◌then◌else◌, slice_get, codes}
+use Rattle.std.specs.List.{position, remove, slice_set}
 use Rattle.std.specs.Option.{option_map, option_and_then}
 use Rattle.net_model.specs.Building.{with_point, with_bound, with_link}
 use Rattle.net_model.specs.Limits.{within_limit}
@@ -34,10 +34,6 @@ cause_of part.OutOfMemory = fault.OutOfMemory
 abbrev pub added : Result Plan PartFault → Result Plan EditFault
 added (Ok net) = Ok net
 added (Err cause) = Err (cause_of cause)
-
--- a list without the item at a place: it closes up
-abbrev pub without : {A : Type 0} → ℕ → List A → List A
-without place items = take place items ++ drop (place + 1) items
 
 -- refused for this cause where the test holds
 abbrev pub refused_if : {A : Type 0} → Bool → EditFault → Result A EditFault → Result A EditFault
@@ -79,7 +75,7 @@ closed_up dropped point = if nat_lt dropped.0 point.0 then record { 0 = point.0 
 -- the network without a point
 abbrev pub without_point : Plan → PointId → Plan
 without_point net dropped = record {
-  points = without dropped.0 net.points;
+  points = remove net.points dropped.0;
   bounds = map (λ (b : Bound). record b { from = closed_up dropped b.from; to = closed_up dropped b.to }) net.bounds;
   links = map (λ (l : Link). record l { from = closed_up dropped l.from; to = closed_up dropped l.to }) net.links;
 }
@@ -102,14 +98,14 @@ edited net (edits.AddPoint name) = added (with_point net name)
 edited net (edits.AddBound name from to most) = added (with_bound net name from to most)
 edited net (edits.AddLink from low high to) = added (with_link net from low high to)
 edited net (edits.DropPoint name) = known (point_named net name) (λ point. unused (user_of net point) (Ok (without_point net point)))
-edited net (edits.DropBound name) = known (bound_named net name) (λ id. Ok (record net { bounds = without id.0 net.bounds }))
+edited net (edits.DropBound name) = known (bound_named net name) (λ id. Ok (record net { bounds = remove net.bounds id.0 }))
 edited net (edits.SetBound name most) =
     known (bound_named net name)
     (λ id. known (slice_get net.bounds id.0)
     (λ bound.
     refused_if (not (within_limit most)) (fault.Limit Number)
     (Ok (with_number net id most bound))))
-edited net (edits.DropLink to) = known (link_named net to) (λ id. Ok (record net { links = without id.0 net.links }))
+edited net (edits.DropLink to) = known (link_named net to) (λ id. Ok (record net { links = remove net.links id.0 }))
 edited net (edits.SetLink to low high) =
     known (link_named net to)
     (λ id. known (slice_get net.links id.0)

@@ -5,3 +5,4 @@ pub mod NodeOffers
 pub mod NodeSteps
 pub mod StaleReads
 pub mod Settling
+pub mod LaterNodes

@@ -1,2 +1,3 @@
 pub mod TableHistory
 pub mod NodeOffers
+pub mod LaterNodes

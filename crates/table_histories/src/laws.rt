@@ -1,5 +1,6 @@
 //! Laws about the histories of a table that several workers share, each the contract of a function without parameters.
 
+ghost use Rattle.table_histories.specs.LaterNodes.{LaterNodesFall};
 ghost use Rattle.table_histories.specs.TableHistory.{HistoriesAreDerivable, SettledHistoriesGiveTheClosure, RoundsAreHistories, RoundsThatCloseSettle, StaleReadsMayBeUsed};
 ghost use Rattle.table_histories.specs.NodeOffers.{NodesComeByTheirRules, RoundHistoriesAreHistories};
 
@@ -40,4 +41,10 @@ pub fn rounds_that_close_settle()
 /// A worker may use a weight that its key no longer has: what follows from it is offered when the key has a lesser one.
 pub fn stale_reads_may_be_used()
     ensures { StaleReadsMayBeUsed }
+{}
+
+/// The nodes that a history of rounds adds come after those before it, and each has a weight below that of every earlier node of its
+/// key: nothing that stands is derived again.
+pub fn later_nodes_fall()
+    ensures { LaterNodesFall }
 {}

@@ -1,19 +1,14 @@
-use Rattle.std.proofs.Common.{◌≡◌, ◌∙◌, ap, arith, length}
+use Rattle.std.proofs.Common.{◌∙◌, ap, arith, length}
 use Rattle.closure_model.specs.Derivations.{bound_node}
-use Rattle.closure_model.specs.declared.derivation.Node.{Node}
-use Rattle.closure_model.specs.declared.derivation.Rule.TheVariants as by_rule
 use Rattle.derivation_dag.proofs.PlainLemmas.{pushed_more, pushed_all}
 use Rattle.derivation_dag.proofs.plain.push_bounds.Goals as goal
 
 pub loop-place-preserved : goal.loop-place-preserved
 loop-place-preserved c =
     let place = c.loop-place.place in
-    let bound = c.bound-item.result in
     let size = ap length c.bounds-bound-items.ensures.bounds in
-    let node : Node = record { rule = by_rule.Bound (record { 0 = place }); edge = c.bound_edge-edge.result } in
-    let made : node ≡ bound_node (place, bound) = λ i. record { rule = by_rule.Bound (record { 0 = place }); edge = c.bound_edge-edge.ensures i } in
-    pushed_more bound_node c.args.list.now c.loop-place.list c.push.new.self c.bounds-bound-items.result.now c.args.net.now.bounds place bound node
-    c.bounds-bound-items.ensures.bounds (omega arith) c.loop-place.invariant (made ∙ ap (λ b. bound_node (place, b)) c.bound-item.is) c.in_ok-push.ensures.pushed.1
+    pushed_more bound_node c.args.list.now c.loop-place.list c.push.new.self c.bounds-bound-items.result.now c.args.net.now.bounds place c.bound-item.result c.bound_node.result
+    c.bounds-bound-items.ensures.bounds (omega arith) c.loop-place.invariant (c.bound_node.ensures ∙ ap (λ b. bound_node (place, b)) c.bound-item.is) c.in_ok-push.ensures.pushed.1
 
 pub returns : goal.returns
 returns c =

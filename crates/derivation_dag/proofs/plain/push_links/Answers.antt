@@ -1,7 +1,5 @@
 use Rattle.std.proofs.Common.{ap, arith, length}
 use Rattle.closure_model.specs.Derivations.{link_node}
-use Rattle.closure_model.specs.declared.derivation.Node.{Node}
-use Rattle.closure_model.specs.declared.derivation.Rule.TheVariants as by_rule
 use Rattle.derivation_dag.proofs.PlainLemmas.{pushed_more, pushed_all}
 use Rattle.derivation_dag.proofs.plain.push_links.Goals as goal
 
@@ -9,9 +7,8 @@ pub loop-place-preserved : goal.loop-place-preserved
 loop-place-preserved c =
     let place = c.loop-place.place in
     let size = ap length c.links-link-items.ensures.links in
-    let node : Node = record { rule = by_rule.Link (record { 0 = place }); edge = c.link_edge-edge.result } in
-    pushed_more link_node c.args.list.now c.loop-place.list c.push.new.self c.links-link-items.result.now c.args.net.now.links place _ node
-    c.links-link-items.ensures.links (omega arith) c.loop-place.invariant (λ i. record { rule = by_rule.Link (record { 0 = place }); edge = c.link_edge-edge.ensures i }) c.in_ok-push.ensures.pushed.1
+    pushed_more link_node c.args.list.now c.loop-place.list c.push.new.self c.links-link-items.result.now c.args.net.now.links place _ c.link_node.result
+    c.links-link-items.ensures.links (omega arith) c.loop-place.invariant c.link_node.ensures c.in_ok-push.ensures.pushed.1
 
 pub returns : goal.returns
 returns c =

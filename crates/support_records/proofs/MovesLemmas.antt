@@ -1,0 +1,39 @@
+-- The numbers by names as they are held.
+use Rattle.std.proofs.Common.{◌≡◌, ℕ, zero, suc, List, [], ◌∷◌, map, get_or, Option, None, refl, ap, ◌∙◌}
+use Rattle.std.specs.Prelude.{slice_get}
+use Rattle.std.specs.Option.{option_and_then}
+use Rattle.net_model.specs.Network.{Plan}
+use Rattle.net_model.specs.declared.ids.BoundId.{BoundId}
+use Rattle.net_model.specs.declared.ids.LinkId.{LinkId}
+use Rattle.derivation_edits.specs.Taken.{bound_in, link_in, renumbering}
+use Rattle.net_model.specs.declared.edit.Edit.{Edit}
+use Rattle.support_records.specs.Moves.{moves_of, AreMoves}
+use Rattle.support_records.specs.declared.moves.Moves.{Moves}
+
+at_map : {X Y : Type 0} (f : X → Option Y) (xs : List X) (k : ℕ) → get_or (map f xs) k None ≡ option_and_then f (slice_get xs k)
+at_map f [] k = refl
+at_map f (x ∷ xs) zero = refl
+at_map f (x ∷ xs) (suc k) = at_map f xs k
+
+pub are_moves : (old : Plan) (edit : Edit) (new : Plan) (moves : Moves) → moves.points.old.now ≡ old → moves.points.new.now ≡ new
+    → moves.bounds.items ≡ map (bound_in moves.points.old.now edit moves.points.new.now) moves.points.old.now.bounds
+    → moves.links.items ≡ map (link_in moves.points.old.now edit moves.points.new.now) moves.points.old.now.links → AreMoves old edit new moves
+are_moves old edit new moves old_is new_is bounds links = record {
+  old_is = old_is;
+  new_is = new_is;
+  numbers = held ∙ (λ i. renumbering (old_is i) edit (new_is i));
+}
+  where
+    from : Plan
+    from = moves.points.old.now
+
+    to : Plan
+    to = moves.points.new.now
+
+    held : moves_of moves ≡ renumbering moves.points.old.now edit moves.points.new.now
+    held =
+        let bound : (id : BoundId) → (moves_of moves).bounds id ≡ (renumbering moves.points.old.now edit moves.points.new.now).bounds id =
+        λ id. ap (λ (xs : List (Option BoundId)). get_or xs id.0 None) bounds ∙ at_map (bound_in moves.points.old.now edit moves.points.new.now) moves.points.old.now.bounds id.0 in
+        let link : (id : LinkId) → (moves_of moves).links id ≡ (renumbering moves.points.old.now edit moves.points.new.now).links id =
+        λ id. ap (λ (xs : List (Option LinkId)). get_or xs id.0 None) links ∙ at_map (link_in moves.points.old.now edit moves.points.new.now) moves.points.old.now.links id.0 in
+        λ i. record { points = (moves_of moves).points; bounds = λ id. bound id i; links = λ id. link id i }

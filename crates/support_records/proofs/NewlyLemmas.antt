@@ -1,0 +1,54 @@
+-- The nodes of what is new, one place after another, and base nodes pushed to a list.
+use Rattle.std.proofs.Common.{◌≡◌, ℕ, ◌+◌, ◌≤◌, ◌<◌, Bool, true, false, cond, List, [], ◌∷◌, ◌++◌, length, get_or, take, map, refl, ap, sym, ◌∙◌, arith, append_assoc, zero-add}
+use Rattle.std.specs.Prelude.{filter, if◌then◌else◌}
+use Rattle.std.specs.List.{enumerate_from, Contains, All}
+use Rattle.std.proofs.lemmas.List.{map-append, take_more}
+use Rattle.std.proofs.lemmas.List.Elements.{filter-append, All-take}
+use Rattle.std.proofs.lemmas.List.FromFn.{length-enumerate_from, get_or-enumerate_from}
+use Rattle.std.proofs.Math.Seq.{take-length}
+use Rattle.net_model.specs.Network.{Plan}
+use Rattle.closure_model.specs.Derivations.{IsGiven, IsDerivationList, base_nodes}
+use Rattle.closure_model.specs.declared.derivation.Node.{Node}
+use Rattle.closure_model.proofs.Standing.{base_given}
+use Rattle.derivation_edits.proofs.FollowedStanding.{base_pushed}
+
+-- the first items numbered, and one more
+numbered_more : {X : Type 0} (xs : List X) (place : ℕ) (d : X) → place < length xs → take (place + 1) (enumerate_from 0 xs) ≡ take place (enumerate_from 0 xs) ++ (place, get_or xs place d) ∷ []
+numbered_more {X = X} xs place d inside =
+    let within : place < length (enumerate_from 0 xs) = simp length-enumerate_from inside in
+    let at : get_or (enumerate_from 0 xs) place (0, d) ≡ (0 + place, get_or xs place d) = get_or-enumerate_from 0 xs place (0, d) inside in
+    let is : get_or (enumerate_from 0 xs) place (0, d) ≡ (place, get_or xs place d) = at ∙ ap (λ (n : ℕ). (n, get_or xs place d)) (zero-add place) in
+    take_more (enumerate_from 0 xs) place (0, d) within ∙ ap (λ (e : ℕ × X). take place (enumerate_from 0 xs) ++ e ∷ []) is
+
+one_filtered : {X : Type 0} (p : ℕ × X → Bool) (made : ℕ × X → Node) (e : ℕ × X) → map made (filter p (e ∷ [])) ≡ (if p e then made e ∷ [] else [])
+one_filtered p made e = by (p e)
+  where
+    by : (b : Bool) → map made (cond b (e ∷ []) []) ≡ (if b then made e ∷ [] else [])
+    by true = refl
+    by false = refl
+
+pub newly_more : {X : Type 0} (p : ℕ × X → Bool) (made : ℕ × X → Node) (start before all : List Node) (listed xs : List X) (place : ℕ) (d : X) (node : Node) (wanted : Bool) → listed ≡ xs → place < length xs
+    → before ≡ start ++ map made (filter p (take place (enumerate_from 0 xs))) → node ≡ made (place, get_or listed place d) → wanted ≡ p (place, get_or listed place d) → all ≡ before ++ (if wanted then node ∷ [] else [])
+    → all ≡ start ++ map made (filter p (take (place + 1) (enumerate_from 0 xs)))
+newly_more {X = X} p made start before all listed xs place d node wanted same inside was node_is wanted_is pushed =
+    let e : ℕ × X = (place, get_or xs place d) in
+    let at : (place, get_or listed place d) ≡ e = ap (λ (ys : List X). (place, get_or ys place d)) same in
+    let step : map made (filter p (take (place + 1) (enumerate_from 0 xs))) ≡ map made (filter p (take place (enumerate_from 0 xs))) ++ (if p e then made e ∷ [] else []) =
+    ap (λ (es : List (ℕ × X)). map made (filter p es)) (numbered_more xs place d inside)
+    ∙ (ap (map made) (filter-append p (take place (enumerate_from 0 xs)) (e ∷ []))
+    ∙ (map-append made (filter p (take place (enumerate_from 0 xs))) (filter p (e ∷ [])) ∙ ap (λ (ns : List Node). map made (filter p (take place (enumerate_from 0 xs))) ++ ns) (one_filtered p made e))) in
+    pushed
+    ∙ ((λ i. was i ++ (if (wanted_is ∙ ap p at) i then (node_is ∙ ap made at) i ∷ [] else []))
+    ∙ (append_assoc start (map made (filter p (take place (enumerate_from 0 xs)))) (if p e then made e ∷ [] else []) ∙ ap (λ (ns : List Node). start ++ ns) (sym step)))
+
+pub newly_all : {X : Type 0} (p : ℕ × X → Bool) (made : ℕ × X → Node) (start after : List Node) (xs : List X) (place : ℕ) → length xs ≤ place → place ≤ length xs → after ≡ start ++ map made (filter p (take place (enumerate_from 0 xs))) → after ≡ start ++ map made (filter p (enumerate_from 0 xs))
+newly_all {X = X} p made start after xs place least most was =
+    let size : place ≡ length (enumerate_from 0 xs) = simp length-enumerate_from (omega arith) in
+    was ∙ ap (λ (es : List (ℕ × X)). start ++ map made (filter p es)) (ap (λ (n : ℕ). take n (enumerate_from 0 xs)) size ∙ take-length (enumerate_from 0 xs))
+
+-- base nodes after a list
+pub first_pushed : (net : Plan) (list nodes : List Node) (n : ℕ) → IsDerivationList net list → All (Contains (base_nodes net)) nodes → IsDerivationList net (list ++ take n nodes)
+first_pushed net list nodes n derived base = base_pushed net list (take n nodes) derived (All-take (Contains (base_nodes net)) n nodes base)
+
+pub node_given : (net : Plan) (earlier nodes : List Node) (k : ℕ) (d : Node) → k < length nodes → All (Contains (base_nodes net)) nodes → IsGiven net earlier (get_or nodes k d)
+node_given net earlier nodes k d inside base = base_given net earlier (get_or nodes k d) (base k d inside)

@@ -1,0 +1,3 @@
+pub mod Newly
+pub mod Moves
+pub mod Followed
