@@ -8,3 +8,4 @@ pub mod LawProofs
 pub mod Numbering
 pub mod CycleSteps
 pub mod CanBeMade
+pub mod OneCertificate

@@ -1,3 +1,4 @@
 pub mod Certifying
 pub mod Making
 pub mod Laws
+pub mod Refuting

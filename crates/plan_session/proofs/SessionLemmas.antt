@@ -1,0 +1,104 @@
+-- What is opened of a network, what it decides, and what comes of it.
+use Rattle.std.proofs.Common.{◌≡◌, ℕ, suc, ◌≤◌, List, ◌++◌, length, Option, Some, Result, Ok, Err, refl, ap, sym, ◌∙◌, subst}
+use Rattle.std.specs.Prelude.{IfOk, IfSome}
+use Rattle.std.specs.declared.alloc.AllocError.{AllocError}
+use Rattle.net_model.specs.Network.{Plan}
+use Rattle.net_model.specs.declared.edit.Edit.{Edit}
+use Rattle.net_model.specs.declared.ids.PointId.{PointId}
+use Rattle.strategy_model.specs.Control.{IsControllable}
+use Rattle.strategy_model.specs.Plays.{IsInstant}
+use Rattle.closure_model.specs.Closure.{IsClosure}
+use Rattle.closure_model.specs.Derivations.{Support, StandsOn}
+use Rattle.closure_model.specs.Orders.{IsOrder, IsCycle}
+use Rattle.closure_model.specs.ReferenceRounds.{Ending, closed, looped, RoundsEnd}
+use Rattle.closure_model.specs.Tables.{Graph}
+use Rattle.controllability.specs.Laws.{OrderedClosuresAreControllable, StandingCyclesExclude}
+use Rattle.table_histories.specs.LaterNodes.{LaterNodesFall}
+use Rattle.parallel_rounds.specs.Propagated.{IsPropagated, Says, ending_of, rounds_of}
+use Rattle.parallel_rounds.specs.declared.outcome.Outcome.{Outcome}
+use Rattle.parallel_rounds.specs.declared.outcome.Outcome.TheVariants.{Closed, Looped}
+use Rattle.support_records.specs.Followed.{IsFollowed}
+use Rattle.support_records.specs.declared.store.Withdrawn.{Withdrawn}
+use Rattle.cert_format.specs.CertificateWords.{HasWeights}
+use Rattle.cert_format.specs.declared.certificate.Certificate.{Certificate}
+use Rattle.cert_checker.specs.Judgement.{judgement_of}
+use Rattle.cert_checker.specs.declared.judgement.Claim.TheVariants.{NotControllable}
+use Rattle.cert_checker.specs.declared.judgement.Judgement.TheVariants.{Accepted}
+use Rattle.refutations.specs.Certifying.{IsCertificateBy}
+use Rattle.refutations.specs.Refuting.{Refutes}
+use Rattle.dispatch_net.specs.Dispatchable.{DispatchLists, IsDispatchBy}
+use Rattle.plan_session.specs.Sessions.{Opened, State, EndsWell, IsSound, Opens, FollowsEdit, IsDispatchOfClosure}
+use Rattle.plan_session.specs.declared.answers.Report.{Report}
+
+-- what an outcome says of a table is what its ending does
+pub says_well : (net : Plan) (support : Support) (outcome : Outcome) → Says net support outcome → EndsWell net support (ending_of outcome)
+says_well net support (Closed rounds order) says = says
+says_well net support (Looped rounds cycle) says = says
+
+-- ---- the verdict
+module _ (net : Plan) (opened : Opened) (sound : IsSound net opened) where
+  -- rounds that closed gave the closure, with an order
+  pub closed_well : (order : List PointId) → opened.ending ≡ closed order → IsClosure net opened.support.table × IsOrder opened.support.table order
+  closed_well order is = subst (EndsWell net opened.support) is sound.ends
+
+  pub looped_well : (cycle : List PointId) → opened.ending ≡ looped cycle → IsCycle opened.support.table cycle
+  looped_well cycle is = subst (EndsWell net opened.support) is sound.ends
+
+  pub closed_controls : OrderedClosuresAreControllable → IsInstant net → (order : List PointId) → opened.ending ≡ closed order → IsControllable net
+  closed_controls decide instant order is = let well = closed_well order is in decide net opened.support.table order instant well.0 well.1
+
+  pub looped_excludes : StandingCyclesExclude → IsInstant net → (cycle : List PointId) → opened.ending ≡ looped cycle → ¬ IsControllable net
+  looped_excludes exclude instant cycle is = exclude net opened.support cycle instant sound.stands (looped_well cycle is)
+
+-- ---- an accepted edit
+pub follows : LaterNodesFall → (old : Plan) (edit : Edit) (new : Plan) (before : Opened) (start after : Support) (outcome : Outcome) (answer : Withdrawn) → IsFollowed old edit new before.support start answer
+    → IsPropagated new start after outcome
+    → FollowsEdit old edit new before (record { support = after; ending = ending_of outcome }) (record { kept = answer.kept; withdrawn = answer.withdrawn; rounds = rounds_of outcome })
+follows fall old edit new before start after outcome answer followed propagated = record {
+  start = start;
+  answer = answer;
+  followed = followed;
+  kept = refl;
+  withdrawn = refl;
+  ends = propagated.ends;
+  few = propagated.few;
+  made = propagated.history.nodes;
+  list = propagated.history.more;
+  falls = fall new start after followed.stands propagated.history;
+  sound = record { stands = propagated.stands; ends = says_well new after outcome propagated.says };
+}
+
+-- ---- the certificate
+-- rounds from the base that end in a cycle give the certificate of the network
+pub refutes : (net : Plan) (opened : Opened) (cycle : List PointId) (cert : Certificate) → Opens net opened → ¬ IsControllable net → opened.ending ≡ looped cycle → IsCertificateBy net opened.support.nodes cycle cert
+    → judgement_of net cert ≡ Accepted NotControllable → HasWeights cert → Refutes net cert
+refutes net opened cycle cert opens never is by accepted weights = record {
+  never = never;
+  of = record {
+    nodes = opened.support.nodes;
+    lines = by.lines;
+    walk = by.walk;
+    refutation = record {
+      rounds = opens.rounds;
+      after = opened.support;
+      cycle = cycle;
+      ends = subst (RoundsEnd net _ opens.rounds opened.support) is opens.ends;
+      list = refl;
+      by_cycle = by.refutation;
+    };
+    is = by.is;
+  };
+  accepted = accepted;
+  weights = weights;
+}
+
+-- ---- the dispatchable network
+pub dispatches : (net : Plan) (table : Graph) (order : List PointId) (answer : Result DispatchLists AllocError) → IsClosure net table → IsOrder table order → IfOk answer (IsDispatchBy net table)
+    → IfOk answer (λ (dispatch : DispatchLists). length dispatch.made ≡ length net.points) → IfOk answer (IsDispatchOfClosure net)
+dispatches net table order (Ok dispatch) closure ordered by whole = record { table = table; order = order; closure = closure; ordered = ordered; by = by; whole = whole }
+dispatches net table order (Err error) closure ordered by whole = tt
+
+-- ---- a session that is not broken
+-- what is opened of it is sound
+pub opened_sound : (session : State) (opened : Opened) → session.opened ≡ Some opened → IfSome session.opened (IsSound session.net) → IsSound session.net opened
+opened_sound session opened is sound = subst (λ (o : Option Opened). IfSome o (IsSound session.net)) is sound

@@ -1,0 +1,37 @@
+-- Sessions as data, for the types whose model they are.
+use Rattle.std.specs.Prelude.{◌≡◌, ◌⊎◌, List, Option, refl}
+use Rattle.std.specs.Coded.{Coded, code_by, coded_list, coded_option, coded×, coded⊎}
+use Rattle.std.proofs.Common.{inl, inr}
+use Rattle.net_model.specs.Network.{Plan}
+use Rattle.net_model.specs.contracts.network.Network as network
+use Rattle.net_model.specs.declared.ids.PointId.{PointId}
+use Rattle.closure_model.specs.Codes.{point_code, graph_code}
+use Rattle.closure_model.specs.Derivations.{Support}
+use Rattle.closure_model.specs.ReferenceRounds.{Ending, closed, looped}
+use Rattle.derivation_dag.specs.SupportCode.{support_code}
+use Rattle.plan_session.specs.Sessions.{Opened, State}
+
+abbrev pub points_of : Ending → List PointId ⊎ List PointId
+points_of (closed order) = inl order
+points_of (looped cycle) = inr cycle
+
+abbrev pub ending_by : List PointId ⊎ List PointId → Ending
+ending_by (inl order) = closed order
+ending_by (inr cycle) = looped cycle
+
+abbrev pub ending_back : (ending : Ending) → ending_by (points_of ending) ≡ ending
+ending_back (closed order) = refl
+ending_back (looped cycle) = refl
+
+abbrev pub ending_code : Coded Ending
+ending_code = code_by (List PointId ⊎ List PointId) (coded⊎ (coded_list point_code) (coded_list point_code)) points_of ending_by ending_back
+
+abbrev pub opened_code : Coded Opened
+opened_code =
+    code_by (Support × Ending) (coded× support_code ending_code) (λ opened. (opened.support, opened.ending))
+    (λ parts. record { support = parts.0; ending = parts.1 }) (λ _. refl)
+
+abbrev pub state_code : Coded State
+state_code =
+    code_by (Plan × Option Opened) (coded× network.the_row.coded (coded_option opened_code)) (λ session. (session.net, session.opened))
+    (λ parts. record { net = parts.0; opened = parts.1 }) (λ _. refl)

@@ -1,0 +1,132 @@
+-- Sessions: a network under edits, with what decides whether it is controllable.
+use Rattle.std.specs.Prelude.{◌≡◌, ◌≢◌, ℕ, suc, ◌≤◌, List, ◌++◌, length, Option, Some, None, IsSome, Result, Ok, Err}
+use Rattle.net_model.specs.Network.{Plan, IsPlan, HasPlanNumbers}
+use Rattle.net_model.specs.Editing.{edited}
+use Rattle.net_model.specs.declared.edit.Edit.{Edit}
+use Rattle.net_model.specs.declared.edit.EditFault.TheVariants as edit_fault
+use Rattle.net_model.specs.declared.ids.PointId.{PointId}
+use Rattle.strategy_model.specs.Control.{IsControllable}
+use Rattle.closure_model.specs.Closure.{IsClosure}
+use Rattle.closure_model.specs.Derivations.{Support, StandsOn, base_support}
+use Rattle.closure_model.specs.Orders.{IsOrder, IsCycle}
+use Rattle.closure_model.specs.ReferenceRounds.{Ending, closed, looped, RoundsEnd}
+use Rattle.closure_model.specs.Tables.{Graph}
+use Rattle.closure_model.specs.declared.derivation.Node.{Node}
+use Rattle.table_histories.specs.LaterNodes.{FallFrom}
+use Rattle.support_records.specs.Followed.{IsFollowed}
+use Rattle.support_records.specs.declared.store.Withdrawn.{Withdrawn}
+use Rattle.cert_format.specs.declared.certificate.Certificate.{Certificate}
+use Rattle.refutations.specs.Refuting.{Refutes}
+use Rattle.dispatch_net.specs.Dispatchable.{DispatchLists, IsDispatchBy}
+use Rattle.plan_session.specs.declared.answers.Report.{Report}
+use Rattle.plan_session.specs.declared.answers.SessionFault.{SessionFault}
+use Rattle.plan_session.specs.declared.answers.SessionFault.TheVariants as fault
+use Rattle.plan_session.specs.declared.answers.AskFault.{AskFault}
+use Rattle.plan_session.specs.declared.answers.AskFault.TheVariants as ask_fault
+use Rattle.plan_session.specs.declared.answers.Verdict.{Verdict}
+use Rattle.plan_session.specs.declared.answers.Verdict.TheVariants as verdict
+
+-- what is opened of a network: a derivation list with its table, and how the last rounds ended
+pub record Opened : Type 0 where
+  pub support : Support
+  pub ending : Ending
+
+-- a session: the network as it stands, and what is opened of it, unless the session is broken
+pub record State : Type 0 where
+  pub net : Plan
+  pub opened : Option Opened
+
+abbrev pub IsOpen : State → Type 0
+IsOpen session = IsSome session.opened
+
+abbrev pub IsBroken : State → Type 0
+IsBroken session = session.opened ≡ None
+
+-- how the rounds ended says what holds of the table: it is the closure and has this order, or this is a cycle of its negative ordinary edges
+abbrev pub EndsWell : Plan → Support → Ending → Type 0
+EndsWell net support (closed order) = IsClosure net support.table × IsOrder support.table order
+EndsWell net support (looped cycle) = IsCycle support.table cycle
+
+-- what is opened of a network stands on it, and its rounds ended well
+pub record IsSound (net : Plan) (opened : Opened) : Type 0 where
+  pub stands : StandsOn net opened.support
+  pub ends : EndsWell net opened.support opened.ending
+
+-- ---- how a session begins
+-- what is opened of a network first: the reference rounds are made from its base nodes and its base table
+pub record Opens (net : Plan) (opened : Opened) : Type 0 where
+  pub rounds : ℕ
+  pub ends : RoundsEnd net (base_support net) rounds opened.support opened.ending
+  pub sound : IsSound net opened
+
+-- the session of a network, as it is opened
+abbrev pub IsOpenedOn : Plan → State → Type 0
+IsOpenedOn net session = (opened : Opened) × Opens net opened × (session ≡ record { net = net; opened = Some opened })
+
+-- ---- what an edit makes of a session
+-- What an accepted edit makes of what is opened. `followed`: first the list follows the edit; exactly the nodes that rest on nothing taken
+-- away are kept, in their order, and after them come the base nodes of what is new. `ends`: then the reference rounds are made from there,
+-- at most one more than the points. `list`, `falls`: their nodes come after those, each below all earlier ones of its key. `kept`,
+-- `withdrawn`: the report tells how many nodes were kept and withdrawn, and how many rounds were made.
+pub record FollowsEdit (old : Plan) (edit : Edit) (new : Plan) (before after : Opened) (report : Report) : Type 0 where
+  pub start : Support
+  pub answer : Withdrawn
+  pub followed : IsFollowed old edit new before.support start answer
+  pub kept : report.kept ≡ answer.kept
+  pub withdrawn : report.withdrawn ≡ answer.withdrawn
+  pub ends : RoundsEnd new start report.rounds after.support after.ending
+  pub few : report.rounds ≤ suc (length new.points)
+  pub made : List Node
+  pub list : after.support.nodes ≡ start.nodes ++ made
+  pub falls : FallFrom after.support.nodes (record { 0 = length start.nodes })
+  pub sound : IsSound new after
+
+-- an edit of a session is accepted: the edit makes a network of its network, and what was opened follows the edit
+pub record Accepts (before : State) (edit : Edit) (report : Report) (after : State) : Type 0 where
+  pub net : Plan
+  pub made : edited before.net edit ≡ Ok net
+  pub plan : IsPlan net
+  pub numbers : HasPlanNumbers before.net → HasPlanNumbers net
+  pub held : Opened
+  pub was : before.opened ≡ Some held
+  pub opened : Opened
+  pub follows : FollowsEdit before.net edit net held opened report
+  pub is : after ≡ record { net = net; opened = Some opened }
+
+-- What `apply` answers, and what the session is then. It refuses the edit exactly where the session is not broken and the edit is refused,
+-- and then nothing changes. After want of memory it keeps its old network and is broken. A broken session stays as it is.
+abbrev pub AnswersEdit : State → Edit → Result Report SessionFault → State → Type 0
+AnswersEdit before edit (Ok report) after = Accepts before edit report after
+AnswersEdit before edit (Err (fault.Edit cause)) after = IsOpen before × (edited before.net edit ≡ Err cause) × (cause ≢ edit_fault.OutOfMemory) × (after ≡ before)
+AnswersEdit before edit (Err fault.OutOfMemory) after = IsOpen before × (after ≡ record { net = before.net; opened = None })
+AnswersEdit before edit (Err fault.Broken) after = IsBroken before × (after ≡ before)
+
+-- ---- what a session is asked
+-- the verdict: some strategy controls the network as it stands, or none does; or the session is broken
+abbrev pub IsVerdictOf : State → Verdict → Type 0
+IsVerdictOf session verdict.Controllable = IsOpen session × IsControllable session.net
+IsVerdictOf session verdict.NotControllable = IsOpen session × (¬ IsControllable session.net)
+IsVerdictOf session verdict.Broken = IsBroken session
+
+-- the answer to the proof of the verdict, where that is not controllable: the certificate of the refutation of the network as it stands,
+-- whatever edits led to it
+abbrev pub AnswersProof : State → Result Certificate AskFault → Type 0
+AnswersProof session (Ok cert) = IsOpen session × Refutes session.net cert
+AnswersProof session (Err ask_fault.Broken) = IsBroken session
+AnswersProof session (Err ask_fault.OutOfMemory) = IsOpen session
+
+-- the dispatchable network of the closure of a network, which has an order
+pub record IsDispatchOfClosure (net : Plan) (dispatch : DispatchLists) : Type 0 where
+  pub table : Graph
+  pub order : List PointId
+  pub closure : IsClosure net table
+  pub ordered : IsOrder table order
+  pub by : IsDispatchBy net table dispatch
+  pub whole : length dispatch.made ≡ length net.points
+
+-- what a session lends is what is opened of its network, and that is sound
+pub record Lends (session : State) (support : Support) : Type 0 where
+  pub opened : Opened
+  pub is : session.opened ≡ Some opened
+  pub support_is : support ≡ opened.support
+  pub sound : IsSound session.net opened

@@ -1,0 +1,10 @@
+//! A plan under edits: a session keeps the derivations of a network while it is edited, and tells whether the network as it stands is
+//! controllable, by a certificate or a dispatchable network of it.
+#![tactic(auto)]
+
+mod answers;
+mod propagated;
+mod session;
+
+pub use answers::{AskFault, Report, SessionFault, Verdict};
+pub use session::Session;

@@ -1,0 +1,159 @@
+//! What is opened of a network: its derivations, propagated.
+
+ghost use Rattle.std.specs.Prelude.{◌≡◌, ◌↔◌, ◌≤◌, IfOk, IsTrue};
+ghost use Rattle.strategy_model.specs.Control.{IsControllable};
+ghost use Rattle.refutations.specs.Refuting.{Refutes};
+ghost use Rattle.work_board.specs.Limits.{most_seats};
+ghost use Rattle.parallel_rounds.specs.Propagated.{rounds_of};
+ghost use Rattle.plan_session.specs.Sessions.{IsSound, Opens, FollowsEdit, IsDispatchOfClosure};
+
+use crate::answers::Report;
+use cert_format::Certificate;
+use controllability::laws::{ordered_closures_are_controllable, standing_cycles_exclude};
+use derivation_dag::Supports;
+use dispatch_net::Dispatch;
+use dispatch_net::laws::closures_may_dispatch;
+use net_model::{Edit, Network};
+use parallel_rounds::{Gate, Outcome, propagate};
+use refutations::refutation;
+use std::alloc::{AllocError, Global};
+use std::marker::Model;
+use std::thread::Threads;
+use support_records::Store;
+use table_histories::laws::later_nodes_fall;
+
+/// The derivations of a network, from which rounds were made, and how these ended.
+#[derive(Debug, Drop)]
+pub(crate) struct Propagated {
+    store: Store,
+    outcome: Outcome,
+}
+
+impl Model for Propagated {
+    ghost use Rattle.plan_session.specs.Sessions.{Opened};
+    ghost use Rattle.plan_session.specs.Codes.{opened_code};
+    ghost use Rattle.parallel_rounds.specs.Propagated.{ending_of};
+
+    ghost Value = { Opened };
+
+    ghost coded = { opened_code };
+
+    ghost view = { λ propagated. record { support = propagated.store; ending = ending_of propagated.outcome } };
+}
+
+impl Propagated {
+    /// Makes rounds from the base of a network.
+    pub(crate) fn of<R: Threads + Sync, G: Gate>(
+        rt: &R,
+        alloc: Global,
+        net: &Network,
+        workers: u32,
+        gate: &G,
+    ) -> Result<Propagated, AllocError>
+        requires { (1 ≤ workers) × (workers ≤ most_seats) }
+        ensures { IfOk result (Opens net.now) }
+    {
+        let mut store = Store::of(alloc, net)?;
+        let outcome = propagate(rt, alloc, net, &mut store, workers, gate)?;
+        Ok(Propagated { store, outcome })
+    }
+
+    /// Follows an edit of the network, and makes rounds from there. After `AllocError` the caller drops it.
+    pub(crate) fn follow<R: Threads + Sync, G: Gate>(
+        &mut self,
+        rt: &R,
+        alloc: Global,
+        old: &Network,
+        edit: &Edit,
+        new: &Network,
+        workers: u32,
+        gate: &G,
+    ) -> Result<Report, AllocError>
+        requires workers { (1 ≤ workers) × (workers ≤ most_seats) }
+        requires sound { IsSound old.now self.old }
+        ensures { IfOk result (FollowsEdit old.now edit.now new.now self.old self.new) }
+    {
+        later_nodes_fall();
+        let withdrawn = self.store.follow(alloc, old, edit, new)?;
+        let outcome = propagate(rt, alloc, new, &mut self.store, workers, gate)?;
+        let rounds = rounds_of(&outcome);
+        self.outcome = outcome;
+        Ok(Report {
+            kept: withdrawn.kept,
+            withdrawn: withdrawn.withdrawn,
+            rounds,
+        })
+    }
+
+    /// Whether the network is controllable.
+    pub(crate) fn is_controllable(&self, net: &Network) -> bool
+        requires { IsSound net.now self.now }
+        ensures { IsTrue result ↔ IsControllable net.now }
+    {
+        ordered_closures_are_controllable();
+        standing_cycles_exclude();
+        // The proof reads here that the network is sound.
+        let _ = net.points();
+        match self.outcome {
+            Outcome::Closed { .. } => true,
+            Outcome::Looped { .. } => false,
+        }
+    }
+
+    /// The certificate of the refutation of the network, where the rounds were made from its base.
+    pub(crate) fn refutation(
+        &self,
+        alloc: Global,
+        net: &Network,
+    ) -> Result<Certificate, AllocError>
+        requires opened { Opens net.now self.now }
+        requires never { ¬ IsControllable net.now }
+        ensures { IfOk result (Refutes net.now) }
+    {
+        ordered_closures_are_controllable();
+        // The proof reads here that the network is sound.
+        let _ = net.points();
+        match &self.outcome {
+            Outcome::Closed { .. } => unreachable!(),
+            Outcome::Looped { cycle, .. } => {
+                let certificate =
+                    refutation(alloc, net, &self.store, self.store.dag(), cycle.as_slice())?;
+                Ok(certificate)
+            }
+        }
+    }
+
+    /// The dispatchable network of the closure.
+    pub(crate) fn dispatch(&self, alloc: Global, net: &Network) -> Result<Dispatch, AllocError>
+        requires sound { IsSound net.now self.now }
+        requires controllable { IsControllable net.now }
+        ensures { IfOk result (IsDispatchOfClosure net.now) }
+    {
+        standing_cycles_exclude();
+        closures_may_dispatch();
+        // The proof reads here that the network is sound.
+        let _ = net.points();
+        match &self.outcome {
+            Outcome::Closed { order, .. } => {
+                Dispatch::of(alloc, net, self.store.table(), order.as_slice())
+            }
+            Outcome::Looped { .. } => unreachable!(),
+        }
+    }
+
+    /// The list and the table.
+    pub(crate) fn store(&self) -> &Store
+        ensures { result.now ≡ self.now.support }
+    {
+        &self.store
+    }
+}
+
+/// How many rounds were made.
+fn rounds_of(outcome: &Outcome) -> u64
+    ensures { result ≡ rounds_of outcome.now }
+{
+    match outcome {
+        Outcome::Closed { rounds, .. } | Outcome::Looped { rounds, .. } => *rounds,
+    }
+}

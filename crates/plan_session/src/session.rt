@@ -1,0 +1,193 @@
+ghost use Rattle.std.specs.Prelude.{◌≡◌, ◌≤◌, Ok, IfOk};
+ghost use Rattle.net_model.specs.Editing.{edited};
+ghost use Rattle.net_model.specs.Network.{IsPlan, HasPlanNumbers};
+ghost use Rattle.strategy_model.specs.Control.{IsControllable};
+ghost use Rattle.cert_format.specs.declared.certificate.Certificate.{Certificate};
+ghost use Rattle.refutations.specs.Refuting.{IsCertificateOf};
+ghost use Rattle.work_board.specs.Limits.{most_seats};
+ghost use Rattle.plan_session.specs.Sessions.{IsOpen, IsOpenedOn, AnswersEdit, IsVerdictOf, AnswersProof, IsDispatchOfClosure, Lends};
+
+use crate::answers::{AskFault, Report, SessionFault, Verdict};
+use crate::propagated::Propagated;
+use cert_format::Certificate;
+use dispatch_net::Dispatch;
+use net_model::{Edit, EditFault, Network};
+use parallel_rounds::{Gate, NoGate};
+use refutations::laws::certificates_are_one;
+use std::alloc::{AllocError, Global};
+use std::marker::Model;
+use std::thread::Threads;
+use support_records::Store;
+
+/// A plan under edits: the network as it stands, and its derivations, of which an edit withdraws what rests on what it takes away. Contracts
+/// see it as the network, and the derivations with how the last rounds ended, unless the session is broken. No answer depends on the number
+/// of workers, and contracts do not see it.
+#[derive(Debug, Drop)]
+pub struct Session {
+    net: Network,
+    workers: u32,
+    opened: Option<Propagated>,
+}
+
+impl Model for Session {
+    ghost use Rattle.std.specs.Prelude.{◌≤◌, IfSome};
+    ghost use Rattle.work_board.specs.Limits.{most_seats};
+    ghost use Rattle.plan_session.specs.Sessions.{State, IsSound};
+    ghost use Rattle.plan_session.specs.Codes.{state_code};
+
+    ghost Value = { State };
+
+    ghost coded = { state_code };
+
+    ghost view = { λ session. record { net = session.net; opened = session.opened } };
+
+    ghost invariant = { λ session. (1 ≤ session.workers) × (session.workers ≤ most_seats) × IfSome session.opened (IsSound session.net) };
+}
+
+impl Session {
+    /// Opens a session of a network: rounds are made from its base by so many workers, 1 to 64; the gate is called before each row.
+    /// `AllocError` comes only for want of memory.
+    pub fn open<R: Threads + Sync, G: Gate>(
+        rt: &R,
+        alloc: Global,
+        net: Network,
+        workers: u32,
+        gate: &G,
+    ) -> Result<Session, AllocError>
+        requires { (1 ≤ workers) × (workers ≤ most_seats) }
+        ensures { IfOk result (IsOpenedOn net) }
+    {
+        let opened = Propagated::of(rt, alloc, &net, workers, gate)?;
+        Ok(Session {
+            net,
+            workers,
+            opened: Some(opened),
+        })
+    }
+
+    /// Edits the network: the derivations that rest on nothing taken away are kept, those of what is new come after them, and rounds are made
+    /// from there. `Edit` comes exactly where the session is not broken and the edit is refused, and then nothing changes. `OutOfMemory`
+    /// comes only for want of memory; then the session keeps its old network and is broken. `Broken` comes exactly where the session is
+    /// broken, and then nothing changes.
+    pub fn apply<R: Threads + Sync, G: Gate>(
+        &mut self,
+        rt: &R,
+        alloc: Global,
+        edit: &Edit,
+        gate: &G,
+    ) -> Result<Report, SessionFault>
+        ensures { AnswersEdit self.old edit.now result self.new }
+    {
+        if self.opened.is_none() {
+            return Err(SessionFault::Broken);
+        }
+        match self.net.apply(alloc, edit) {
+            Ok(new) => self.follow(rt, alloc, edit, new, gate),
+            Err(EditFault::OutOfMemory) => {
+                self.opened = None;
+                Err(SessionFault::OutOfMemory)
+            }
+            Err(cause) => Err(SessionFault::Edit(cause)),
+        }
+    }
+
+    /// Takes the network that an edit makes as its own, and lets the derivations follow.
+    fn follow<R: Threads + Sync, G: Gate>(
+        &mut self,
+        rt: &R,
+        alloc: Global,
+        edit: &Edit,
+        new: Network,
+        gate: &G,
+    ) -> Result<Report, SessionFault>
+        requires open { IsOpen self.old }
+        requires made { edited self.old.net edit.now ≡ Ok new }
+        requires numbers { HasPlanNumbers self.old.net → HasPlanNumbers new }
+        ensures { AnswersEdit self.old edit.now result self.new }
+    {
+        // The proof reads here that the new network is sound.
+        let _ = new.points();
+        let Some(mut opened) = self.opened.take() else {
+            return Err(SessionFault::Broken);
+        };
+        let report = opened.follow(rt, alloc, &self.net, edit, &new, self.workers, gate)?;
+        self.net = new;
+        self.opened = Some(opened);
+        Ok(report)
+    }
+
+    /// Whether the network as it stands is controllable. `Broken` exactly where the session is broken.
+    pub fn verdict(&self) -> Verdict
+        ensures { IsVerdictOf self.now result }
+    {
+        match &self.opened {
+            None => Verdict::Broken,
+            Some(opened) => {
+                if opened.is_controllable(&self.net) {
+                    Verdict::Controllable
+                } else {
+                    Verdict::NotControllable
+                }
+            }
+        }
+    }
+
+    /// The certificate that refutes the network as it stands, where it is not controllable: that of the rounds from its base, whatever edits
+    /// led to it. `Broken` comes exactly where the session is broken. `OutOfMemory` comes only for want of memory, and the session is as it
+    /// was.
+    pub fn certificate<R: Threads + Sync>(
+        &self,
+        rt: &R,
+        alloc: Global,
+    ) -> Result<Certificate, AskFault>
+        requires { IsOpen self.now → ¬ IsControllable self.now.net }
+        ensures answers { AnswersProof self.now result }
+        ensures one { (other : Certificate) → IsCertificateOf self.now.net other → IfOk result (λ cert. cert ≡ other) }
+    {
+        certificates_are_one();
+        if self.opened.is_none() {
+            return Err(AskFault::Broken);
+        }
+        let opened = Propagated::of(rt, alloc, &self.net, self.workers, &NoGate)?;
+        let certificate = opened.refutation(alloc, &self.net)?;
+        Ok(certificate)
+    }
+
+    /// The dispatchable network of the closure of the network as it stands, which is controllable. `AllocError` comes only for want of memory.
+    pub fn dispatch(&self, alloc: Global) -> Result<Dispatch, AllocError>
+        requires open { IsOpen self.now }
+        requires controllable { IsControllable self.now.net }
+        ensures { IfOk result (IsDispatchOfClosure self.now.net) }
+    {
+        match &self.opened {
+            None => unreachable!(),
+            Some(opened) => opened.dispatch(alloc, &self.net),
+        }
+    }
+
+    /// The network as it stands.
+    pub fn network(&self) -> &Network
+        ensures { result.now ≡ self.now.net }
+    {
+        &self.net
+    }
+
+    /// The derivation list with its table, of a session that is not broken.
+    pub fn store(&self) -> &Store
+        requires { IsOpen self.now }
+        ensures { Lends self.now result.now }
+    {
+        match &self.opened {
+            None => unreachable!(),
+            Some(opened) => opened.store(),
+        }
+    }
+
+    /// The network as it stands; the session ends.
+    pub fn into_network(self) -> Network
+        ensures { result ≡ self.net }
+    {
+        let Session { net, .. } = self;
+        net
+    }
+}
