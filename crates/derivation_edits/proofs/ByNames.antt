@@ -10,30 +10,31 @@ use Rattle.std.proofs.lemmas.Map.Made.{AllPairs-from_IsDistinct}
 use Rattle.std.proofs.lemmas.Option.{slice_get-map}
 use Rattle.std.proofs.lemmas.Slice.Eq.{bytes_eq-Decides}
 use Rattle.net_model.specs.Network.{Plan, IsPlan, point_named, bound_named, activation}
+use Rattle.net_model.specs.declared.edit.Edit.{Edit}
 use Rattle.net_model.specs.declared.ids.BoundId.{BoundId}
 use Rattle.net_model.specs.declared.ids.LinkId.{LinkId}
 use Rattle.net_model.specs.declared.ids.PointId.{PointId}
 use Rattle.net_model.specs.declared.part.Bound.{Bound}
 use Rattle.net_model.specs.declared.part.Link.{Link}
 use Rattle.closure_model.proofs.Nodes.{chained}
-use Rattle.net_model.specs.declared.edit.Edit.{Edit}
 use Rattle.derivation_edits.specs.Following.{IsRenumbering, moved_bound, moved_link}
 use Rattle.derivation_edits.specs.FollowingLaws.{NamesRenumber}
 use Rattle.derivation_edits.specs.Taken.{sets_bound, sets_link, name_of, point_in, is_point, is_same_bound, is_same_link, same_place, bound_in, same_link_place, link_in, renumbering}
 use Rattle.derivation_edits.proofs.Places.{found_passes, one_is_found, pair_at}
 
 -- ---- numbers as ids
-place_is : (o : Option ℕ) (id : PointId) → option_map {U = PointId} (λ (k : ℕ). record { 0 = k }) o ≡ Some id → o ≡ Some id.0
-place_is None id is = absurd cc
-place_is (Some k) id is = ap (option_map (λ (p : PointId). p.0)) is
+abbrev point_id : ℕ → PointId
+point_id k = record { 0 = k }
 
-bound_place_is : (o : Option ℕ) (id : BoundId) → option_map {U = BoundId} (λ (k : ℕ). record { 0 = k }) o ≡ Some id → o ≡ Some id.0
-bound_place_is None id is = absurd cc
-bound_place_is (Some k) id is = ap (option_map (λ (p : BoundId). p.0)) is
+abbrev bound_id : ℕ → BoundId
+bound_id k = record { 0 = k }
 
-link_place_is : (o : Option ℕ) (id : LinkId) → option_map {U = LinkId} (λ (k : ℕ). record { 0 = k }) o ≡ Some id → o ≡ Some id.0
-link_place_is None id is = absurd cc
-link_place_is (Some k) id is = ap (option_map (λ (p : LinkId). p.0)) is
+abbrev link_id : ℕ → LinkId
+link_id k = record { 0 = k }
+
+number_is : {U : Type 0} (id_of : ℕ → U) (number : U → ℕ) → ((k : ℕ) → number (id_of k) ≡ k) → (o : Option ℕ) (id : U) → option_map id_of o ≡ Some id → o ≡ Some (number id)
+number_is id_of number back None id is = absurd cc
+number_is id_of number back (Some k) id is = let same : id_of k ≡ id = cc in ap Some (sym (back k) ∙ ap number same)
 
 pub same_bytes : (x y : List ℕ) → bytes_eq x y ≡ true → x ≡ y
 same_bytes x y is = (bytes_eq-Decides x y).0 is
@@ -44,24 +45,24 @@ bytes_itself x y is = (bytes_eq-Decides x y).1 is
 module _ (net : Plan) (plan : IsPlan net) where
   pub named_at : (name : List ℕ) (point : PointId) → point_named net name ≡ Some point → slice_get net.points point.0 ≡ Some name
   named_at name point named =
-      let (other, here, passes) = found_passes (bytes_eq name) net.points point.0 (place_is (position (bytes_eq name) net.points) point named) in
+      let (other, here, passes) = found_passes (bytes_eq name) net.points point.0 (number_is point_id (λ p. p.0) (λ k. refl) (position (bytes_eq name) net.points) point named) in
       here ∙ ap Some (sym (same_bytes name other passes))
 
   pub at_named : (name : List ℕ) (point : PointId) → slice_get net.points point.0 ≡ Some name → point_named net name ≡ Some point
   at_named name point here =
-      ap (option_map {U = PointId} (λ (k : ℕ). record { 0 = k }))
+      ap (option_map point_id)
       (one_is_found (bytes_eq name) net.points point.0 name
       (λ i j a b less first second one two. pair_at (λ x y. x ≢ y) net.points (AllPairs-from_IsDistinct bytes_eq-Decides net.points plan.points_apart) i j a b less first second (sym (same_bytes name a one) ∙ same_bytes name b two))
       here (bytes_itself name name refl))
 
   pub bound_found : (name : List ℕ) (id : BoundId) → bound_named net name ≡ Some id → (bound : Bound) × (slice_get net.bounds id.0 ≡ Some bound) × (bound.name ≡ name)
   bound_found name id named =
-      let (bound, here, passes) = found_passes (λ (b : Bound). bytes_eq name b.name) net.bounds id.0 (bound_place_is (position (λ (b : Bound). bytes_eq name b.name) net.bounds) id named) in
+      let (bound, here, passes) = found_passes (λ (b : Bound). bytes_eq name b.name) net.bounds id.0 (number_is bound_id (λ b. b.0) (λ k. refl) (position (λ (b : Bound). bytes_eq name b.name) net.bounds) id named) in
       (bound, here, sym (same_bytes name bound.name passes))
 
   pub bound_placed : (name : List ℕ) (id : BoundId) (bound : Bound) → slice_get net.bounds id.0 ≡ Some bound → bound.name ≡ name → bound_named net name ≡ Some id
   bound_placed name id bound here named =
-      ap (option_map {U = BoundId} (λ (k : ℕ). record { 0 = k }))
+      ap (option_map bound_id)
       (one_is_found (λ (b : Bound). bytes_eq name b.name) net.bounds id.0 bound
       (λ i j a b less first second one two.
       let in_names : (k : ℕ) (c : Bound) → slice_get net.bounds k ≡ Some c → slice_get (map (λ (b : Bound). b.name) net.bounds) k ≡ Some c.name = λ k c at. slice_get-map (λ (b : Bound). b.name) net.bounds k ∙ ap (option_map (λ (b : Bound). b.name)) at in
@@ -71,12 +72,12 @@ module _ (net : Plan) (plan : IsPlan net) where
 
   pub link_found : (point : PointId) (id : LinkId) → activation net point ≡ Some id → (link : Link) × (slice_get net.links id.0 ≡ Some link) × (link.to ≡ point)
   link_found point id ends =
-      let (link, here, passes) = found_passes (λ (l : Link). l.to.0 == point.0) net.links id.0 (link_place_is (position (λ (l : Link). l.to.0 == point.0) net.links) id ends) in
+      let (link, here, passes) = found_passes (λ (l : Link). l.to.0 == point.0) net.links id.0 (number_is link_id (λ l. l.0) (λ k. refl) (position (λ (l : Link). l.to.0 == point.0) net.links) id ends) in
       (link, here, ap (λ (k : ℕ). record { 0 = k }) (eqb-true link.to.0 point.0 passes))
 
   pub link_placed : (point : PointId) (id : LinkId) (link : Link) → slice_get net.links id.0 ≡ Some link → link.to ≡ point → activation net point ≡ Some id
   link_placed point id link here ends =
-      ap (option_map {U = LinkId} (λ (k : ℕ). record { 0 = k }))
+      ap (option_map link_id)
       (one_is_found (λ (l : Link). l.to.0 == point.0) net.links id.0 link
       (λ i j a b less first second one two. pair_at (λ (l m : Link). l.to.0 ≢ m.to.0) net.links plan.links_apart i j a b less first second (eqb-true a.to.0 point.0 one ∙ sym (eqb-true b.to.0 point.0 two)))
       here (eq-eqb link.to.0 point.0 (ap (λ (p : PointId). p.0) ends)))
@@ -184,6 +185,12 @@ module _ (old : Plan) (edit : Edit) (new : Plan) (before : IsPlan old) (after : 
       let high : same.other.high ≡ link.high = sym same.high in
       λ i. record { from = from i; low = low i; high = high i; to = to i }
 
+  bound_at : (bound : Bound) (place : BoundId) → SameBound old edit new bound place → slice_get new.bounds place.0 ≡ Some (moved_bound (renumbering old edit new) bound)
+  bound_at bound place same = subst (λ (b : Bound). slice_get new.bounds place.0 ≡ Some b) (bound_is_moved bound place same) same.there
+
+  link_at : (link : Link) (place : LinkId) → SameLink old edit new link place → slice_get new.links place.0 ≡ Some (moved_link (renumbering old edit new) link)
+  link_at link place same = subst (λ (l : Link). slice_get new.links place.0 ≡ Some l) (link_is_moved link place same) same.there
+
   -- a point of the new network is that of one point of the old one
   pub one_point : (one two point : PointId) → point_in old new one ≡ Some point → point_in old new two ≡ Some point → one ≡ two
   one_point one two point first second =
@@ -200,20 +207,19 @@ module _ (old : Plan) (edit : Edit) (new : Plan) (before : IsPlan old) (after : 
       bounds : (id place : BoundId) (bound : Bound) → (renumbering old edit new).bounds id ≡ Some place → slice_get old.bounds id.0 ≡ Some bound → slice_get new.bounds place.0 ≡ Some (moved_bound (renumbering old edit new) bound)
       bounds id place bound moved here =
           let (found, at, is) = chained (bound_in old edit new) (slice_get old.bounds id.0) place moved in
-          let both' : Some found ≡ Some bound = sym at ∙ here in
+          let both_are : Some found ≡ Some bound = sym at ∙ here in
           let one : found ≡ bound = cc in
-          let same = bound_in_gives old edit new bound place (subst (λ (b : Bound). bound_in old edit new b ≡ Some place) one is) in
-          same.there ∙ ap Some (bound_is_moved bound place same)
+          bound_at bound place (bound_in_gives old edit new bound place (subst (λ (b : Bound). bound_in old edit new b ≡ Some place) one is))
 
       same_of : (id place : LinkId) (link : Link) → (renumbering old edit new).links id ≡ Some place → slice_get old.links id.0 ≡ Some link → SameLink old edit new link place
       same_of id place link moved here =
           let (found, at, is) = chained (link_in old edit new) (slice_get old.links id.0) place moved in
-          let both' : Some found ≡ Some link = sym at ∙ here in
+          let both_are : Some found ≡ Some link = sym at ∙ here in
           let one : found ≡ link = cc in
           link_in_gives old edit new link place (subst (λ (l : Link). link_in old edit new l ≡ Some place) one is)
 
       links : (id place : LinkId) (link : Link) → (renumbering old edit new).links id ≡ Some place → slice_get old.links id.0 ≡ Some link → slice_get new.links place.0 ≡ Some (moved_link (renumbering old edit new) link)
-      links id place link moved here = let same = same_of id place link moved here in same.there ∙ ap Some (link_is_moved link place same)
+      links id place link moved here = link_at link place (same_of id place link moved here)
 
       apart : (one two place : LinkId) → (renumbering old edit new).links one ≡ Some place → (renumbering old edit new).links two ≡ Some place → one ≡ two
       apart one two place first second =

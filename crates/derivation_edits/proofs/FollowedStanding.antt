@@ -1,15 +1,13 @@
 -- What has followed an edit stands on the edited network.
 use Rattle.std.proofs.Common.{◌≡◌, ℕ, ◌<◌, ◌⊎◌, inl, inr, List, [], ◌∷◌, ◌++◌, length, map, Option, Some, None, refl, ap, sym, ◌∙◌, subst, append_assoc, append-nil}
 use Rattle.std.specs.Prelude.{slice_get}
-use Rattle.std.specs.Option.{option_map}
 use Rattle.std.specs.List.{All, Contains, enumerate_from}
 use Rattle.std.proofs.lemmas.List.Elements.{All-contains, All-contains_itself, All-weaker, All-head, All-tail, Contains-append_left, Contains-append_right, Contains-append_cases}
+use Rattle.std.proofs.lemmas.Option.{slice_get_within}
 use Rattle.net_model.specs.Network.{Plan}
 use Rattle.closure_model.specs.Derivations.{item_of, premises_of, IsGiven, IsDerivationList, RestsOn, base_nodes, bound_node, link_node, Support, StandsOn}
 use Rattle.closure_model.specs.declared.derivation.Node.{Node}
 use Rattle.closure_model.specs.declared.derivation.NodeId.{NodeId}
-use Rattle.closure_model.specs.declared.derivation.Rule.{Rule}
-use Rattle.std.proofs.lemmas.Option.{slice_get_within}
 use Rattle.closure_model.proofs.Basing.{at_place}
 use Rattle.closure_model.proofs.Lists.{Contains-none, Contains-map_from}
 use Rattle.closure_model.proofs.Made.{rests_cases}
@@ -17,7 +15,7 @@ use Rattle.closure_model.proofs.Nodes.{listed_at}
 use Rattle.closure_model.proofs.Standing.{base_given, list_pushed}
 use Rattle.derivation_edits.specs.Following.{Renumbering, IsRenumbering, RestsOnTaken, moved_rule, moved_node, place_at, followed, IsPlaced, IsMovedBase, AreNewBase, followed_support}
 use Rattle.derivation_edits.specs.FollowingLaws.{FollowedStands}
-use Rattle.derivation_edits.proofs.Keeping.{with_rule}
+use Rattle.derivation_edits.proofs.Keeping.{made_of}
 use Rattle.derivation_edits.proofs.KeptDerived.{DerivedSoFar, all_derived}
 use Rattle.derivation_edits.proofs.MovedPremises.{item_kept}
 
@@ -45,10 +43,6 @@ unplaced moves places net node inside = by (Contains-append_cases (map bound_nod
     by (inl there) = let (e, held, is) = Contains-map_from bound_node (enumerate_from 0 net.bounds) node there in subst (λ (n : Node). moved_node moves places n ≡ moved_node moves [] n) is refl
     by (inr there) = let (e, held, is) = Contains-map_from link_node (enumerate_from 0 net.links) node there in subst (λ (n : Node). moved_node moves places n ≡ moved_node moves [] n) is refl
 
-rule_of : (moves : Renumbering) (node made : Node) (o : Option Rule) → option_map (with_rule moves node) o ≡ Some made → (rule : Rule) × (o ≡ Some rule)
-rule_of moves node made None is = absurd cc
-rule_of moves node made (Some rule) is = (rule, refl)
-
 module _ (old new : Plan) (moves : Renumbering) (news : List Node) (support : Support) (is : IsRenumbering old new moves) (base : AreNewBase old new moves news) (stands : StandsOn old support) where
   all : DerivedSoFar old new moves is support.nodes stands.derived (length support.nodes) (followed moves support.nodes)
   all = all_derived old new moves is support.nodes stands.derived
@@ -67,7 +61,7 @@ module _ (old new : Plan) (moves : Renumbering) (news : List Node) (support : Su
       free (item, taken, rests) = from (rests_cases support.nodes (record { 0 = at.0 }) what item at.1 rests)
         where
           from : (item_of what.rule ≡ Some item) ⊎ ((premise : NodeId) × Contains (premises_of what.rule) premise × RestsOn support.nodes premise item) → ⊥
-          from (inl uses) = let (rule, some) = rule_of moves what node (moved_rule moves [] what.rule) moved in item_kept moves [] what.rule rule some item uses taken
+          from (inl uses) = let (rule, some, made_is) = made_of moves what node (moved_rule moves [] what.rule) moved in item_kept moves [] what.rule rule some item uses taken
           from (inr (premise, among, under)) = Contains-none premise (subst (λ (ps : List NodeId). Contains ps premise) (no_premises old what based) among)
 
       by : (o : Option NodeId) → IsPlaced moves support.nodes (followed moves support.nodes).places (followed moves support.nodes).kept (record { 0 = at.0 }) what o → Contains (followed moves support.nodes).kept node

@@ -34,9 +34,10 @@ mapped_node : (moves : Renumbering) (node : Node) (o : Option Rule) → option_m
 mapped_node moves node None is = refl
 mapped_node moves node (Some rule) is = absurd cc
 
-made_rule : (moves : Renumbering) (node made : Node) (o : Option Rule) → option_map (with_rule moves node) o ≡ Some made → (rule : Rule) × (o ≡ Some rule)
-made_rule moves node made None is = absurd cc
-made_rule moves node made (Some rule) is = (rule, refl)
+-- a node with new numbers has its rule with them, and its edge
+pub made_of : (moves : Renumbering) (node made : Node) (o : Option Rule) → option_map (with_rule moves node) o ≡ Some made → (rule : Rule) × (o ≡ Some rule) × (with_rule moves node rule ≡ made)
+made_of moves node made None is = absurd cc
+made_of moves node made (Some rule) is = (rule, refl, cc)
 
 module _ (moves : Renumbering) (nodes : List Node) (earlier : PremisesStandEarlier nodes) where
   module _ (n : ℕ) (node : Node) (so_far : Following) (here : slice_get nodes n ≡ Some node) (was : KeptSoFar moves nodes n so_far) where
@@ -180,7 +181,7 @@ module _ (moves : Renumbering) (nodes : List Node) (earlier : PremisesStandEarli
                 let is : this ≡ id = ap (λ (k : ℕ). record { 0 = k }) (sym end) in
                 let both : Some node ≡ Some other = sym here ∙ (ap (node_at nodes) is ∙ there) in
                 let one : node ≡ other = cc in
-                let (rule, rule_is) = made_rule moves node made (moved_rule moves so_far.places node.rule) some in
+                let (rule, rule_is, made_is) = made_of moves node made (moved_rule moves so_far.places node.rule) some in
                 subst (IsPlaced moves nodes (so_far.places ++ Some new ∷ []) more id other) (sym (place_last so_far.places (Some new) id (end ∙ sym was.size)))
                 (record {
                   free = subst (λ (i : NodeId). ¬ RestsOnTaken moves nodes i) is (free rule rule_is);

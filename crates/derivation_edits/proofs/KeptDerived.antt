@@ -11,22 +11,17 @@ use Rattle.closure_model.specs.Derivations.{edge_at, given_by, IsGiven, IsDeriva
 use Rattle.closure_model.specs.declared.derivation.Item.TheVariants as item
 use Rattle.closure_model.specs.declared.derivation.Node.{Node}
 use Rattle.closure_model.specs.declared.derivation.NodeId.{NodeId}
-use Rattle.closure_model.specs.declared.derivation.Rule.{Rule}
 use Rattle.closure_model.specs.declared.derivation.Rule.TheVariants as by_rule
+use Rattle.closure_model.specs.declared.derivation.Rule.{Rule}
 use Rattle.closure_model.proofs.Made.{Made, made_bound, made_link, made_no, made_up, made_low, made_cross, made_drop, made_at, premises_earlier, labelled_rests}
 use Rattle.closure_model.proofs.Nodes.{IsPremise}
 use Rattle.closure_model.proofs.Standing.{list_pushed}
 use Rattle.derivation_edits.specs.Following.{Renumbering, IsRenumbering, moved_link, moved_edge, Following, none_followed, placed, follow_node, place_at, moved_rule, moved_node, followed, IsKeptAt, IsPlaced}
 use Rattle.derivation_edits.specs.FollowingLaws.{KeptIsDerived}
-use Rattle.derivation_edits.proofs.Keeping.{KeptSoFar, with_rule, none_kept, one_followed}
+use Rattle.derivation_edits.proofs.Keeping.{KeptSoFar, made_of, none_kept, one_followed}
 use Rattle.derivation_edits.proofs.MovedPremises.{both_of_two, one_of_one}
 use Rattle.derivation_edits.proofs.MovedRules.{no_case_moved, upper_case_moved, lower_case_moved, cross_case_moved, removal_moved}
 use Rattle.derivation_edits.proofs.Prefixes.{over_first, over_all}
-
--- a node with new numbers has its rule with them, and its edge
-made_of : (moves : Renumbering) (node made : Node) (o : Option Rule) → option_map (with_rule moves node) o ≡ Some made → (rule : Rule) × (o ≡ Some rule) × (with_rule moves node rule ≡ made)
-made_of moves node made None is = absurd cc
-made_of moves node made (Some rule) is = (rule, refl, cc)
 
 -- the edge of a link that is kept
 pub link_moved : (moves : Renumbering) (name place : LinkId) (link : Link) → moves.links name ≡ Some place → moved_edge moves (link_edge name link) ≡ link_edge place (moved_link moves link)

@@ -9,11 +9,11 @@ use Rattle.std.proofs.Math.ListN.{get_or-append}
 use borrow.Author.Tests.{ltb-true, ltb-false}
 use Rattle.net_model.specs.declared.ids.LinkId.{LinkId}
 use Rattle.closure_model.specs.Derivations.{premises_of, item_of}
-use Rattle.closure_model.specs.declared.derivation.Item.{Item}
 use Rattle.closure_model.specs.declared.derivation.Item.TheVariants as item
+use Rattle.closure_model.specs.declared.derivation.Item.{Item}
 use Rattle.closure_model.specs.declared.derivation.NodeId.{NodeId}
-use Rattle.closure_model.specs.declared.derivation.Rule.{Rule}
 use Rattle.closure_model.specs.declared.derivation.Rule.TheVariants as by_rule
+use Rattle.closure_model.specs.declared.derivation.Rule.{Rule}
 use Rattle.closure_model.proofs.Lists.{Contains-head, Contains-tail, Contains-cases, Contains-none}
 use Rattle.derivation_edits.specs.Following.{Renumbering, IsTaken, place_at, moved_rule}
 
@@ -39,7 +39,7 @@ placed_within places id place is = by (nat_lt id.0 (length places)) refl
         let both : Some place ≡ None = sym is ∙ none in absurd cc
 
 -- ---- a pair of premises
-none_of_two : (P : NodeId → NodeId → Rule) (a b : Option NodeId) → option_and_then (λ x. option_map (P x) b) a ≡ None → (a ≡ None) ⊎ (b ≡ None)
+none_of_two : {X : Type 0} (P : X → NodeId → Rule) (a : Option X) (b : Option NodeId) → option_and_then (λ x. option_map (P x) b) a ≡ None → (a ≡ None) ⊎ (b ≡ None)
 none_of_two P None b is = inl refl
 none_of_two P (Some x) None is = inr refl
 none_of_two P (Some x) (Some y) is = absurd cc
@@ -48,11 +48,6 @@ pub both_of_two : {X : Type 0} (P : X → NodeId → Rule) (a : Option X) (b : O
 both_of_two P None b made is = absurd cc
 both_of_two P (Some x) None made is = absurd cc
 both_of_two P (Some x) (Some y) made is = (x, y, refl, refl, cc)
-
-none_of_link : (P : LinkId → NodeId → Rule) (a : Option LinkId) (b : Option NodeId) → option_and_then (λ x. option_map (P x) b) a ≡ None → (a ≡ None) ⊎ (b ≡ None)
-none_of_link P None b is = inl refl
-none_of_link P (Some x) None is = inr refl
-none_of_link P (Some x) (Some y) is = absurd cc
 
 none_of_one : {X : Type 0} (P : X → Rule) (a : Option X) → option_map P a ≡ None → a ≡ None
 none_of_one P None is = refl
@@ -80,8 +75,8 @@ module _ (moves : Renumbering) (places : List (Option NodeId)) where
   lacking (by_rule.Link name) is = inl (item.Link name, none_of_one by_rule.Link (moves.links name) is, refl)
   lacking (by_rule.No first second) is = two_lack first second (by_rule.No first second) refl (none_of_two by_rule.No (place_at places first) (place_at places second) is)
   lacking (by_rule.Up first second) is = two_lack first second (by_rule.Up first second) refl (none_of_two by_rule.Up (place_at places first) (place_at places second) is)
-  lacking (by_rule.Low name second) is = link_lacks name second (by_rule.Low name second) refl refl (none_of_link by_rule.Low (moves.links name) (place_at places second) is)
-  lacking (by_rule.Cross name second) is = link_lacks name second (by_rule.Cross name second) refl refl (none_of_link by_rule.Cross (moves.links name) (place_at places second) is)
+  lacking (by_rule.Low name second) is = link_lacks name second (by_rule.Low name second) refl refl (none_of_two by_rule.Low (moves.links name) (place_at places second) is)
+  lacking (by_rule.Cross name second) is = link_lacks name second (by_rule.Cross name second) refl refl (none_of_two by_rule.Cross (moves.links name) (place_at places second) is)
   lacking (by_rule.Drop premise) is = inr (premise, Contains-head premise [], none_of_one by_rule.Drop (place_at places premise) is)
 
   -- a premise that has a place

@@ -1,14 +1,15 @@
 -- The bounds and links that have no number in the new network are those that the edit takes away.
-use Rattle.std.proofs.Common.{◌≡◌, ◌≢◌, ◌↔◌, ◌&&◌, ◌⊎◌, inl, inr, ℕ, ℤ, Bool, true, false, List, [], map, get_or, Option, Some, None, refl, ap, sym, ◌∙◌, subst}
+use Rattle.std.proofs.Common.{◌≡◌, ◌≢◌, ◌↔◌, ◌&&◌, ◌⊎◌, inl, inr, ℕ, ℤ, Bool, true, false, List, [], map, get_or, Option, Some, None, Ok, refl, ap, sym, ◌∙◌, subst}
 use Rattle.std.specs.Prelude.{slice_get, if◌then◌else◌}
 use Rattle.std.specs.Option.{option_map, option_and_then}
 use Rattle.std.specs.Ordering.{int_eq}
 use Rattle.std.proofs.lemmas.Bool.{eq-eqb}
 use Rattle.std.proofs.lemmas.Bool.Decides.{Decides-int_eq}
 use Rattle.std.proofs.lemmas.Option.{slice_get-map, slice_get-get_or, get_or_from_slice_get}
+use Rattle.net_model.specs.Editing.{edited}
 use Rattle.net_model.specs.Network.{Plan, IsPlan, IsPoint, point_named, bound_named, activation}
-use Rattle.net_model.specs.declared.edit.Edit.{Edit}
 use Rattle.net_model.specs.declared.edit.Edit.TheVariants as edits
+use Rattle.net_model.specs.declared.edit.Edit.{Edit}
 use Rattle.net_model.specs.declared.ids.BoundId.{BoundId}
 use Rattle.net_model.specs.declared.ids.LinkId.{LinkId}
 use Rattle.net_model.specs.declared.ids.PointId.{PointId}
@@ -20,8 +21,8 @@ use Rattle.closure_model.proofs.Nodes.{chained, mapped, listed_at}
 use Rattle.derivation_edits.specs.Taken.{sets_bound, sets_link, name_of, point_in, is_point, is_same_bound, is_same_link, same_place, bound_in, same_link_place, link_in, renumbering}
 use Rattle.derivation_edits.specs.TakenAway.{unnumbered, unnumbered_link, HasPartsOf, HasEditedParts, DropsBound, SetsBound, DropsLink, SetsLink, DiffersIn, LinkDiffersIn, TakesBound, TakesLink, EditsTakeBounds, EditsTakeLinks}
 use Rattle.derivation_edits.proofs.ByNames.{SameBound, bound_in_gives, bound_found, bound_placed, SameLink, link_in_gives, link_found, link_placed, at_named, named_at, same_bytes, bytes_itself}
-use Rattle.derivation_edits.proofs.Staying.{IsNamesake, BoundStands, LinkStands, bound_stays, link_stays, bound_sound, link_sound}
 use Rattle.derivation_edits.proofs.Coming.{dropped_bound_gone, dropped_link_gone}
+use Rattle.derivation_edits.proofs.Staying.{IsNamesake, BoundStands, LinkStands, bound_stays, link_stays, bound_sound, link_sound}
 
 -- ---- networks of the same parts
 -- an item of a list, in a list of the same images
@@ -281,3 +282,7 @@ edits_take_bounds old edit new id bound before after has here = bound_both old e
 
 pub edits_take_links : EditsTakeLinks
 edits_take_links old edit new id link before after has here = link_both old edit new before after has id link here
+
+-- what an edit makes has its own parts
+pub made_has_parts : (old : Plan) (edit : Edit) (new : Plan) → edited old edit ≡ Ok new → HasEditedParts old edit new
+made_has_parts old edit new is = record { made = new; accepted = is; parts = record { points = refl; bounds = refl; links = refl } }

@@ -9,15 +9,15 @@ use Rattle.net_model.specs.declared.ids.PointId.{PointId}
 use Rattle.net_model.specs.declared.part.Bound.{Bound}
 use Rattle.net_model.specs.declared.part.Edge.{Edge}
 use Rattle.net_model.specs.declared.part.Link.{Link}
+use Rattle.closure_model.specs.Derivations.{node_at, RestsOn, base_nodes, edges_of_nodes, Support}
 use Rattle.closure_model.specs.Keys.{shape_of}
 use Rattle.closure_model.specs.Tables.{table_of}
-use Rattle.closure_model.specs.Derivations.{node_at, RestsOn, base_nodes, edges_of_nodes, Support}
-use Rattle.closure_model.specs.declared.derivation.Item.{Item}
 use Rattle.closure_model.specs.declared.derivation.Item.TheVariants as item
+use Rattle.closure_model.specs.declared.derivation.Item.{Item}
 use Rattle.closure_model.specs.declared.derivation.Node.{Node}
 use Rattle.closure_model.specs.declared.derivation.NodeId.{NodeId}
-use Rattle.closure_model.specs.declared.derivation.Rule.{Rule}
 use Rattle.closure_model.specs.declared.derivation.Rule.TheVariants as by_rule
+use Rattle.closure_model.specs.declared.derivation.Rule.{Rule}
 
 -- The numbers that points, bounds and links of a network have in the edited one. A bound or a link that is taken away has none there; of
 -- a point that is dropped nothing is said.

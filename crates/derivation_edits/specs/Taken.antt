@@ -1,10 +1,13 @@
 -- What an edit takes away, and the numbers that points, bounds and links have afterwards: each is found by its name.
-use Rattle.std.specs.Prelude.{◌==◌, ◌&&◌, ℕ, Bool, false, List, [], ◌++◌, map, filter, Option, Some, None, is_none, if◌then◌else◌, slice_get}
-use Rattle.std.specs.List.{slice_index_or, enumerate_from}
+use Rattle.std.specs.Prelude.{◌==◌, ◌&&◌, ℕ, Bool, false, List, ◌++◌, map, filter, Option, Some, None, is_none, if◌then◌else◌, slice_get}
+use Rattle.std.specs.List.{enumerate_from}
 use Rattle.std.specs.Option.{option_and_then, option_map_or}
 use Rattle.std.specs.Ordering.{int_eq}
 use Rattle.std.specs.Str.{bytes_eq}
 use Rattle.net_model.specs.Network.{Plan, point_named, bound_named, activation}
+use Rattle.net_model.specs.NetworkParts.{point_name}
+use Rattle.net_model.specs.declared.edit.Edit.TheVariants as edits
+use Rattle.net_model.specs.declared.edit.Edit.{Edit}
 use Rattle.net_model.specs.declared.ids.BoundId.{BoundId}
 use Rattle.net_model.specs.declared.ids.LinkId.{LinkId}
 use Rattle.net_model.specs.declared.ids.PointId.{PointId}
@@ -12,8 +15,6 @@ use Rattle.net_model.specs.declared.part.Bound.{Bound}
 use Rattle.net_model.specs.declared.part.Link.{Link}
 use Rattle.closure_model.specs.Derivations.{bound_node, link_node}
 use Rattle.closure_model.specs.declared.derivation.Node.{Node}
-use Rattle.net_model.specs.declared.edit.Edit.{Edit}
-use Rattle.net_model.specs.declared.edit.Edit.TheVariants as edits
 use Rattle.derivation_edits.specs.Following.{Renumbering}
 
 -- an edit sets the bound of a name
@@ -40,7 +41,7 @@ sets_link (edits.DropLink to) other = false
 
 -- the name of a point
 abbrev pub name_of : Plan → PointId → List ℕ
-name_of net point = slice_index_or net.points point.0 []
+name_of net point = point_name net.points point
 
 -- the point of a network that has the name of a point of another
 abbrev pub point_in : (old new : Plan) → PointId → Option PointId
@@ -54,21 +55,26 @@ is_point found point = option_map_or (λ (other : PointId). other.0 == point.0) 
 abbrev pub is_same_bound : (old new : Plan) → Bound → Bound → Bool
 is_same_bound old new bound other = is_point (point_in old new bound.from) other.from && (is_point (point_in old new bound.to) other.to && int_eq bound.most other.most)
 
--- a link of the old network and one that ends in the point of the same name in the new one are the same
+-- a link of the old network and one that ends in the point of the same name in the new one are the same: from the same point, with the
+-- same durations
 abbrev pub is_same_link : (old new : Plan) → Link → Link → Bool
 is_same_link old new link other = is_point (point_in old new link.from) other.from && (int_eq link.low other.low && int_eq link.high other.high)
 
--- the number that a bound has in the new network: that of the bound of its name, where they are the same and the edit does not set it
+-- this number, where the same bound stands there in the new network
 abbrev pub same_place : (old new : Plan) → Bound → BoundId → Option BoundId
 same_place old new bound place = option_and_then (λ other. if is_same_bound old new bound other then Some place else None) (slice_get new.bounds place.0)
 
+-- the number that a bound of the old network has in the new one: that of the bound of its name, where they are the same and the edit does
+-- not set it
 abbrev pub bound_in : (old : Plan) → Edit → (new : Plan) → Bound → Option BoundId
 bound_in old edit new bound = if sets_bound edit bound.name then None else option_and_then (same_place old new bound) (bound_named new bound.name)
 
--- the number that a link has in the new network
+-- this number, where the same link stands there in the new network
 abbrev pub same_link_place : (old new : Plan) → Link → LinkId → Option LinkId
 same_link_place old new link place = option_and_then (λ other. if is_same_link old new link other then Some place else None) (slice_get new.links place.0)
 
+-- the number that a link of the old network has in the new one: that of the link that ends in the point of the same name, where they are the
+-- same and the edit does not set it
 abbrev pub link_in : (old : Plan) → Edit → (new : Plan) → Link → Option LinkId
 link_in old edit new link =
     if sets_link edit (name_of old link.to) then None else option_and_then (λ point. option_and_then (same_link_place old new link) (activation new point)) (point_in old new link.to)
@@ -83,15 +89,20 @@ renumbering old edit new = record {
 
 -- a bound of the new network is new: the old one has none of its name, or that one is taken away
 abbrev pub is_new_bound : (old : Plan) → Edit → (new : Plan) → Bound → Bool
-is_new_bound old edit new bound = is_none (option_and_then (λ (id : BoundId). option_and_then (bound_in old edit new) (slice_get old.bounds id.0)) (bound_named old bound.name))
+is_new_bound old edit new bound = is_none (option_and_then (renumbering old edit new).bounds (bound_named old bound.name))
 
--- a link of the new network is new
+-- a link of the new network is new: in the old one none ends in the point of the same name, or that one is taken away
 abbrev pub is_new_link : (old : Plan) → Edit → (new : Plan) → Link → Bool
-is_new_link old edit new link =
-    is_none (option_and_then (λ (point : PointId). option_and_then (λ (id : LinkId). option_and_then (link_in old edit new) (slice_get old.links id.0)) (activation old point)) (point_in new old link.to))
+is_new_link old edit new link = is_none (option_and_then (λ point. option_and_then (renumbering old edit new).links (activation old point)) (point_in new old link.to))
 
--- the base nodes of the new bounds, in order, and then of the new links, in order
+-- the new bounds with their numbers, in order
+abbrev pub new_bounds : (old : Plan) → Edit → (new : Plan) → List (ℕ × Bound)
+new_bounds old edit new = filter (λ (e : ℕ × Bound). is_new_bound old edit new e.1) (enumerate_from 0 new.bounds)
+
+-- the new links with their numbers, in order
+abbrev pub new_links : (old : Plan) → Edit → (new : Plan) → List (ℕ × Link)
+new_links old edit new = filter (λ (e : ℕ × Link). is_new_link old edit new e.1) (enumerate_from 0 new.links)
+
+-- the base nodes of the new bounds, and then of the new links
 abbrev pub new_base_nodes : (old : Plan) → Edit → (new : Plan) → List Node
-new_base_nodes old edit new =
-    map bound_node (filter (λ (e : ℕ × Bound). is_new_bound old edit new e.1) (enumerate_from 0 new.bounds))
-    ++ map link_node (filter (λ (e : ℕ × Link). is_new_link old edit new e.1) (enumerate_from 0 new.links))
+new_base_nodes old edit new = map bound_node (new_bounds old edit new) ++ map link_node (new_links old edit new)

@@ -4,12 +4,18 @@ use Rattle.std.specs.Prelude.{◌≡◌, ◌≢◌, ◌↔◌, ◌⊎◌, ℕ, �
 use Rattle.std.specs.List.{Contains}
 use Rattle.net_model.specs.Editing.{edited}
 use Rattle.net_model.specs.Network.{Plan, IsPlan}
-use Rattle.net_model.specs.declared.edit.Edit.{Edit}
 use Rattle.net_model.specs.declared.edit.Edit.TheVariants as edits
+use Rattle.net_model.specs.declared.edit.Edit.{Edit}
 use Rattle.net_model.specs.declared.ids.BoundId.{BoundId}
 use Rattle.net_model.specs.declared.ids.LinkId.{LinkId}
 use Rattle.net_model.specs.declared.part.Bound.{Bound}
 use Rattle.net_model.specs.declared.part.Link.{Link}
+use Rattle.closure_model.specs.Derivations.{node_at, IsDerivationList, RestsOn}
+use Rattle.closure_model.specs.declared.derivation.Item.{Item}
+use Rattle.closure_model.specs.declared.derivation.Item.TheVariants as item
+use Rattle.closure_model.specs.declared.derivation.Node.{Node}
+use Rattle.closure_model.specs.declared.derivation.NodeId.{NodeId}
+use Rattle.derivation_edits.specs.Following.{place_at, followed}
 use Rattle.derivation_edits.specs.Taken.{name_of, renumbering, is_new_bound, is_new_link}
 
 -- a bound without its number
@@ -76,6 +82,15 @@ TakesLink old edit new link = DropsLink edit (name_of old link.to) ⊎ (SetsLink
 abbrev pub BringsLink : (old : Plan) → Edit → (new : Plan) → Link → Type 0
 BringsLink old edit new link = AddsLink edit (name_of new link.to) ⊎ (SetsLink edit (name_of new link.to) ⊎ LinkDiffersIn new old link)
 
+-- an edit takes a bound or a link of the old network away
+abbrev pub Takes : (old : Plan) → Edit → (new : Plan) → Item → Type 0
+Takes old edit new (item.Bound id) = (bound : Bound) × (slice_get old.bounds id.0 ≡ Some bound) × TakesBound edit new bound
+Takes old edit new (item.Link id) = (link : Link) × (slice_get old.links id.0 ≡ Some link) × TakesLink old edit new link
+
+-- a node rests on a bound or a link that an edit takes away
+abbrev pub RestsOnWhatGoes : (old : Plan) → Edit → (new : Plan) → List Node → NodeId → Type 0
+RestsOnWhatGoes old edit new nodes id = (what : Item) × Takes old edit new what × RestsOn nodes id what
+
 -- Exactly the bounds that an edit takes away have no number in the new network.
 abbrev pub EditsTakeBounds : Type 0
 EditsTakeBounds =
@@ -103,3 +118,10 @@ EditsBringLinks =
     (old : Plan) (edit : Edit) (new : Plan) (id : LinkId) (link : Link) → IsPlan old → IsPlan new → HasEditedParts old edit new
     → slice_get new.links id.0 ≡ Some link
     → ((is_new_link old edit new link ≡ true) ↔ BringsLink old edit new link)
+
+-- Exactly the nodes that rest on a bound or a link that an edit takes away are not kept.
+abbrev pub EditsWithdrawNodes : Type 0
+EditsWithdrawNodes =
+    (old : Plan) (edit : Edit) (new : Plan) (nodes : List Node) (id : NodeId) (node : Node) → IsPlan old → IsPlan new → HasEditedParts old edit new
+    → IsDerivationList old nodes → node_at nodes id ≡ Some node
+    → ((place_at (followed (renumbering old edit new) nodes).places id ≡ None) ↔ RestsOnWhatGoes old edit new nodes id)

@@ -1,6 +1,6 @@
 //! Laws about what is kept of a derivation list, each the contract of a function without parameters.
 
-ghost use Rattle.derivation_edits.specs.TakenAway.{EditsTakeBounds, EditsTakeLinks};
+ghost use Rattle.derivation_edits.specs.TakenAway.{EditsTakeBounds, EditsTakeLinks, EditsBringBounds, EditsBringLinks, EditsWithdrawNodes};
 ghost use Rattle.derivation_edits.specs.FollowingLaws.{KeptIsDerived, KeptIsWhatRestsOnNothingTaken, FollowedStands, NamesRenumber, NewBaseIsWhole};
 
 /// What is kept of a derivation list of the old network is one of the new network: each kept node is by its rule there.
@@ -36,4 +36,19 @@ pub fn edits_take_bounds()
 /// Exactly the links that the edit drops or sets, and those that stand in the new network with other durations, have no number there.
 pub fn edits_take_links()
     ensures { EditsTakeLinks }
+{}
+
+/// Exactly the bounds that the edit adds or sets, and those that stood in the old network with another number, are new.
+pub fn edits_bring_bounds()
+    ensures { EditsBringBounds }
+{}
+
+/// Exactly the links that the edit adds or sets, and those that stood in the old network with other durations, are new.
+pub fn edits_bring_links()
+    ensures { EditsBringLinks }
+{}
+
+/// Exactly the nodes of a derivation list that rest on a bound or a link that the edit takes away are not kept.
+pub fn edits_withdraw_nodes()
+    ensures { EditsWithdrawNodes }
 {}

@@ -9,4 +9,7 @@ pub mod RuleLemmas
 pub mod PartsLemmas
 pub mod NumberLemmas
 pub mod PlaceLemmas
+pub mod FillingLemmas
+pub mod EditLemmas
+pub mod EditKeeping
 pub mod Accepted

@@ -23,10 +23,10 @@ use Rattle.net_model.specs.declared.part.Bound.{Bound}
 use Rattle.net_model.specs.declared.part.Link.{Link}
 
 -- ---- what is sound in a network is so in one with as many points or more
-IsBound-more : (net more : Plan) → length net.points ≤ length more.points → (bound : Bound) → IsBound net bound → IsBound more bound
+pub IsBound-more : (net more : Plan) → length net.points ≤ length more.points → (bound : Bound) → IsBound net bound → IsBound more bound
 IsBound-more net more grown bound sound = record { named = sound.named; from_point = omega arith; to_point = omega arith; within = sound.within }
 
-IsLink-more : (net more : Plan) → length net.points ≤ length more.points → (link : Link) → IsLink net link → IsLink more link
+pub IsLink-more : (net more : Plan) → length net.points ≤ length more.points → (link : Link) → IsLink net link → IsLink more link
 IsLink-more net more grown link sound = record {
   from_point = omega arith;
   to_point = omega arith;

@@ -14,7 +14,7 @@ use Rattle.net_model.specs.declared.fault.PartFault.{PartFault}
 use Rattle.net_model.specs.declared.fault.PartFault.TheVariants.{DuplicateName, TwoLinksOnPoint, LinkToItself, BadInterval, Limit}
 
 -- what may be refused keeps what it keeps where its test fails
-unless_refused : {A : Type 0} (P : A → Type 0) (test : Bool) (fault : PartFault) (otherwise : Result A PartFault) → (test ≡ false → IfOk otherwise P) → IfOk (refuse_if test fault otherwise) P
+pub unless_refused : {A : Type 0} (P : A → Type 0) (test : Bool) (fault : PartFault) (otherwise : Result A PartFault) → (test ≡ false → IfOk otherwise P) → IfOk (refuse_if test fault otherwise) P
 unless_refused P true fault otherwise keeps = tt
 unless_refused P false fault otherwise keeps = keeps refl
 
@@ -23,7 +23,7 @@ whatever_came : {A B : Type 0} (P : B → Type 0) (read : Result A PartFault) (n
 whatever_came P (Ok x) next keeps = keeps x
 whatever_came P (Err fault) next keeps = tt
 
-fits : (n : ℤ) → not (within_limit n) ≡ false → within_limit n ≡ true
+pub fits : (n : ℤ) → not (within_limit n) ≡ false → within_limit n ≡ true
 fits n small = by (within_limit n) small
   where
     by : (b : Bool) → not b ≡ false → b ≡ true
@@ -82,7 +82,7 @@ link_keeps net from low high to numbers =
     unless_refused HasPlanNumbers (not (within_limit high)) (Limit Number) (room a c) (λ fitting.
     unless_refused HasPlanNumbers (nat_le most_links (length net.links)) (Limit Links) (Ok (more a c)) (λ roomy. kept a c (fits high fitting))))))))
 
-part_keeps : (net : Plan) (part : Part) → HasPlanNumbers net → IfOk (with_part net part) HasPlanNumbers
+pub part_keeps : (net : Plan) (part : Part) → HasPlanNumbers net → IfOk (with_part net part) HasPlanNumbers
 part_keeps net (part.Point name) numbers = point_keeps net name numbers
 part_keeps net (part.Bound name from to most) numbers = bound_keeps net name from to most numbers
 part_keeps net (part.Link from low high to) numbers = link_keeps net from low high to numbers

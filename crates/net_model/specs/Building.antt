@@ -119,3 +119,8 @@ abbrev pub Adds : Plan → Plan → Result (Unit {0}) PartFault → Result Plan 
 Adds old new (Ok done) answer = answer ≡ Ok new
 Adds old new (Err OutOfMemory) answer = new ≡ old
 Adds old new (Err fault) answer = (answer ≡ Err fault) × (new ≡ old)
+
+-- The network has become this one, or memory ran out, which changes nothing.
+abbrev pub Pushes : {E : Type 0} → Plan → Plan → Result (Unit {0}) E → Plan → Type 0
+Pushes old new (Ok done) more = new ≡ more
+Pushes old new (Err error) more = new ≡ old

@@ -72,12 +72,20 @@ unused None otherwise = otherwise
 abbrev pub closed_up : PointId → PointId → PointId
 closed_up dropped point = if nat_lt dropped.0 point.0 then record { 0 = point.0 - 1 } else point
 
+-- bounds with the numbers that their points have after one is dropped
+abbrev pub closed_up_bounds : PointId → List Bound → List Bound
+closed_up_bounds dropped bounds = map (λ (b : Bound). record b { from = closed_up dropped b.from; to = closed_up dropped b.to }) bounds
+
+-- links with the numbers that their points have after one is dropped
+abbrev pub closed_up_links : PointId → List Link → List Link
+closed_up_links dropped links = map (λ (l : Link). record l { from = closed_up dropped l.from; to = closed_up dropped l.to }) links
+
 -- the network without a point
 abbrev pub without_point : Plan → PointId → Plan
 without_point net dropped = record {
   points = remove net.points dropped.0;
-  bounds = map (λ (b : Bound). record b { from = closed_up dropped b.from; to = closed_up dropped b.to }) net.bounds;
-  links = map (λ (l : Link). record l { from = closed_up dropped l.from; to = closed_up dropped l.to }) net.links;
+  bounds = closed_up_bounds dropped net.bounds;
+  links = closed_up_links dropped net.links;
 }
 
 -- the link that ends in the point of a name

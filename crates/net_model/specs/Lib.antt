@@ -7,6 +7,7 @@ pub mod LooseRules
 pub mod Laws
 pub mod Building
 pub mod Editing
+pub mod EditLaws
 pub mod Formats
 pub mod NetworkParts
 pub mod Stored

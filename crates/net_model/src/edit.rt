@@ -1,6 +1,7 @@
 use crate::ids::{BoundId, LinkId, Weight};
 use crate::name::Name;
 use crate::part::Which;
+use std::alloc::AllocError;
 use std::error::Error;
 use std::fmt;
 
@@ -87,3 +88,14 @@ impl fmt::Display for EditFault {
 }
 
 impl Error for EditFault {}
+
+impl From<AllocError> for EditFault {
+    ghost use Rattle.std.specs.Prelude.{◌≡◌};
+    ghost use Rattle.net_model.specs.declared.edit.EditFault.TheVariants.{OutOfMemory};
+
+    ghost from_gives = { λ _ fault. fault ≡ OutOfMemory };
+
+    fn from(_error: AllocError) -> EditFault {
+        EditFault::OutOfMemory
+    }
+}

@@ -1,3 +1,4 @@
+use crate::edit::EditFault;
 use crate::part::Which;
 use std::alloc::AllocError;
 use std::error::Error;
@@ -96,6 +97,7 @@ impl From<AllocError> for PartFault {
 impl PartFault {
     ghost use Rattle.std.specs.Prelude.{◌≡◌};
     ghost use Rattle.net_model.specs.Building.{at_place};
+    ghost use Rattle.net_model.specs.Editing.{cause_of};
 
     /// The fault of the part at a place.
     pub(crate) fn at(self, place: u32) -> BuildFault
@@ -109,6 +111,21 @@ impl PartFault {
             PartFault::BadInterval => BuildFault::BadInterval(place),
             PartFault::Limit(which) => BuildFault::Limit(which, place),
             PartFault::OutOfMemory => BuildFault::OutOfMemory,
+        }
+    }
+
+    /// Why an edit that adds the part is refused.
+    pub(crate) fn of_edit(self) -> EditFault
+        ensures { result ≡ cause_of self }
+    {
+        match self {
+            PartFault::DuplicateName => EditFault::DuplicateName,
+            PartFault::UnknownName => EditFault::UnknownName,
+            PartFault::TwoLinksOnPoint => EditFault::TwoLinksOnPoint,
+            PartFault::LinkToItself => EditFault::LinkToItself,
+            PartFault::BadInterval => EditFault::BadInterval,
+            PartFault::Limit(which) => EditFault::Limit(which),
+            PartFault::OutOfMemory => EditFault::OutOfMemory,
         }
     }
 }

@@ -1,8 +1,10 @@
 //! Temporal networks with uncertainty: names, points, bounds, links, and what a list of parts builds.
 #![tactic(auto)]
 
+mod applying;
 mod edit;
 mod fault;
+mod filling;
 mod format;
 mod ids;
 mod items;

@@ -2,7 +2,7 @@ ghost use Rattle.std.specs.Prelude.{◌≡◌, ◌<◌, ◌^◌, ◌↔◌, ◌=
 ghost use Rattle.std.specs.List.{enumerate_from};
 ghost use Rattle.net_model.specs.Network.{IsPlan, IsPoint, IsContingent, IsBound, IsLink, point_named, bound_named, activation, links_from, greatest, empty, HasPlanNumbers};
 ghost use Rattle.net_model.specs.Limits.{most_points, most_links, most_bounds, within_limit};
-ghost use Rattle.net_model.specs.Building.{Builds, Adds, built, with_part, with_point, with_bound, with_link, with_parts, named};
+ghost use Rattle.net_model.specs.Building.{Builds, Adds, Pushes, built, with_part, with_point, with_bound, with_link, with_parts, named};
 
 use crate::fault::{BuildFault, PartFault};
 use crate::ids::{BoundId, LinkId, PointId, Weight};
@@ -139,7 +139,7 @@ impl Network {
         links_from(alloc, self.links.as_slice(), point)
     }
 
-    fn empty(alloc: Global) -> Network
+    pub(crate) fn empty(alloc: Global) -> Network
         ensures { result ≡ empty }
     {
         Network {
@@ -152,14 +152,14 @@ impl Network {
         }
     }
 
-    fn named_point(&self, name: &Name) -> Option<PointId>
+    pub(crate) fn named_point(&self, name: &Name) -> Option<PointId>
         ensures { result ≡ point_named self.now name.now }
     {
         let place = self.point_names.get_index_of(name)?;
         Some(PointId(place as u32))
     }
 
-    fn named_bound(&self, name: &Name) -> Option<BoundId>
+    pub(crate) fn named_bound(&self, name: &Name) -> Option<BoundId>
         ensures { result ≡ bound_named self.now name.now }
     {
         let place = self.bound_names.get_index_of(name)?;
@@ -188,7 +188,7 @@ impl Network {
     }
 
     /// Takes one more part in. A refusal and want of memory change nothing.
-    fn add(&mut self, part: &Part) -> Result<(), PartFault>
+    pub(crate) fn add(&mut self, part: &Part) -> Result<(), PartFault>
         ensures { Adds self.old self.new result (with_part self.old part.now) }
     {
         match part {
@@ -208,7 +208,8 @@ impl Network {
         if self.points.len() >= MOST_POINTS {
             return Err(PartFault::Limit(Which::Points));
         }
-        self.push_point(name)
+        self.push_point(name)?;
+        Ok(())
     }
 
     #[tactic(auto, unfolding(crate::specs::Building::with_bound))]
@@ -239,7 +240,8 @@ impl Network {
             from,
             to,
             most,
-        })
+        })?;
+        Ok(())
     }
 
     #[tactic(auto, unfolding(crate::specs::Building::with_link))]
@@ -274,14 +276,15 @@ impl Network {
             low,
             high,
             to,
-        })
+        })?;
+        Ok(())
     }
 
     /// Room is made first, so that want of memory changes nothing.
-    fn push_point(&mut self, name: &Name) -> Result<(), PartFault>
+    pub(crate) fn push_point(&mut self, name: &Name) -> Result<(), AllocError>
         requires fresh { point_named self.old name.now ≡ None }
         requires room { length self.old.points < most_points }
-        ensures { Adds self.old self.new result (Ok (record self.old { points = self.old.points ++ name.now ∷ [] })) }
+        ensures { Pushes self.old self.new result (record self.old { points = self.old.points ++ name.now ∷ [] }) }
     {
         // The proof reads here that these bytes are a name.
         let _ = name.bytes();
@@ -294,11 +297,11 @@ impl Network {
         Ok(())
     }
 
-    fn push_bound(&mut self, bound: Bound) -> Result<(), PartFault>
+    pub(crate) fn push_bound(&mut self, bound: Bound) -> Result<(), AllocError>
         requires fresh { bound_named self.old bound.name ≡ None }
         requires room { length self.old.bounds < most_bounds }
         requires sound { IsBound self.old bound }
-        ensures { Adds self.old self.new result (Ok (record self.old { bounds = self.old.bounds ++ bound ∷ [] })) }
+        ensures { Pushes self.old self.new result (record self.old { bounds = self.old.bounds ++ bound ∷ [] }) }
     {
         self.bounds.reserve(1)?;
         self.bound_names.reserve(1)?;
@@ -307,11 +310,11 @@ impl Network {
         Ok(())
     }
 
-    fn push_link(&mut self, link: Link) -> Result<(), PartFault>
+    pub(crate) fn push_link(&mut self, link: Link) -> Result<(), AllocError>
         requires fresh { activation self.old link.to ≡ None }
         requires room { length self.old.links < most_links }
         requires sound { IsLink self.old link }
-        ensures { Adds self.old self.new result (Ok (record self.old { links = self.old.links ++ link ∷ [] })) }
+        ensures { Pushes self.old self.new result (record self.old { links = self.old.links ++ link ∷ [] }) }
     {
         self.links.reserve(1)?;
         let id = LinkId(self.links.len() as u32);
@@ -321,7 +324,7 @@ impl Network {
     }
 }
 
-fn is_within_limit(number: Weight) -> bool
+pub(crate) fn is_within_limit(number: Weight) -> bool
     ensures { result ≡ within_limit number }
 {
     number.unsigned_abs() <= MOST_NUMBER

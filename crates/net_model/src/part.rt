@@ -10,6 +10,17 @@ pub struct Bound {
     pub most: Weight,
 }
 
+impl Bound {
+    ghost use Rattle.std.specs.Prelude.{◌≡◌};
+
+    /// The bound with another number.
+    pub(crate) fn with_most(self, most: Weight) -> Bound
+        ensures { result ≡ record self { most = most } }
+    {
+        Bound { most, ..self }
+    }
+}
+
 /// A contingent link: nature picks `to - from`, a whole number from `low` to `high`. `from` is the activation point
 /// and `to` the contingent point.
 #[derive(Clone, Copy, Debug, PartialEq, Eq)]
@@ -18,6 +29,17 @@ pub struct Link {
     pub low: Weight,
     pub high: Weight,
     pub to: PointId,
+}
+
+impl Link {
+    ghost use Rattle.std.specs.Prelude.{◌≡◌};
+
+    /// The link with another interval.
+    pub(crate) fn with_interval(self, low: Weight, high: Weight) -> Link
+        ensures { result ≡ record self { low = low; high = high } }
+    {
+        Link { low, high, ..self }
+    }
 }
 
 /// An edge of the labelled distance graph (Morris and Muscettola 2005): `to - from <= weight`, where it has a label

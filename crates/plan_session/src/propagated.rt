@@ -101,11 +101,7 @@ impl Propagated {
     }
 
     /// The certificate of the refutation of the network, where the rounds were made from its base.
-    pub(crate) fn refutation(
-        &self,
-        alloc: Global,
-        net: &Network,
-    ) -> Result<Certificate, AllocError>
+    pub(crate) fn refutation(&self, alloc: Global, net: &Network) -> Result<Certificate, AllocError>
         requires opened { Opens net.now self.now }
         requires never { ¬ IsControllable net.now }
         ensures { IfOk result (Refutes net.now) }
@@ -116,8 +112,13 @@ impl Propagated {
         match &self.outcome {
             Outcome::Closed { .. } => unreachable!(),
             Outcome::Looped { cycle, .. } => {
-                let certificate =
-                    refutation(alloc, net, &self.store, self.store.dag(), cycle.as_slice())?;
+                let certificate = refutation(
+                    alloc,
+                    net,
+                    &self.store,
+                    self.store.dag(),
+                    cycle.as_slice(),
+                )?;
                 Ok(certificate)
             }
         }

@@ -1,6 +1,6 @@
-use Rattle.std.proofs.Common.{◌≡◌, subst, ap, sym, ◌∙◌, Ok, IfOk, Result}
+use Rattle.std.proofs.Common.{subst, ap, sym, ◌∙◌, IfOk, Result}
 use Rattle.net_model.specs.Network.{Plan, HasPlanNumbers}
-use Rattle.net_model.specs.Building.{built, with_parts}
+use Rattle.net_model.specs.Building.{with_parts}
 use Rattle.net_model.specs.declared.fault.BuildFault.{BuildFault}
 use Rattle.net_model.proofs.PlanNumbers.{built_numbers}
 use Rattle.net_model.proofs.network.Network.build.Goals as goal

@@ -1,0 +1,19 @@
+//! Laws about sessions, each the contract of a function without parameters.
+
+ghost use Rattle.plan_session.specs.Laws.{SessionsOpenInOneWay, EditsAreFollowedInOneWay};
+
+use closure_model::round_laws::rounds_end_in_one_way;
+
+/// A session is opened in one way: its derivations are a function of the network.
+pub fn sessions_open_in_one_way()
+    ensures { SessionsOpenInOneWay }
+{
+    rounds_end_in_one_way();
+}
+
+/// A session follows an edit in one way: its derivations then, and the report, are a function of those before, the edit and the networks.
+pub fn edits_are_followed_in_one_way()
+    ensures { EditsAreFollowedInOneWay }
+{
+    rounds_end_in_one_way();
+}
