@@ -1,5 +1,5 @@
 -- A session is opened in one way, and it follows an edit in one way.
-use Rattle.std.proofs.Common.{◌≡◌, ℕ, ◌+◌, List, ◌++◌, length, ap, sym, ◌∙◌, subst, arith}
+use Rattle.std.proofs.Common.{◌≡◌, List, ◌++◌, length, ap, sym, ◌∙◌, subst, arith}
 use Rattle.std.proofs.lemmas.List.{length-append}
 use Rattle.net_model.specs.Network.{Plan}
 use Rattle.net_model.specs.declared.edit.Edit.{Edit}
@@ -10,8 +10,7 @@ use Rattle.derivation_edits.specs.Taken.{new_base_nodes}
 use Rattle.support_records.specs.Followed.{IsFollowed}
 use Rattle.support_records.specs.declared.store.Withdrawn.{Withdrawn}
 use Rattle.plan_session.specs.Laws.{SessionsOpenInOneWay, EditsAreFollowedInOneWay}
-use Rattle.plan_session.specs.Sessions.{Opened, FollowsEdit}
-use Rattle.plan_session.specs.declared.answers.Report.{Report}
+use Rattle.plan_session.specs.Sessions.{Opened}
 
 opened_as : (one other : Opened) → one.support ≡ other.support → one.ending ≡ other.ending → one ≡ other
 opened_as one other support ending = λ i. record { support = support i; ending = ending i }

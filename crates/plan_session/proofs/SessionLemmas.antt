@@ -1,5 +1,5 @@
 -- What is opened of a network, what it decides, and what comes of it.
-use Rattle.std.proofs.Common.{◌≡◌, ℕ, suc, ◌≤◌, List, ◌++◌, length, Option, Some, Result, Ok, Err, refl, ap, sym, ◌∙◌, subst}
+use Rattle.std.proofs.Common.{◌≡◌, List, length, Option, Some, Result, Ok, Err, refl, subst}
 use Rattle.std.specs.Prelude.{IfOk, IfSome}
 use Rattle.std.specs.declared.alloc.AllocError.{AllocError}
 use Rattle.net_model.specs.Network.{Plan}
@@ -8,9 +8,9 @@ use Rattle.net_model.specs.declared.ids.PointId.{PointId}
 use Rattle.strategy_model.specs.Control.{IsControllable}
 use Rattle.strategy_model.specs.Plays.{IsInstant}
 use Rattle.closure_model.specs.Closure.{IsClosure}
-use Rattle.closure_model.specs.Derivations.{Support, StandsOn}
+use Rattle.closure_model.specs.Derivations.{Support}
 use Rattle.closure_model.specs.Orders.{IsOrder, IsCycle}
-use Rattle.closure_model.specs.ReferenceRounds.{Ending, closed, looped, RoundsEnd}
+use Rattle.closure_model.specs.ReferenceRounds.{closed, looped, RoundsEnd}
 use Rattle.closure_model.specs.Tables.{Graph}
 use Rattle.controllability.specs.Laws.{OrderedClosuresAreControllable, StandingCyclesExclude}
 use Rattle.table_histories.specs.LaterNodes.{LaterNodesFall}
@@ -28,7 +28,6 @@ use Rattle.refutations.specs.Certifying.{IsCertificateBy}
 use Rattle.refutations.specs.Refuting.{Refutes}
 use Rattle.dispatch_net.specs.Dispatchable.{DispatchLists, IsDispatchBy}
 use Rattle.plan_session.specs.Sessions.{Opened, State, EndsWell, IsSound, Opens, FollowsEdit, IsDispatchOfClosure}
-use Rattle.plan_session.specs.declared.answers.Report.{Report}
 
 -- what an outcome says of a table is what its ending does
 pub says_well : (net : Plan) (support : Support) (outcome : Outcome) → Says net support outcome → EndsWell net support (ending_of outcome)

@@ -5,7 +5,7 @@ use Rattle.std.proofs.Common.{inl, inr}
 use Rattle.net_model.specs.Network.{Plan}
 use Rattle.net_model.specs.contracts.network.Network as network
 use Rattle.net_model.specs.declared.ids.PointId.{PointId}
-use Rattle.closure_model.specs.Codes.{point_code, graph_code}
+use Rattle.closure_model.specs.Codes.{point_code}
 use Rattle.closure_model.specs.Derivations.{Support}
 use Rattle.closure_model.specs.ReferenceRounds.{Ending, closed, looped}
 use Rattle.derivation_dag.specs.SupportCode.{support_code}

@@ -1,3 +1,4 @@
 pub mod Sessions
 pub mod Codes
+pub mod Kept
 pub mod Laws

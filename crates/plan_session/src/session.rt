@@ -3,7 +3,7 @@ ghost use Rattle.net_model.specs.Editing.{edited};
 ghost use Rattle.net_model.specs.Network.{IsPlan, HasPlanNumbers};
 ghost use Rattle.strategy_model.specs.Control.{IsControllable};
 ghost use Rattle.cert_format.specs.declared.certificate.Certificate.{Certificate};
-ghost use Rattle.refutations.specs.Refuting.{IsCertificateOf};
+ghost use Rattle.refutations.specs.Refuting.{IsCertificateOf, Refutes};
 ghost use Rattle.work_board.specs.Limits.{most_seats};
 ghost use Rattle.plan_session.specs.Sessions.{IsOpen, IsOpenedOn, AnswersEdit, IsVerdictOf, AnswersProof, IsDispatchOfClosure, Lends};
 
@@ -27,13 +27,14 @@ pub struct Session {
     net: Network,
     workers: u32,
     opened: Option<Propagated>,
+    /// Whether no edit was accepted since the session was opened.
+    fresh: bool,
 }
 
 impl Model for Session {
-    ghost use Rattle.std.specs.Prelude.{◌≤◌, IfSome};
-    ghost use Rattle.work_board.specs.Limits.{most_seats};
-    ghost use Rattle.plan_session.specs.Sessions.{State, IsSound};
+    ghost use Rattle.plan_session.specs.Sessions.{State};
     ghost use Rattle.plan_session.specs.Codes.{state_code};
+    ghost use Rattle.plan_session.specs.Kept.{IsKept};
 
     ghost Value = { State };
 
@@ -41,7 +42,7 @@ impl Model for Session {
 
     ghost view = { λ session. record { net = session.net; opened = session.opened } };
 
-    ghost invariant = { λ session. (1 ≤ session.workers) × (session.workers ≤ most_seats) × IfSome session.opened (IsSound session.net) };
+    ghost invariant = { λ session. IsKept session.net session.workers session.opened session.fresh };
 }
 
 impl Session {
@@ -62,6 +63,7 @@ impl Session {
             net,
             workers,
             opened: Some(opened),
+            fresh: true,
         })
     }
 
@@ -113,6 +115,7 @@ impl Session {
         let report = opened.follow(rt, alloc, &self.net, edit, &new, self.workers, gate)?;
         self.net = new;
         self.opened = Some(opened);
+        self.fresh = false;
         Ok(report)
     }
 
@@ -148,9 +151,26 @@ impl Session {
         if self.opened.is_none() {
             return Err(AskFault::Broken);
         }
-        let opened = Propagated::of(rt, alloc, &self.net, self.workers, &NoGate)?;
-        let certificate = opened.refutation(alloc, &self.net)?;
+        let certificate = self.refutation(rt, alloc)?;
         Ok(certificate)
+    }
+
+    /// The certificate by the rounds from the base: those of the session, where no edit came after them, else new ones.
+    fn refutation<R: Threads + Sync>(
+        &self,
+        rt: &R,
+        alloc: Global,
+    ) -> Result<Certificate, AllocError>
+        requires { ¬ IsControllable self.now.net }
+        ensures { IfOk result (Refutes self.now.net) }
+    {
+        match &self.opened {
+            Some(opened) if self.fresh => opened.refutation(alloc, &self.net),
+            _ => {
+                let opened = Propagated::of(rt, alloc, &self.net, self.workers, &NoGate)?;
+                opened.refutation(alloc, &self.net)
+            }
+        }
     }
 
     /// The dispatchable network of the closure of the network as it stands, which is controllable. `AllocError` comes only for want of memory.

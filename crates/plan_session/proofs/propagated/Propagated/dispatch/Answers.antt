@@ -1,4 +1,4 @@
-use Rattle.std.proofs.Common.{◌≡◌, List, refl, ap, sym, ◌∙◌, subst}
+use Rattle.std.proofs.Common.{List, ap, sym, subst}
 use Rattle.net_model.specs.declared.ids.PointId.{PointId}
 use Rattle.closure_model.specs.Closure.{IsClosure}
 use Rattle.closure_model.specs.Orders.{IsOrder}

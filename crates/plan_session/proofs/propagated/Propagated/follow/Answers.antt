@@ -1,4 +1,4 @@
-use Rattle.std.proofs.Common.{◌≡◌, ℕ, sym, subst}
+use Rattle.std.proofs.Common.{ℕ, sym, subst}
 use Rattle.parallel_rounds.specs.Propagated.{ending_of}
 use Rattle.support_records.specs.Followed.{IsFollowed}
 use Rattle.plan_session.specs.Sessions.{Opened, FollowsEdit}

@@ -1,6 +1,6 @@
-use Rattle.std.proofs.Common.{◌≡◌, true, false, refl, ap, sym, ◌∙◌, subst}
+use Rattle.std.proofs.Common.{refl, ap, sym, subst}
 use Rattle.parallel_rounds.specs.Propagated.{ending_of}
-use Rattle.plan_session.specs.Sessions.{Opened, IsSound}
+use Rattle.plan_session.specs.Sessions.{IsSound}
 use Rattle.plan_session.proofs.SessionLemmas.{closed_controls, looped_excludes}
 use Rattle.plan_session.proofs.propagated.Propagated.is_controllable.Goals as goal
 

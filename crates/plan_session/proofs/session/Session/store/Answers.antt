@@ -9,5 +9,5 @@ returns c = record {
   is = ap (λ (session : State). session.opened) (sym c.self.view_is) ∙ c.in-Some.is;
   support_is = c.store.ensures;
   sound = subst (λ (session : State). IsSound session.net c.in-Some.opened) c.self.view_is
-      (opened_sound (record { net = c.self.inside.net; opened = c.self.inside.opened }) c.in-Some.opened c.in-Some.is c.self.invariant.2);
+      (opened_sound (record { net = c.self.inside.net; opened = c.self.inside.opened }) c.in-Some.opened c.in-Some.is c.self.invariant.sound);
 }
