@@ -1,17 +1,20 @@
 -- The lower bounds and waits of a point are exactly the negative edges that a table has from it, in order.
-use Rattle.std.proofs.Common.{◌≡◌, ℕ, zero, suc, ◌+◌, ℤ, pos, ◌≤◌, ◌<◌, Bool, true, List, [], ◌∷◌, map, Option, Some, None, refl, ap, sym, subst, ◌∙◌, arith}
-use Rattle.std.specs.Prelude.{int_lt, slice_get, ◌-ℤ◌, ◌<ℤ◌, if◌then◌else◌}
-use Rattle.std.specs.List.{AllPairs, AllByRecursion, Contains, cons_option, enumerate_from, filter_map, range_with_len}
+use Rattle.std.proofs.Common.{◌≡◌, ℕ, zero, suc, ◌+◌, ℤ, pos, ◌≤◌, ◌<◌, Bool, true, false, List, [], ◌∷◌, map, get_or, Option, Some, None, refl, ap, sym, subst, ◌∙◌, arith}
+use Rattle.std.specs.Prelude.{int_lt, slice_get, is_some, ◌-ℤ◌, ◌<ℤ◌, if◌then◌else◌}
+use Rattle.std.specs.List.{All, AllPairs, AllByRecursion, Contains, cons_option, enumerate_from, filter_map, range_with_len}
 use Rattle.std.proofs.lemmas.Int.{ints}
 use Rattle.std.proofs.lemmas.List.Elements.{All-from_recursion}
 use Rattle.std.proofs.lemmas.List.Kept.{AllPairs-cons}
+use Rattle.std.proofs.lemmas.List.{get_or-map, length-map}
+use Rattle.net_model.specs.Network.{Plan, activation}
 use Rattle.net_model.specs.declared.ids.PointId.{PointId}
 use Rattle.net_model.specs.declared.ids.LinkId.{LinkId}
 use Rattle.closure_model.specs.Keys.{ordinary_key, labelled_key, all_points}
 use Rattle.closure_model.specs.Tables.{Graph, HasEdge, weight_of, IsGraph}
 use Rattle.closure_model.proofs.KeyLists.{Contains-points}
 use Rattle.closure_model.proofs.Weights.{lt_is, lt_true}
-use Rattle.dispatch_net.specs.Dispatchable.{with_moments, lower_bounds_in, waits_in, no_conditions}
+use Rattle.dispatch_net.specs.Dispatchable.{with_moments, lower_bounds_in, waits_in, no_conditions, conditions_in, dispatchable}
+use Rattle.dispatch_net.specs.Held.{AreInOrder}
 use Rattle.dispatch_net.specs.Laws.{AreExact, ListsAreExact}
 use Rattle.dispatch_net.proofs.HoldLemmas.{Contains-filter_map, Contains-filter_map_from, numbered_from, gives, given}
 use Rattle.dispatch_net.proofs.ExecutionLemmas.{conditions_stand, conditions_are}
@@ -81,6 +84,30 @@ keeps_number : {X : Type 0} (number : X → ℕ) (x : X) (o : Option ℤ) (y : X
 keeps_number {X} number x o y gave = sym (ap (λ (p : X × ℤ). number p.0) (given x o y gave).is)
 
 -- ---- a point's lists
+pub lists_rise : (table : Graph) (point : PointId) → AreInOrder (record { lower_bounds = lower_bounds_in table point; waits = waits_in table point })
+lists_rise table point = record {
+  bounds = rising_pairs (λ (b : PointId × ℤ). b.0.0) 0 (lower_bounds_in table point)
+      (kept_rise (λ (p : PointId). p.0) (λ (b : PointId × ℤ). b.0.0) (λ (p : PointId). with_moments p (weight_of table (ordinary_key point p)))
+      (λ p b gave. keeps_number (λ (q : PointId). q.0) p (weight_of table (ordinary_key point p)) b gave) 0 (all_points table.shape) (points_rise 0 table.shape.points));
+  waits = rising_pairs (λ (w : LinkId × ℤ). w.0.0) 0 (waits_in table point)
+      (kept_rise (λ (e : ℕ × PointId). e.0) (λ (w : LinkId × ℤ). w.0.0) (λ (e : ℕ × PointId). let l : LinkId = record { 0 = e.0 } in with_moments l (weight_of table (labelled_key point e.1 l)))
+      (λ e w gave. keeps_number (λ (l : LinkId). l.0) (record { 0 = e.0 }) (weight_of table (labelled_key point e.1 (record { 0 = e.0 }))) w gave) 0 (enumerate_from 0 table.shape.activations) (numbered_rise 0 table.shape.activations));
+}
+
+no_lists_rise : AreInOrder no_conditions
+no_lists_rise = record { bounds = λ i j d less inside. absurd (omega (arith, less, inside)); waits = λ i j d less inside. absurd (omega (arith, less, inside)) }
+
+-- what a table gives the points stands in order of number
+pub in_order : (net : Plan) (table : Graph) → All AreInOrder (dispatchable net table)
+in_order net table k d inside =
+    let long = length-map (all_points table.shape) (conditions_in net table) in
+    let none : PointId = record { 0 = 0 } in
+    subst AreInOrder (sym (get_or-map (conditions_in net table) (all_points table.shape) k none d (omega (arith, inside, long)))) (by (get_or (all_points table.shape) k none) (is_some (activation net (get_or (all_points table.shape) k none))))
+  where
+    by : (point : PointId) (b : Bool) → AreInOrder (if b then no_conditions else record { lower_bounds = lower_bounds_in table point; waits = waits_in table point })
+    by point true = no_lists_rise
+    by point false = lists_rise table point
+
 module _ (table : Graph) (sound : IsGraph table) (point : PointId) where
   bound_in : (other : PointId) (n : ℤ) → (pos 0 <ℤ n) × HasEdge table (record { from = point; to = other; label = None; weight = pos 0 -ℤ n }) → Contains (lower_bounds_in table point) (other, n)
   bound_in other n (above, has) =
@@ -113,12 +140,8 @@ module _ (table : Graph) (sound : IsGraph table) (point : PointId) where
       record {
         bounds = λ other n. (in_bound other n, bound_in other n);
         waits = λ link n. (in_wait link n, wait_in link n);
-        bounds_rise = rising_pairs (λ (b : PointId × ℤ). b.0.0) 0 (lower_bounds_in table point)
-            (kept_rise (λ (p : PointId). p.0) (λ (b : PointId × ℤ). b.0.0) (λ (p : PointId). with_moments p (weight_of table (ordinary_key point p)))
-            (λ p b gave. keeps_number (λ (q : PointId). q.0) p (weight_of table (ordinary_key point p)) b gave) 0 (all_points table.shape) (points_rise 0 table.shape.points));
-        waits_rise = rising_pairs (λ (w : LinkId × ℤ). w.0.0) 0 (waits_in table point)
-            (kept_rise (λ (e : ℕ × PointId). e.0) (λ (w : LinkId × ℤ). w.0.0) (λ (e : ℕ × PointId). let l : LinkId = record { 0 = e.0 } in with_moments l (weight_of table (labelled_key point e.1 l)))
-            (λ e w gave. keeps_number (λ (l : LinkId). l.0) (record { 0 = e.0 }) (weight_of table (labelled_key point e.1 (record { 0 = e.0 }))) w gave) 0 (enumerate_from 0 table.shape.activations) (numbered_rise 0 table.shape.activations));
+        bounds_rise = (lists_rise table point).bounds;
+        waits_rise = (lists_rise table point).waits;
       }
 
 pub lists_are_exact : ListsAreExact

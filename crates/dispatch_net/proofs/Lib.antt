@@ -3,3 +3,9 @@ pub mod HoldLemmas
 pub mod ExecutionLemmas
 pub mod ExactLemmas
 pub mod EarliestLemmas
+pub mod PlaceLemmas
+pub mod EndLemmas
+pub mod SlimLists
+pub mod StayLemmas
+pub mod RankLemmas
+pub mod ExecutedLemmas

@@ -66,10 +66,6 @@ pub record DispatchLists : Type 0 where
   pub made : List Conditions
   pub kept : List Conditions
 
--- what is kept of what was made: for the present the whole of it
-abbrev pub KeepsMade : DispatchLists → Type 0
-KeepsMade lists = lists.kept ≡ lists.made
-
 -- the dispatchable network that a table gives: nothing of it is left out
 pub record IsDispatchBy (net : Plan) (table : Graph) (lists : DispatchLists) : Type 0 where
   pub links : lists.links ≡ net.links

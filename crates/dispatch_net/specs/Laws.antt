@@ -4,6 +4,7 @@ use Rattle.std.specs.List.{AllPairs, Contains}
 use Rattle.net_model.specs.Network.{Plan, IsPlan, IsPoint, IsContingent, IsExecutable}
 use Rattle.net_model.specs.declared.ids.PointId.{PointId}
 use Rattle.net_model.specs.declared.ids.LinkId.{LinkId}
+use Rattle.net_model.specs.declared.part.Link.{Link}
 use Rattle.closure_model.specs.Tables.{Graph, HasEdge, edges_of, IsFor, IsGraph, IsClosed}
 use Rattle.closure_model.specs.Orders as table_orders
 use Rattle.closure_model.specs.Closure.{IsClosure}
@@ -15,6 +16,8 @@ use Rattle.strategy_model.specs.declared.tree.Tree.{Tree}
 use Rattle.dispatch_net.specs.declared.dispatch.Conditions.{Conditions}
 use Rattle.dispatch_net.specs.Dispatchable.{MayDispatch, no_conditions, dispatchable, conditions_at}
 use Rattle.dispatch_net.specs.Execution.{IsExecutedBy, ExecutionSatisfies}
+use Rattle.dispatch_net.specs.Ranked.{IsDispatchTable}
+use Rattle.dispatch_net.specs.Slim.{slimmed}
 
 -- the executions of the dispatchable network are the schedules of lower bounds and waits of the table's edges
 abbrev pub ExecutionsAreDispatched : Type 0
@@ -63,3 +66,13 @@ ClosuresExecuteEarliest =
     (net : Plan) (table : Graph) (order : List PointId) (situation schedule : List ℕ) → IsInstant net → IsClosure net table → IsGraph table
     → table_orders.IsOrder table order → IsSituation net situation
     → (IsEarliest net situation schedule ↔ IsExecutedBy net (dispatchable net table) situation schedule)
+
+-- by what is left of a closed table's lists when those are left out that others imply, the same schedules are executed
+abbrev pub SlimExecutionsAreTheSame : Type 0
+SlimExecutionsAreTheSame =
+    (net : Plan) (table : Graph) (order : List PointId) (situation schedule : List ℕ) → IsDispatchTable net table order → IsSituation net situation
+    → (IsExecutedBy net (slimmed net.links (dispatchable net table)) situation schedule ↔ IsExecutedBy net (dispatchable net table) situation schedule)
+
+-- what was kept once is kept again
+abbrev pub SlimStaysSlim : Type 0
+SlimStaysSlim = (links : List Link) (made : List Conditions) → slimmed links (slimmed links made) ≡ slimmed links made

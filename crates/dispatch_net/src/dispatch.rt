@@ -6,7 +6,10 @@ ghost use Rattle.strategy_model.specs.Plays.{IsInstant};
 ghost use Rattle.closure_model.specs.Tables.{IsFor, IsGraph, IsWeight};
 ghost use Rattle.dispatch_net.specs.Dispatchable.{MayDispatch, lower_bounds_in, waits_in, conditions_in, dispatchable, conditions_at, IsDispatchBy, moments_of, with_moments};
 ghost use Rattle.dispatch_net.specs.Execution.{ExecutionSatisfies};
+ghost use Rattle.dispatch_net.specs.Held.{IsSlimOrWhole, link_ending};
+ghost use Rattle.dispatch_net.specs.Slim.{slimmed};
 
+use crate::made::Made;
 use labelled_graph::Table;
 use net_model::{Items, Link, LinkId, Network, PointId, Weight};
 use std::alloc::{AllocError, Global};
@@ -23,19 +26,22 @@ pub struct Conditions {
 
 /// The dispatchable network of a closed table (Morris, Muscettola and Vidal 2001, in this project's form): the lower bounds and
 /// waits by which each executable point is executed, and the links of its network. Contracts see it as the links, the lists that were made
-/// of the table, one for each point, and those that are kept.
+/// of the table, one for each point, and those that are kept: the whole of them, or those that no others imply.
 #[derive(Debug, Drop)]
 pub struct Dispatch {
-    links: Vec<Link>,
-    conditions: Vec<Conditions>,
+    made: Made,
+    kept: Vec<Conditions>,
 }
 
 impl Model for Dispatch {
     ghost use Rattle.dispatch_net.specs.Dispatchable.{DispatchLists};
+    ghost use Rattle.dispatch_net.specs.Held.{IsSlimOrWhole};
 
     ghost Value = { DispatchLists };
 
-    ghost view = { λ dispatch. record { links = dispatch.links.items; made = dispatch.conditions.items; kept = dispatch.conditions.items } };
+    ghost view = { λ dispatch. record { links = dispatch.made.links; made = dispatch.made.lists; kept = dispatch.kept.items } };
+
+    ghost invariant = { λ dispatch. IsSlimOrWhole dispatch.made.links dispatch.made.lists dispatch.kept.items };
 }
 
 impl Dispatch {
@@ -53,16 +59,38 @@ impl Dispatch {
         ensures whole { IfOk result (λ dispatch. length dispatch.made ≡ length net.now.points) }
         ensures executed { IfOk result (λ dispatch. IsInstant net.now → IsGraph table.now → ExecutionSatisfies net.now dispatch.made) }
     {
-        let conditions = conditions_by(alloc, net, table)?;
-        let links = Vec::from_slice(alloc, net.links())?;
-        Ok(Dispatch { links, conditions })
+        let lists = conditions_by(alloc, net, table)?;
+        let made = Made::new(alloc, net, lists)?;
+        let kept = conditions_by(alloc, net, table)?;
+        Ok(Dispatch { made, kept })
+    }
+
+    /// The same without the lower bounds and waits that others of their point imply, each tested against what is kept before the call. By
+    /// what is left every execution is the same, and every next due moment. It takes no memory.
+    pub fn slim(self) -> Dispatch
+        ensures links { result.links ≡ self.links }
+        ensures made { result.made ≡ self.made }
+        ensures kept { result.kept ≡ slimmed self.links self.kept }
+    {
+        let Dispatch { made, mut kept } = self;
+        made.thin_all(&mut kept);
+        Dispatch { made, kept }
     }
 
     /// The links of the network, in order of number.
     pub fn links(&self) -> &[Link]
-        ensures { result.now ≡ self.now.links }
+        ensures links { result.now ≡ self.now.links }
+        ensures kept { IsSlimOrWhole self.now.links self.now.made self.now.kept }
     {
-        self.links.as_slice()
+        self.made.links()
+    }
+
+    /// The link that ends in a point, if there is one.
+    pub fn link_to(&self, point: PointId) -> Option<Link>
+        requires { point.0 < length self.now.made }
+        ensures { result ≡ link_ending self.now.links point }
+    {
+        self.made.link_to(point)
     }
 
     /// The lower bounds that are kept of a point, in order of number: a point and n above 0, for n moments after that point. A contingent
@@ -71,7 +99,7 @@ impl Dispatch {
         requires { point.0 < length self.now.kept }
         ensures { result.now ≡ (conditions_at self.now.kept point).lower_bounds }
     {
-        self.conditions[point.0 as usize].lower_bounds.as_slice()
+        self.kept[point.0 as usize].lower_bounds.as_slice()
     }
 
     /// The waits that are kept of a point, in order of number: a link and n above 0, for the contingent point of the link or n moments
@@ -80,7 +108,7 @@ impl Dispatch {
         requires { point.0 < length self.now.kept }
         ensures { result.now ≡ (conditions_at self.now.kept point).waits }
     {
-        self.conditions[point.0 as usize].waits.as_slice()
+        self.kept[point.0 as usize].waits.as_slice()
     }
 }
 

@@ -3,5 +3,7 @@
 
 mod dispatch;
 pub mod laws;
+mod made;
+mod slim;
 
 pub use dispatch::{Conditions, Dispatch};

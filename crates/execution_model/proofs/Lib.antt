@@ -15,3 +15,10 @@ pub mod GraphLemmas
 pub mod LawLemmas
 pub mod ExecutionLemmas
 pub mod EarliestLemmas
+pub mod SlimLemmas
+pub mod PacedLemmas
+pub mod OneByOneLemmas
+pub mod AtOnceLemmas
+pub mod SameLemmas
+pub mod RankedLemmas
+pub mod SlimFeedLemmas

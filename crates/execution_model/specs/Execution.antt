@@ -8,7 +8,7 @@ use Rattle.net_model.specs.declared.ids.PointId.{PointId}
 use Rattle.net_model.specs.declared.ids.LinkId.{LinkId}
 use Rattle.net_model.specs.declared.part.Link.{Link}
 use Rattle.dispatch_net.specs.declared.dispatch.Conditions.{Conditions}
-use Rattle.dispatch_net.specs.Dispatchable.{DispatchLists, conditions_at}
+use Rattle.dispatch_net.specs.Dispatchable.{conditions_at}
 use Rattle.execution_model.specs.declared.feeding.Act.{Act}
 
 -- the moments so far: for each point the moment that it has by now, in the order of the points
@@ -27,10 +27,6 @@ has_come moments point = is_some (moment_of moments point)
 pub record Setting : Type 0 where
   pub links : List Link
   pub dispatch : List Conditions
-
--- by what a dispatchable network is executed: what was made of it
-abbrev pub setting_by : DispatchLists → Setting
-setting_by lists = record { links = lists.links; dispatch = lists.made }
 
 -- the points, in order of number
 abbrev pub points_of : Setting → List PointId

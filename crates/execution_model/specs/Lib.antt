@@ -5,3 +5,5 @@ pub mod Timely
 pub mod Laws
 pub mod Acts
 pub mod Earliest
+pub mod Paced
+pub mod SlimLaws

@@ -3,6 +3,8 @@
 ghost use Rattle.execution_model.specs.Acts.{ActsAreEarliest, LastActsAreEarliest};
 ghost use Rattle.execution_model.specs.Earliest.{FinishesAreEarliest, FeedsAreEarliest};
 ghost use Rattle.execution_model.specs.Laws.{ClosuresAreGraphs, DoneWhereNoneIsOpen, EndsAreEarliest, ExecutionsAreOne, FaithfulStreamsAreTaken};
+ghost use Rattle.execution_model.specs.Paced.{SlimIsDueTheSame, ActsComeOneByOne, OneByOneIsAtOnce};
+ghost use Rattle.execution_model.specs.SlimLaws.{SlimFeedsAreTheSame};
 ghost use Rattle.execution_model.specs.Laws.{FeedsAreTakenInTime, FeedsExecuteEarliest, NoActsLeftIsWhole, StreamsAreExecuted};
 
 /// A feed within the limit is taken exactly where its completions are in time: its moment is after the last one fed, each listed point
@@ -79,4 +81,25 @@ pub fn feeds_are_earliest()
 /// there.
 pub fn finishes_are_earliest()
     ensures { FinishesAreEarliest }
+{}
+
+/// In every state that an execution reaches, a point is due by what no others imply exactly where it is by what was made.
+pub fn slim_is_due_the_same()
+    ensures { SlimIsDueTheSame }
+{}
+
+/// From the start of a network that is dispatched by a closed table with an order, whatever is fed, ended or asked comes to the same by what
+/// is left of the lists when those lower bounds and waits are left out that others imply.
+pub fn slim_feeds_are_the_same()
+    ensures { SlimFeedsAreTheSame }
+{}
+
+/// An act of a moment makes no other point due at this moment, and leaves every other point due as it was.
+pub fn acts_come_one_by_one()
+    ensures { ActsComeOneByOne }
+{}
+
+/// The acts of a moment that are made one by one, the lowest point first, are the acts of the moment.
+pub fn one_by_one_is_at_once()
+    ensures { OneByOneIsAtOnce }
 {}

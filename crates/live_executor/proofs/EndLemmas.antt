@@ -1,8 +1,10 @@
 -- An execution without open points comes to its end, before the end of time.
-use Rattle.std.proofs.Common.{◌≡◌, ℕ, ◌+◌, ◌<◌, ◌≤◌, Bool, true, false, cond, List, [], ◌∷◌, length, Option, Some, None, refl, ap, subst, ◌∙◌, arith, ℤ}
-use Rattle.std.specs.Prelude.{is_some, IfSome, find, slice_get, unsigned_abs, ◌&&◌, ◌||◌}
+use Rattle.std.proofs.Common.{◌≡◌, ℕ, ◌+◌, ◌<◌, ◌≤◌, Bool, true, false, cond, List, [], ◌∷◌, length, Option, Some, None, refl, ap, sym, subst, ◌∙◌, inl, inr, arith, ℤ}
+use Rattle.std.specs.Prelude.{is_some, IfSome, find, slice_get, unsigned_abs, ◌&&◌, ◌||◌, not}
 use Rattle.std.specs.List.{All, list_all}
 use Rattle.std.specs.Option.{option_map_or}
+use Rattle.std.proofs.lemmas.Bool.{and_parts, and_from, true≢false}
+use Rattle.std.proofs.lemmas.List.{length-map}
 use Rattle.std.proofs.lemmas.List.Elements.{All-head, All-tail}
 use Rattle.net_model.specs.Limits.{most_size}
 use Rattle.net_model.specs.declared.ids.PointId.{PointId}
@@ -11,31 +13,70 @@ use Rattle.closure_model.proofs.OrderLemmas.{find_none}
 use Rattle.dispatch_net.specs.Dispatchable.{DispatchLists, conditions_at, no_conditions}
 use Rattle.dispatch_net.specs.declared.dispatch.Conditions.{Conditions}
 use Rattle.dispatch_net.proofs.ExecutionLemmas.{dispatchable_length}
-use Rattle.execution_model.specs.Execution.{Moments, Setting, setting_by, moment_of, has_come, link_to, is_due, meets_bound, meets_wait, meets_wait_for, has_gone_by, points_of, acts_at, time_runs}
+use Rattle.dispatch_net.specs.Held.{IsSlimOrWhole}
+use Rattle.dispatch_net.specs.Slim.{is_bound_implied, is_wait_implied, slim_conditions, slimmed}
+use Rattle.dispatch_net.proofs.SlimLists.{list_passes, passes_each, kept_there, slim_at}
+use Rattle.execution_model.specs.Paced.{slim_setting}
+use Rattle.execution_model.specs.Execution.{Moments, Setting, meets, moment_of, has_come, link_to, is_due, meets_bound, meets_wait, meets_wait_for, has_gone_by, points_of, acts_at, time_runs}
 use Rattle.execution_model.specs.Feeding.{is_open}
 use Rattle.execution_model.specs.Laws.{NoActsLeftIsWhole, setting_of}
 use Rattle.execution_model.proofs.LinkLemmas.{contingent_has_link, link_to_is_point}
 use Rattle.execution_model.proofs.PlaceLemmas.{gone_by, from_gone_by}
-use Rattle.execution_model.proofs.MomentLemmas.{Contains-point, due_parts, due_from, time_runs_contingent}
+use Rattle.execution_model.proofs.MomentLemmas.{Contains-point, due_parts, due_from, time_runs_contingent, no_acts_none_due, none_due_no_acts}
 use Rattle.live_executor.specs.Limits.{AreBefore}
-use Rattle.live_executor.specs.Sound.{IsLowerBound, IsWait, IsSound, IsKept, ComesToItsEnd}
+use Rattle.live_executor.specs.Sound.{IsLowerBound, IsWait, IsSound, IsKept, ComesToItsEnd, kept_network, made_setting}
+use Rattle.live_executor.proofs.SameLemmas.{made_of}
 use Rattle.live_executor.proofs.MomentLemmas.{moment_before}
 
 -- ---- of which network it is
-pub comes_to_its_end : NoActsLeftIsWhole → (lists : DispatchLists) (ends : List (Option Link)) → IsKept lists ends → ComesToItsEnd (setting_by lists)
-comes_to_its_end law lists ends kept moments whole contingent idle =
+made_comes_to_its_end : NoActsLeftIsWhole → (lists : DispatchLists) (points : ℕ) → IsKept lists points → ComesToItsEnd (made_setting (kept_network lists))
+made_comes_to_its_end law lists points kept moments whole contingent idle =
     let of = kept.dispatched in
-    let setting = setting_by lists in
+    let setting = made_setting (kept_network lists) in
     let count : length lists.made ≡ length kept.net.points = ap length of.made ∙ dispatchable_length kept.net of.table of.may.for_network in
-    let same : setting ≡ setting_of kept.net of.table =
-    ap (λ (links : List Link). let s : Setting = record { links = links; dispatch = lists.made } in s) of.links
-    ∙ ap (λ (dispatch : List Conditions). let s : Setting = record { links = kept.net.links; dispatch = dispatch } in s) of.made in
+    let same : setting ≡ setting_of kept.net of.table = made_of kept.net lists of in
     law kept.net of.table of.order moments 0 of.instant of.graph of.may (whole ∙ count)
     (λ point is.
     let (link, found) = contingent_has_link kept.net setting of.links of.instant.sound point is in
     let inside = link_to_is_point kept.net setting of.links of.instant.sound point link found in
     contingent point (omega (arith, count, inside)) (ap is_some found))
     (λ t from. subst (λ (s : Setting). acts_at s moments t ≡ []) same (idle t))
+
+-- what is met by all lower bounds and waits is met by some of them
+fewer_met : (setting : Setting) (moments : Moments) (t : ℕ) (all : Conditions) → meets setting moments t all ≡ true → meets setting moments t (slim_conditions setting.links setting.dispatch all) ≡ true
+fewer_met setting moments t all met =
+    let slim = slim_conditions setting.links setting.dispatch all in
+    let (bounds, waits) = and_parts (list_all (meets_bound moments t) all.lower_bounds) (list_all (meets_wait setting moments t) all.waits) met in
+    and_from (list_all (meets_bound moments t) slim.lower_bounds) (list_all (meets_wait setting moments t) slim.waits)
+    (list_passes (meets_bound moments t) slim.lower_bounds (λ bound among. passes_each (meets_bound moments t) all.lower_bounds bound bounds (kept_there (λ b. not (is_bound_implied setting.links setting.dispatch all b)) all.lower_bounds bound among)))
+    (list_passes (meets_wait setting moments t) slim.waits (λ wait among. passes_each (meets_wait setting moments t) all.waits wait waits (kept_there (λ w. not (is_wait_implied setting.links setting.dispatch all w)) all.waits wait among)))
+
+-- so whoever is due by what was made is due by what others do not imply
+slim_due : (setting : Setting) (moments : Moments) (t : ℕ) (point : PointId) → is_due setting moments t point ≡ true → is_due (slim_setting setting) moments t point ≡ true
+slim_due setting moments t point is =
+    let (no_link, no_moment, met) = due_parts setting moments t point is in
+    due_from (slim_setting setting) moments t point no_link no_moment
+    (ap (meets setting moments t) (slim_at setting.links setting.dispatch point) ∙ fewer_met setting moments t (conditions_at setting.dispatch point) met)
+
+slim_comes_to_its_end : (setting : Setting) → ComesToItsEnd setting → ComesToItsEnd (slim_setting setting)
+slim_comes_to_its_end setting comes moments whole contingent idle =
+    let long : length (slimmed setting.links setting.dispatch) ≡ length setting.dispatch = length-map setting.dispatch (slim_conditions setting.links setting.dispatch) in
+    comes moments (whole ∙ long) (λ point inside is. contingent point (omega (arith, inside, long)) is)
+    (λ t. none_due_no_acts setting moments t (λ point inside. by t point (no_acts_none_due (slim_setting setting) moments t (idle t) point (omega (arith, inside, long))) (is_due setting moments t point) refl))
+  where
+    by : (t : ℕ) (point : PointId) → is_due (slim_setting setting) moments t point ≡ false → (b : Bool) → is_due setting moments t point ≡ b → b ≡ false
+    by t point none false is = refl
+    by t point none true is = absurd (true≢false (sym (slim_due setting moments t point is) ∙ none))
+
+pub comes_to_its_end : NoActsLeftIsWhole → (lists : DispatchLists) (points : ℕ) → IsKept lists points → ComesToItsEnd (kept_network lists).setting
+comes_to_its_end law lists points kept = by kept.slim_or_whole
+  where
+    made : ComesToItsEnd (made_setting (kept_network lists))
+    made = made_comes_to_its_end law lists points kept
+
+    by : IsSlimOrWhole lists.links lists.made lists.kept → ComesToItsEnd (record { links = lists.links; dispatch = lists.kept })
+    by (inl whole) = subst (λ (cs : List Conditions). ComesToItsEnd (record { links = lists.links; dispatch = cs })) (sym whole) made
+    by (inr slim) = subst (λ (cs : List Conditions). ComesToItsEnd (record { links = lists.links; dispatch = cs })) (sym slim) (slim_comes_to_its_end (made_setting (kept_network lists)) made)
 
 -- ---- closed points
 shut : (come link : Bool) → cond come false link ≡ false → link ≡ true → come ≡ true

@@ -8,10 +8,12 @@ use Rattle.net_model.specs.declared.ids.PointId.{PointId}
 use Rattle.execution_model.specs.Execution.{Moments, Setting, is_due, points_of, acts_at, acted, time_runs, acts_while}
 use Rattle.execution_model.specs.Feeding.{last_of}
 use Rattle.execution_model.specs.declared.feeding.Act.{Act}
-use Rattle.execution_model.proofs.MomentLemmas.{no_acts_same, length-acted}
+use Rattle.execution_model.proofs.MomentLemmas.{no_acts_same, length-acted, length-time_runs}
 use Rattle.live_executor.specs.Course.{left_of, IsCourseOf}
 use Rattle.live_executor.specs.Kept.{IsKeptExecution, moment_after}
 use Rattle.live_executor.specs.Limits.{AreBefore, end_of_time}
+use Rattle.live_executor.specs.Sound.{KeptNetwork, made_setting}
+use Rattle.execution_model.specs.Paced.{ArePaced}
 use Rattle.live_executor.proofs.MomentLemmas.{acted_before}
 use Rattle.live_executor.proofs.SettleLemmas.{left_cons}
 
@@ -76,15 +78,17 @@ module _ (setting : Setting) where
           })
 
 -- what an executor keeps at the end
-pub kept_at_end : (setting : Setting) (old : Moments) (last : Option ℕ) (from : ℕ) (now trial : Moments) (due : List (Option ℕ)) (acts : List Act) → length old ≡ length setting.dispatch
-    → AreBefore (moment_after last) old → from ≡ moment_after last → from ≤ end_of_time → now ≡ time_runs setting old from (end_of_time - from)
-    → acts ≡ acts_while setting old from (end_of_time - from) → IsCourseOf setting now due → length trial ≡ length now → All IsSome now
-    → IsKeptExecution setting now due trial (last_of last acts)
-kept_at_end setting old last from now trial due acts whole before first soon is acts_are course room come =
-    let end = ends_at setting last old from (end_of_time - from) whole (omega (arith, first)) before in
+pub kept_at_end : (network : KeptNetwork) (old : Moments) (last : Option ℕ) (from : ℕ) (now trial : Moments) (due : List (Option ℕ)) (acts : List Act) → length old ≡ length network.made
+    → AreBefore (moment_after last) old → from ≡ moment_after last → from ≤ end_of_time → now ≡ time_runs (made_setting network) old from (end_of_time - from)
+    → acts ≡ acts_while (made_setting network) old from (end_of_time - from) → IsCourseOf network.setting now due → length trial ≡ length now → All IsSome now → ArePaced (made_setting network) now
+    → IsKeptExecution network now due trial (last_of last acts)
+kept_at_end network old last from now trial due acts whole before first soon is acts_are course room come paced =
+    let end = ends_at (made_setting network) last old from (end_of_time - from) whole (omega (arith, first)) before in
     record {
       course = course;
+      count = ap (λ (m : Moments). length m) is ∙ length-time_runs (made_setting network) old from (end_of_time - from) whole;
       room = room;
       early = rw (is, acts_are) end.early;
       time_left = (let none = none_left_of now come in let low = end.within in let same = ap (λ (all : List Act). moment_after (last_of last all)) acts_are in omega (arith, none, low, same, soon));
+      paced = paced;
     }

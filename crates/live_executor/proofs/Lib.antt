@@ -8,3 +8,4 @@ pub mod ExecutorLemmas
 pub mod EndLemmas
 pub mod SettleLemmas
 pub mod LastLemmas
+pub mod SameLemmas

@@ -1,11 +1,11 @@
 -- What a network is executed by is of its points and links, and not too great.
-use Rattle.std.proofs.Common.{◌≡◌, ℕ, ℤ, pos, ◌-ℤ◌, ◌<◌, ◌≤◌, ◌≤ℤ◌, Bool, true, false, List, [], ◌∷◌, cond, length, map, get_or, Option, Some, None, refl, ap, sym, subst, ◌∙◌, arith}
-use Rattle.std.specs.Prelude.{slice_get, unsigned_abs, is_some, find, IfSome, ◌==◌}
+use Rattle.std.proofs.Common.{◌≡◌, ℕ, ℤ, pos, ◌-ℤ◌, ◌<◌, ◌≤◌, ◌≤ℤ◌, Bool, true, false, List, [], ◌∷◌, cond, length, map, get_or, Option, Some, None, refl, ap, sym, subst, ◌∙◌, inl, inr, arith}
+use Rattle.std.specs.Prelude.{slice_get, unsigned_abs, is_some, find, IfSome, ◌==◌, not}
 use Rattle.std.specs.List.{All, Contains}
 use Rattle.std.proofs.lemmas.Int.{ints}
 use Rattle.std.proofs.lemmas.Bool.{leb-true}
 use Rattle.std.proofs.lemmas.List.{length-map, get_or_default}
-use Rattle.std.proofs.lemmas.List.Elements.{All-weaker, All-contains_itself, All-nil, All-head, All-tail}
+use Rattle.std.proofs.lemmas.List.Elements.{All-weaker, All-contains_itself, All-nil, All-head, All-tail, All-map, All-filter}
 use Rattle.std.proofs.lemmas.Option.{slice_get_within}
 use Rattle.net_model.specs.Limits.{most_size}
 use Rattle.net_model.specs.Network.{Plan, IsLink, IsPoint, activation}
@@ -21,7 +21,10 @@ use Rattle.dispatch_net.specs.Laws.{AreExact}
 use Rattle.dispatch_net.specs.declared.dispatch.Conditions.{Conditions}
 use Rattle.dispatch_net.proofs.ExecutionLemmas.{dispatchable_length, point_count}
 use Rattle.dispatch_net.proofs.ExactLemmas.{lists_are_exact}
-use Rattle.live_executor.specs.Sound.{IsLowerBound, IsWait, IsLinkOf, IsSound, IsDispatchOf, AreEnds, IsKept}
+use Rattle.dispatch_net.specs.Held.{IsSlimOrWhole}
+use Rattle.dispatch_net.specs.Slim.{is_bound_implied, is_wait_implied, slim_conditions, slimmed}
+use Rattle.execution_model.specs.Execution.{Setting, link_to}
+use Rattle.live_executor.specs.Sound.{IsLowerBound, IsWait, IsLinkOf, IsSound, IsDispatchOf, IsKept}
 
 each_contained : {X : Type 0} (P : X → Type 0) (xs : List X) → ((x : X) → Contains xs x → P x) → All P xs
 each_contained P xs each = All-weaker (Contains xs) P each xs (All-contains_itself xs)
@@ -77,8 +80,8 @@ module _ (net : Plan) (lists : DispatchLists) (of : IsDispatchOf net lists) wher
   low_size : (low high : ℤ) → pos 1 ≤ℤ low → low ≤ℤ high → unsigned_abs high ≤ most_size → unsigned_abs low ≤ most_size
   low_size low high first second third = omega (arith, ints, first, second, third)
 
-  link_sound : (link : Link) → IsLink net link → IsLinkOf (length lists.made) link
-  link_sound link is = record {
+  made_link_sound : (link : Link) → IsLink net link → IsLinkOf (length lists.made) link
+  made_link_sound link is = record {
     from_point = (let low = is.from_point in omega (arith, count, low));
     to_point = (let low = is.to_point in omega (arith, count, low));
     low = low_size link.low link.high is.positive is.interval (leb-true (unsigned_abs link.high) most_size is.within);
@@ -89,17 +92,43 @@ module _ (net : Plan) (lists : DispatchLists) (of : IsDispatchOf net lists) wher
   dispatch_sound = record {
     bounds = λ k d inside. rw (at_index k d inside, count) ((conditions_sound (record { 0 = k }) (omega (arith, inside, count))).0);
     waits = λ k d inside. rw (at_index k d inside) ((conditions_sound (record { 0 = k }) (omega (arith, inside, count))).1);
-    links = All-weaker (IsLink net) (IsLinkOf (length lists.made)) link_sound net.links of.instant.sound.links_sound;
+    links = All-weaker (IsLink net) (IsLinkOf (length lists.made)) made_link_sound net.links of.instant.sound.links_sound;
     few = (let few = of.instant.sound.few_points in omega (arith, few, count));
   }
 
-  pub kept : (points : ℕ) (ends : List (Option Link)) → points ≡ length net.points → AreEnds lists.links points ends → IsKept lists ends
-  kept points ends same_points are = record {
-    net = net;
-    dispatched = of;
-    sound = rw of.links dispatch_sound;
-    ends_are = subst (λ n. AreEnds lists.links n ends) (same_points ∙ sym count) are;
-  }
+-- what is left of lists when others are left out is sound too
+slim_sound : (links : List Link) (made : List Conditions) → IsSound (record { links = links; dispatch = made }) → IsSound (record { links = links; dispatch = slimmed links made })
+slim_sound links made sound =
+    let long : length (slimmed links made) ≡ length made = length-map made (slim_conditions links made) in
+    record {
+      bounds = All-map (λ (c : Conditions). All (IsLowerBound (length (slimmed links made))) c.lower_bounds) (slim_conditions links made) made (λ k d inside.
+          subst (λ n. All (IsLowerBound n) (slim_conditions links made (get_or made k d)).lower_bounds) (sym long)
+          (All-filter (λ bound. not (is_bound_implied links made (get_or made k d) bound)) (IsLowerBound (length made)) (get_or made k d).lower_bounds (sound.bounds k d inside)));
+      waits = All-map (λ (c : Conditions). All (IsWait (length links)) c.waits) (slim_conditions links made) made (λ k d inside.
+          All-filter (λ wait. not (is_wait_implied links made (get_or made k d) wait)) (IsWait (length links)) (get_or made k d).waits (sound.waits k d inside));
+      links = subst (λ n. All (IsLinkOf n) links) (sym long) sound.links;
+      few = (let few = sound.few in omega (arith, long, few));
+    }
+
+pub kept_length : (lists : DispatchLists) → IsSlimOrWhole lists.links lists.made lists.kept → length lists.kept ≡ length lists.made
+kept_length lists (inl whole) = ap (λ (cs : List Conditions). length cs) whole
+kept_length lists (inr slim) = ap (λ (cs : List Conditions). length cs) slim ∙ length-map lists.made (slim_conditions lists.links lists.made)
+
+pub kept : (net : Plan) (lists : DispatchLists) → IsDispatchOf net lists → (points : ℕ) → points ≡ length net.points → IsSlimOrWhole lists.links lists.made lists.kept → IsKept lists points
+kept net lists of points same_points slim_or_whole = record {
+  net = net;
+  dispatched = of;
+  sound = by slim_or_whole;
+  count = same_points ∙ (sym (count net lists of) ∙ sym (kept_length lists slim_or_whole));
+  slim_or_whole = slim_or_whole;
+}
+  where
+    made_sound : IsSound (record { links = lists.links; dispatch = lists.made })
+    made_sound = subst (λ (links : List Link). IsSound (record { links = links; dispatch = lists.made })) (sym of.links) (dispatch_sound net lists of)
+
+    by : IsSlimOrWhole lists.links lists.made lists.kept → IsSound (record { links = lists.links; dispatch = lists.kept })
+    by (inl whole) = subst (λ (cs : List Conditions). IsSound (record { links = lists.links; dispatch = cs })) (sym whole) made_sound
+    by (inr slim) = subst (λ (cs : List Conditions). IsSound (record { links = lists.links; dispatch = cs })) (sym slim) (slim_sound lists.links lists.made made_sound)
 
 -- what holds of each item holds of the first that passes a test
 pub found_has : {X : Type 0} (P : X → Type 0) (p : X → Bool) (xs : List X) → All P xs → IfSome (find p xs) P
@@ -110,11 +139,6 @@ found_has P p (x ∷ xs) all = either P x (find p xs) (p x) (All-head P x xs all
     either P x later true here there = here
     either P x later false here there = there
 
--- the link that is kept of a point is sound
-pub kept_link : (lists : DispatchLists) (ends : List (Option Link)) (k : ℕ) (x : Option Link) → IsKept lists ends → k < length lists.made → x ≡ get_or ends k x
-    → IfSome x (IsLinkOf (length lists.made))
-kept_link lists ends k x is inside read =
-    let test : Link → Bool = λ link. link.to.0 == k in
-    let found : find test lists.links ≡ x =
-    sym (is.ends_are.each k inside) ∙ get_or_default ends k None x (omega (arith, is.ends_are.count, inside)) ∙ sym read in
-    subst (λ (o : Option Link). IfSome o (IsLinkOf (length lists.made))) found (found_has (IsLinkOf (length lists.made)) test lists.links is.sound.links)
+-- the link that ends in a point is sound
+pub link_sound : (setting : Setting) (point : PointId) → IsSound setting → IfSome (link_to setting point) (IsLinkOf (length setting.dispatch))
+link_sound setting point sound = found_has (IsLinkOf (length setting.dispatch)) (λ (link : Link). link.to.0 == point.0) setting.links sound.links

@@ -4,13 +4,15 @@ use Rattle.std.specs.List.{All, slice_index_or}
 use Rattle.net_model.specs.Network.{Plan}
 use Rattle.closure_model.specs.Tables.{Graph, IsGraph}
 use Rattle.strategy_model.specs.Plays.{IsInstant}
-use Rattle.dispatch_net.specs.Dispatchable.{MayDispatch, dispatchable, DispatchLists, KeepsMade}
+use Rattle.dispatch_net.specs.Dispatchable.{MayDispatch, dispatchable, DispatchLists}
+use Rattle.dispatch_net.specs.Held.{IsSlimOrWhole}
 use Rattle.net_model.specs.Limits.{most_points, most_size}
 use Rattle.net_model.specs.declared.ids.PointId.{PointId}
 use Rattle.net_model.specs.declared.ids.LinkId.{LinkId}
 use Rattle.net_model.specs.declared.part.Link.{Link}
 use Rattle.dispatch_net.specs.declared.dispatch.Conditions.{Conditions}
-use Rattle.execution_model.specs.Execution.{Moments, Setting, setting_by, moment_of, link_to, acts_at}
+use Rattle.execution_model.specs.Execution.{Moments, Setting, moment_of, link_to, acts_at}
+use Rattle.execution_model.specs.Paced.{IsRankedNetwork}
 
 -- a lower bound is after one of so many points, by a number that a network may have
 pub record IsLowerBound (points : ℕ) (bound : PointId × ℤ) : Type 0 where
@@ -36,8 +38,8 @@ pub record IsSound (setting : Setting) : Type 0 where
   pub links : All (IsLinkOf (length setting.dispatch)) setting.links
   pub few : length setting.dispatch ≤ most_points
 
--- a dispatchable network is one of a network in which reaction is instantaneous: that of a table by which the network may be dispatched
--- in some order, and it keeps what was made
+-- a dispatchable network is one of a network in which reaction is instantaneous: what was made of it is that of a table by which the
+-- network may be dispatched in some order
 pub record IsDispatchOf (net : Plan) (lists : DispatchLists) : Type 0 where
   pub instant : IsInstant net
   pub table : Graph
@@ -46,19 +48,26 @@ pub record IsDispatchOf (net : Plan) (lists : DispatchLists) : Type 0 where
   pub may : MayDispatch net table order
   pub links : lists.links ≡ net.links
   pub made : lists.made ≡ dispatchable net table
-  pub keeps : KeepsMade lists
 
--- for each of so many points the link that ends in it
-pub record AreEnds (links : List Link) (points : ℕ) (ends : List (Option Link)) : Type 0 where
-  pub count : length ends ≡ points
-  pub each : (point : ℕ) → point < points → slice_index_or ends point None ≡ find (λ (link : Link). link.to.0 == point) links
+-- by what a network is executed: by what is kept; and what was made
+pub record KeptNetwork : Type 0 where
+  pub setting : Setting
+  pub made : List Conditions
 
--- what is kept of a network: a dispatchable network of it, and for each point the link that ends in it
-pub record IsKept (lists : DispatchLists) (ends : List (Option Link)) : Type 0 where
+abbrev pub kept_network : DispatchLists → KeptNetwork
+kept_network lists = record { setting = record { links = lists.links; dispatch = lists.kept }; made = lists.made }
+
+-- the same by what was made
+abbrev pub made_setting : KeptNetwork → Setting
+made_setting network = record { links = network.setting.links; dispatch = network.made }
+
+-- what is kept of a network with so many points: a dispatchable network of it, the whole or what no others imply
+pub record IsKept (lists : DispatchLists) (points : ℕ) : Type 0 where
   pub net : Plan
   pub dispatched : IsDispatchOf net lists
-  pub sound : IsSound (setting_by lists)
-  pub ends_are : AreEnds lists.links (length lists.made) ends
+  pub sound : IsSound (kept_network lists).setting
+  pub count : points ≡ length lists.kept
+  pub slim_or_whole : IsSlimOrWhole lists.links lists.made lists.kept
 
 -- where each contingent point has come, and no moment brings an act, every point has come
 abbrev pub ComesToItsEnd : Setting → Type 0
@@ -66,3 +75,10 @@ ComesToItsEnd setting =
     (moments : Moments) → length moments ≡ length setting.dispatch
     → ((point : PointId) → point.0 < length setting.dispatch → is_some (link_to setting point) ≡ true → is_some (moment_of moments point) ≡ true)
     → ((t : ℕ) → acts_at setting moments t ≡ []) → All IsSome moments
+
+-- what is kept of a network executes it as what was made does: the network goes down along a rank of its points, and of what was made the
+-- whole is kept, or what no others imply
+pub record ExecutesTheSame (network : KeptNetwork) : Type 0 where
+  pub rank : PointId → ℕ
+  pub ranked : IsRankedNetwork (made_setting network) rank
+  pub slim_or_whole : IsSlimOrWhole network.setting.links network.made network.setting.dispatch

@@ -9,6 +9,8 @@ ghost use Rattle.execution_model.specs.Feeding.{is_open, last_of};
 ghost use Rattle.live_executor.specs.Course.{left_of, is_due_in, IsCourseOf};
 ghost use Rattle.live_executor.specs.Due.{AreDue, PassesFrom, IsFirstFrom, IsFirstBefore, has_begun};
 ghost use Rattle.live_executor.specs.Limits.{AreBefore, end_of_time};
+ghost use Rattle.live_executor.specs.Sound.{made_setting};
+ghost use Rattle.execution_model.specs.Paced.{ArePaced};
 
 use crate::dispatched::Dispatched;
 use execution_model::Act;
@@ -45,9 +47,10 @@ impl Course {
 
     /// That of a dispatchable network, of whose points none has come. `AllocError` comes only for want of memory.
     pub(crate) fn fresh(alloc: Global, dispatched: &Dispatched) -> Result<Course, AllocError>
-        ensures moments { IfOk result (λ course. course.moments.items ≡ replicate (length dispatched.now.dispatch) None) }
+        ensures moments { IfOk result (λ course. course.moments.items ≡ replicate (length dispatched.now.made) None) }
+        ensures paced { IfOk result (λ course. ArePaced (made_setting dispatched.now) course.moments.items) }
         ensures acts { IfOk result (λ course. course.acts.items ≡ []) }
-        ensures course { IfOk result (λ course. IsCourseOf dispatched.now course.moments.items course.due.items) }
+        ensures course { IfOk result (λ course. IsCourseOf dispatched.now.setting course.moments.items course.due.items) }
     {
         let mut course = Course::new(alloc, dispatched.points() as usize)?;
         course.find_due(dispatched);
@@ -68,9 +71,9 @@ impl Course {
 
     /// Finds from when on each point is due with the moments so far.
     pub(crate) fn find_due(&mut self, dispatched: &Dispatched)
-        requires count { length self.old.moments.items ≡ length dispatched.now.dispatch }
+        requires count { length self.old.moments.items ≡ length dispatched.now.setting.dispatch }
         requires early { AreBefore end_of_time self.old.moments.items }
-        ensures course { IsCourseOf dispatched.now self.new.moments.items self.new.due.items }
+        ensures course { IsCourseOf dispatched.now.setting self.new.moments.items self.new.due.items }
         ensures moments { self.new.moments.items ≡ self.old.moments.items }
         ensures acts { self.new.acts.items ≡ self.old.acts.items }
     {
@@ -118,9 +121,9 @@ impl Course {
 
     /// Executes each point that is due at t.
     fn execute_due(&mut self, dispatched: &Dispatched, t: u64)
-        requires { IsCourseOf dispatched.now self.old.moments.items self.old.due.items }
-        ensures moments { self.new.moments.items ≡ acted dispatched.now self.old.moments.items t }
-        ensures acts { self.new.acts.items ≡ self.old.acts.items ++ acts_at dispatched.now self.old.moments.items t }
+        requires { IsCourseOf dispatched.now.setting self.old.moments.items self.old.due.items }
+        ensures moments { self.new.moments.items ≡ acted dispatched.now.setting self.old.moments.items t }
+        ensures acts { self.new.acts.items ≡ self.old.acts.items ++ acts_at dispatched.now.setting self.old.moments.items t }
     {
         for point in 0..dispatched.points() {
             self.execute_if_due(PointId(point), t);
@@ -129,11 +132,11 @@ impl Course {
 
     /// Makes the acts of t, and finds what is due afterwards.
     pub(crate) fn act(&mut self, dispatched: &Dispatched, t: u64)
-        requires course { IsCourseOf dispatched.now self.old.moments.items self.old.due.items }
+        requires course { IsCourseOf dispatched.now.setting self.old.moments.items self.old.due.items }
         requires early { t < end_of_time }
-        ensures moments { self.new.moments.items ≡ acted dispatched.now self.old.moments.items t }
-        ensures acts { self.new.acts.items ≡ self.old.acts.items ++ acts_at dispatched.now self.old.moments.items t }
-        ensures course { IsCourseOf dispatched.now self.new.moments.items self.new.due.items }
+        ensures moments { self.new.moments.items ≡ acted dispatched.now.setting self.old.moments.items t }
+        ensures acts { self.new.acts.items ≡ self.old.acts.items ++ acts_at dispatched.now.setting self.old.moments.items t }
+        ensures course { IsCourseOf dispatched.now.setting self.new.moments.items self.new.due.items }
     {
         self.execute_due(dispatched, t);
         self.find_due(dispatched);
@@ -159,12 +162,12 @@ impl Course {
 
     /// Lets time run from a moment to the one before another, from due moment to due moment, and makes the acts.
     pub(crate) fn run(&mut self, dispatched: &Dispatched, from: u64, until: u64)
-        requires course { IsCourseOf dispatched.now self.old.moments.items self.old.due.items }
+        requires course { IsCourseOf dispatched.now.setting self.old.moments.items self.old.due.items }
         requires range { from ≤ until }
         requires early { until ≤ end_of_time }
-        ensures moments { self.new.moments.items ≡ time_runs dispatched.now self.old.moments.items from (until - from) }
-        ensures acts { self.new.acts.items ≡ self.old.acts.items ++ acts_while dispatched.now self.old.moments.items from (until - from) }
-        ensures course { IsCourseOf dispatched.now self.new.moments.items self.new.due.items }
+        ensures moments { self.new.moments.items ≡ time_runs dispatched.now.setting self.old.moments.items from (until - from) }
+        ensures acts { self.new.acts.items ≡ self.old.acts.items ++ acts_while dispatched.now.setting self.old.moments.items from (until - from) }
+        ensures course { IsCourseOf dispatched.now.setting self.new.moments.items self.new.due.items }
     {
         let mut next = from;
         while let Some(moment) = self.next_before(next, until) {
@@ -175,13 +178,31 @@ impl Course {
 
     /// Makes all acts that are left, where no contingent point is open.
     pub(crate) fn run_out(&mut self, dispatched: &Dispatched, from: u64)
-        requires course { IsCourseOf dispatched.now self.old.moments.items self.old.due.items }
+        requires course { IsCourseOf dispatched.now.setting self.old.moments.items self.old.due.items }
+        requires paced { ArePaced (made_setting dispatched.now) self.old.moments.items }
         requires early { AreBefore from self.old.moments.items }
         requires time_left { from + most_size * left_of self.old.moments.items ≤ end_of_time }
-        requires closed { find (is_open dispatched.now self.old.moments.items) (points_of dispatched.now) ≡ None }
-        ensures moments { self.new.moments.items ≡ time_runs dispatched.now self.old.moments.items from (end_of_time - from) }
-        ensures acts { self.new.acts.items ≡ acts_while dispatched.now self.old.moments.items from (end_of_time - from) }
-        ensures course { IsCourseOf dispatched.now self.new.moments.items self.new.due.items }
+        requires closed { find (is_open (made_setting dispatched.now) self.old.moments.items) (points_of (made_setting dispatched.now)) ≡ None }
+        ensures moments { self.new.moments.items ≡ time_runs (made_setting dispatched.now) self.old.moments.items from (end_of_time - from) }
+        ensures acts { self.new.acts.items ≡ acts_while (made_setting dispatched.now) self.old.moments.items from (end_of_time - from) }
+        ensures course { IsCourseOf dispatched.now.setting self.new.moments.items self.new.due.items }
+        ensures paced { ArePaced (made_setting dispatched.now) self.new.moments.items }
+        ensures come { All IsSome self.new.moments.items }
+        ensures count { length self.old.moments.items ≡ length dispatched.now.made }
+    {
+        dispatched.executes_the_same();
+        self.run_out_kept(dispatched, from);
+    }
+
+    /// The same by what is kept.
+    fn run_out_kept(&mut self, dispatched: &Dispatched, from: u64)
+        requires course { IsCourseOf dispatched.now.setting self.old.moments.items self.old.due.items }
+        requires early { AreBefore from self.old.moments.items }
+        requires time_left { from + most_size * left_of self.old.moments.items ≤ end_of_time }
+        requires closed { find (is_open dispatched.now.setting self.old.moments.items) (points_of dispatched.now.setting) ≡ None }
+        ensures moments { self.new.moments.items ≡ time_runs dispatched.now.setting self.old.moments.items from (end_of_time - from) }
+        ensures acts { self.new.acts.items ≡ acts_while dispatched.now.setting self.old.moments.items from (end_of_time - from) }
+        ensures course { IsCourseOf dispatched.now.setting self.new.moments.items self.new.due.items }
         ensures come { All IsSome self.new.moments.items }
     {
         // The proof reads here that whatever is executed comes to its end.

@@ -33,11 +33,12 @@ pub struct Executor {
 impl Model for Executor {
     ghost use Rattle.execution_model.specs.Feeding.{Execution};
     ghost use Rattle.live_executor.specs.Kept.{IsKeptExecution};
+    ghost use Rattle.live_executor.specs.Sound.{made_setting};
 
     ghost Value = { Execution };
 
     ghost view = { λ kept. record {
-      setting = kept.dispatched;
+      setting = made_setting kept.dispatched;
       moments = kept.course.moments.items;
       last = kept.last;
       acts = kept.course.acts.items;
@@ -54,7 +55,7 @@ impl Executor {
         requires { IsDispatchOf net.now dispatch }
         ensures { IfOk result (λ executor. executor ≡ started (record { links = net.now.links; dispatch = dispatch.made })) }
     {
-        let dispatched = Dispatched::new(alloc, net, dispatch)?;
+        let dispatched = Dispatched::new(net, dispatch);
         let course = Course::fresh(alloc, &dispatched)?;
         let trial = Course::fresh(alloc, &dispatched)?;
         Ok(Executor {
@@ -91,7 +92,10 @@ impl Executor {
     {
         match self.refused {
             Some(_) => None,
-            None => self.course.next_due(self.next_moment()),
+            None => {
+                self.dispatched.executes_the_same();
+                self.course.next_due(self.next_moment())
+            }
         }
     }
 

@@ -8,7 +8,7 @@ ghost use Rattle.execution_model.specs.Execution.{points_of};
 ghost use Rattle.execution_model.specs.Feeding.{refusal_of_duration, refusal_of_completion, refusal_of, activated_before, completions_taken, latest_of, first_overdue, none_overdue, is_open, most_moment};
 ghost use Rattle.live_executor.specs.Course.{IsCourseOf};
 ghost use Rattle.live_executor.specs.Limits.{AreBefore, end_of_time};
-ghost use Rattle.live_executor.specs.Sound.{IsLinkOf, IsSound};
+ghost use Rattle.live_executor.specs.Sound.{IsLinkOf, IsSound, made_setting};
 ghost use Rattle.live_executor.specs.Taking.{given_or};
 
 use crate::course::Course;
@@ -61,10 +61,10 @@ impl Course {
 
     /// Why a point is refused, if it completes at a moment.
     fn refusal_of(&self, dispatched: &Dispatched, moment: u64, point: PointId) -> Option<Why>
-        requires point { point.0 < length dispatched.now.dispatch }
-        requires count { length self.now.moments.items ≡ length dispatched.now.dispatch }
+        requires point { point.0 < length dispatched.now.setting.dispatch }
+        requires count { length self.now.moments.items ≡ length dispatched.now.setting.dispatch }
         requires early { AreBefore end_of_time self.now.moments.items }
-        ensures { result ≡ refusal_of dispatched.now self.now.moments.items moment point }
+        ensures { result ≡ refusal_of dispatched.now.setting self.now.moments.items moment point }
     {
         match dispatched.link_to(point) {
             Some(link) => self.refusal_over(moment, point, &link),
@@ -79,11 +79,11 @@ impl Course {
         moment: u64,
         listed: &[PointId],
     ) -> Result<(), Why>
-        requires listed { All (λ point. point.0 < length dispatched.now.dispatch) listed.now }
-        requires count { length self.old.moments.items ≡ length dispatched.now.dispatch }
+        requires listed { All (λ point. point.0 < length dispatched.now.setting.dispatch) listed.now }
+        requires count { length self.old.moments.items ≡ length dispatched.now.setting.dispatch }
         requires early { AreBefore end_of_time self.old.moments.items }
         requires moment { moment < end_of_time }
-        ensures taken { completions_taken dispatched.now self.old.moments.items moment listed.now ≡ given_or self.new.moments.items result }
+        ensures taken { completions_taken dispatched.now.setting self.old.moments.items moment listed.now ≡ given_or self.new.moments.items result }
         ensures count { length self.new.moments.items ≡ length self.old.moments.items }
         ensures early { AreBefore end_of_time self.new.moments.items }
         ensures acts { self.new.acts.items ≡ self.old.acts.items }
@@ -99,10 +99,10 @@ impl Course {
 
     /// The latest moment of a contingent point that has not completed, where its link is active.
     fn latest_of(&self, dispatched: &Dispatched, point: PointId) -> Option<u64>
-        requires point { point.0 < length dispatched.now.dispatch }
-        requires count { length self.now.moments.items ≡ length dispatched.now.dispatch }
+        requires point { point.0 < length dispatched.now.setting.dispatch }
+        requires count { length self.now.moments.items ≡ length dispatched.now.setting.dispatch }
         requires early { AreBefore end_of_time self.now.moments.items }
-        ensures { result ≡ latest_of dispatched.now self.now.moments.items point }
+        ensures { result ≡ latest_of dispatched.now.setting self.now.moments.items point }
     {
         if self.moments[point.0 as usize].is_some() {
             return None;
@@ -114,9 +114,9 @@ impl Course {
 
     /// The lowest point that should have completed by a moment, if there is one, as a refusal.
     pub(crate) fn first_overdue(&self, dispatched: &Dispatched, moment: u64) -> Option<Why>
-        requires count { length self.now.moments.items ≡ length dispatched.now.dispatch }
+        requires count { length self.now.moments.items ≡ length dispatched.now.setting.dispatch }
         requires early { AreBefore end_of_time self.now.moments.items }
-        ensures { result ≡ first_overdue dispatched.now self.now.moments.items moment }
+        ensures { result ≡ first_overdue dispatched.now.setting self.now.moments.items moment }
     {
         for number in 0..dispatched.points() {
             let point = PointId(number);
@@ -131,8 +131,8 @@ impl Course {
 
     /// The lowest contingent point that has not completed, if there is one.
     pub(crate) fn first_open(&self, dispatched: &Dispatched) -> Option<PointId>
-        requires { length self.now.moments.items ≡ length dispatched.now.dispatch }
-        ensures { result ≡ find (is_open dispatched.now self.now.moments.items) (points_of dispatched.now) }
+        requires { length self.now.moments.items ≡ length dispatched.now.setting.dispatch }
+        ensures { result ≡ find (is_open (made_setting dispatched.now) self.now.moments.items) (points_of (made_setting dispatched.now)) }
     {
         for number in 0..dispatched.points() {
             let point = PointId(number);
@@ -145,9 +145,9 @@ impl Course {
 
     /// Whether a point is contingent and has not completed.
     fn is_open(&self, dispatched: &Dispatched, point: PointId) -> bool
-        requires point { point.0 < length dispatched.now.dispatch }
-        requires count { length self.now.moments.items ≡ length dispatched.now.dispatch }
-        ensures { result ≡ is_open dispatched.now self.now.moments.items point }
+        requires point { point.0 < length dispatched.now.setting.dispatch }
+        requires count { length self.now.moments.items ≡ length dispatched.now.setting.dispatch }
+        ensures { result ≡ is_open dispatched.now.setting self.now.moments.items point }
     {
         if self.moments[point.0 as usize].is_some() {
             return false;

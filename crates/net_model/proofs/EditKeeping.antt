@@ -1,24 +1,29 @@
 -- What an accepted edit makes of a sound network is sound, and has the numbers of a plan where that one has them.
-use Rattle.std.proofs.Common.{◌≡◌, ℕ, ◌||◌, Bool, true, false, not, List, Option, Some, None, slice_get, pos, int_lt, Result, Ok, Err, IfOk, refl, subst}
+use Rattle.std.proofs.Common.{◌≡◌, ◌≢◌, ℕ, ℤ, ◌==◌, ◌||◌, Bool, true, false, not, List, [], ◌∷◌, ◌++◌, length, Option, Some, None, is_some, nat_le, slice_get, pos, int_lt, ◌≤ℤ◌, Result, Ok, Err, IfOk, IsTrue, refl, subst, arith}
+use Rattle.std.proofs.lemmas.Bool.Decides.{nat_tests}
+use Rattle.std.proofs.lemmas.Int.{ints}
 use Rattle.std.proofs.lemmas.List.Elements.{All-set, All-map}
-use Rattle.net_model.specs.Building.{◌>>=◌, named, with_point, with_bound, with_link}
+use Rattle.net_model.specs.Building.{◌>>=◌, refuse_if, named, with_point, with_bound, with_link}
+use Rattle.net_model.specs.EditLaws.{HasNames, KeepsSound, EditsKeepSound}
 use Rattle.net_model.specs.Editing.{Edits, edited, added, known, unused, refused_if, user_of, link_named, without_point, with_number, with_interval}
-use Rattle.net_model.specs.Limits.{within_limit}
-use Rattle.net_model.specs.Network.{Plan, IsPoint, HasPlanNumbers, point_named, bound_named}
+use Rattle.net_model.specs.Limits.{most_points, most_bounds, most_links, within_limit, within_size}
+use Rattle.net_model.specs.Names.{is_name}
+use Rattle.net_model.specs.Network.{Plan, IsPlan, IsPoint, HasPlanNumbers, point_named, bound_named, activation}
 use Rattle.net_model.specs.declared.edit.Edit.{Edit}
 use Rattle.net_model.specs.declared.edit.Edit.TheVariants as edits
 use Rattle.net_model.specs.declared.edit.EditFault.{EditFault}
 use Rattle.net_model.specs.declared.edit.EditFault.TheVariants as fault
 use Rattle.net_model.specs.declared.edit.User.{User}
 use Rattle.net_model.specs.declared.fault.PartFault.{PartFault}
-use Rattle.net_model.specs.declared.fault.PartFault.TheVariants.{UnknownName}
+use Rattle.net_model.specs.declared.fault.PartFault.TheVariants.{DuplicateName, UnknownName, TwoLinksOnPoint, LinkToItself, BadInterval, Limit}
 use Rattle.net_model.specs.declared.ids.PointId.{PointId}
 use Rattle.net_model.specs.declared.part.Bound.{Bound}
 use Rattle.net_model.specs.declared.part.Link.{Link}
 use Rattle.net_model.specs.declared.part.Part.TheVariants as part
-use Rattle.net_model.specs.declared.part.Which.TheVariants.{Number}
-use Rattle.net_model.proofs.EditLemmas.{All-remove, point_within}
-use Rattle.net_model.proofs.PlanNumbers.{fits, part_keeps}
+use Rattle.net_model.specs.declared.part.Which.TheVariants.{Points, Links, Bounds, Number}
+use Rattle.net_model.proofs.EditLemmas.{All-remove, bound_within, link_within, point_within, sound_without_bound, sound_without_link, sound_without_point, sound_with_number, sound_with_interval}
+use Rattle.net_model.proofs.NetworkLemmas.{IsPlan-more_points, IsPlan-more_bounds, IsPlan-more_links}
+use Rattle.net_model.proofs.PlanNumbers.{unless_refused, fits, part_keeps}
 
 -- ---- what an answer keeps
 kept_added : (P : Plan → Type 0) (answer : Result Plan PartFault) → IfOk answer P → IfOk (added answer) P
@@ -79,3 +84,89 @@ edited_numbers net (edits.SetLink to low high) numbers =
 pub numbers_of : (answer : Result Plan EditFault) → IfOk answer HasPlanNumbers → (result : Result Plan EditFault) → Edits result answer → IfOk result HasPlanNumbers
 numbers_of answer kept (Ok net) edits = let told : Result Plan EditFault → Type 0 = λ r. IfOk r HasPlanNumbers in subst told edits kept
 numbers_of answer kept (Err cause) edits = tt
+
+-- ---- soundness
+none_of : {A : Type 0} (found : Option A) → is_some found ≡ false → found ≡ None
+none_of (Some x) is = absurd (cc)
+none_of None is = refl
+
+within_sizes : (n : ℤ) → within_limit n ≡ true → within_size n ≡ true
+within_sizes n small = grind (arith, nat_tests)
+
+interval_of : (low high : ℤ) → (int_lt low (pos 1) || int_lt high low) ≡ false → (pos 1 ≤ℤ low) × (low ≤ℤ high)
+interval_of low high good = (grind (arith, ints), grind (arith, ints))
+
+point_sound : (net : Plan) (name : List ℕ) → IsPlan net → IsTrue (is_name name) → IfOk (with_point net name) IsPlan
+unfolding with_point
+point_sound net name sound is =
+    let more : Plan = record net { points = net.points ++ name ∷ [] } in
+    let room : Result Plan PartFault = refuse_if (nat_le most_points (length net.points)) (Limit Points) (Ok more) in
+    unless_refused IsPlan (is_some (point_named net name)) DuplicateName room (λ fresh.
+    unless_refused IsPlan (nat_le most_points (length net.points)) (Limit Points) (Ok more) (λ roomy.
+    IsPlan-more_points net name sound is (none_of (point_named net name) fresh) (grind (arith, nat_tests))))
+
+bound_sound : (net : Plan) (name from to : List ℕ) (most : ℤ) → IsPlan net → IsTrue (is_name name) → IfOk (with_bound net name from to most) IsPlan
+unfolding with_bound
+bound_sound net name from to most sound is =
+    let bound : PointId → PointId → Bound = λ x y. record { name = name; from = x; to = y; most = most } in
+    let more : PointId → PointId → Plan = λ x y. record net { bounds = net.bounds ++ bound x y ∷ [] } in
+    let room : PointId → PointId → Result Plan PartFault = λ x y. refuse_if (nat_le most_bounds (length net.bounds)) (Limit Bounds) (Ok (more x y)) in
+    let small : PointId → PointId → Result Plan PartFault = λ x y. refuse_if (not (within_limit most)) (Limit Number) (room x y) in
+    unless_refused IsPlan (is_some (bound_named net name)) DuplicateName (named net from >>= (λ x. named net to >>= (λ y. small x y))) (λ fresh.
+    if_named IsPlan net from (λ x. named net to >>= (λ y. small x y)) (λ x x_held.
+    if_named IsPlan net to (λ y. small x y) (λ y y_held.
+    unless_refused IsPlan (not (within_limit most)) (Limit Number) (room x y) (λ fitting.
+    unless_refused IsPlan (nat_le most_bounds (length net.bounds)) (Limit Bounds) (Ok (more x y)) (λ roomy.
+    IsPlan-more_bounds net (bound x y) sound (record { named = is; from_point = x_held; to_point = y_held; within = within_sizes most (fits most fitting) }) (none_of (bound_named net name) fresh) (grind (arith, nat_tests)))))))
+
+link_sound : (net : Plan) (from : List ℕ) (low high : ℤ) (to : List ℕ) → IsPlan net → IfOk (with_link net from low high to) IsPlan
+unfolding with_link
+link_sound net from low high to sound =
+    let link : PointId → PointId → Link = λ a c. record { from = a; low = low; high = high; to = c } in
+    let more : PointId → PointId → Plan = λ a c. record net { links = net.links ++ link a c ∷ [] } in
+    let room : PointId → PointId → Result Plan PartFault = λ a c. refuse_if (nat_le most_links (length net.links)) (Limit Links) (Ok (more a c)) in
+    let small : PointId → PointId → Result Plan PartFault = λ a c. refuse_if (not (within_limit high)) (Limit Number) (room a c) in
+    let interval : PointId → PointId → Result Plan PartFault = λ a c. refuse_if (int_lt low (pos 1) || int_lt high low) BadInterval (small a c) in
+    let free : PointId → PointId → Result Plan PartFault = λ a c. refuse_if (is_some (activation net c)) TwoLinksOnPoint (interval a c) in
+    let apart : PointId → PointId → Result Plan PartFault = λ a c. refuse_if (a.0 == c.0) LinkToItself (free a c) in
+    if_named IsPlan net from (λ a. named net to >>= (λ c. apart a c)) (λ a a_held.
+    if_named IsPlan net to (λ c. apart a c) (λ c c_held.
+    unless_refused IsPlan (a.0 == c.0) LinkToItself (free a c) (λ other.
+    unless_refused IsPlan (is_some (activation net c)) TwoLinksOnPoint (interval a c) (λ first.
+    unless_refused IsPlan (int_lt low (pos 1) || int_lt high low) BadInterval (small a c) (λ good.
+    unless_refused IsPlan (not (within_limit high)) (Limit Number) (room a c) (λ fitting.
+    unless_refused IsPlan (nat_le most_links (length net.links)) (Limit Links) (Ok (more a c)) (λ roomy.
+    IsPlan-more_links net (link a c) sound (record {
+      from_point = a_held;
+      to_point = c_held;
+      apart = grind (arith, nat_tests);
+      positive = (interval_of low high good).0;
+      interval = (interval_of low high good).1;
+      within = within_sizes high (fits high fitting);
+    }) (none_of (activation net c) first) (grind (arith, nat_tests)))))))))
+
+pub edited_sound : (net : Plan) (edit : Edit) → IsPlan net → HasNames edit → IfOk (edited net edit) IsPlan
+edited_sound net (edits.AddPoint name) sound names = kept_added IsPlan (with_point net name) (point_sound net name sound names)
+edited_sound net (edits.AddBound name from to most) sound names = kept_added IsPlan (with_bound net name from to most) (bound_sound net name from to most sound names.0)
+edited_sound net (edits.AddLink from low high to) sound names = kept_added IsPlan (with_link net from low high to) (link_sound net from low high to sound)
+edited_sound net (edits.DropPoint name) sound names =
+    if_known IsPlan (point_named net name) (λ point. unused (user_of net point) (Ok (without_point net point)))
+    (λ point named. if_unused IsPlan (user_of net point) (without_point net point) (λ free. sound_without_point net sound point (point_within net name point named) free))
+edited_sound net (edits.DropBound name) sound names = if_known IsPlan (bound_named net name) _ (λ id named. sound_without_bound net sound id.0 (bound_within net name id named))
+edited_sound net (edits.SetBound name most) sound names =
+    if_known IsPlan (bound_named net name) _ (λ id named.
+    if_known IsPlan (slice_get net.bounds id.0) _ (λ bound at.
+    if_passed IsPlan (not (within_limit most)) (fault.Limit Number) (Ok (with_number net id most bound)) (λ small. sound_with_number net sound id most bound at (fits most small))))
+edited_sound net (edits.DropLink to) sound names = if_known IsPlan (link_named net to) _ (λ id named. sound_without_link net sound id.0 (link_within net to id named))
+edited_sound net (edits.SetLink to low high) sound names =
+    if_known IsPlan (link_named net to) _ (λ id named.
+    if_known IsPlan (slice_get net.links id.0) _ (λ link at.
+    if_passed IsPlan (int_lt low (pos 1) || int_lt high low) fault.BadInterval (refused_if (not (within_limit high)) (fault.Limit Number) (Ok (with_interval net id low high link))) (λ good.
+    if_passed IsPlan (not (within_limit high)) (fault.Limit Number) (Ok (with_interval net id low high link)) (λ small.
+    sound_with_interval net sound id low high link at (interval_of low high good).0 (interval_of low high good).1 (fits high small)))))
+
+pub edits_keep_sound : EditsKeepSound
+edits_keep_sound net edit new is = record {
+  sound = λ sound names. subst (λ (answer : Result Plan EditFault). IfOk answer IsPlan) is (edited_sound net edit sound names);
+  numbers = λ numbers. subst (λ (answer : Result Plan EditFault). IfOk answer HasPlanNumbers) is (edited_numbers net edit numbers);
+}

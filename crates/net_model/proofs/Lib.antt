@@ -4,6 +4,7 @@ pub mod NetworkLemmas
 pub mod StoredLemmas
 pub mod SpellingLemmas
 pub mod ReadingLemmas
+pub mod DepartureLemmas
 pub mod PlanNumbers
 pub mod RuleLemmas
 pub mod PartsLemmas

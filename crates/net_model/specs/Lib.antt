@@ -12,5 +12,6 @@ pub mod Formats
 pub mod NetworkParts
 pub mod Stored
 pub mod Numbers
+pub mod Places
 pub mod Reading
 pub mod formers

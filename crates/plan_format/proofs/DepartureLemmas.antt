@@ -1,55 +1,21 @@
 -- A line that is not read departs from its form, and for the cause that is told.
-use Rattle.std.proofs.Common.{◌≡◌, ℕ, ℤ, Bool, true, false, List, [], ◌∷◌, Option, Some, None, Result, Ok, Err, refl, sym, ap, ◌∙◌, subst, arith, inl, inr, IsTrue, codes}
+use Rattle.std.proofs.Common.{◌≡◌, ℕ, Bool, true, false, List, [], ◌∷◌, Option, Some, None, Result, Ok, Err, refl, sym, ap, ◌∙◌, subst, arith, inl, inr, codes}
 use Rattle.std.specs.Str.{bytes_eq}
 use Rattle.std.specs.Result.{IfErr, IsErr, IsErrAnd}
 use Rattle.texts.specs.Words.{words, is_remark, are_passed_over}
-use Rattle.net_model.specs.Limits.{most_number}
-use Rattle.net_model.specs.Names.{is_name}
-use Rattle.net_model.specs.Numbers.{name_of, integer_of, spells_number, size_of_number}
-use Rattle.net_model.specs.Reading.{◌>>=◌}
 use Rattle.net_model.specs.declared.format.FormatKind.{FormatKind}
 use Rattle.net_model.specs.declared.format.FormatKind.TheVariants.{UnknownWord}
 use Rattle.net_model.specs.declared.format.WordFault.{WordFault}
 use Rattle.net_model.specs.declared.format.WordFault.TheVariants as word
 use Rattle.net_model.specs.declared.part.Part.{Part}
-use Rattle.net_model.proofs.ReadingLemmas.{choice, bind_err, name_ok, name_err, word_is}
-use Rattle.net_model.proofs.SpellingLemmas.{IsJudged, judged_integer}
+use Rattle.net_model.proofs.DepartureLemmas.{name_first, number_first, never, departs_from_one}
+use Rattle.net_model.proofs.ReadingLemmas.{choice, word_is}
 use Rattle.plan_format.specs.declared.plan_line.PlanLine.{PlanLine}
 use Rattle.plan_format.specs.declared.plan_line.PlanLine.TheVariants as line
 use Rattle.plan_format.specs.PlanLines.{plan_line, line_of, header_line, end_line, declares, point_line, bound_line, link_line}
-use Rattle.plan_format.specs.PlanFaults.{Place, of_name, of_number, places_after, Fits, Misfits, FirstMisfits, DepartsFrom, Departs, IsFaultAlone, IsFaultOfLine}
+use Rattle.net_model.specs.Places.{Place, of_name, of_number, DepartsFrom}
+use Rattle.plan_format.specs.PlanFaults.{places_after, Departs, IsFaultAlone, IsFaultOfLine}
 use Rattle.plan_format.proofs.PartLemmas.{blank_read, header_read}
-
-fits_name : (word name : List ℕ) → name_of word ≡ Ok name → Fits of_name word
-fits_name word name read =
-    let is = name_ok word name read in
-    subst (λ (w : List ℕ). IsTrue (is_name w)) (sym is.0) is.1
-
-fits_number : (word : List ℕ) (number : ℤ) → integer_of most_number word ≡ Ok number → Fits of_number word
-fits_number word number read =
-    subst (λ (answer : Result ℤ FormatKind). IsJudged most_number (spells_number word) (size_of_number word) answer) read (judged_integer most_number word)
-
-misfits_number : (word : List ℕ) (kind : FormatKind) → integer_of most_number word ≡ Err kind → Misfits of_number word kind
-misfits_number word kind read =
-    subst (λ (answer : Result ℤ FormatKind). IsJudged most_number (spells_number word) (size_of_number word) answer) read (judged_integer most_number word)
-
--- a name or a number and what comes after it, of which the first misfit is told
-name_first : {B : Type 0} (word : List ℕ) (others : List (List ℕ)) (places : List Place) (next : List ℕ → Result B FormatKind) (kind : FormatKind) → (name_of word >>= next) ≡ Err kind → ((name : List ℕ) → next name ≡ Err kind → FirstMisfits places others kind) → FirstMisfits (of_name ∷ places) (word ∷ others) kind
-name_first word others places next kind read later =
-    elim (bind_err (name_of word) next kind read) [
-      | inl here ↦ inl (name_err word kind here)
-      | inr further ↦ inr (fits_name word further.0 further.1, later further.0 further.2)
-    ]
-
-number_first : {B : Type 0} (word : List ℕ) (others : List (List ℕ)) (places : List Place) (next : ℤ → Result B FormatKind) (kind : FormatKind) → (integer_of most_number word >>= next) ≡ Err kind → ((number : ℤ) → next number ≡ Err kind → FirstMisfits places others kind) → FirstMisfits (of_number ∷ places) (word ∷ others) kind
-number_first word others places next kind read later =
-    elim (bind_err (integer_of most_number word) next kind read) [
-      | inl here ↦ inl (misfits_number word kind here)
-      | inr further ↦ inr (fits_number word further.0 further.1, later further.0 further.2)
-    ]
-
-never : {A B : Type 0} (x : A) (kind : FormatKind) → Ok x ≡ Err kind → B
-never x kind same = absurd (cc)
 
 point_departs : (others : List (List ℕ)) (kind : FormatKind) → point_line others ≡ Err kind → DepartsFrom (Some (of_name ∷ [])) others kind
 point_departs [] kind read = inl (λ same. absurd (omega arith), cc)
@@ -133,33 +99,6 @@ departs (first ∷ others) kind read =
       | inl remark ↦ never _ kind remark.1
       | inr other ↦ line_departs first others kind other.1
     ]
-
-misfit_one : (place : Place) (word : List ℕ) (a b : FormatKind) → Misfits place word a → Misfits place word b → a ≡ b
-misfit_one of_name word a b x y = x.1 ∙ sym y.1
-misfit_one of_number word a b (inl x) (inl y) = x.1 ∙ sym y.1
-misfit_one of_number word a b (inl x) (inr y) = absurd (let none = x.0 in let some = y.0 in cc)
-misfit_one of_number word a b (inr x) (inl y) = absurd (let some = x.0 in let none = y.0 in cc)
-misfit_one of_number word a b (inr x) (inr y) = x.2 ∙ sym y.2
-
-fits_or_not : (place : Place) (word : List ℕ) (kind : FormatKind) → Fits place word → Misfits place word kind → ⊥
-fits_or_not of_name word kind fits x = let some = fits in let none = x.0 in absurd (cc)
-fits_or_not of_number word kind fits (inl x) = let some = fits.0 in let none = x.0 in absurd (cc)
-fits_or_not of_number word kind fits (inr x) = absurd (omega (arith, fits.1, x.1))
-
-first_one : (places : List Place) (words : List (List ℕ)) (a b : FormatKind) → FirstMisfits places words a → FirstMisfits places words b → a ≡ b
-first_one [] words a b x y = absurd x
-first_one (place ∷ places) [] a b x y = absurd x
-first_one (place ∷ places) (word ∷ words) a b (inl x) (inl y) = misfit_one place word a b x y
-first_one (place ∷ places) (word ∷ words) a b (inl x) (inr y) = absurd (fits_or_not place word a y.0 x)
-first_one (place ∷ places) (word ∷ words) a b (inr x) (inl y) = absurd (fits_or_not place word b x.0 y)
-first_one (place ∷ places) (word ∷ words) a b (inr x) (inr y) = first_one places words a b x.1 y.1
-
-departs_from_one : (form : Option (List Place)) (others : List (List ℕ)) (a b : FormatKind) → DepartsFrom form others a → DepartsFrom form others b → a ≡ b
-departs_from_one None others a b x y = x ∙ sym y
-departs_from_one (Some places) others a b (inl x) (inl y) = x.1 ∙ sym y.1
-departs_from_one (Some places) others a b (inl x) (inr y) = absurd (x.0 y.0)
-departs_from_one (Some places) others a b (inr x) (inl y) = absurd (y.0 x.0)
-departs_from_one (Some places) others a b (inr x) (inr y) = first_one places others a b x.1 y.1
 
 -- a line departs from its form for one cause
 pub departs_one : (words : List (List ℕ)) (a b : FormatKind) → Departs words a → Departs words b → a ≡ b

@@ -1,25 +1,20 @@
 -- The line of a part is read as that part, and no other line is.
-use Rattle.std.proofs.Common.{◌≡◌, ℕ, ℤ, true, List, [], ◌∷◌, Result, Ok, Err, refl, sym, ap, ◌∙◌, subst, arith, inl, inr, unsigned_abs, codes}
+use Rattle.std.proofs.Common.{◌≡◌, ℕ, true, List, [], ◌∷◌, Result, Ok, Err, refl, sym, ap, ◌∙◌, subst, inl, inr, codes}
 use Rattle.std.specs.Str.{bytes_eq}
-use Rattle.std.specs.Fmt.{signed_decimal}
-use Rattle.std.proofs.lemmas.Bool.{leb-true, le-leb}
 use Rattle.net_model.specs.Numbers.{name_of, integer_of}
-use Rattle.net_model.specs.Limits.{within_limit, most_number}
+use Rattle.net_model.specs.Limits.{most_number}
 use Rattle.texts.specs.Words.{is_remark, are_passed_over}
 use Rattle.net_model.specs.declared.format.FormatKind.{FormatKind}
 use Rattle.net_model.specs.declared.format.FormatKind.TheVariants.{UnknownWord}
 use Rattle.net_model.specs.declared.part.Part.{Part}
 use Rattle.net_model.specs.declared.part.Part.TheVariants as part
-use Rattle.net_model.proofs.SpellingLemmas.{integer_spelled, spelled_integer}
+use Rattle.net_model.proofs.DepartureLemmas.{number_read, number_ok}
 use Rattle.net_model.proofs.ReadingLemmas.{choice, bind_ok, name_ok, name_read, word_is}
 use Rattle.plan_format.specs.declared.plan_line.PlanLine.{PlanLine}
 use Rattle.plan_format.specs.declared.plan_line.PlanLine.TheVariants as line
 use Rattle.plan_format.specs.PlanLines.{plan_line, line_of, header_line, end_line, declares, point_line, bound_line, link_line}
 use Rattle.plan_format.specs.PlanGrammar.{AreWordsOf}
 use Rattle.plan_format.specs.PlanParts.{part_words, IsSpelled, header_words, end_words}
-
-number_read : (n : ℤ) → within_limit n ≡ true → integer_of most_number (signed_decimal n) ≡ Ok n
-number_read n within = integer_spelled most_number n (leb-true (unsigned_abs n) most_number within) (omega arith)
 
 -- the line of a part is read as that part
 pub spelled_read : (p : Part) → IsSpelled p → plan_line (part_words p) ≡ Ok (line.Part p)
@@ -42,11 +37,6 @@ pub blank_read : (words : List (List ℕ)) → are_passed_over words ≡ true �
 unfolding plan_line
 blank_read [] blank = refl
 blank_read (first ∷ others) blank = rw blank refl
-
-number_ok : (word : List ℕ) (n : ℤ) → integer_of most_number word ≡ Ok n → (word ≡ signed_decimal n) × (within_limit n ≡ true)
-number_ok word n read =
-    let parts = spelled_integer most_number n word read (omega arith) in
-    (parts.0, le-leb (unsigned_abs n) most_number parts.1)
 
 -- the words after the first one of the line of a part
 point_ok : (others : List (List ℕ)) (p : Part) → point_line others ≡ Ok p → (codes "point" ∷ others ≡ part_words p) × IsSpelled p

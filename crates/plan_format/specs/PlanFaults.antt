@@ -1,28 +1,21 @@
 -- The first fault of a text that is no plan text, version 1. This project's own choice.
-use Rattle.std.specs.Prelude.{◌≡◌, ◌≢◌, ◌⊎◌, ℕ, ◌+◌, ◌<◌, ◌≤◌, false, List, [], ◌∷◌, ◌++◌, length, Option, Some, None, IsTrue, codes, if◌then◌else◌}
+use Rattle.std.specs.Prelude.{◌≡◌, ◌≢◌, ◌⊎◌, ℕ, ◌+◌, false, List, [], ◌∷◌, ◌++◌, length, Option, Some, None, codes, if◌then◌else◌}
 use Rattle.std.specs.List.{All}
 use Rattle.std.specs.Str.{bytes_eq}
 use Rattle.texts.specs.Words.{words, are_passed_over}
 use Rattle.texts.specs.Lines.{lines}
-use Rattle.net_model.specs.Limits.{most_number}
-use Rattle.net_model.specs.Names.{is_name}
-use Rattle.net_model.specs.Numbers.{spells_number, size_of_number}
+use Rattle.net_model.specs.Places.{Place, of_name, of_number, DepartsFrom}
 use Rattle.net_model.specs.declared.format.FormatFault.{FormatFault}
 use Rattle.net_model.specs.declared.format.TextFault.{TextFault}
 use Rattle.net_model.specs.declared.format.TextFault.TheVariants as text
 use Rattle.net_model.specs.declared.format.WordFault.{WordFault}
 use Rattle.net_model.specs.declared.format.WordFault.TheVariants as word
 use Rattle.net_model.specs.declared.format.FormatKind.{FormatKind}
-use Rattle.net_model.specs.declared.format.FormatKind.TheVariants.{UnknownWord, WordCount, BadName, BadNumber, NumberLimit, NoHeader, NoEnd}
+use Rattle.net_model.specs.declared.format.FormatKind.TheVariants.{NoHeader, NoEnd}
 use Rattle.net_model.specs.declared.part.Part.{Part}
 use Rattle.plan_format.specs.declared.plan_line.PlanLine.TheVariants as line
 use Rattle.plan_format.specs.PlanParts.{header_words}
 use Rattle.plan_format.specs.PlanGrammar.{IsLine, IsBegun, IsPlanText}
-
--- what a place of a line asks for
-pub data Place : Type 0 where
-  of_name : Place
-  of_number : Place
 
 -- the places after the first word of each line that may come after the header, or none where no such line begins so
 abbrev pub places_after : List ℕ → Option (List Place)
@@ -32,31 +25,6 @@ places_after first =
     else (if bytes_eq first (codes "link") then Some (of_name ∷ of_number ∷ of_number ∷ of_name ∷ [])
     else (if bytes_eq first (codes "end") then Some []
     else None)))
-
--- a word that is what its place asks for
-abbrev pub Fits : Place → List ℕ → Type 0
-Fits of_name word = IsTrue (is_name word)
-Fits of_number word = IsTrue (spells_number word) × (size_of_number word ≤ most_number)
-
--- a word that is not what its place asks for, and why
-abbrev pub Misfits : Place → List ℕ → FormatKind → Type 0
-Misfits of_name word kind = (is_name word ≡ false) × (kind ≡ BadName)
-Misfits of_number word kind =
-    ((spells_number word ≡ false) × (kind ≡ BadNumber))
-    ⊎ (IsTrue (spells_number word) × (most_number < size_of_number word) × (kind ≡ NumberLimit))
-
--- why the first word, from the left, that is not what its place asks for is not
-abbrev pub FirstMisfits : List Place → List (List ℕ) → FormatKind → Type 0
-FirstMisfits [] words kind = ⊥
-FirstMisfits (place ∷ places) [] kind = ⊥
-FirstMisfits (place ∷ places) (word ∷ words) kind = Misfits place word kind ⊎ (Fits place word × FirstMisfits places words kind)
-
--- the first departure of a line from its form: no line begins with its first word, else its count of words, else the first
--- of its words that is not what its place asks for
-abbrev pub DepartsFrom : Option (List Place) → List (List ℕ) → FormatKind → Type 0
-DepartsFrom None others kind = kind ≡ UnknownWord
-DepartsFrom (Some places) others kind =
-    ((length others ≢ length places) × (kind ≡ WordCount)) ⊎ ((length others ≡ length places) × FirstMisfits places others kind)
 
 -- the first departure of the words of a line from the forms of the lines after the header
 abbrev pub Departs : List (List ℕ) → FormatKind → Type 0

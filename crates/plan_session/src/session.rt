@@ -16,6 +16,7 @@ use parallel_rounds::{Gate, NoGate};
 use refutations::laws::certificates_are_one;
 use std::alloc::{AllocError, Global};
 use std::marker::Model;
+use std::mem;
 use std::thread::Threads;
 use support_records::Store;
 
@@ -84,7 +85,7 @@ impl Session {
             return Err(SessionFault::Broken);
         }
         match self.net.apply(alloc, edit) {
-            Ok(new) => self.follow(rt, alloc, edit, new, gate),
+            Ok(mut new) => self.follow(rt, alloc, edit, &mut new, gate),
             Err(EditFault::OutOfMemory) => {
                 self.opened = None;
                 Err(SessionFault::OutOfMemory)
@@ -93,30 +94,35 @@ impl Session {
         }
     }
 
-    /// Takes the network that an edit makes as its own, and lets the derivations follow.
+    /// Takes the network that an edit makes as its own, in exchange for the old one, when the derivations have followed.
     fn follow<R: Threads + Sync, G: Gate>(
         &mut self,
         rt: &R,
         alloc: Global,
         edit: &Edit,
-        new: Network,
+        new: &mut Network,
         gate: &G,
     ) -> Result<Report, SessionFault>
         requires open { IsOpen self.old }
-        requires made { edited self.old.net edit.now ≡ Ok new }
-        requires numbers { HasPlanNumbers self.old.net → HasPlanNumbers new }
+        requires made { edited self.old.net edit.now ≡ Ok new.old }
+        requires plan { IsPlan new.old }
+        requires numbers { HasPlanNumbers self.old.net → HasPlanNumbers new.old }
         ensures { AnswersEdit self.old edit.now result self.new }
     {
-        // The proof reads here that the new network is sound.
-        let _ = new.points();
-        let Some(mut opened) = self.opened.take() else {
+        let Some(opened) = &mut self.opened else {
             return Err(SessionFault::Broken);
         };
-        let report = opened.follow(rt, alloc, &self.net, edit, &new, self.workers, gate)?;
-        self.net = new;
-        self.opened = Some(opened);
-        self.fresh = false;
-        Ok(report)
+        match opened.follow(rt, alloc, &self.net, edit, new, self.workers, gate) {
+            Ok(report) => {
+                mem::swap(&mut self.net, new);
+                self.fresh = false;
+                Ok(report)
+            }
+            Err(AllocError) => {
+                self.opened = None;
+                Err(SessionFault::OutOfMemory)
+            }
+        }
     }
 
     /// Whether the network as it stands is controllable. `Broken` exactly where the session is broken.

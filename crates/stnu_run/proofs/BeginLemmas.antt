@@ -3,7 +3,7 @@ use Rattle.std.proofs.Common.{◌≡◌, ℕ, List, [], ap, subst, ◌∙◌}
 use Rattle.net_model.specs.Network.{Plan}
 use Rattle.net_model.specs.declared.ids.PointId.{PointId}
 use Rattle.closure_model.specs.Tables.{Graph}
-use Rattle.dispatch_net.specs.Dispatchable.{MayDispatch, DispatchLists, IsDispatchBy}
+use Rattle.dispatch_net.specs.Dispatchable.{MayDispatch, DispatchLists, dispatchable}
 use Rattle.dispatch_net.specs.declared.dispatch.Conditions.{Conditions}
 use Rattle.dispatch_net.proofs.EarliestLemmas.{closures_may_dispatch}
 use Rattle.execution_model.specs.Feeding.{started, IsDueAnswer}
@@ -18,7 +18,7 @@ module _ (net : Plan) (table : Graph) (order : List PointId) (by : IsDispatchedB
   pub may_dispatch : MayDispatch net table order
   may_dispatch = closures_may_dispatch net table order by.instant.sound by.closure by.ordered
 
-  module _ (lists : DispatchLists) (made : IsDispatchBy net table lists) where
+  module _ (lists : DispatchLists) (links : lists.links ≡ net.links) (made : lists.made ≡ dispatchable net table) where
     pub dispatch_of : IsDispatchOf net lists
     dispatch_of = record {
       instant = by.instant;
@@ -26,9 +26,8 @@ module _ (net : Plan) (table : Graph) (order : List PointId) (by : IsDispatchedB
       order = order;
       graph = closures_are_graphs net table by.instant.sound by.closure;
       may = may_dispatch;
-      links = made.links;
-      made = made.made;
-      keeps = made.kept;
+      links = links;
+      made = made;
     }
 
     -- where this is put, it begins so
@@ -36,7 +35,7 @@ module _ (net : Plan) (table : Graph) (order : List PointId) (by : IsDispatchedB
         → (put : List ℕ) → PutsBegun state.execution put → BeginsExecution net put (Goes state)
     begins_so state is put (due, first, puts) =
         let from : List Conditions → Course = λ d. record { net = net; execution = started (record { links = net.links; dispatch = d }); listed = [] } in
-        let begun = is ∙ ap from made.made in
+        let begun = is ∙ ap from made in
         record {
           table = table;
           order = order;

@@ -135,7 +135,7 @@ fn begin_execution(
     ensures room { IfOk result (λ onward. HasRoom executing_machine onward answer.new.capacity) }
 {
     let dispatch = Dispatch::of(alloc, &net, &closed.table, closed.order.as_slice())?;
-    let state = Executing::start(alloc, net, dispatch)?;
+    let state = Executing::start(alloc, net, dispatch.slim())?;
     put_begun(answer, &state)?;
     Ok(Onward::Goes(state))
 }

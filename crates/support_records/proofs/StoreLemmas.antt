@@ -1,5 +1,5 @@
 -- A store that has followed an edit.
-use Rattle.std.proofs.Common.{◌≡◌, ℕ, suc, ◌+◌, ◌-◌, ◌≤◌, List, [], ◌∷◌, ◌++◌, length, Option, Some, None, ap, sym, ◌∙◌, subst, arith}
+use Rattle.std.proofs.Common.{◌≡◌, ℕ, suc, ◌+◌, ◌≤◌, List, [], ◌∷◌, ◌++◌, length, Option, Some, None, ap, sym, ◌∙◌, subst, arith}
 use Rattle.std.proofs.lemmas.List.{length-append}
 use Rattle.net_model.specs.Network.{Plan, IsPlan}
 use Rattle.closure_model.specs.Derivations.{Support, StandsOn, IsDerivationList, edges_of_nodes}
@@ -61,15 +61,12 @@ module _ (old : Plan) (edit : Edit) (new : Plan) (moves : Moves) (are : AreMoves
   can_follow nodes before after derived =
       as_held (λ o n m. CanFollow o n m nodes) (record { is = names_renumber_all old edit new before after; derived = derived; news = (new_base_is_whole_all old edit new before after).of_base })
 
-  pub has_by_names : (before : List Node) (after : Support) (count : ℕ) → HasFollowed moves.points.old.now moves.points.new.now (moves_of moves) before after count → HasFollowed old new (renumbering old edit new) before after count
+  has_by_names : (before : List Node) (after : Support) (count : ℕ) → HasFollowed moves.points.old.now moves.points.new.now (moves_of moves) before after count → HasFollowed old new (renumbering old edit new) before after count
   has_by_names before after count has = by_names (λ o n m. HasFollowed o n m before after count) has
 
-  pub is_followed : (before after : Support) (answer : Withdrawn) → IsPlan old → IsPlan new → StandsOn old before → HasFollowed moves.points.old.now moves.points.new.now (moves_of moves) before.nodes after answer.kept → (count : ℕ)
-      → count ≡ length before.nodes → answer.withdrawn ≡ count - answer.kept → IsFollowed old edit new before after answer
-  is_followed before after answer old_plan new_plan stands held count all rest =
-      let has = has_by_names before.nodes after answer.kept held in
-      let few = has.few in
-      followed_by_names old edit new before after answer old_plan new_plan stands has (omega arith)
+  pub is_followed : (before after : Support) (answer : Withdrawn) → IsPlan old → IsPlan new → StandsOn old before → HasFollowed moves.points.old.now moves.points.new.now (moves_of moves) before.nodes after answer.kept
+      → answer.kept + answer.withdrawn ≡ length before.nodes → IsFollowed old edit new before after answer
+  is_followed before after answer old_plan new_plan stands held counts = followed_by_names old edit new before after answer old_plan new_plan stands (has_by_names before.nodes after answer.kept held) counts
 
 -- ---- what was put into a store
 pub has_followed : (old new : Plan) (moves : Renumbering) (before kept : List Node) (after : Support) (count : ℕ) → kept ≡ (followed moves before).kept → after.nodes ≡ kept ++ new_nodes moves old new → count ≡ length kept → IsDerivedOn new after

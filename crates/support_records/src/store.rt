@@ -1,4 +1,4 @@
-ghost use Rattle.std.specs.Prelude.{◌≡◌, IfOk};
+ghost use Rattle.std.specs.Prelude.{◌≡◌, ◌+◌, ◌≤◌, IfOk};
 ghost use Rattle.closure_model.specs.Derivations.{base_support, StandsOn};
 ghost use Rattle.support_records.specs.Followed.{IsFollowed};
 
@@ -16,6 +16,20 @@ use std::marker::Model;
 pub struct Withdrawn {
     pub kept: u64,
     pub withdrawn: u64,
+}
+
+impl Withdrawn {
+    /// The answer where so many of the earlier nodes are kept.
+    fn counted(kept: u64, earlier: u64) -> Withdrawn
+        requires { kept ≤ earlier }
+        ensures kept { result.kept ≡ kept }
+        ensures all { result.kept + result.withdrawn ≡ earlier }
+    {
+        Withdrawn {
+            kept,
+            withdrawn: earlier - kept,
+        }
+    }
 }
 
 /// A derivation list with the table of the least edges of its nodes, which follows edits of the network. Older versions of an entry
@@ -67,9 +81,9 @@ impl Store {
         let mut after = Plain::without_nodes(alloc, new)?;
         let moves = Moves::of(alloc, old, edit, new)?;
         let kept = follow_into(alloc, &moves, self.plain.dag(), &mut after)?;
-        let withdrawn = self.plain.dag().len() - kept;
+        let answer = Withdrawn::counted(kept, self.plain.dag().len());
         self.plain = after;
-        Ok(Withdrawn { kept, withdrawn })
+        Ok(answer)
     }
 
     /// The list.

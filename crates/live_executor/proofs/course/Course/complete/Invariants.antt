@@ -5,7 +5,7 @@ use Rattle.live_executor.proofs.course.Course.complete.Given as goal
 
 abbrev pub invariant-loop-point : goal.invariant-loop-point
 invariant-loop-point l = record {
-  goes_on : completions_taken l.dispatched l.initial.self.moments.items l.moment l.listed ≡ completions_taken l.dispatched l.self.moments.items l.moment (drop l.point-index l.listed);
+  goes_on : completions_taken l.dispatched.setting l.initial.self.moments.items l.moment l.listed ≡ completions_taken l.dispatched.setting l.self.moments.items l.moment (drop l.point-index l.listed);
   count : length l.self.moments.items ≡ length l.initial.self.moments.items;
   early : AreBefore end_of_time l.self.moments.items;
   acts : l.self.acts.items ≡ l.initial.self.acts.items;

@@ -9,7 +9,7 @@ execute_if_due-requires-clause-open c =
     let i = c.loop-point.invariant in
     let old = c.args.self.now in
     open_next old.due.items c.loop-point.self.due.items c.args.t c.loop-point.point old.moments.items c.loop-point.self.moments.items (omega arith)
-    (due_are_open c.args.dispatched.now old.moments.items old.due.items c.requires.count c.requires.known) i.moments i.due
+    (due_are_open c.args.dispatched.now.setting old.moments.items old.due.items c.requires.count c.requires.known) i.moments i.due
 
 pub loop-point-preserved : goal.loop-point-preserved
 loop-point-preserved c =
@@ -28,7 +28,7 @@ pub returns : goal.returns
 returns c =
     let i = c.loop-point.invariant in
     let old = c.args.self.now in
-    let setting = c.args.dispatched.now in
+    let setting = c.args.dispatched.now.setting in
     let reached : c.loop-point.point ≡ length setting.dispatch = omega arith in
     let whole : c.loop-point.point ≡ length old.moments.items = omega (arith, c.requires.count) in
     record {

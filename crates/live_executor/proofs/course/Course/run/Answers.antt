@@ -8,7 +8,7 @@ use Rattle.live_executor.proofs.course.Course.run.Goals as goal
 pub loop-moment-preserved : goal.loop-moment-preserved
 loop-moment-preserved c =
     let i = c.loop-moment.invariant in
-    let setting = c.args.dispatched.now in
+    let setting = c.args.dispatched.now.setting in
     let old = c.args.self.now in
     let now = c.loop-moment.self in
     let first = c.in-Some.ensures in
@@ -29,7 +29,7 @@ loop-moment-preserved c =
 pub returns-clause-moments : goal.returns-clause-moments
 returns-clause-moments c =
     let i = c.loop-moment.invariant in
-    let setting = c.args.dispatched.now in
+    let setting = c.args.dispatched.now.setting in
     let now = c.loop-moment.self in
     let whole : length now.due.items ≡ length setting.dispatch = now.whole ∙ i.course.count in
     (rests setting c.args.self.now.moments.items c.args.from c.loop-moment.next c.args.until now.moments.items i.later i.earlier i.course.count i.moments
@@ -38,7 +38,7 @@ returns-clause-moments c =
 pub returns-clause-acts : goal.returns-clause-acts
 returns-clause-acts c =
     let i = c.loop-moment.invariant in
-    let setting = c.args.dispatched.now in
+    let setting = c.args.dispatched.now.setting in
     let now = c.loop-moment.self in
     let whole : length now.due.items ≡ length setting.dispatch = now.whole ∙ i.course.count in
     i.acts ∙ ap (λ (acts : List Act). c.args.self.now.acts.items ++ acts)

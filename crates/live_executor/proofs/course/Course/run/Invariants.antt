@@ -10,7 +10,7 @@ abbrev pub invariant-loop-moment : goal.invariant-loop-moment
 invariant-loop-moment l = record {
   later : l.from ≤ l.next;
   earlier : l.next ≤ l.until;
-  moments : l.self.moments.items ≡ time_runs l.dispatched l.initial.self.moments.items l.from (l.next - l.from);
-  acts : l.self.acts.items ≡ l.initial.self.acts.items ++ acts_while l.dispatched l.initial.self.moments.items l.from (l.next - l.from);
-  course : IsCourseOf l.dispatched l.self.moments.items l.self.due.items;
+  moments : l.self.moments.items ≡ time_runs l.dispatched.setting l.initial.self.moments.items l.from (l.next - l.from);
+  acts : l.self.acts.items ≡ l.initial.self.acts.items ++ acts_while l.dispatched.setting l.initial.self.moments.items l.from (l.next - l.from);
+  course : IsCourseOf l.dispatched.setting l.self.moments.items l.self.due.items;
 }

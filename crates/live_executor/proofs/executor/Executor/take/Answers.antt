@@ -2,6 +2,7 @@ use Rattle.std.proofs.Common.{◌≡◌, ◌≤◌, ◌∙◌, ap, sym, subst, l
 use Rattle.execution_model.specs.Feeding.{Execution, next_moment}
 use Rattle.live_executor.specs.Kept.{moment_after}
 use Rattle.live_executor.specs.Limits.{AreBefore}
+use Rattle.live_executor.specs.Sound.{made_setting}
 use Rattle.live_executor.proofs.MomentLemmas.{kept_after, may_be_fed}
 use Rattle.live_executor.proofs.executor.Executor.take.Goals as goal
 
@@ -16,5 +17,5 @@ invariant_of-self-in-Ok c =
     let range : from.result ≤ c.args.moment = (let low = may.0 in omega (arith, from.ensures, low)) in
     let early = subst (λ n. AreBefore n first) (sym from_is) (subst (AreBefore (moment_after kept.last)) (sym c.follow.ensures.moments) c.self.invariant.early) in
     rw (c.swap.ensures.x_after, c.swap.ensures.y_after)
-    (kept_after kept.dispatched first from.result c.args.moment c.args.completions.now after.moments.items after.acts.items range early
-    after.due.items kept.course.moments.items may.1 c.in-Ok.ensures.tried c.in-Ok.ensures.course (sym (c.in-Ok.ensures.count ∙ ap length c.follow.ensures.moments)))
+    (kept_after (made_setting kept.dispatched) first from.result c.args.moment c.args.completions.now after.moments.items after.acts.items range early
+    kept.dispatched after.due.items kept.course.moments.items may.1 c.in-Ok.ensures.tried c.in-Ok.ensures.course (sym (c.in-Ok.ensures.count ∙ ap length c.follow.ensures.moments)) (c.in-Ok.ensures.count ∙ (ap length c.follow.ensures.moments ∙ c.self.invariant.count)) c.in-Ok.ensures.paced)

@@ -1,4 +1,4 @@
-use Rattle.std.proofs.Common.{◌∙◌, ◌-◌, List, length, ap, sym, subst, refl}
+use Rattle.std.proofs.Common.{◌∙◌, List, length, ap, sym, subst}
 use Rattle.closure_model.specs.Derivations.{Support}
 use Rattle.closure_model.specs.declared.derivation.Node.{Node}
 use Rattle.support_records.specs.Followed.{HasFollowed}
@@ -18,5 +18,6 @@ returns c =
     let moves = c.in_ok-moves.moves in
     let nodes_is = c.dag.ensures ∙ ap (λ (s : Support). s.nodes) c.self.view_is in
     let has = subst (λ (ns : List Node). HasFollowed moves.points.old.now moves.points.new.now (moves_of moves) ns c.follow_into.new.after c.in_ok-kept.kept) nodes_is c.in_ok-kept.ensures in
-    is_followed c.args.old.now c.args.edit.now c.args.new.now moves c.in_ok-moves.ensures c.args.self.now c.follow_into.new.after (record { kept = c.in_ok-kept.kept; withdrawn = c.len.result - c.in_ok-kept.kept })
-    c.points.ensures.sound c.points-2.ensures.sound c.requires has c.len.result (c.len.ensures ∙ ap (λ (ns : List Node). length ns) (c.dag-2.ensures ∙ ap (λ (s : Support). s.nodes) c.self.view_is)) refl
+    let earlier = c.len.ensures ∙ ap (λ (ns : List Node). length ns) (c.dag-2.ensures ∙ ap (λ (s : Support). s.nodes) c.self.view_is) in
+    is_followed c.args.old.now c.args.edit.now c.args.new.now moves c.in_ok-moves.ensures c.args.self.now c.follow_into.new.after c.counted-answer.result
+    c.points.ensures.sound c.points-2.ensures.sound c.requires (subst (HasFollowed moves.points.old.now moves.points.new.now (moves_of moves) c.args.self.now.nodes c.follow_into.new.after) (sym c.counted-answer.ensures.kept) has) (c.counted-answer.ensures.all ∙ earlier)

@@ -1,0 +1,145 @@
+-- What was kept once is kept again.
+use Rattle.std.proofs.Common.{◌≡◌, ◌<◌, ℤ, arith, Bool, true, false, List, [], ◌∷◌, map, filter, length, refl, ap, sym, subst, ◌∙◌, inl, inr}
+use Rattle.std.specs.Prelude.{◌&&◌, ◌||◌, ◌==◌, not, ◌+ℤ◌, int_le, slice_get, if◌then◌else◌}
+use Rattle.std.specs.List.{Contains, list_any}
+use Rattle.std.specs.Option.{option_map_or}
+use Rattle.std.proofs.lemmas.List.{length-map, same_lists, get_or_default}
+use Rattle.std.proofs.lemmas.Bool.{or_cases, or_left, or_right, true≢false}
+use Rattle.net_model.specs.declared.ids.PointId.{PointId}
+use Rattle.net_model.specs.declared.ids.LinkId.{LinkId}
+use Rattle.net_model.specs.declared.part.Link.{Link}
+use Rattle.closure_model.proofs.Lists.{Contains-none, Contains-head, Contains-tail, Contains-cases}
+use Rattle.dispatch_net.specs.declared.dispatch.Conditions.{Conditions}
+use Rattle.dispatch_net.specs.Dispatchable.{conditions_at, no_conditions}
+use Rattle.dispatch_net.specs.Held.{IsSlimOrWhole}
+use Rattle.dispatch_net.specs.Slim.{over_point, over_link, is_bound_implied, over_end, over_wait, is_wait_implied, thinned, slim_conditions, slimmed}
+use Rattle.dispatch_net.specs.Laws.{SlimStaysSlim}
+use Rattle.dispatch_net.proofs.SlimLists.{any_is, kept_there, slim_at}
+
+pub any_from : {X : Type 0} (test : X → Bool) (xs : List X) (x : X) → Contains xs x → test x ≡ true → list_any test xs ≡ true
+any_from test [] x among passes = absurd (Contains-none x among)
+any_from test (y ∷ ys) x among passes =
+    elim (Contains-cases y ys x among) [
+      | inl same ↦ or_left (test y) (list_any test ys) (ap test same ∙ passes)
+      | inr there ↦ or_right (test y) (list_any test ys) (any_from test ys x there passes)
+    ]
+
+pub kept_passes : {X : Type 0} (p : X → Bool) (xs : List X) (x : X) → Contains (filter p xs) x → p x ≡ true
+kept_passes p [] x among = absurd (Contains-none x among)
+kept_passes {X} p (y ∷ ys) x among = by (kept_passes p ys x) (p y) refl among
+  where
+    by : (Contains (filter p ys) x → p x ≡ true) → (b : Bool) → p y ≡ b → Contains (if b then y ∷ filter p ys else filter p ys) x → p x ≡ true
+    by rest true is at = elim (Contains-cases y (filter p ys) x at) [ inl same ↦ ap p (sym same) ∙ is | inr there ↦ rest there ]
+    by rest false is at = rest at
+
+pub all_kept : {X : Type 0} (p : X → Bool) (xs : List X) → ((x : X) → Contains xs x → p x ≡ true) → filter p xs ≡ xs
+all_kept p [] each = refl
+all_kept p (y ∷ ys) each =
+    ap (λ (b : Bool). if b then y ∷ filter p ys else filter p ys) (each y (Contains-head y ys))
+    ∙ ap (λ zs. y ∷ zs) (all_kept p ys (λ x among. each x (Contains-tail y ys x among)))
+
+from_not : (b : Bool) → not b ≡ true → b ≡ false
+from_not true holds = absurd cc
+from_not false holds = refl
+
+map_map : {X : Type 0} (f g : X → X) (xs : List X) → ((x : X) → f (g x) ≡ g x) → map f (map g xs) ≡ map g xs
+map_map f g [] same = refl
+map_map f g (x ∷ xs) same = λ i. same x i ∷ map_map f g xs same i
+
+module _ (links : List Link) (made : List Conditions) (c : Conditions) where
+  abbrev kept : List Conditions
+  kept = slimmed links made
+
+  abbrev slim : Conditions
+  slim = slim_conditions links made c
+
+  fewer_over_point : (bound other : PointId × ℤ) → over_point kept bound other ≡ true → over_point made bound other ≡ true
+  fewer_over_point bound other over =
+      let test : PointId × ℤ → Bool = λ inner. inner.0.0 == bound.0.0 && int_le bound.1 (other.1 +ℤ inner.1) in
+      let at = slim_at links made other.0 in
+      let (inner, among, passes) = any_is test (conditions_at kept other.0).lower_bounds over in
+      let there = subst (λ (k : Conditions). Contains k.lower_bounds inner) at among in
+      any_from test (conditions_at made other.0).lower_bounds inner
+      (kept_there (λ b. not (is_bound_implied links made (conditions_at made other.0) b)) (conditions_at made other.0).lower_bounds inner there) passes
+
+  fewer_over_wait : (wait : LinkId × ℤ) (other : PointId × ℤ) → over_wait kept wait other ≡ true → over_wait made wait other ≡ true
+  fewer_over_wait wait other over =
+      let test : LinkId × ℤ → Bool = λ inner. inner.0.0 == wait.0.0 && int_le wait.1 (other.1 +ℤ inner.1) in
+      let at = slim_at links made other.0 in
+      let (inner, among, passes) = any_is test (conditions_at kept other.0).waits over in
+      let there = subst (λ (k : Conditions). Contains k.waits inner) at among in
+      any_from test (conditions_at made other.0).waits inner
+      (kept_there (λ w. not (is_wait_implied links made (conditions_at made other.0) w)) (conditions_at made other.0).waits inner there) passes
+
+  fewer_bounds : (bound : PointId × ℤ) → is_bound_implied links kept slim bound ≡ true → is_bound_implied links made c bound ≡ true
+  fewer_bounds bound implied =
+      let (other, among, holds) = any_is (λ other. over_point kept bound other || over_link links bound other) slim.lower_bounds implied in
+      any_from (λ other. over_point made bound other || over_link links bound other) c.lower_bounds other
+      (kept_there (λ b. not (is_bound_implied links made c b)) c.lower_bounds other among)
+      (elim (or_cases (over_point kept bound other) (over_link links bound other) holds) [
+        | inl first ↦ or_left (over_point made bound other) (over_link links bound other) (fewer_over_point bound other first)
+        | inr second ↦ or_right (over_point made bound other) (over_link links bound other) second
+      ])
+
+  fewer_waits : (wait : LinkId × ℤ) → is_wait_implied links kept slim wait ≡ true → is_wait_implied links made c wait ≡ true
+  fewer_waits wait implied =
+      let (other, among, holds) = any_is (λ other. option_map_or (over_end wait.1 other) (slice_get links wait.0.0) false || over_wait kept wait other) slim.lower_bounds implied in
+      any_from (λ other. option_map_or (over_end wait.1 other) (slice_get links wait.0.0) false || over_wait made wait other) c.lower_bounds other
+      (kept_there (λ b. not (is_bound_implied links made c b)) c.lower_bounds other among)
+      (elim (or_cases (option_map_or (over_end wait.1 other) (slice_get links wait.0.0) false) (over_wait kept wait other) holds) [
+        | inl first ↦ or_left (option_map_or (over_end wait.1 other) (slice_get links wait.0.0) false) (over_wait made wait other) first
+        | inr second ↦ or_right (option_map_or (over_end wait.1 other) (slice_get links wait.0.0) false) (over_wait made wait other) (fewer_over_wait wait other second)
+      ])
+
+  stays_not : (implied again : Bool) → not implied ≡ true → (again ≡ true → implied ≡ true) → not again ≡ true
+  stays_not implied true passes fewer = absurd (true≢false (sym (fewer refl) ∙ from_not implied passes))
+  stays_not implied false passes fewer = refl
+
+  bounds_stay : filter (λ bound. not (is_bound_implied links kept slim bound)) slim.lower_bounds ≡ slim.lower_bounds
+  bounds_stay = all_kept (λ bound. not (is_bound_implied links kept slim bound)) slim.lower_bounds (λ bound among.
+      stays_not (is_bound_implied links made c bound) (is_bound_implied links kept slim bound) (kept_passes (λ b. not (is_bound_implied links made c b)) c.lower_bounds bound among) (fewer_bounds bound))
+
+  waits_stay : filter (λ wait. not (is_wait_implied links kept slim wait)) slim.waits ≡ slim.waits
+  waits_stay = all_kept (λ wait. not (is_wait_implied links kept slim wait)) slim.waits (λ wait among.
+      stays_not (is_wait_implied links made c wait) (is_wait_implied links kept slim wait) (kept_passes (λ w. not (is_wait_implied links made c w)) c.waits wait among) (fewer_waits wait))
+
+  conditions_stay : slim_conditions links kept slim ≡ slim
+  conditions_stay = λ i. record { lower_bounds = bounds_stay i; waits = waits_stay i }
+
+pub slim_stays_slim : SlimStaysSlim
+slim_stays_slim links made = map_map (slim_conditions links (slimmed links made)) (slim_conditions links made) made (conditions_stay links made)
+
+-- ---- what is thinned by the tests of what was made
+filter_again : {X : Type 0} (p : X → Bool) (xs : List X) → filter p (filter p xs) ≡ filter p xs
+filter_again p xs = all_kept p (filter p xs) (kept_passes p xs)
+
+thinned_again : (links : List Link) (made : List Conditions) (c : Conditions) → thinned links made c (slim_conditions links made c) ≡ slim_conditions links made c
+thinned_again links made c =
+    λ i. record {
+      lower_bounds = filter_again (λ bound. not (is_bound_implied links made c bound)) c.lower_bounds i;
+      waits = filter_again (λ wait. not (is_wait_implied links made c wait)) c.waits i;
+    }
+
+-- whatever of it was kept before, what others imply is left out
+module _ (links : List Link) (made old new : List Conditions) (count : length new ≡ length old)
+    (each : (point : PointId) → point.0 < length made → conditions_at new point ≡ thinned links made (conditions_at made point) (conditions_at old point)) where
+  slim_by : length old ≡ length made → ((point : PointId) → thinned links made (conditions_at made point) (conditions_at old point) ≡ slim_conditions links made (conditions_at made point))
+      → new ≡ slimmed links made
+  slim_by long same =
+      same_lists new (slimmed links made) (count ∙ (long ∙ sym (length-map made (slim_conditions links made)))) (λ k d inside.
+      let point : PointId = record { 0 = k } in
+      get_or_default new k d no_conditions inside ∙ (each point (omega (arith, inside, count, long)) ∙ (same point ∙ (sym (slim_at links made point)
+      ∙ get_or_default (slimmed links made) k no_conditions d (let whole = length-map made (slim_conditions links made) in omega (arith, inside, count, long, whole))))))
+
+  pub made_slim : IsSlimOrWhole links made old → new ≡ slimmed links made
+  made_slim (inl whole) =
+      slim_by (ap (λ (cs : List Conditions). length cs) whole)
+      (λ point. ap (λ (cs : List Conditions). thinned links made (conditions_at made point) (conditions_at cs point)) whole)
+  made_slim (inr slim) =
+      slim_by (ap (λ (cs : List Conditions). length cs) slim ∙ length-map made (slim_conditions links made))
+      (λ point. ap (λ (cs : List Conditions). thinned links made (conditions_at made point) (conditions_at cs point)) slim
+      ∙ (ap (thinned links made (conditions_at made point)) (slim_at links made point) ∙ thinned_again links made (conditions_at made point)))
+
+  pub made_slim_again : IsSlimOrWhole links made old → new ≡ slimmed links old
+  made_slim_again (inl whole) = made_slim (inl whole) ∙ ap (slimmed links) (sym whole)
+  made_slim_again (inr slim) = made_slim (inr slim) ∙ (sym (slim_stays_slim links made) ∙ ap (slimmed links) (sym slim))

@@ -1,0 +1,47 @@
+-- What holds of a dispatchable network as it is held. This project's own choice.
+use Rattle.std.specs.Prelude.{◌≡◌, ◌⊎◌, ℕ, ℤ, ◌<◌, ◌==◌, ◌&&◌, Bool, false, List, length, find, Option, None}
+use Rattle.std.specs.List.{All, AllPairs, list_any, slice_index_or}
+use Rattle.std.specs.Option.{option_map_or}
+use Rattle.net_model.specs.declared.ids.PointId.{PointId}
+use Rattle.net_model.specs.declared.ids.LinkId.{LinkId}
+use Rattle.net_model.specs.declared.part.Link.{Link}
+use Rattle.dispatch_net.specs.declared.dispatch.Conditions.{Conditions}
+use Rattle.dispatch_net.specs.Slim.{slimmed}
+
+-- numbered items stand in order of number
+abbrev pub Rise : {X : Type 0} → (X → ℕ) → List X → Type 0
+Rise number items = AllPairs (λ x y. number x < number y) items
+
+-- lower bounds stand in order of the number of their point, waits in that of their link
+pub record AreInOrder (conditions : Conditions) : Type 0 where
+  pub bounds : Rise (λ (bound : PointId × ℤ). bound.0.0) conditions.lower_bounds
+  pub waits : Rise (λ (wait : LinkId × ℤ). wait.0.0) conditions.waits
+
+-- the link that ends in a point
+abbrev pub link_ending : List Link → PointId → Option Link
+link_ending links point = find (λ (link : Link). link.to.0 == point.0) links
+
+-- for each of so many points the link that ends in it
+pub record AreEnds (links : List Link) (points : ℕ) (ends : List (Option Link)) : Type 0 where
+  pub count : length ends ≡ points
+  pub each : (point : ℕ) → point < points → slice_index_or ends point None ≡ link_ending links (record { 0 = point })
+
+-- whatever is asked of the links that end in a point is asked of this one
+abbrev pub AreAllEnds : List Link → List (Option Link) → Type 0
+AreAllEnds links ends =
+    (test : Link → Bool) (point : ℕ) → list_any (λ (link : Link). link.to.0 == point && test link) links ≡ option_map_or test (slice_index_or ends point None) false
+
+-- what was made of a table: the links of its network, and by what each point is executed
+pub record MadeLists : Type 0 where
+  pub links : List Link
+  pub lists : List Conditions
+
+-- as it is held: in order, and with the link that ends in each point
+pub record IsMade (links : List Link) (ends : List (Option Link)) (lists : List Conditions) : Type 0 where
+  pub in_order : All AreInOrder lists
+  pub ends_are : AreEnds links (length lists) ends
+  pub all_ends : AreAllEnds links ends
+
+-- of what was made the whole is kept, or what no others imply
+abbrev pub IsSlimOrWhole : List Link → (made kept : List Conditions) → Type 0
+IsSlimOrWhole links made kept = (kept ≡ made) ⊎ (kept ≡ slimmed links made)

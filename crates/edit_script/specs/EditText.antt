@@ -1,0 +1,117 @@
+-- The grammar of the lines of a session, and the first fault of a line. This project's own choice.
+use Rattle.std.specs.Prelude.{◌≡◌, ℕ, ◌||◌, Bool, true, false, List, [], ◌∷◌, Option, Some, None, codes, if◌then◌else◌}
+use Rattle.std.specs.Fmt.{signed_decimal}
+use Rattle.std.specs.Str.{bytes_eq}
+use Rattle.texts.specs.Words.{words, are_passed_over}
+use Rattle.net_model.specs.EditLaws.{HasNames}
+use Rattle.net_model.specs.Limits.{within_limit}
+use Rattle.net_model.specs.Places.{Place, of_name, of_number, DepartsFrom}
+use Rattle.net_model.specs.declared.edit.Edit.{Edit}
+use Rattle.net_model.specs.declared.edit.Edit.TheVariants as edits
+use Rattle.net_model.specs.declared.format.FormatKind.{FormatKind}
+use Rattle.net_model.specs.declared.format.FormatKind.TheVariants.{WordCount}
+use Rattle.net_model.specs.declared.format.WordFault.{WordFault}
+use Rattle.net_model.specs.declared.format.WordFault.TheVariants as word
+use Rattle.edit_script.specs.declared.step.Step.{Step}
+use Rattle.edit_script.specs.declared.step.Step.TheVariants as step
+
+-- the words of the line that tells an edit
+abbrev pub edit_words : Edit → List (List ℕ)
+edit_words (edits.AddPoint name) = codes "add" ∷ codes "point" ∷ name ∷ []
+edit_words (edits.AddBound name from to most) = codes "add" ∷ codes "bound" ∷ name ∷ from ∷ to ∷ signed_decimal most ∷ []
+edit_words (edits.AddLink from low high to) = codes "add" ∷ codes "link" ∷ from ∷ signed_decimal low ∷ signed_decimal high ∷ to ∷ []
+edit_words (edits.DropPoint name) = codes "drop" ∷ codes "point" ∷ name ∷ []
+edit_words (edits.DropBound name) = codes "drop" ∷ codes "bound" ∷ name ∷ []
+edit_words (edits.DropLink to) = codes "drop" ∷ codes "link" ∷ to ∷ []
+edit_words (edits.SetBound name most) = codes "set" ∷ codes "bound" ∷ name ∷ signed_decimal most ∷ []
+edit_words (edits.SetLink to low high) = codes "set" ∷ codes "link" ∷ to ∷ signed_decimal low ∷ signed_decimal high ∷ []
+
+-- the numbers of an edit are within their limit
+abbrev pub HasNumbers : Edit → Type 0
+HasNumbers (edits.AddPoint name) = Unit {0}
+HasNumbers (edits.AddBound name from to most) = within_limit most ≡ true
+HasNumbers (edits.AddLink from low high to) = (within_limit low ≡ true) × (within_limit high ≡ true)
+HasNumbers (edits.DropPoint name) = Unit {0}
+HasNumbers (edits.DropBound name) = Unit {0}
+HasNumbers (edits.DropLink to) = Unit {0}
+HasNumbers (edits.SetBound name most) = within_limit most ≡ true
+HasNumbers (edits.SetLink to low high) = (within_limit low ≡ true) × (within_limit high ≡ true)
+
+-- the words tell an edit: they are its own, its names are names, and its numbers are within their limit
+pub record TellEdit (edit : Edit) (words : List (List ℕ)) : Type 0 where
+  pub spelled : words ≡ edit_words edit
+  pub names : HasNames edit
+  pub numbers : HasNumbers edit
+
+-- what the words of a line are that tells this
+abbrev pub AreWordsOf : Step → List (List ℕ) → Type 0
+AreWordsOf step.Blank words = are_passed_over words ≡ true
+AreWordsOf (step.Edit edit) words = TellEdit edit words
+AreWordsOf step.Verdict words = words ≡ codes "verdict" ∷ []
+AreWordsOf step.Proof words = words ≡ codes "proof" ∷ []
+AreWordsOf step.Table words = words ≡ codes "table" ∷ []
+AreWordsOf step.Plan words = words ≡ codes "plan" ∷ []
+AreWordsOf step.Report words = words ≡ codes "report" ∷ []
+AreWordsOf step.Go words = words ≡ codes "go" ∷ []
+AreWordsOf step.End words = words ≡ codes "end" ∷ []
+
+-- a line that tells this
+abbrev pub IsLine : Step → List ℕ → Type 0
+IsLine told line = AreWordsOf told (words line)
+
+-- the places after the second word of each edit, by that word, or none where no edit goes on so
+abbrev pub after_add : List ℕ → Option (List Place)
+after_add second =
+    if bytes_eq second (codes "point") then Some (of_name ∷ [])
+    else (if bytes_eq second (codes "bound") then Some (of_name ∷ of_name ∷ of_name ∷ of_number ∷ [])
+    else (if bytes_eq second (codes "link") then Some (of_name ∷ of_number ∷ of_number ∷ of_name ∷ [])
+    else None))
+
+abbrev pub after_drop : List ℕ → Option (List Place)
+after_drop second =
+    if bytes_eq second (codes "point") || bytes_eq second (codes "bound") || bytes_eq second (codes "link") then Some (of_name ∷ []) else None
+
+abbrev pub after_set : List ℕ → Option (List Place)
+after_set second =
+    if bytes_eq second (codes "bound") then Some (of_name ∷ of_number ∷ [])
+    else (if bytes_eq second (codes "link") then Some (of_name ∷ of_number ∷ of_number ∷ [])
+    else None)
+
+-- the words that are lines of their own
+abbrev pub is_question : List ℕ → Bool
+is_question first =
+    bytes_eq first (codes "verdict") || bytes_eq first (codes "proof") || bytes_eq first (codes "table") || bytes_eq first (codes "plan")
+    || bytes_eq first (codes "report") || bytes_eq first (codes "go") || bytes_eq first (codes "end")
+
+-- how the words after the first word of an edit depart first: there is no second word, else no edit goes on with it, else as
+-- words depart from their places
+abbrev pub DepartsAfter : (List ℕ → Option (List Place)) → List (List ℕ) → FormatKind → Type 0
+DepartsAfter places [] kind = kind ≡ WordCount
+DepartsAfter places (second ∷ others) kind = DepartsFrom (places second) others kind
+
+-- the places of the words after each first word of an edit, or none where no edit begins with it
+abbrev pub edit_places : List ℕ → Option (List ℕ → Option (List Place))
+edit_places first =
+    if bytes_eq first (codes "add") then Some after_add
+    else (if bytes_eq first (codes "drop") then Some after_drop
+    else (if bytes_eq first (codes "set") then Some after_set
+    else None))
+
+-- how the words of a line depart first, by the first of them: it begins an edit, else it is a line of its own or none
+abbrev pub DepartsBy : Option (List ℕ → Option (List Place)) → List ℕ → List (List ℕ) → FormatKind → Type 0
+DepartsBy (Some places) first others kind = DepartsAfter places others kind
+DepartsBy None first others kind = DepartsFrom (if is_question first then Some [] else None) others kind
+
+abbrev pub Departs : List (List ℕ) → FormatKind → Type 0
+Departs [] kind = ⊥
+Departs (first ∷ others) kind = DepartsBy (edit_places first) first others kind
+
+-- the first fault of the words of a line: they are not passed over, and depart so from the forms of the lines of a session
+pub record IsFaultOfWords (words : List (List ℕ)) (kind : FormatKind) : Type 0 where
+  pub filled : are_passed_over words ≡ false
+  pub departs : Departs words kind
+
+-- the first fault of a line, which takes no memory
+abbrev pub IsFaultOf : List ℕ → WordFault → Type 0
+IsFaultOf line (word.Kind kind) = IsFaultOfWords (words line) kind
+IsFaultOf line word.OutOfMemory = ⊥

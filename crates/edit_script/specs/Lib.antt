@@ -1,0 +1,3 @@
+pub mod EditText
+pub mod EditLines
+pub mod Laws

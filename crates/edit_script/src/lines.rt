@@ -1,0 +1,211 @@
+//! The lines of a session, one at a time.
+
+ghost use Rattle.std.specs.Prelude.{◌≡◌, IfErr, IfOk};
+ghost use Rattle.texts.specs.Words.{words};
+ghost use Rattle.net_model.specs.Limits.{most_number};
+ghost use Rattle.net_model.specs.Numbers.{integer_of};
+ghost use Rattle.edit_script.specs.declared.step.Step.{Step};
+ghost use Rattle.edit_script.specs.EditText.{IsLine, IsFaultOf};
+ghost use Rattle.edit_script.specs.EditLines.{Reads, step_line, step_of, step_by, question_of, question_line, add_line, drop_line, set_line, one_name, bound_line, link_line, number_line, interval_line};
+
+use crate::step::Step;
+use net_model::{Edit, FormatKind, MOST_NUMBER, Name, Weight, WordFault, text};
+
+/// Reads one line of a session: a blank line, an edit, or a question, `go` or `end`. An edit is `add` and a line that declares a
+/// point, a bound or a link, as in a plan; `drop point NAME`, `drop bound NAME`, `drop link TO`; `set bound NAME MOST` or
+/// `set link TO LOW HIGH`. The questions are `verdict`, `proof`, `table`, `plan` and `report`. The fault is the first one:
+/// `UnknownWord` of the first word; of an edit `WordCount` where there is no second word, and `UnknownWord` where no edit begins
+/// with the two; then `WordCount`; then of the words from left to right `BadName`, `BadNumber`, and `NumberLimit` beyond
+/// 1,000,000,000 in size. It takes no memory, so `OutOfMemory` never comes.
+pub fn read_step(line: &[u8]) -> Result<Step, WordFault>
+    ensures reads { Reads result (step_line line.now) }
+    ensures grammar { IfOk result (λ step. IsLine step line.now) }
+    ensures every { (step : Step) → IsLine step line.now → result ≡ Ok step }
+    ensures fault { IfErr result (IsFaultOf line.now) }
+{
+    match step_of(line) {
+        Ok(step) => Ok(step),
+        Err(kind) => Err(WordFault::Kind(kind)),
+    }
+}
+
+#[tactic(auto, unfolding(crate::specs::EditLines::step_of))]
+fn step_of(line: &[u8]) -> Result<Step, FormatKind>
+    ensures { result ≡ step_of (words line.now) }
+{
+    let Some((first, rest)) = texts::first_word(line) else {
+        return Ok(Step::Blank);
+    };
+    step_by(first, rest)
+}
+
+/// A line by its first word.
+fn step_by(first: &[u8], rest: &[u8]) -> Result<Step, FormatKind>
+    ensures { result ≡ step_by first.now (words rest.now) }
+{
+    if first == b"add".as_slice() {
+        return Ok(Step::Edit(add_line(rest)?));
+    }
+    if first == b"drop".as_slice() {
+        return Ok(Step::Edit(drop_line(rest)?));
+    }
+    if first == b"set".as_slice() {
+        return Ok(Step::Edit(set_line(rest)?));
+    }
+    question_line(first, rest)
+}
+
+/// A line of one word.
+fn question_line(first: &[u8], rest: &[u8]) -> Result<Step, FormatKind>
+    ensures { result ≡ question_line (question_of first.now) (words rest.now) }
+{
+    let step = question_of(first).ok_or(FormatKind::UnknownWord)?;
+    text::no_more(rest)?;
+    Ok(step)
+}
+
+fn question_of(first: &[u8]) -> Option<Step>
+    ensures { result ≡ question_of first.now }
+{
+    if first == b"verdict".as_slice() {
+        return Some(Step::Verdict);
+    }
+    if first == b"proof".as_slice() {
+        return Some(Step::Proof);
+    }
+    if first == b"table".as_slice() {
+        return Some(Step::Table);
+    }
+    if first == b"plan".as_slice() {
+        return Some(Step::Plan);
+    }
+    if first == b"report".as_slice() {
+        return Some(Step::Report);
+    }
+    if first == b"go".as_slice() {
+        return Some(Step::Go);
+    }
+    if first == b"end".as_slice() {
+        return Some(Step::End);
+    }
+    None
+}
+
+/// What stands after `add`.
+fn add_line(rest: &[u8]) -> Result<Edit, FormatKind>
+    ensures { result ≡ add_line (words rest.now) }
+{
+    let (second, rest) = text::word(rest)?;
+    if second == b"point".as_slice() {
+        return Ok(Edit::AddPoint(one_name(rest)?));
+    }
+    if second == b"bound".as_slice() {
+        return bound_line(rest);
+    }
+    if second == b"link".as_slice() {
+        return link_line(rest);
+    }
+    Err(FormatKind::UnknownWord)
+}
+
+/// What stands after `drop`.
+fn drop_line(rest: &[u8]) -> Result<Edit, FormatKind>
+    ensures { result ≡ drop_line (words rest.now) }
+{
+    let (second, rest) = text::word(rest)?;
+    if second == b"point".as_slice() {
+        return Ok(Edit::DropPoint(one_name(rest)?));
+    }
+    if second == b"bound".as_slice() {
+        return Ok(Edit::DropBound(one_name(rest)?));
+    }
+    if second == b"link".as_slice() {
+        return Ok(Edit::DropLink(one_name(rest)?));
+    }
+    Err(FormatKind::UnknownWord)
+}
+
+/// What stands after `set`.
+fn set_line(rest: &[u8]) -> Result<Edit, FormatKind>
+    ensures { result ≡ set_line (words rest.now) }
+{
+    let (second, rest) = text::word(rest)?;
+    if second == b"bound".as_slice() {
+        return number_line(rest);
+    }
+    if second == b"link".as_slice() {
+        return interval_line(rest);
+    }
+    Err(FormatKind::UnknownWord)
+}
+
+/// NAME, the last word.
+fn one_name(rest: &[u8]) -> Result<Name, FormatKind>
+    ensures { result ≡ one_name (words rest.now) }
+{
+    let (name, rest) = text::word(rest)?;
+    text::no_more(rest)?;
+    text::name(name)
+}
+
+/// NAME FROM TO MOST of a new bound.
+fn bound_line(rest: &[u8]) -> Result<Edit, FormatKind>
+    ensures { result ≡ bound_line (words rest.now) }
+{
+    let (name, rest) = text::word(rest)?;
+    let (from, rest) = text::word(rest)?;
+    let (to, rest) = text::word(rest)?;
+    let (most, rest) = text::word(rest)?;
+    text::no_more(rest)?;
+    Ok(Edit::AddBound(
+        text::name(name)?,
+        text::name(from)?,
+        text::name(to)?,
+        number(most)?,
+    ))
+}
+
+/// FROM LOW HIGH TO of a new link.
+fn link_line(rest: &[u8]) -> Result<Edit, FormatKind>
+    ensures { result ≡ link_line (words rest.now) }
+{
+    let (from, rest) = text::word(rest)?;
+    let (low, rest) = text::word(rest)?;
+    let (high, rest) = text::word(rest)?;
+    let (to, rest) = text::word(rest)?;
+    text::no_more(rest)?;
+    Ok(Edit::AddLink(
+        text::name(from)?,
+        number(low)?,
+        number(high)?,
+        text::name(to)?,
+    ))
+}
+
+/// NAME MOST of a bound that gets another number.
+fn number_line(rest: &[u8]) -> Result<Edit, FormatKind>
+    ensures { result ≡ number_line (words rest.now) }
+{
+    let (name, rest) = text::word(rest)?;
+    let (most, rest) = text::word(rest)?;
+    text::no_more(rest)?;
+    Ok(Edit::SetBound(text::name(name)?, number(most)?))
+}
+
+/// TO LOW HIGH of a link that gets another interval.
+fn interval_line(rest: &[u8]) -> Result<Edit, FormatKind>
+    ensures { result ≡ interval_line (words rest.now) }
+{
+    let (to, rest) = text::word(rest)?;
+    let (low, rest) = text::word(rest)?;
+    let (high, rest) = text::word(rest)?;
+    text::no_more(rest)?;
+    Ok(Edit::SetLink(text::name(to)?, number(low)?, number(high)?))
+}
+
+/// A number of an edit.
+fn number(word: &[u8]) -> Result<Weight, FormatKind>
+    ensures { result ≡ integer_of most_number word.now }
+{
+    text::integer(word, MOST_NUMBER)
+}
