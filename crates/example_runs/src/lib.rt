@@ -7,3 +7,5 @@ mod checks;
 mod ports;
 #[cfg(test)]
 mod runs;
+#[cfg(test)]
+mod sessions;

@@ -90,10 +90,10 @@ const ROOMS: &str =
 
 /// How a port gives its bytes: so many of a take at most, where that is above 0, and which take and which put fails.
 #[derive(Clone, Copy)]
-struct Calls {
-    cut: u32,
-    failing_take: u32,
-    failing_put: u32,
+pub(crate) struct Calls {
+    pub(crate) cut: u32,
+    pub(crate) failing_take: u32,
+    pub(crate) failing_put: u32,
 }
 
 /// The room of a port when it is made and after the run, and whether it keeps all bytes put.
@@ -106,14 +106,14 @@ struct Room {
 
 /// A row: the words, the input, what is put, and the exit status.
 #[derive(Clone, Copy)]
-struct Row<'a> {
-    words: &'a str,
-    input: &'a str,
-    put: &'a str,
-    status: u8,
+pub(crate) struct Row<'a> {
+    pub(crate) words: &'a str,
+    pub(crate) input: &'a str,
+    pub(crate) put: &'a str,
+    pub(crate) status: u8,
 }
 
-fn row_of(text: &str) -> Option<Row<'_>> {
+pub(crate) fn row_of(text: &str) -> Option<Row<'_>> {
     let (words, others) = text.split_once(" => ")?;
     let (input, others) = others.split_once(" => ")?;
     let (put, status) = others.split_once(" => ")?;
@@ -217,6 +217,17 @@ fn expect_steady_run<R: Abort + Threads + Sync>(
     expect_put(rt, alloc, row, port.written())
 }
 
+/// A run of the row over a port that gives its bytes so.
+pub(crate) fn try_calls<R: Abort + Threads + Sync>(
+    rt: &R,
+    alloc: Global,
+    row: Row<'_>,
+    calls: Calls,
+) -> Result<(), AllocError> {
+    let mut port = port_over(alloc, row.input, calls)?;
+    expect_run(rt, alloc, row, &mut port)
+}
+
 fn try_row<R: Abort + Threads + Sync>(
     rt: &R,
     alloc: Global,
@@ -224,8 +235,7 @@ fn try_row<R: Abort + Threads + Sync>(
     calls: Option<Calls>,
 ) -> Result<(), AllocError> {
     if let (Some(row), Some(calls)) = (row_of(text), calls) {
-        let mut port = port_over(alloc, row.input, calls)?;
-        expect_run(rt, alloc, row, &mut port)
+        try_calls(rt, alloc, row, calls)
     } else {
         assert!(rt; false, "{text}");
         Ok(())

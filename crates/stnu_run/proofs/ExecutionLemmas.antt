@@ -44,7 +44,7 @@ use Rattle.stnu_run.proofs.EventLemmas.{at, EndsRefused as RefusesSo, one_refuse
 use Rattle.stnu_run.proofs.ReplyLemmas.{room_both}
 
 -- a fault ends no run as one whose event is refused, or that is whole
-fault_ends_so : (fault : Fault) → (fault_end fault ≡ ends.Limit) ⊎ (fault_end fault ≡ ends.Fault)
+pub fault_ends_so : (fault : Fault) → (fault_end fault ≡ ends.Limit) ⊎ (fault_end fault ≡ ends.Fault)
 fault_ends_so (Format number kind.NumberLimit) = inl refl
 fault_ends_so (Format number k) = inr refl
 fault_ends_so (Part number (part.Limit which place)) = inl refl

@@ -7,6 +7,7 @@ ghost use Rattle.stnu_run.specs.Judging.{judge_asked, judge_syntax};
 ghost use Rattle.stnu_run.specs.Programs.{DefinesOne, EachDefinesOne, serves};
 ghost use Rattle.stnu_run.specs.Requests.{asked_by};
 ghost use Rattle.stnu_run.specs.Running.{run_asked, run_syntax};
+ghost use Rattle.stnu_run.specs.Sessions.{session_asked, session_syntax};
 ghost use Rattle.stnu_run.specs.WordLaws.{AreTaken, DefineSame, DefineSameWhereTaken, SameRuns};
 ghost use Rattle.stnu_run.specs.Workers.{SayWithWorkers, SpellsWorkers, WorkersDecideNothing};
 ghost use Rattle.stnu_run.specs.declared.judging.Judge.{Judge};
@@ -17,6 +18,7 @@ use crate::judging::Judging;
 use crate::promising::Promising;
 use crate::requests::Request;
 use crate::running::Running;
+use crate::session::SessionCommand;
 
 /// For given words and a given input at most one pair of bytes and status stands in the defined run.
 pub fn defined_run_is_one()
@@ -39,6 +41,11 @@ pub fn check_is_read_exactly()
 /// The words after `run` are its own exactly where they spell its uses, and the number of workers, where it is given, is one from 1 to 64.
 pub fn run_is_read_exactly()
     ensures { (words : List (List ℕ)) → asked_by run_syntax run_asked words ≡ Some tt ↔ SayWithWorkers run_syntax words }
+{}
+
+/// The words after `session` are its own exactly where they spell its uses, and the number of workers, where it is given, is one from 1 to 64.
+pub fn session_is_read_exactly()
+    ensures { (words : List (List ℕ)) → asked_by session_syntax session_asked words ≡ Some tt ↔ SayWithWorkers session_syntax words }
 {}
 
 /// The number of workers changes nothing, in either spelling, and wherever it stands after the word of a command: the defined run of words with
@@ -68,6 +75,7 @@ fn each_is_lawful()
     is_lawful::<Judging>();
     is_lawful::<Checking>();
     is_lawful::<Running>();
+    is_lawful::<SessionCommand>();
 }
 
 /// The laws that a command keeps whatever is asked of it.
