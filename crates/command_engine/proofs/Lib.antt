@@ -13,4 +13,5 @@ pub mod LeadLemmas
 pub mod PathLemmas
 pub mod InputLemmas
 pub mod GrammarLemmas
+pub mod AlternativeLemmas
 pub mod PairGrammarLemmas

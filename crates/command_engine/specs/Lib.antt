@@ -12,6 +12,7 @@ pub mod Reading
 pub mod Grammars
 pub mod Inputs
 pub mod Asked
+pub mod Alternatives
 pub mod Pairs
 pub mod Phases
 pub mod Turns

@@ -1,6 +1,7 @@
 //! Commands: what each answers to the lines of its input, and how a run serves it over a port.
 #![tactic(auto)]
 
+mod alternatives;
 mod answers;
 mod asking;
 mod endings;
@@ -14,6 +15,7 @@ mod refusals;
 mod serving;
 mod words;
 
+pub use alternatives::Either;
 pub use answers::Answer;
 pub use asking::{Asked, Question, refuse};
 pub use endings::{End, Status};

@@ -1,7 +1,8 @@
-//! The networks of tests, by the lines of their plans.
+//! The networks of tests, by the lines of their plans, and edits of them.
 #![tactic(auto)]
 
-use net_model::{Network, WordFault};
+use edit_script::{Step, read_step};
+use net_model::{Edit, Network, WordFault};
 use plan_format::PlanReader;
 use std::alloc::Global;
 use std::test::Fail;
@@ -23,4 +24,12 @@ fn read_lines(reader: &mut PlanReader, lines: &str) -> Result<(), WordFault> {
     }
     reader.read_line(number.saturating_add(1), b"end")?;
     Ok(())
+}
+
+/// The edit that a line of a session is, if it is one.
+pub fn edit(line: &str) -> Option<Edit> {
+    match read_step(line.as_bytes()) {
+        Ok(Step::Edit(edit)) => Some(edit),
+        _ => None,
+    }
 }

@@ -5,3 +5,5 @@ pub mod NodeFacts
 pub mod RoundFacts
 pub mod RowFacts
 pub mod StepFacts
+pub mod MarkLemmas
+pub mod NewBaseLemmas

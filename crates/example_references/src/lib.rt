@@ -1,6 +1,6 @@
-//! The reference rows, orders, rounds and refutations as plain slow programs on lists, each of which gives what its definition says,
-//! tried on small networks as tests. They stand on no part of the engine; a test makes the rounds of drawn networks by both, and closes them
-//! without rounds.
+//! The reference rows, orders, rounds and refutations, and what an edit keeps of a derivation list, as plain slow programs on lists, each
+//! of which gives what its definition says, tried on small networks as tests. They stand on no part of the engine; a test makes the rounds
+//! of drawn networks by both, and closes them without rounds.
 #![tactic(auto)]
 
 #[cfg(test)]
@@ -13,6 +13,10 @@ mod deducing;
 mod drawn;
 mod ending;
 #[cfg(test)]
+mod followed;
+#[cfg(test)]
+mod following;
+#[cfg(test)]
 mod nodes;
 #[cfg(test)]
 mod ordering;
@@ -22,6 +26,8 @@ mod plans;
 mod reducing;
 #[cfg(test)]
 mod refuting;
+#[cfg(test)]
+mod renaming;
 #[cfg(test)]
 mod rounds;
 #[cfg(test)]

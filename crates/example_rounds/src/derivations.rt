@@ -93,7 +93,7 @@ fn without_label(net: &Network, dag: &Dag, premise_id: NodeId) -> Option<Edge>
 }
 
 /// What a rule gives from the nodes of a list; of no-case and cross-case nothing, since the list below has none.
-fn made(net: &Network, dag: &Dag, rule: Rule) -> Option<Edge>
+pub(crate) fn made(net: &Network, dag: &Dag, rule: Rule) -> Option<Edge>
     ensures { IfSome result (λ edge. given_by net.now dag.now rule ≡ Some edge) }
 {
     match rule {

@@ -8,6 +8,8 @@ mod derivations;
 #[cfg(test)]
 mod dispatches;
 #[cfg(test)]
+mod following;
+#[cfg(test)]
 mod gates;
 #[cfg(test)]
 mod networks;

@@ -3,7 +3,7 @@
 ghost use Rattle.std.specs.Prelude.{◌<◌, length, IfSome};
 ghost use Rattle.reduction_rules.specs.Weights.{IsWeight};
 
-pub(crate) use example_plans::network;
+pub(crate) use example_plans::{edit, network};
 use net_model::{Edge, LinkId, Network, PointId};
 
 /// The point of a name.

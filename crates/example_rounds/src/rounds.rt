@@ -108,6 +108,17 @@ fn push_lines(
     Ok(())
 }
 
+/// The lines of all nodes of a list.
+pub(crate) fn push_nodes(
+    alloc: Global,
+    net: &Network,
+    dag: &Dag,
+    text: &mut String,
+) -> Result<(), Fail> {
+    let ids = all_ids(alloc, dag)?;
+    push_lines(alloc, net, dag, ids.as_slice(), text)
+}
+
 fn all_ids(alloc: Global, dag: &Dag) -> Result<Vec<NodeId>, Fail> {
     let mut ids = Vec::new(alloc);
     for id in 0..dag.len() {
@@ -176,8 +187,7 @@ fn show<R: Threads + Sync>(
 {
     let mut store = Plain::of(alloc, net)?;
     let outcome = propagate(rt, alloc, net, &mut store, workers, &NoGate)?;
-    let ids = all_ids(alloc, store.dag())?;
-    push_lines(alloc, net, store.dag(), ids.as_slice(), nodes)?;
+    push_nodes(alloc, net, store.dag(), nodes)?;
     show_end(alloc, net, &store, &outcome, end)
 }
 

@@ -228,7 +228,7 @@ pub(crate) fn try_calls<R: Abort + Threads + Sync>(
     expect_run(rt, alloc, row, &mut port)
 }
 
-fn try_row<R: Abort + Threads + Sync>(
+pub(crate) fn try_row<R: Abort + Threads + Sync>(
     rt: &R,
     alloc: Global,
     text: &str,

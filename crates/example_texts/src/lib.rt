@@ -5,6 +5,10 @@
 #[cfg(test)]
 mod certificates;
 #[cfg(test)]
+mod documents;
+#[cfg(test)]
+mod edits;
+#[cfg(test)]
 mod events;
 #[cfg(test)]
 mod names;
@@ -14,3 +18,5 @@ mod networks;
 mod plans;
 #[cfg(test)]
 mod rows;
+#[cfg(test)]
+mod steps;

@@ -8,6 +8,9 @@ use std::test::Fail;
 const LARGER: &str =
     "stnu 1|point A|point B|point C|point D|bound b A B -5|link A 1 9 B|link A 2 30 D|link D 4 4 C|bound D C C 7|end";
 
+/// Three points, of which C ends a link that begins in A.
+const P5: &str = "stnu 1|point A|point C|point D|bound b1 D C 1|bound b2 C D -1|link A 3 8 C|end";
+
 fn look_up(rt: &impl Abort, net: &Network) {
     let rows = [
         ("A", Some(PointId(0)), None),
@@ -50,6 +53,22 @@ fn readers_of_a_network(rt: HostRuntime) -> Result<(), Fail> {
     assert_eq!(rt; net.greatest(), 30);
     look_up(&rt, &net);
     Ok(links_of_points(&rt, rt.alloc(), &net)?)
+}
+
+/// The links that begin in the first point of a network that has points.
+fn links_of_first(alloc: Global, net: &Network) -> Result<Vec<LinkId>, AllocError> {
+    if net.points().is_empty() {
+        return Ok(Vec::new(alloc));
+    }
+    net.links_from(alloc, PointId(0))
+}
+
+#[test]
+fn links_from_a_point(rt: HostRuntime) -> Result<(), Fail> {
+    let net = network(rt.alloc(), P5)?;
+    let links = links_of_first(rt.alloc(), &net)?;
+    assert_eq!(rt; links.as_slice(), [LinkId(0)].as_slice());
+    Ok(())
 }
 
 /// Why two parts of one name build nothing.

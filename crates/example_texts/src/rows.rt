@@ -1,3 +1,6 @@
+ghost use Rattle.std.specs.Prelude.{IfOk};
+ghost use Rattle.net_model.specs.Network.{HasPlanNumbers};
+
 use net_model::{FormatFault, Network, TextFault, WordFault};
 use plan_format::{PlanLine, PlanReader};
 use std::alloc::Global;
@@ -34,7 +37,9 @@ fn at_line(line: u32, fault: WordFault) -> TextFault {
 }
 
 /// The network of a plan text that has no fault.
-pub fn network(alloc: Global, text: &str) -> Result<Network, Fail> {
+pub fn network(alloc: Global, text: &str) -> Result<Network, Fail>
+    ensures { IfOk result HasPlanNumbers }
+{
     let mut reader = PlanReader::new(alloc);
     feed(&mut reader, text)?;
     Ok(reader.build(alloc)?)

@@ -1,10 +1,10 @@
 -- What an accepted edit makes of a sound network is sound, and has the numbers of a plan where that one has them.
-use Rattle.std.proofs.Common.{◌≡◌, ◌≢◌, ℕ, ℤ, ◌==◌, ◌||◌, Bool, true, false, not, List, [], ◌∷◌, ◌++◌, length, Option, Some, None, is_some, nat_le, slice_get, pos, int_lt, ◌≤ℤ◌, Result, Ok, Err, IfOk, IsTrue, refl, subst, arith}
+use Rattle.std.proofs.Common.{◌≡◌, ℕ, ℤ, ◌==◌, ◌||◌, Bool, true, false, not, List, [], ◌∷◌, ◌++◌, length, Option, Some, None, is_some, nat_le, slice_get, pos, int_lt, ◌≤ℤ◌, Result, Ok, Err, IfOk, IsTrue, refl, subst, arith}
 use Rattle.std.proofs.lemmas.Bool.Decides.{nat_tests}
 use Rattle.std.proofs.lemmas.Int.{ints}
 use Rattle.std.proofs.lemmas.List.Elements.{All-set, All-map}
 use Rattle.net_model.specs.Building.{◌>>=◌, refuse_if, named, with_point, with_bound, with_link}
-use Rattle.net_model.specs.EditLaws.{HasNames, KeepsSound, EditsKeepSound}
+use Rattle.net_model.specs.EditLaws.{HasNames, EditsKeepSound}
 use Rattle.net_model.specs.Editing.{Edits, edited, added, known, unused, refused_if, user_of, link_named, without_point, with_number, with_interval}
 use Rattle.net_model.specs.Limits.{most_points, most_bounds, most_links, within_limit, within_size}
 use Rattle.net_model.specs.Names.{is_name}
@@ -26,19 +26,19 @@ use Rattle.net_model.proofs.NetworkLemmas.{IsPlan-more_points, IsPlan-more_bound
 use Rattle.net_model.proofs.PlanNumbers.{unless_refused, fits, part_keeps}
 
 -- ---- what an answer keeps
-kept_added : (P : Plan → Type 0) (answer : Result Plan PartFault) → IfOk answer P → IfOk (added answer) P
+pub kept_added : (P : Plan → Type 0) (answer : Result Plan PartFault) → IfOk answer P → IfOk (added answer) P
 kept_added P (Ok net) kept = kept
 kept_added P (Err cause) kept = tt
 
-if_known : {A : Type 0} (P : Plan → Type 0) (found : Option A) (next : A → Result Plan EditFault) → ((x : A) → found ≡ Some x → IfOk (next x) P) → IfOk (known found next) P
+pub if_known : {A : Type 0} (P : Plan → Type 0) (found : Option A) (next : A → Result Plan EditFault) → ((x : A) → found ≡ Some x → IfOk (next x) P) → IfOk (known found next) P
 if_known P (Some x) next keeps = keeps x refl
 if_known P None next keeps = tt
 
-if_unused : (P : Plan → Type 0) (user : Option User) (net : Plan) → (user ≡ None → P net) → IfOk (unused user (Ok net)) P
+pub if_unused : (P : Plan → Type 0) (user : Option User) (net : Plan) → (user ≡ None → P net) → IfOk (unused user (Ok net)) P
 if_unused P (Some user) net keeps = tt
 if_unused P None net keeps = keeps refl
 
-if_passed : (P : Plan → Type 0) (test : Bool) (cause : EditFault) (otherwise : Result Plan EditFault) → (test ≡ false → IfOk otherwise P) → IfOk (refused_if test cause otherwise) P
+pub if_passed : (P : Plan → Type 0) (test : Bool) (cause : EditFault) (otherwise : Result Plan EditFault) → (test ≡ false → IfOk otherwise P) → IfOk (refused_if test cause otherwise) P
 if_passed P true cause otherwise keeps = tt
 if_passed P false cause otherwise keeps = keeps refl
 

@@ -60,7 +60,7 @@ All-IsLink : (net other : Plan) → length net.points ≡ length other.points �
 All-IsLink net other same links = All-weaker (IsLink net) (IsLink other) (IsLink-more net other (omega arith)) links
 
 -- ---- the numbers of points after one is dropped
-number_after : (dropped point : PointId) → point.0 ≢ dropped.0
+pub number_after : (dropped point : PointId) → point.0 ≢ dropped.0
     → ((point.0 < dropped.0) × ((closed_up dropped point).0 ≡ point.0)) ⊎ ((dropped.0 < point.0) × ((closed_up dropped point).0 ≡ point.0 - 1))
 number_after dropped point other = by (nat_lt dropped.0 point.0) refl
   where
@@ -168,10 +168,10 @@ module _ (net : Plan) (sound : IsPlan net) where
         let left = length-remove net.points dropped.0 inside in
         ⊎_elim (λ below. omega (arith, below.0, below.1)) (λ above. omega (arith, above.0, above.1)) (number_after dropped point other)
 
-    no_bound : position (λ (b : Bound). b.from.0 == dropped.0 || b.to.0 == dropped.0) net.bounds ≡ None
+    pub no_bound : position (λ (b : Bound). b.from.0 == dropped.0 || b.to.0 == dropped.0) net.bounds ≡ None
     no_bound = None_from_option_map _ (position (λ (b : Bound). b.from.0 == dropped.0 || b.to.0 == dropped.0) net.bounds) (no_user (bound_user net dropped) (link_user net dropped) free).0
 
-    no_link : position (λ (l : Link). l.from.0 == dropped.0 || l.to.0 == dropped.0) net.links ≡ None
+    pub no_link : position (λ (l : Link). l.from.0 == dropped.0 || l.to.0 == dropped.0) net.links ≡ None
     no_link = None_from_option_map _ (position (λ (l : Link). l.from.0 == dropped.0 || l.to.0 == dropped.0) net.links) (no_user (bound_user net dropped) (link_user net dropped) free).1
 
     bound_kept : (k : ℕ) (d : Bound) → k < length net.bounds → IsBound (without_point net dropped) (record (get_or net.bounds k d) { from = closed_up dropped (get_or net.bounds k d).from; to = closed_up dropped (get_or net.bounds k d).to })

@@ -41,7 +41,7 @@ All-appended_right : {X : Type 0} (P : X → Type 0) (xs ys : List X) → All P 
 All-appended_right P xs ys all k d inside = subst P (get_or-append-add xs ys k d) (all (length xs + k) d (omega (arith, length-append xs ys)))
 
 -- names that differ differ from each other
-names_apart : (names : List (List ℕ)) → IsDistinct bytes_eq names → AllPairs (λ x y. bytes_eq y x ≡ false) names
+pub names_apart : (names : List (List ℕ)) → IsDistinct bytes_eq names → AllPairs (λ x y. bytes_eq y x ≡ false) names
 names_apart names distinct i j d less inside = nat_list_eq_equiv.symm (get_or names j d) (get_or names i d) ∙ apart_from_distinct bytes_eq names i j d distinct less inside
 
 -- the next point, bound or link of a list that is taken in: its name is free, no link ends where it does, and it is sound

@@ -14,3 +14,4 @@ pub mod FillingLemmas
 pub mod EditLemmas
 pub mod EditKeeping
 pub mod Accepted
+pub mod ByNameLemmas

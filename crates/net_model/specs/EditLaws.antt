@@ -1,10 +1,14 @@
 -- What holds of the edits of a network.
-use Rattle.std.specs.Prelude.{◌≡◌, Ok, IsTrue}
+use Rattle.std.specs.Prelude.{◌≡◌, ℕ, ℤ, Bool, false, not, List, [], ◌∷◌, ◌++◌, map, filter, Ok, IsTrue, if◌then◌else◌}
+use Rattle.std.specs.Str.{bytes_eq}
 use Rattle.net_model.specs.Editing.{edited}
 use Rattle.net_model.specs.Names.{is_name}
 use Rattle.net_model.specs.Network.{Plan, IsPlan, HasPlanNumbers}
+use Rattle.net_model.specs.NetworkParts.{bound_part, link_part}
 use Rattle.net_model.specs.declared.edit.Edit.{Edit}
 use Rattle.net_model.specs.declared.edit.Edit.TheVariants as edits
+use Rattle.net_model.specs.declared.part.Part.{Part}
+use Rattle.net_model.specs.declared.part.Part.TheVariants as part
 
 -- the names of an edit are names
 abbrev pub HasNames : Edit → Type 0
@@ -24,3 +28,47 @@ pub record KeepsSound (net : Plan) (edit : Edit) (new : Plan) : Type 0 where
 
 abbrev pub EditsKeepSound : Type 0
 EditsKeepSound = (net : Plan) (edit : Edit) (new : Plan) → edited net edit ≡ Ok new → KeepsSound net edit new
+
+-- a network by names alone: its points, and its bounds and its links as the parts that declare them, each list in its order
+pub record ByNames : Type 0 where
+  pub points : List (List ℕ)
+  pub bounds : List Part
+  pub links : List Part
+
+abbrev pub by_names : Plan → ByNames
+by_names net = record { points = net.points; bounds = map (bound_part net.points) net.bounds; links = map (link_part net.points) net.links }
+
+-- the part declares the bound of a name
+abbrev pub is_bound_named : List ℕ → Part → Bool
+is_bound_named name (part.Bound bound from to most) = bytes_eq name bound
+is_bound_named name other = false
+
+-- the part declares the link that ends in the point of a name
+abbrev pub is_link_to : List ℕ → Part → Bool
+is_link_to name (part.Link from low high to) = bytes_eq name to
+is_link_to name other = false
+
+-- the part with another number, or with another interval
+abbrev pub part_with_most : ℤ → Part → Part
+part_with_most most (part.Bound name from to old) = part.Bound name from to most
+part_with_most most other = other
+
+abbrev pub part_with_interval : ℤ → ℤ → Part → Part
+part_with_interval low high (part.Link from old_low old_high to) = part.Link from low high to
+part_with_interval low high other = other
+
+-- the effect of an edit, by names: what is added comes last; of what is dropped nothing is left; where a number or an interval
+-- is set, that is all that changes; and all else keeps its name, its ends, its numbers and its order
+abbrev pub effect : Edit → ByNames → ByNames
+effect (edits.AddPoint name) it = record it { points = it.points ++ name ∷ [] }
+effect (edits.DropPoint name) it = record it { points = filter (λ other. not (bytes_eq name other)) it.points }
+effect (edits.AddBound name from to most) it = record it { bounds = it.bounds ++ part.Bound name from to most ∷ [] }
+effect (edits.DropBound name) it = record it { bounds = filter (λ bound. not (is_bound_named name bound)) it.bounds }
+effect (edits.SetBound name most) it = record it { bounds = map (λ bound. if is_bound_named name bound then part_with_most most bound else bound) it.bounds }
+effect (edits.AddLink from low high to) it = record it { links = it.links ++ part.Link from low high to ∷ [] }
+effect (edits.DropLink to) it = record it { links = filter (λ link. not (is_link_to to link)) it.links }
+effect (edits.SetLink to low high) it = record it { links = map (λ link. if is_link_to to link then part_with_interval low high link else link) it.links }
+
+-- an accepted edit of a sound network has its effect, by names
+abbrev pub EditsChangeByNames : Type 0
+EditsChangeByNames = (net : Plan) (edit : Edit) (new : Plan) → IsPlan net → edited net edit ≡ Ok new → by_names new ≡ effect edit (by_names net)

@@ -20,6 +20,7 @@ use Rattle.texts.proofs.PrintingLemmas.{IsPrintable, IsPrintableLine, words-join
 use Rattle.net_model.proofs.SpellingLemmas.{printable_name, printable_integer}
 use Rattle.plan_format.specs.declared.plan_line.PlanLine.TheVariants as line
 use Rattle.plan_format.specs.PlanGrammar.{IsLine, IsBegun, header, declares, IsPlanText}
+use Rattle.plan_format.specs.PlanNetwork.{DeclaresNetwork}
 use Rattle.plan_format.specs.PlanParts.{part_words, IsSpelled, header_words, end_words}
 use Rattle.plan_format.specs.PlanPrinting.{plan_words, printed_plan, ReadsBack}
 use Rattle.net_model.proofs.PartsLemmas.{parts_build}
@@ -164,4 +165,20 @@ reads_back net plan numbers =
       };
       whole = refl;
       same = parts_build net plan numbers;
+    }
+
+-- and its lines declare the network, whole
+pub declares_back : (net : Plan) → IsPlan net → HasPlanNumbers net → DeclaresNetwork (lines (printed_plan net)) net []
+unfolding printed_plan
+declares_back net plan numbers =
+    let parts : List Part = parts_of net in
+    let spelled = spelled_parts net plan numbers in
+    let all : List (List ℕ) = map joined (plan_words parts) in
+    record {
+      plan = all;
+      parts = parts;
+      numbers = numbers_from 2 parts;
+      whole = lines-printed (plan_words parts) (printable_plan parts spelled) ∙ sym (append-nil all);
+      is_plan = plan_printed parts spelled;
+      builds = parts_build net plan numbers;
     }

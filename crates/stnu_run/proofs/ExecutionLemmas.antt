@@ -35,8 +35,9 @@ use Rattle.stnu_run.specs.Executing.{executing_machine}
 use Rattle.stnu_run.specs.ExecutionPromise.{PutsLast, IsRefusedBy, EndsRefused, ExecutionPromise}
 use Rattle.stnu_run.specs.Faults.{fault_end}
 use Rattle.stnu_run.specs.Verdict.{controllable_line}
+use Rattle.plan_json.specs.declared.fault.JsonFault.TheVariants as json
 use Rattle.stnu_run.specs.declared.faults.Fault.{Fault}
-use Rattle.stnu_run.specs.declared.faults.Fault.TheVariants.{Format, Part, LineTooLong, InputTooMuch}
+use Rattle.stnu_run.specs.declared.faults.Fault.TheVariants.{Format, Part, Document, DocumentTooLong, LineTooLong, InputTooMuch}
 use Rattle.stnu_run.proofs.CourseLemmas.{OverEvents, over_events, Decides, IsDecided, EndsAt, ends_so, fault_there}
 use Rattle.stnu_run.proofs.DayLemmas.{ExecutionLaws, lists_within, puts_listings, all_come, acts_left, faithful_fed, fed_faithful, taken_faithful, closed_faithful, faithful_closed, unfaithful_there, whole_there}
 use Rattle.stnu_run.proofs.DueLemmas.{fed_by, due_answered}
@@ -49,6 +50,9 @@ fault_ends_so (Format number kind.NumberLimit) = inl refl
 fault_ends_so (Format number k) = inr refl
 fault_ends_so (Part number (part.Limit which place)) = inl refl
 fault_ends_so (Part number why) = inr refl
+fault_ends_so (Document (json.NumberLimit member place)) = inl refl
+fault_ends_so (Document why) = inr refl
+fault_ends_so (DocumentTooLong number) = inl refl
 fault_ends_so (LineTooLong number) = inl refl
 fault_ends_so (InputTooMuch number) = inl refl
 
@@ -70,6 +74,18 @@ not_decided final done end (inl (shut, is)) (inl fault) = absurd (cc (is, fault)
 not_decided final done end (inl (shut, is)) (inr limit) = absurd (cc (is, limit))
 not_decided final done end (inr (point, opens, is)) (inl fault) = absurd (cc (is, fault))
 not_decided final done end (inr (point, opens, is)) (inr limit) = absurd (cc (is, limit))
+
+-- an execution is opened, and goes on over lines of events
+pub record Opened (net : Plan) (number room : ℕ) (rest : List InputLine) (put : List ℕ) (end : End) : Type 0 where
+  pub controllable : IsControllable net
+  pub table : Graph
+  pub order : List PointId
+  pub by_closure : IsDispatchedByClosure net table order
+  pub due : Option ℕ
+  pub first : IsDueAnswer (started (setting_of net table)) due
+  pub more : List ℕ
+  pub all : put ≡ controllable_line ++ (due_line due ++ more)
+  pub later : RunOver executing_machine (at net (started (setting_of net table)) [] number room) rest more end
 
 -- an execution is opened by these lines, after these bytes: of a controllable network, by its closure; and it goes on over the other lines
 pub record IsOpened (net : Plan) (used rest : List InputLine) (before put : List ℕ) (end : End) : Type 0 where

@@ -1,15 +1,16 @@
 -- The words of a refusal are short.
-use Rattle.std.proofs.Common.{◌≤◌, length, lit≤}
+use Rattle.std.proofs.Common.{◌≡◌, ◌≤◌, ℕ, List, length, lit≤, sym, subst}
 use Rattle.net_model.specs.Formats.{format_word}
-use Rattle.net_model.specs.Building.{which_word}
+use Rattle.net_model.specs.Building.{which_word, word_of}
 use Rattle.net_model.specs.declared.format.FormatKind.{FormatKind}
 use Rattle.net_model.specs.declared.format.FormatKind.TheVariants as kind
+use Rattle.net_model.specs.declared.fault.BuildFault.{BuildFault}
 use Rattle.net_model.specs.declared.fault.BuildFault.TheVariants as part
 use Rattle.net_model.specs.declared.part.Which.{Which}
 use Rattle.net_model.specs.declared.part.Which.TheVariants as which
-use Rattle.stnu_run.specs.Faults.{fault_class, fault_word}
-use Rattle.stnu_run.specs.declared.faults.Fault.{Fault}
-use Rattle.stnu_run.specs.declared.faults.Fault.TheVariants.{Format, Part, LineTooLong, InputTooMuch}
+use Rattle.plan_json.specs.Words.{member_word}
+use Rattle.plan_json.specs.declared.fault.Member.{Member}
+use Rattle.plan_json.specs.declared.fault.Member.TheVariants as member
 
 format_word_short : (k : FormatKind) → length (format_word k) ≤ 18
 format_word_short kind.UnknownWord = lit≤ tt
@@ -27,23 +28,30 @@ which_word_short which.Links = lit≤ tt
 which_word_short which.Bounds = lit≤ tt
 which_word_short which.Number = lit≤ tt
 
-pub class_short : (fault : Fault) → length (fault_class fault) ≤ 6
-class_short (Format number kind.NumberLimit) = lit≤ tt
-class_short (Format number k) = lit≤ tt
-class_short (Part number (part.Limit w place)) = lit≤ tt
-class_short (Part number fault) = lit≤ tt
-class_short (LineTooLong number) = lit≤ tt
-class_short (InputTooMuch number) = lit≤ tt
+part_word_short : (fault : BuildFault) → length (word_of fault) ≤ 18
+part_word_short (part.DuplicateName place) = lit≤ tt
+part_word_short (part.UnknownName place) = lit≤ tt
+part_word_short (part.TwoLinksOnPoint place) = lit≤ tt
+part_word_short (part.LinkToItself place) = lit≤ tt
+part_word_short (part.BadInterval place) = lit≤ tt
+part_word_short (part.Limit w place) = lit≤ tt
+part_word_short part.OutOfMemory = lit≤ tt
 
-pub word_short : (fault : Fault) → length (fault_word fault) ≤ 18
-word_short (Format number kind.NumberLimit) = lit≤ tt
-word_short (Format number k) = format_word_short k
-word_short (Part number (part.Limit w place)) = which_word_short w
-word_short (Part number (part.DuplicateName place)) = lit≤ tt
-word_short (Part number (part.UnknownName place)) = lit≤ tt
-word_short (Part number (part.TwoLinksOnPoint place)) = lit≤ tt
-word_short (Part number (part.LinkToItself place)) = lit≤ tt
-word_short (Part number (part.BadInterval place)) = lit≤ tt
-word_short (Part number part.OutOfMemory) = lit≤ tt
-word_short (LineTooLong number) = lit≤ tt
-word_short (InputTooMuch number) = lit≤ tt
+member_word_short : (member : Member) → length (member_word member) ≤ 6
+member_word_short member.Top = lit≤ tt
+member_word_short member.Points = lit≤ tt
+member_word_short member.Bounds = lit≤ tt
+member_word_short member.Links = lit≤ tt
+
+-- words that are given so are short
+pub format_words : (word : List ℕ) (k : FormatKind) → word ≡ format_word k → length word ≤ 18
+format_words word k is = subst (λ (w : List ℕ). length w ≤ 18) (sym is) (format_word_short k)
+
+pub which_words : (word : List ℕ) (w : Which) → word ≡ which_word w → length word ≤ 18
+which_words word w is = subst (λ (w : List ℕ). length w ≤ 18) (sym is) (which_word_short w)
+
+pub part_words : (word : List ℕ) (fault : BuildFault) → word ≡ word_of fault → length word ≤ 18
+part_words word fault is = subst (λ (w : List ℕ). length w ≤ 18) (sym is) (part_word_short fault)
+
+pub member_words : (word : List ℕ) (member : Member) → word ≡ member_word member → length word ≤ 6
+member_words word member is = subst (λ (w : List ℕ). length w ≤ 6) (sym is) (member_word_short member)

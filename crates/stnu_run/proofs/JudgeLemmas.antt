@@ -22,18 +22,17 @@ use Rattle.stnu_run.specs.CertificateTexts.{certificate_begun, certificate_reade
 use Rattle.stnu_run.specs.Faults.{fault_line, refusing}
 use Rattle.stnu_run.specs.Judging.{judge_answers, judge_machine, judge_start, judgement_line}
 use Rattle.stnu_run.specs.JudgePromise.{JudgePromise, PutsJudgement}
-use Rattle.stnu_run.specs.PlanText.{plan_begun, plan_reader}
-use Rattle.stnu_run.specs.ToCheck.{plan_grammar}
+use Rattle.stnu_run.specs.PlanInput.{input_begun, input_reader, plan_in}
 use Rattle.stnu_run.specs.ToJudge.{certificate_texts, judge_grammar}
 use Rattle.stnu_run.specs.declared.faults.Fault.{Fault}
 use Rattle.stnu_run.specs.declared.judging.Judge.{Judge}
+use Rattle.stnu_run.specs.declared.plan_input.PlanForm.{PlanForm}
 use Rattle.stnu_run.proofs.CertificateLemmas.{certificate_by}
-use Rattle.stnu_run.proofs.NetworkLemmas.{declared_sound}
-use Rattle.stnu_run.proofs.PlanLemmas.{network_one, plan_by}
+use Rattle.stnu_run.proofs.PlanInputLemmas.{input_by, input_one, input_sound}
 
 -- a plan and a certificate after it are read by their grammars
-judge_by : ReadsBy (then_reader plan_reader certificate_reader) (First plan_begun certificate_begun) 0 judge_grammar
-judge_by = pair_by plan_reader certificate_reader certificate_begun plan_begun 0 plan_grammar certificate_texts (plan_by 0) certificate_by
+judge_by : (form : PlanForm) → ReadsBy (then_reader input_reader certificate_reader) (First (input_begun form) certificate_begun) 0 (judge_grammar form)
+judge_by form = pair_by input_reader certificate_reader certificate_begun (input_begun form) 0 (plan_in form) certificate_texts (input_by form 0) certificate_by
 
 pub judge_answers_once : (question : Judge) (value : Plan × Certificate) (a b : List ℕ) (x y : End) → judge_answers question value a x → judge_answers question value b y → (a ≡ b) × (x ≡ y)
 judge_answers_once question value a b x y one other = (one.0 ∙ sym other.0, one.1 ∙ sym other.1)
@@ -55,19 +54,19 @@ no_refusal_line : (fault : Fault) → fault_line fault ≡ accepted → ⊥
 unfolding accepted
 no_refusal_line fault same = let byte : ◌≡◌ {A = ℕ} 101 97 = ap (byte_at 0) same in omega arith
 
-excludes_by : AcceptedExcludes → (input put : List ℕ) (end : End) → AnswersOrRefuses judge_grammar refusing PutsJudgement input put end → put ≡ accepted → (net : Plan) (rest : List (List ℕ)) → plan_grammar.declares (lines input) net rest → IsControllable net → ⊥
-excludes_by law input put end (inl (value, after, both, puts)) same net rest network controllable =
-    let one : value.0 ≡ net = network_one (lines input) value.0 net both.0.rest rest both.0.declared network in
+excludes_by : (form : PlanForm) → AcceptedExcludes → (input put : List ℕ) (end : End) → AnswersOrRefuses (judge_grammar form) refusing PutsJudgement input put end → put ≡ accepted → (net : Plan) (rest : List (List ℕ)) → (plan_in form).declares (lines input) net rest → IsControllable net → ⊥
+excludes_by form law input put end (inl (value, after, both, puts)) same net rest network controllable =
+    let one : value.0 ≡ net = input_one form (lines input) value.0 net both.0.rest rest both.0.declared network in
     let judged : judgement_of value.0 value.1 ≡ Accepted NotControllable = only_accepted (judgement_of value.0 value.1) (sym puts.0 ∙ same) in
-    law net value.1 (record { sound = declared_sound (lines input) net rest network }) (subst (λ (n : Plan). judgement_of n value.1 ≡ Accepted NotControllable) one judged) controllable
-excludes_by law input put end (inr (fault, first, puts)) same net rest network controllable =
+    law net value.1 (record { sound = input_sound form (lines input) net rest network }) (subst (λ (n : Plan). judgement_of n value.1 ≡ Accepted NotControllable) one judged) controllable
+excludes_by form law input put end (inr (fault, first, puts)) same net rest network controllable =
     no_refusal_line fault (sym puts.0 ∙ same)
 
-pub judge_keeps : AcceptedExcludes → (judge : Judge) (input put : List ℕ) (end : End) → Runs judge_machine (judge_start judge) input put end → JudgePromise input put end
+pub judge_keeps : AcceptedExcludes → (judge : Judge) (input put : List ℕ) (end : End) → Runs judge_machine (judge_start judge) input put end → JudgePromise judge.form input put end
 unfolding accepted
 judge_keeps law judge input put end runs =
-    let judges = answers_text (then_reader plan_reader certificate_reader) (First plan_begun certificate_begun) judge_grammar judge_by judge_answers refusing judge input put end runs in
+    let judges = answers_text (then_reader input_reader certificate_reader) (First (input_begun judge.form) certificate_begun) (judge_grammar judge.form) (judge_by judge.form) judge_answers refusing judge input put end runs in
     record {
       judges = judges;
-      excludes = λ same net rest network controllable. excludes_by law input put end judges.answers same net rest network controllable;
+      excludes = λ same net rest network controllable. excludes_by judge.form law input put end judges.answers same net rest network controllable;
     }

@@ -1,6 +1,8 @@
 pub mod FaultLemmas
 pub mod NetworkLemmas
 pub mod PlanLemmas
+pub mod DocumentLemmas
+pub mod PlanInputLemmas
 pub mod CertificateLemmas
 pub mod JudgeLemmas
 pub mod VerdictLemmas
@@ -8,6 +10,7 @@ pub mod CauseLemmas
 pub mod FeedingLemmas
 pub mod CheckLemmas
 pub mod PlanAskingLemmas
+pub mod ShowLemmas
 pub mod ProgramLemmas
 pub mod KeptLemmas
 pub mod RefutationLemmas

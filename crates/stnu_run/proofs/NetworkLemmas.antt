@@ -222,6 +222,10 @@ empty_sound = record {
   few_links = omega arith;
 }
 
+-- what parts build that can be spelled is sound
+pub built_sound : (parts : List Part) (net : Plan) → All IsSpelled parts → built parts ≡ Ok net → IsPlan net
+built_sound parts net spelled builds = parts_sound 0 empty net parts spelled empty_sound builds
+
 -- a network that lines declare is sound
 pub declared_sound : (lines : List (List ℕ)) (net : Plan) (rest : List (List ℕ)) → DeclaresNetwork lines net rest → IsPlan net
-declared_sound lines net rest is = parts_sound 0 empty net is.parts (spelled_parts is.is_plan.begun is.parts is.numbers is.is_plan.begins) empty_sound is.builds
+declared_sound lines net rest is = built_sound is.parts net (spelled_parts is.is_plan.begun is.parts is.numbers is.is_plan.begins) is.builds

@@ -9,23 +9,22 @@ use Rattle.command_engine.specs.declared.endings.End.{End}
 use Rattle.command_engine.proofs.InputLemmas.{answers_text}
 use Rattle.stnu_run.specs.Faults.{refusing}
 use Rattle.stnu_run.specs.PlanAsking.{asking}
-use Rattle.stnu_run.specs.PlanText.{plan_begun, plan_reader}
-use Rattle.stnu_run.specs.ToCheck.{plan_grammar}
-use Rattle.stnu_run.proofs.NetworkLemmas.{declared_sound}
-use Rattle.stnu_run.proofs.PlanLemmas.{plan_by}
+use Rattle.stnu_run.specs.PlanInput.{input_begun, input_reader, plan_in}
+use Rattle.stnu_run.specs.declared.plan_input.PlanForm.{PlanForm}
+use Rattle.stnu_run.proofs.PlanInputLemmas.{input_by, input_sound}
 
-module _ {Q : Type 0} (answers : Q → Plan → List ℕ → End → Type 0) (question : Q) (puts : Plan → List ℕ → End → Type 0)
+module _ {Q : Type 0} (form : Q → PlanForm) (answers : Q → Plan → List ℕ → End → Type 0) (question : Q) (puts : Plan → List ℕ → End → Type 0)
     (law : (net : Plan) (put : List ℕ) (end : End) → IsPlan net → answers question net put end → puts net put end) where
-  put_by : (input put : List ℕ) (end : End) → AnswersOrRefuses plan_grammar refusing (answers question) input put end → AnswersOrRefuses plan_grammar refusing puts input put end
-  put_by input put end (inl (net, after, is, answered)) = inl (net, after, is, law net put end (declared_sound (lines input) net after is) answered)
+  put_by : (input put : List ℕ) (end : End) → AnswersOrRefuses (plan_in (form question)) refusing (answers question) input put end → AnswersOrRefuses (plan_in (form question)) refusing puts input put end
+  put_by input put end (inl (net, after, is, answered)) = inl (net, after, is, law net put end (input_sound (form question) (lines input) net after is) answered)
   put_by input put end (inr refused) = inr refused
 
   -- where the answer to a network is what is put, a run puts that for the network of the input, or its first refusal
-  pub asked_keeps : (input put : List ℕ) (end : End) → Runs (asked_machine answers plan_reader refusing) (asking question) input put end → AnswersText plan_grammar refusing puts input put end
+  pub asked_keeps : (input put : List ℕ) (end : End) → Runs (asked_machine answers input_reader refusing) (asking form question) input put end → AnswersText (plan_in (form question)) refusing puts input put end
   asked_keeps input put end runs =
-      let text = answers_text plan_reader plan_begun plan_grammar (plan_by 0) answers refusing question input put end runs in
+      let text = answers_text input_reader (input_begun (form question)) (plan_in (form question)) (input_by (form question) 0) answers refusing question input put end runs in
       record {
         answers = put_by input put end text.answers;
-        declared = λ net within. law net put end (declared_sound _ net _ within.declares.declared) (text.declared net within);
+        declared = λ net within. law net put end (input_sound (form question) _ net _ within.declares.declared) (text.declared net within);
         refuses = text.refuses;
       }

@@ -5,6 +5,7 @@ use Rattle.cert_format.specs.declared.certificate.Certificate.{Certificate}
 use Rattle.refutations.proofs.OneCertificate.{certificate_one}
 use Rattle.command_engine.specs.declared.endings.End.{End}
 use Rattle.stnu_run.specs.Checking.{check_answers}
+use Rattle.stnu_run.specs.declared.plan_input.PlanForm.{PlanForm}
 use Rattle.stnu_run.specs.Verdict.{PutsControllable, PutsRefuted, Decides}
 
 -- a verdict is one, where what is said of each answer is
@@ -17,7 +18,7 @@ decided_once net Yes No Same same_yes same_no one other (inr (cert, refutes, fir
 decided_once net Yes No Same same_yes same_no one other (inr (cert, refutes, first)) (inr (same, also, second)) =
     same_no one other cert first (subst (No other) (certificate_one net same cert also.of refutes.of) second)
 
-pub check_answers_once : (question : Unit {0}) (net : Plan) (a b : List ℕ) (x y : End) → check_answers question net a x → check_answers question net b y → (a ≡ b) × (x ≡ y)
+pub check_answers_once : (question : PlanForm) (net : Plan) (a b : List ℕ) (x y : End) → check_answers question net a x → check_answers question net b y → (a ≡ b) × (x ≡ y)
 check_answers_once question net a b x y =
     decided_once {A = List ℕ × End} net (λ one. PutsControllable one.0 one.1) (λ one cert. PutsRefuted cert one.0 one.1) (λ one other. (one.0 ≡ other.0) × (one.1 ≡ other.1))
     (λ one other puts also. (puts.0 ∙ sym also.0, puts.1 ∙ sym also.1)) (λ one other cert puts also. (puts.0 ∙ sym also.0, puts.1 ∙ sym also.1)) (a, x) (b, y)

@@ -1,6 +1,6 @@
 -- `run` keeps its promise.
 use Rattle.std.proofs.Common.{◌≡◌, ◌⊎◌, ℕ, List, [], ◌++◌, length, Option, refl, sym, ap, ◌∙◌, subst, inl, inr, append_assoc, append-nil}
-use Rattle.texts.specs.Lines.{InputLine, input_lines}
+use Rattle.texts.specs.Lines.{InputLine, input_lines, lines}
 use Rattle.net_model.specs.Network.{Plan}
 use Rattle.net_model.specs.declared.ids.PointId.{PointId}
 use Rattle.closure_model.specs.Tables.{Graph}
@@ -27,183 +27,172 @@ use Rattle.stnu_run.specs.EventAnswers.{due_line}
 use Rattle.stnu_run.specs.EventFaults.{HasEventFault}
 use Rattle.stnu_run.specs.Executing.{executing_machine}
 use Rattle.stnu_run.specs.Faults.{refusing, fault_end}
-use Rattle.stnu_run.specs.PlanText.{plan_begun, plan_reader}
+use Rattle.stnu_run.specs.PlanInput.{input_begun, input_reader, plan_in}
 use Rattle.stnu_run.specs.RunPromise.{OpensExecution, plan_opens, RunPromise}
 use Rattle.stnu_run.specs.Running.{run_begins, run_machine, run_start}
-use Rattle.stnu_run.specs.ToCheck.{plan_grammar}
 use Rattle.stnu_run.specs.Verdict.{controllable_line, PutsRefuted}
 use Rattle.stnu_run.specs.declared.faults.Fault.{Fault}
+use Rattle.stnu_run.specs.declared.plan_input.PlanForm.{PlanForm}
 use Rattle.stnu_run.proofs.DayLemmas.{ExecutionLaws}
 use Rattle.stnu_run.proofs.DueLemmas.{due_answered}
 use Rattle.stnu_run.proofs.EventLemmas.{at}
-use Rattle.stnu_run.proofs.ExecutionLemmas.{IsOpened, Lasts, lasts, execution_keeps, whole_by, refused_so, fault_so, fault_not}
-use Rattle.stnu_run.proofs.PlanLemmas.{plan_by}
+use Rattle.stnu_run.proofs.ExecutionLemmas.{Opened, IsOpened, Lasts, lasts, execution_keeps, whole_by, refused_so, fault_so, fault_not}
+use Rattle.stnu_run.proofs.PlanInputLemmas.{input_by}
 
--- ---- what follows on the reading of a plan
--- what the reading of the plan of an input comes to
-abbrev outcome_of : List InputLine → Outcome Plan Fault
-outcome_of lines = reading plan_reader (begins plan_begun) lines
+module _ (form : PlanForm) where
+  -- ---- what follows on the reading of a plan
+  -- what the reading of the plan of an input comes to
+  abbrev outcome_of : List InputLine → Outcome Plan Fault
+  outcome_of lines = reading input_reader (begins (input_begun form)) lines
 
--- how a run follows on what the reading of its plan came to
-abbrev Follows : Outcome Plan Fault → List ℕ → End → Type 0
-Follows outcome put end = FollowsOutcome run_begins plan_reader refusing executing_machine tt outcome put end
+  -- how a run follows on what the reading of its plan came to
+  abbrev Follows : Outcome Plan Fault → List ℕ → End → Type 0
+  Follows outcome put end = FollowsOutcome run_begins input_reader refusing executing_machine form outcome put end
 
--- an execution is opened, and goes on over lines of events
-pub record Opened (net : Plan) (number room : ℕ) (rest : List InputLine) (put : List ℕ) (end : End) : Type 0 where
-  pub controllable : IsControllable net
-  pub table : Graph
-  pub order : List PointId
-  pub by_closure : IsDispatchedByClosure net table order
-  pub due : Option ℕ
-  pub first : IsDueAnswer (started (setting_of net table)) due
-  pub more : List ℕ
-  pub all : put ≡ controllable_line ++ (due_line due ++ more)
-  pub later : RunOver executing_machine (at net (started (setting_of net table)) [] number room) rest more end
+  -- or a certificate is put
+  record RefutedSo (net : Plan) (put : List ℕ) (end : End) : Type 0 where
+    pub cert : Certificate
+    pub refutes : Refutes net cert
+    pub puts : PutsRefuted cert put end
 
--- or a certificate is put
-record RefutedSo (net : Plan) (put : List ℕ) (end : End) : Type 0 where
-  pub cert : Certificate
-  pub refutes : Refutes net cert
-  pub puts : PutsRefuted cert put end
+  module _ (net : Plan) (number room : ℕ) (rest : List InputLine) (put answer more : List ℕ) (onward : Onward Course) (end : End) (all : put ≡ answer ++ more)
+      (on : GoesOn run_begins input_reader refusing executing_machine onward number room rest more end) where
+    goes_as : (other : Onward Course) → onward ≡ other → GoesOn run_begins input_reader refusing executing_machine other number room rest more end
+    goes_as other is = subst (λ (o : Onward Course). GoesOn run_begins input_reader refusing executing_machine o number room rest more end) is on
 
-module _ (net : Plan) (number room : ℕ) (rest : List InputLine) (put answer more : List ℕ) (onward : Onward Course) (end : End) (all : put ≡ answer ++ more)
-    (on : GoesOn run_begins plan_reader refusing executing_machine onward number room rest more end) where
-  goes_as : (other : Onward Course) → onward ≡ other → GoesOn run_begins plan_reader refusing executing_machine other number room rest more end
-  goes_as other is = subst (λ (o : Onward Course). GoesOn run_begins plan_reader refusing executing_machine o number room rest more end) is on
+    begun : run_begins form net answer onward → Opened net number room rest put end ⊎ RefutedSo net put end
+    begun (inl (controllable, begins)) = inl (record {
+      controllable = controllable;
+      table = begins.table;
+      order = begins.order;
+      by_closure = begins.by_closure;
+      due = begins.due;
+      first = begins.first;
+      more = more;
+      all = all ∙ (ap (λ (a : List ℕ). a ++ more) begins.put ∙ append_assoc controllable_line (due_line begins.due) more);
+      later = goes_as _ begins.goes;
+    })
+    begun (inr (cert, refutes, (ended, puts, is))) =
+        let over = goes_as _ is in
+        inr (record { cert = cert; refutes = refutes; puts = (all ∙ (ap (λ (m : List ℕ). answer ++ m) over.0 ∙ (append-nil answer ∙ puts.0)), over.1 ∙ puts.1) })
 
-  begun : run_begins tt net answer onward → Opened net number room rest put end ⊎ RefutedSo net put end
-  begun (inl (controllable, begins)) = inl (record {
-    controllable = controllable;
-    table = begins.table;
-    order = begins.order;
-    by_closure = begins.by_closure;
-    due = begins.due;
-    first = begins.first;
-    more = more;
-    all = all ∙ (ap (λ (a : List ℕ). a ++ more) begins.put ∙ append_assoc controllable_line (due_line begins.due) more);
-    later = goes_as _ begins.goes;
-  })
-  begun (inr (cert, refutes, (ended, puts, is))) =
-      let over = goes_as _ is in
-      inr (record { cert = cert; refutes = refutes; puts = (all ∙ (ap (λ (m : List ℕ). answer ++ m) over.0 ∙ (append-nil answer ∙ puts.0)), over.1 ∙ puts.1) })
+  opened_or : (net : Plan) (number room : ℕ) (rest : List InputLine) (put : List ℕ) (end : End) → Follows (Given net number room rest) put end
+      → Opened net number room rest put end ⊎ RefutedSo net put end
+  opened_or net number room rest put end (answer, more, onward, begins, all, on) = begun net number room rest put answer more onward end all on begins
 
-opened_or : (net : Plan) (number room : ℕ) (rest : List InputLine) (put : List ℕ) (end : End) → Follows (Given net number room rest) put end
-    → Opened net number room rest put end ⊎ RefutedSo net put end
-opened_or net number room rest put end (answer, more, onward, begins, all, on) = begun net number room rest put answer more onward end all on begins
+  -- where it is opened after these lines, it is one that they open
+  opened_after : (net : Plan) (used rest : List InputLine) (before put : List ℕ) (end : End) → before ≡ [] → Opened net (length used) (room_after most_input used) rest put end → IsOpened net used rest before put end
+  opened_after net used rest before put end nothing opened = record {
+    controllable = opened.controllable;
+    table = opened.table;
+    order = opened.order;
+    by_closure = opened.by_closure;
+    due = opened.due;
+    first = opened.first;
+    more = opened.more;
+    all = opened.all ∙ ap (λ (b : List ℕ). b ++ (controllable_line ++ (due_line opened.due ++ opened.more))) (sym nothing);
+    later = opened.later;
+  }
 
--- where it is opened after these lines, it is one that they open
-opened_after : (net : Plan) (used rest : List InputLine) (before put : List ℕ) (end : End) → before ≡ [] → Opened net (length used) (room_after most_input used) rest put end → IsOpened net used rest before put end
-opened_after net used rest before put end nothing opened = record {
-  controllable = opened.controllable;
-  table = opened.table;
-  order = opened.order;
-  by_closure = opened.by_closure;
-  due = opened.due;
-  first = opened.first;
-  more = opened.more;
-  all = opened.all ∙ ap (λ (b : List ℕ). b ++ (controllable_line ++ (due_line opened.due ++ opened.more))) (sym nothing);
-  later = opened.later;
-}
+  -- what is put for a network, whatever lines follow
+  abbrev Begins : Plan → List ℕ → End → Type 0
+  Begins net put end = (number : ℕ) × (room : ℕ) × (rest : List InputLine) × Follows (Given net number room rest) put end
 
--- what is put for a network, whatever lines follow
-abbrev Begins : Plan → List ℕ → End → Type 0
-Begins net put end = (number : ℕ) × (room : ℕ) × (rest : List InputLine) × Follows (Given net number room rest) put end
+  abbrev begins_answers : PlanForm → Plan → List ℕ → End → Type 0
+  begins_answers one net put end = Begins net put end
 
-abbrev begins_answers : Unit {0} → Plan → List ℕ → End → Type 0
-begins_answers one net put end = Begins net put end
+  follows_answered : (outcome : Outcome Plan Fault) (put : List ℕ) (end : End) → Follows outcome put end → AnswersOutcome begins_answers input_reader refusing form outcome put end
+  follows_answered (Given net number room rest) put end follows = (number, room, rest, follows)
+  follows_answered (Faulty fault) put end follows = follows
 
-follows_answered : (outcome : Outcome Plan Fault) (put : List ℕ) (end : End) → Follows outcome put end → AnswersOutcome begins_answers plan_reader refusing tt outcome put end
-follows_answered (Given net number room rest) put end follows = (number, room, rest, follows)
-follows_answered (Faulty fault) put end follows = follows
-
-module _ (laws : ExecutionLaws) where
-  opens_by : (net : Plan) (put : List ℕ) (end : End) → Begins net put end → OpensExecution net put end
-  opens_by net put end (number, room, rest, follows) = by (opened_or net number room rest put end follows)
-    where
-      by : Opened net number room rest put end ⊎ RefutedSo net put end → OpensExecution net put end
-      by (inl opened) =
-          let first = due_answered net _ _ opened.by_closure [] (started (setting_of net opened.table)) refl refl opened.due opened.first in
-          inl (opened.controllable, (opened.due, opened.more, first, opened.all))
-      by (inr refuted) = inr (refuted.refutes.never, (refuted.cert, refuted.refutes.accepted, refuted.puts))
-
-  opens_text : (input put : List ℕ) (end : End) → AnswersOrRefuses plan_grammar refusing Begins input put end → AnswersOrRefuses plan_grammar refusing OpensExecution input put end
-  opens_text input put end (inl (net, after, is, begins)) = inl (net, after, is, opens_by net put end begins)
-  opens_text input put end (inr refused) = inr refused
-
-  module _ (input put : List ℕ) (end : End) (follows : Follows (outcome_of (input_lines input)) put end) where
-    -- lines of a plan of a controllable network open its execution
-    leads : (used rest : List InputLine) (net : Plan) (before : List ℕ) → input_lines input ≡ used ++ rest → plan_opens used rest net before → IsControllable net → IsOpened net used rest before put end
-    leads used rest net before divided (declares, nothing) controls = by (opened_or net (length used) (room_after most_input used) rest put end here)
+  module _ (laws : ExecutionLaws) where
+    opens_by : (net : Plan) (put : List ℕ) (end : End) → Begins net put end → OpensExecution net put end
+    opens_by net put end (number, room, rest, follows) = by (opened_or net number room rest put end follows)
       where
-        here : Follows (Given net (length used) (room_after most_input used) rest) put end
-        here = subst (λ (o : Outcome Plan Fault). Follows o put end) (declared_read plan_reader plan_begun plan_grammar (plan_by 0) (input_lines input) used rest net divided declares) follows
+        by : Opened net number room rest put end ⊎ RefutedSo net put end → OpensExecution net put end
+        by (inl opened) =
+            let first = due_answered net _ _ opened.by_closure [] (started (setting_of net opened.table)) refl refl opened.due opened.first in
+            inl (opened.controllable, (opened.due, opened.more, first, opened.all))
+        by (inr refuted) = inr (refuted.refutes.never, (refuted.cert, refuted.refutes.accepted, refuted.puts))
 
-        by : Opened net (length used) (room_after most_input used) rest put end ⊎ RefutedSo net put end → IsOpened net used rest before put end
-        by (inl opened) = opened_after net used rest before put end nothing opened
-        by (inr refuted) = absurd (refuted.refutes.never controls)
+    opens_text : (input put : List ℕ) (end : End) → AnswersOrRefuses (plan_in form) refusing Begins input put end → AnswersOrRefuses (plan_in form) refusing OpensExecution input put end
+    opens_text input put end (inl (net, after, is, begins)) = inl (net, after, is, opens_by net put end begins)
+    opens_text input put end (inr refused) = inr refused
 
-    -- how the run ended: by the first refusal of the input, by a certificate, or after an execution was opened
-    data Ending : Type 0 where
-      refused_text : (fault : Fault) → IsFirstRefusal plan_grammar (input_lines input) fault → end ≡ fault_end fault → Ending
-      refuted_network : end ≡ ends.Refused → Ending
-      lasted : Lasts laws plan_opens (input_lines input) put end → Ending
+    module _ (input put : List ℕ) (end : End) (follows : Follows (outcome_of (input_lines input)) put end) where
+      -- lines of a plan of a controllable network open its execution
+      leads : (used rest : List InputLine) (net : Plan) (before : List ℕ) → input_lines input ≡ used ++ rest → (plan_opens form) used rest net before → IsControllable net → IsOpened net used rest before put end
+      leads used rest net before divided (declares, nothing) controls = by (opened_or net (length used) (room_after most_input used) rest put end here)
+        where
+          here : Follows (Given net (length used) (room_after most_input used) rest) put end
+          here = subst (λ (o : Outcome Plan Fault). Follows o put end) (declared_read input_reader (input_begun form) (plan_in form) (input_by form 0) (input_lines input) used rest net divided declares) follows
 
-    how_ended : Ending
-    how_ended = by (outcome_of (input_lines input)) refl follows (outcome_is plan_reader plan_begun plan_grammar (plan_by 0) (input_lines input))
-      where
-        opens : (net : Plan) (number room : ℕ) (rest : List InputLine) → IsGivenAt plan_reader plan_begun plan_grammar (plan_by 0) (input_lines input) net number room rest → Opened net number room rest put end ⊎ RefutedSo net put end → Ending
-        opens net number room rest given (inl opening) =
-            let opened = subst (λ (n : ℕ). Opened net n (room_after most_input given.used) rest put end) given.counted (subst (λ (r : ℕ). Opened net number r rest put end) given.left opening) in
-            lasted (lasts laws plan_opens (input_lines input) given.used rest net [] put end given.divided (given.declares, refl) (opened_after net given.used rest [] put end refl opened))
-        opens net number room rest given (inr refuted) = refuted_network refuted.puts.1
+          by : Opened net (length used) (room_after most_input used) rest put end ⊎ RefutedSo net put end → IsOpened net used rest before put end
+          by (inl opened) = opened_after net used rest before put end nothing opened
+          by (inr refuted) = absurd (refuted.refutes.never controls)
 
-        by : (outcome : Outcome Plan Fault) → outcome_of (input_lines input) ≡ outcome → Follows outcome put end
-            → OutcomeIs plan_reader plan_begun plan_grammar (plan_by 0) (input_lines input) outcome → Ending
-        by (Given net number room rest) comes on is = opens net number room rest is (opened_or net number room rest put end on)
-        by (Faulty fault) comes on is = refused_text fault is on.1
+      -- how the run ended: by the first refusal of the input, by a certificate, or after an execution was opened
+      data Ending : Type 0 where
+        refused_text : (fault : Fault) → IsFirstRefusal (plan_in form) (input_lines input) fault → end ≡ fault_end fault → Ending
+        refuted_network : end ≡ ends.Refused → Ending
+        lasted : Lasts laws (plan_opens form) (input_lines input) put end → Ending
 
-    completes_by : end ≡ ends.Done → (net : Plan) × (listings : List Listing) × IsWholeDay plan_opens (input_lines input) net listings
-    completes_by whole = by how_ended
-      where
-        by : Ending → (net : Plan) × (listings : List Listing) × IsWholeDay plan_opens (input_lines input) net listings
-        by (refused_text fault first is) = absurd (fault_not fault end is (inr whole))
-        by (refuted_network is) = absurd (cc (is, whole))
-        by (lasted one) = (one.net, one.ending.listings, whole_by laws plan_opens (input_lines input) put end one whole one.ending.decided)
+      how_ended : Ending
+      how_ended = by (outcome_of (input_lines input)) refl follows (outcome_is input_reader (input_begun form) (plan_in form) (input_by form 0) (input_lines input))
+        where
+          opens : (net : Plan) (number room : ℕ) (rest : List InputLine) → IsGivenAt input_reader (input_begun form) (plan_in form) (input_by form 0) (input_lines input) net number room rest → Opened net number room rest put end ⊎ RefutedSo net put end → Ending
+          opens net number room rest given (inl opening) =
+              let opened = subst (λ (n : ℕ). Opened net n (room_after most_input given.used) rest put end) given.counted (subst (λ (r : ℕ). Opened net number r rest put end) given.left opening) in
+              lasted (lasts laws (plan_opens form) (input_lines input) given.used rest net [] put end given.divided (given.declares, refl) (opened_after net given.used rest [] put end refl opened))
+          opens net number room rest given (inr refuted) = refuted_network refuted.puts.1
 
-    refused_by_day : end ≡ ends.EventRefused → IsRefusedDay plan_opens (input_lines input)
-    refused_by_day refused = by how_ended
-      where
-        by : Ending → IsRefusedDay plan_opens (input_lines input)
-        by (refused_text fault first is) = absurd (fault_not fault end is (inl refused))
-        by (refuted_network is) = absurd (cc (is, refused))
-        by (lasted one) = refused_so laws plan_opens (input_lines input) put end one refused one.ending.decided
+          by : (outcome : Outcome Plan Fault) → outcome_of (input_lines input) ≡ outcome → Follows outcome put end
+              → OutcomeIs input_reader (input_begun form) (plan_in form) (input_by form 0) (input_lines input) outcome → Ending
+          by (Given net number room rest) comes on is = opens net number room rest is (opened_or net number room rest put end on)
+          by (Faulty fault) comes on is = refused_text fault is on.1
 
-    faults_by : (end ≡ ends.Fault) ⊎ (end ≡ ends.Limit)
-        → (fault : Fault) × (IsFirstRefusal plan_grammar (input_lines input) fault ⊎ HasEventFault plan_opens (input_lines input) fault)
-    faults_by so = by how_ended
-      where
-        never : end ≡ ends.Refused → (end ≡ ends.Fault) ⊎ (end ≡ ends.Limit) → ⊥
-        never is (inl fault) = absurd (cc (is, fault))
-        never is (inr limit) = absurd (cc (is, limit))
+      completes_by : end ≡ ends.Done → (net : Plan) × (listings : List Listing) × IsWholeDay (plan_opens form) (input_lines input) net listings
+      completes_by whole = by how_ended
+        where
+          by : Ending → (net : Plan) × (listings : List Listing) × IsWholeDay (plan_opens form) (input_lines input) net listings
+          by (refused_text fault first is) = absurd (fault_not fault end is (inr whole))
+          by (refuted_network is) = absurd (cc (is, whole))
+          by (lasted one) = (one.net, one.ending.listings, whole_by laws (plan_opens form) (input_lines input) put end one whole one.ending.decided)
 
-        by : Ending → (fault : Fault) × (IsFirstRefusal plan_grammar (input_lines input) fault ⊎ HasEventFault plan_opens (input_lines input) fault)
-        by (refused_text fault first is) = (fault, inl first)
-        by (refuted_network is) = absurd (never is so)
-        by (lasted one) = let (fault, has) = fault_so laws plan_opens (input_lines input) put end one so one.ending.decided in (fault, inr has)
+      refused_by_day : end ≡ ends.EventRefused → IsRefusedDay (plan_opens form) (input_lines input)
+      refused_by_day refused = by how_ended
+        where
+          by : Ending → IsRefusedDay (plan_opens form) (input_lines input)
+          by (refused_text fault first is) = absurd (fault_not fault end is (inl refused))
+          by (refuted_network is) = absurd (cc (is, refused))
+          by (lasted one) = refused_so laws (plan_opens form) (input_lines input) put end one refused one.ending.decided
 
-  -- each run keeps the promise
-  pub run_keeps : (run : Unit {0}) (input put : List ℕ) (end : End) → Runs run_machine (run_start run) input put end → RunPromise input put end
-  run_keeps run input put end runs =
-      let follows = run_is run_begins plan_reader refusing executing_machine tt (begins plan_begun) (input_lines input) put end runs in
-      let text = outcome_answered plan_reader plan_begun plan_grammar (plan_by 0) begins_answers refusing tt input put end (follows_answered (outcome_of (input_lines input)) put end follows) in
-      record {
-        opens = record {
-          answers = opens_text input put end text.answers;
-          declared = λ net is. opens_by net put end (text.declared net is);
-          refuses = text.refuses;
-        };
-        execution = execution_keeps laws plan_opens (input_lines input) put end (leads input put end follows);
-        completes = completes_by input put end follows;
-        refused = refused_by_day input put end follows;
-        faults = faults_by input put end follows;
-      }
+      faults_by : (end ≡ ends.Fault) ⊎ (end ≡ ends.Limit)
+          → (fault : Fault) × (IsFirstRefusal (plan_in form) (input_lines input) fault ⊎ HasEventFault (plan_opens form) (input_lines input) fault)
+      faults_by so = by how_ended
+        where
+          never : end ≡ ends.Refused → (end ≡ ends.Fault) ⊎ (end ≡ ends.Limit) → ⊥
+          never is (inl fault) = absurd (cc (is, fault))
+          never is (inr limit) = absurd (cc (is, limit))
+
+          by : Ending → (fault : Fault) × (IsFirstRefusal (plan_in form) (input_lines input) fault ⊎ HasEventFault (plan_opens form) (input_lines input) fault)
+          by (refused_text fault first is) = (fault, inl first)
+          by (refuted_network is) = absurd (never is so)
+          by (lasted one) = let (fault, has) = fault_so laws (plan_opens form) (input_lines input) put end one so one.ending.decided in (fault, inr has)
+
+    -- each run keeps the promise
+    pub run_keeps : (input put : List ℕ) (end : End) → Runs run_machine (run_start form) input put end → RunPromise form input put end
+    run_keeps input put end runs =
+        let follows = run_is run_begins input_reader refusing executing_machine form (begins (input_begun form)) (input_lines input) put end runs in
+        let text = outcome_answered input_reader (input_begun form) (plan_in form) (input_by form 0) begins_answers refusing form input put end (follows_answered (outcome_of (input_lines input)) put end follows) in
+        record {
+          opens = record {
+            answers = opens_text input put end text.answers;
+            declared = λ net is. opens_by net put end (text.declared net is);
+            refuses = text.refuses;
+          };
+          execution = execution_keeps laws (plan_opens form) (input_lines input) put end (leads input put end follows);
+          completes = completes_by input put end follows;
+          refused = refused_by_day input put end follows;
+          faults = faults_by input put end follows;
+        }

@@ -42,7 +42,7 @@ use Rattle.stnu_run.specs.declared.session.InSession.{InSession}
 use Rattle.stnu_run.specs.declared.session.InSession.TheVariants.{Editing, Executing}
 use Rattle.stnu_run.proofs.EventLemmas.{at}
 use Rattle.stnu_run.proofs.ReplyLemmas.{Continues, Replied, replied, last_reply}
-use Rattle.stnu_run.proofs.RunLemmas.{Opened}
+use Rattle.stnu_run.proofs.ExecutionLemmas.{Opened}
 use Rattle.stnu_run.proofs.SessionOnceLemmas.{told_step, fault_step}
 
 -- where a session stands in a run, while its network is edited
@@ -346,8 +346,8 @@ module _ (steps : (line : List (List ℕ)) → OneStep line) where
   over_steps (line ∷ edits) rest standing told net number room put end come (first, others, is, still, all, tell) run =
       let over = over_step standing line (edits ++ rest) number room put end run first still come.0 is in
       let on =
-          over_steps edits rest over.next others net (number + 1) (room - line_size line) over.more end come.1
-          (subst (λ (n : Plan). TellSteps n (texts edits) others net) (sym (stands_net standing over.next first over.stands)) tell) over.later in
+      over_steps edits rest over.next others net (number + 1) (room - line_size line) over.more end come.1
+      (subst (λ (n : Plan). TellSteps n (texts edits) others net) (sym (stands_net standing over.next first over.stands)) tell) over.later in
       let same : number + 1 + length edits ≡ number + length (line ∷ edits) = omega arith in
       record {
         last = on.last;

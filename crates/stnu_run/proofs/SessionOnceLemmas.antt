@@ -101,7 +101,7 @@ module _ (way : OneWay) where
       let nets : first.net ≡ second.net = cc (sym first.made ∙ second.made) in
       let held : first.held ≡ second.held = cc (sym first.was ∙ second.was) in
       let moved : FollowsEdit before.net edit second.net second.held first.opened one =
-          subst (λ (n : Plan). FollowsEdit before.net edit n second.held first.opened one) nets (subst (λ (o : Opened). FollowsEdit before.net edit first.net o first.opened one) held first.follows) in
+      subst (λ (n : Plan). FollowsEdit before.net edit n second.held first.opened one) nets (subst (λ (o : Opened). FollowsEdit before.net edit first.net o first.opened one) held first.follows) in
       let same = way.follows before.net edit second.net second.held first.opened second.opened one other moved second.follows in
       (same.1, first.is ∙ (ap (λ (n : Plan). open_state n first.opened) nets ∙ (ap (open_state second.net) same.0 ∙ sym second.is)))
 

@@ -10,6 +10,7 @@ use Rattle.execution_model.specs.Laws.{IsDispatchedByClosure}
 use Rattle.command_engine.specs.declared.endings.End.{End}
 use Rattle.stnu_run.specs.Checking.{check_answers}
 use Rattle.stnu_run.specs.CheckPromise.{PutsVerdict}
+use Rattle.stnu_run.specs.declared.plan_input.PlanForm.{PlanForm}
 
 -- a closure with an order decides it
 pub closed_decides : OrderedClosuresAreControllable → (net : Plan) (closed : Closed) → IsInstant net → IsClosedBy net closed → (net ≡ net) × IsControllable net × IsDispatchedByClosure net closed.table closed.order
@@ -20,6 +21,6 @@ pub cycle_decides : CyclesOfTablesExclude → (net : Plan) → IsInstant net →
 cycle_decides exclude net instant found controls = exclude net found.table found.cycle instant found.derivable found.is controls
 
 -- the answer to a network is its verdict
-pub verdict_put : (net : Plan) (answer : List ℕ) (end : End) → check_answers tt net answer end → PutsVerdict net answer end
-verdict_put net answer end (inl controllable) = inl controllable
-verdict_put net answer end (inr (cert, refutes, puts)) = inr (refutes.never, (cert, refutes.accepted, puts))
+pub verdict_put : (form : PlanForm) (net : Plan) (answer : List ℕ) (end : End) → check_answers form net answer end → PutsVerdict net answer end
+verdict_put form net answer end (inl controllable) = inl controllable
+verdict_put form net answer end (inr (cert, refutes, puts)) = inr (refutes.never, (cert, refutes.accepted, puts))

@@ -1,21 +1,29 @@
 -- The number of workers changes nothing in what the words ask, and what words of commands that take it say.
-use Rattle.std.proofs.Common.{◌≡◌, ◌↔◌, not, ℕ, ◌<◌, ◌≤◌, ◌^◌, ◌==◌, Bool, true, false, List, [], ◌∷◌, ◌++◌, Option, Some, None, Result, Ok, Err, inl, inr, refl, sym, ap, ◌∙◌, subst, true≢false, arith, rules, if◌then◌else◌}
+use Rattle.std.proofs.Common.{◌≡◌, ◌↔◌, ◌⊎◌, ◌||◌, map, codes, not, ℕ, ◌<◌, ◌≤◌, ◌^◌, ◌==◌, Bool, true, false, List, [], ◌∷◌, ◌++◌, Option, Some, None, Result, Ok, Err, inl, inr, refl, sym, ap, ◌∙◌, subst, true≢false, arith, rules, if◌then◌else◌}
 use Rattle.std.specs.Fmt.{decimal}
 use Rattle.std.specs.Option.{option_and_then, option_map}
+use Rattle.std.specs.Str.{bytes_eq}
+use Rattle.std.proofs.lemmas.Slice.Eq.{bytes_eq-Decides}
 use Rattle.std.proofs.lemmas.Bool.{eqb-true}
 use Rattle.std.proofs.lemmas.Bool.Decides.{nat_tests}
 use Rattle.net_model.specs.Numbers.{natural_of}
 use Rattle.net_model.specs.declared.format.FormatKind.{FormatKind}
 use Rattle.net_model.proofs.SpellingLemmas.{natural_spelled, spelled_natural}
-use Rattle.command_words.specs.Arguments.{Arguments, arguments_by, is_given, text_given, option_at}
+use Rattle.command_words.specs.Arguments.{Arguments, arguments_by, flag_at, is_given, text_given, option_at}
 use Rattle.command_words.specs.Reading.{arguments_of}
-use Rattle.command_words.specs.Spelling.{Use, valued, flag, operand, is_plain, Spells, SpellsAll, AreOf, Says}
-use Rattle.command_words.specs.Syntax.{Syntax, Text, is_sound}
+use Rattle.command_words.specs.Spelling.{Use, name_of, valued, flag, operand, is_plain, Spells, SpellsAll, AreOf, Says}
+use Rattle.command_words.specs.Syntax.{Syntax, Text, are_apart, is_in, is_sound}
 use Rattle.command_words.proofs.LawLemmas.{read_exactly}
 use Rattle.stnu_run.specs.Judging.{judge_asked, judge_syntax}
+use Rattle.stnu_run.specs.PlanInput.{form_by, json_name}
 use Rattle.stnu_run.specs.Requests.{asked_by}
-use Rattle.stnu_run.specs.Workers.{most_workers, workers_name, count_in, count_of, workers_of, has_workers, SpellsWorkers, SaysCount, SayWithWorkers, HasWorkers, DifferInWorkers, WorkersDecideNothing}
+use Rattle.stnu_run.specs.Showing.{show_asked, show_syntax}
+use Rattle.stnu_run.specs.WordLaws.{SayFormAndWorkers, SayForms, form_words}
+use Rattle.stnu_run.specs.Workers.{most_workers, workers_name, count_in, count_of, workers_of, has_workers, SpellsWorkers, SaysCount, HasWorkers, DifferInWorkers, WorkersDecideNothing}
 use Rattle.stnu_run.specs.declared.judging.Judge.{Judge}
+use Rattle.stnu_run.specs.declared.showing.Show.{Show}
+use Rattle.stnu_run.specs.declared.plan_input.PlanForm.{PlanForm}
+use Rattle.stnu_run.specs.declared.plan_input.PlanForm.TheVariants.{Text as TextForm, Json}
 use Rattle.stnu_run.proofs.PlaceLemmas.{Placed, placed}
 use Rattle.stnu_run.proofs.UseLemmas.{given_without, text_without, text_absent, text_there, operands_without, alone, says_without, says_other}
 
@@ -154,37 +162,107 @@ module _ {A : Type 0} (command : Syntax) (asked : Arguments → Option A) (law :
       asks command law.sound asked (front ++ (others ++ back)) (place.before ++ valued workers_name (decimal number) ∷ place.after) says
       ∙ (sym (law.same _ _ (differ_other place.before place.after none count number spells.0 spells.1 spells_other.0 spells_other.1)) ∙ asked_placed)
 
--- ---- what the words of a command are
+-- ---- a command that takes the form of the plan, and a number of workers
+abbrev pub plan_words : Syntax
+plan_words = record { flags = json_name ∷ []; options = workers_name ∷ []; operands = [] }
 
--- a command without words
-no_uses : (uses : List Use) → AreOf judge_syntax uses → uses ≡ []
-no_uses [] known = refl
-no_uses (flag name ∷ uses) known = absurd (true≢false (sym known.0))
-no_uses (valued name text ∷ uses) known = absurd (true≢false (sym known.0))
-no_uses (operand name text ∷ uses) known = absurd (true≢false (sym known.0))
+abbrev pub asked_form : Arguments → Option PlanForm
+asked_form arguments = option_map (λ workers. form_by (flag_at 0 arguments)) (has_workers (option_at 0 arguments))
 
-pub judge_exactly : (words : List Text) (judge : Judge) → asked_by judge_syntax judge_asked words ≡ Some judge ↔ words ≡ []
-judge_exactly words judge = (to, λ is. ap (asked_by judge_syntax judge_asked) is)
+-- what is asked by whether the flag is given, where there are workers
+abbrev form_where : Bool → Option (Unit {0}) → Option PlanForm
+form_where given workers = option_map (λ w. form_by given) workers
+
+form_asked : (uses : List Use) → HasWorkers uses → asked_form (arguments_by plan_words uses) ≡ Some (form_by (is_given json_name uses))
+form_asked uses (count, is) = ap (λ (found : Option ℕ). form_where (is_given json_name uses) (is_found found)) is
+
+-- the number of workers decides nothing of the form
+pub workers_decide_no_form : WorkersDecideNothing plan_words asked_form
+workers_decide_no_form = record {
+  sound = refl;
+  no_flag = refl;
+  same = λ uses others differ.
+      form_asked uses differ.one ∙ (ap (λ (given : Bool). Some (form_by given)) (differ.flags json_name refl) ∙ sym (form_asked others differ.other));
+}
+
+pub form_exactly : (words : List Text) (form : PlanForm) → asked_by plan_words asked_form words ≡ Some form ↔ SayFormAndWorkers plan_words form words
+form_exactly words form = (to, from)
   where
-    to : asked_by judge_syntax judge_asked words ≡ Some judge → words ≡ []
+    by : (uses : List Use) → Says plan_words words uses → (found : Option (Unit {0})) → has_workers (text_given workers_name uses) ≡ found → form_where (is_given json_name uses) found ≡ Some form → SayFormAndWorkers plan_words form words
+    by uses says None same is = absurd cc
+    by uses says (Some tt) same is = record {
+      say = record { uses = uses; says = says; workers = says_count (text_given workers_name uses) same };
+      given = (let one : form_by (is_given json_name uses) ≡ form = cc in one);
+    }
+
+    to : asked_by plan_words asked_form words ≡ Some form → SayFormAndWorkers plan_words form words
+    to is =
+        let means = meant plan_words refl asked_form words form is in
+        by means.0 means.1 (has_workers (text_given workers_name means.0)) refl means.2
+
+    from : SayFormAndWorkers plan_words form words → asked_by plan_words asked_form words ≡ Some form
+    from say =
+        asks plan_words refl asked_form words say.say.uses say.say.says
+        ∙ (ap (form_where (is_given json_name say.say.uses)) (count_said (text_given workers_name say.say.uses) say.say.workers) ∙ ap Some say.given)
+
+-- ---- a command that takes the form of the plan alone
+json_is : (name : Text) → is_in name (json_name ∷ []) ≡ true → name ≡ json_name
+json_is name is = by (bytes_eq json_name name) refl
+  where
+    by : (test : Bool) → bytes_eq json_name name ≡ test → name ≡ json_name
+    by true same = sym ((bytes_eq-Decides json_name name).0 same)
+    by false same = absurd (true≢false (sym is ∙ ap (λ (t : Bool). t || false) same))
+
+-- the flag, or nothing
+flag_or_none : (uses : List Use) → AreOf judge_syntax uses → are_apart (map name_of uses) ≡ true → (uses ≡ []) ⊎ (uses ≡ flag json_name ∷ [])
+flag_or_none [] known once = inl refl
+flag_or_none (valued name text ∷ uses) known once = absurd (true≢false (sym known.0))
+flag_or_none (operand name text ∷ uses) known once = absurd (true≢false (sym known.0))
+flag_or_none (flag name ∷ []) known once = inr (ap (λ (n : Text). flag n ∷ []) (json_is name known.0))
+flag_or_none (flag name ∷ valued other text ∷ uses) known once = absurd (true≢false (sym known.1.0))
+flag_or_none (flag name ∷ operand other text ∷ uses) known once = absurd (true≢false (sym known.1.0))
+flag_or_none (flag name ∷ flag other ∷ uses) known once =
+    let first = json_is name known.0 in
+    let second = json_is other known.1.0 in
+    let twice : are_apart (json_name ∷ json_name ∷ map name_of uses) ≡ true = subst (λ (n : Text). are_apart (json_name ∷ n ∷ map name_of uses) ≡ true) second (subst (λ (n : Text). are_apart (n ∷ other ∷ map name_of uses) ≡ true) first once) in
+    absurd (true≢false (sym twice))
+
+words_are : (uses : List Use) (words : List Text) → SpellsAll uses words → (uses ≡ []) ⊎ (uses ≡ flag json_name ∷ []) → words ≡ form_words (form_by (is_given json_name uses))
+words_are uses words spelled (inl none) =
+    let is : words ≡ [] = subst (λ (us : List Use). SpellsAll us words) none spelled in
+    is ∙ sym (ap (λ (us : List Use). form_words (form_by (is_given json_name us))) none)
+words_are uses words spelled (inr one) =
+    let all = subst (λ (us : List Use). SpellsAll us words) one spelled in
+    let is : words ≡ codes "--json" ∷ [] = all.2 ∙ (ap (λ (ws : List Text). ws ++ all.1) all.3 ∙ ap (λ (ws : List Text). codes "--json" ∷ ws) all.4) in
+    is ∙ sym (ap (λ (us : List Use). form_words (form_by (is_given json_name us))) one)
+
+asked_so : (form : PlanForm) → asked_by judge_syntax judge_asked (form_words form) ≡ Some (record { form = form })
+asked_so TextForm = refl
+asked_so Json = asks judge_syntax refl judge_asked (codes "--json" ∷ []) (flag json_name ∷ []) (record { spelled = (codes "--json" ∷ [], [], refl, refl, refl); known = (refl, tt); once = refl; operands = refl })
+
+pub judge_exactly : (words : List Text) (judge : Judge) → asked_by judge_syntax judge_asked words ≡ Some judge ↔ words ≡ form_words judge.form
+judge_exactly words judge = (to, from)
+  where
+    to : asked_by judge_syntax judge_asked words ≡ Some judge → words ≡ form_words judge.form
     to is =
         let means = meant judge_syntax refl judge_asked words judge is in
-        subst (λ (uses : List Use). SpellsAll uses words) (no_uses means.0 means.1.known) means.1.spelled
+        let asked : record { form = form_by (is_given json_name means.0) } ≡ judge = (let last = means.2 in cc) in
+        words_are means.0 words means.1.spelled (flag_or_none means.0 means.1.known means.1.once) ∙ ap (λ (j : Judge). form_words j.form) asked
 
--- a command that takes a number of workers alone
-abbrev pub workers_alone : Syntax
-workers_alone = record { flags = []; options = workers_name ∷ []; operands = [] }
+    from : words ≡ form_words judge.form → asked_by judge_syntax judge_asked words ≡ Some judge
+    from is = ap (asked_by judge_syntax judge_asked) is ∙ asked_so judge.form
 
-abbrev pub asked_alone : Arguments → Option (Unit {0})
-asked_alone arguments = has_workers (option_at 0 arguments)
-
-pub workers_exactly : (words : List Text) → asked_by workers_alone asked_alone words ≡ Some tt ↔ SayWithWorkers workers_alone words
-workers_exactly words = (to, from)
+-- ---- a command that takes two forms
+pub show_exactly : (words : List Text) (show : Show) → asked_by show_syntax show_asked words ≡ Some show ↔ SayForms show_syntax show words
+show_exactly words show = (to, from)
   where
-    to : asked_by workers_alone asked_alone words ≡ Some tt → SayWithWorkers workers_alone words
+    to : asked_by show_syntax show_asked words ≡ Some show → SayForms show_syntax show words
     to is =
-        let means = meant workers_alone refl asked_alone words tt is in
-        record { uses = means.0; says = means.1; workers = says_count (text_given workers_name means.0) means.2 }
+        let means = meant show_syntax refl show_asked words show is in
+        let asked : record { form = form_by (is_given json_name means.0); print = form_by (is_given (codes "print-json") means.0) } ≡ show = (let last = means.2 in cc) in
+        record { uses = means.0; says = means.1; read = ap (λ (s : Show). s.form) asked; put = ap (λ (s : Show). s.print) asked }
 
-    from : SayWithWorkers workers_alone words → asked_by workers_alone asked_alone words ≡ Some tt
-    from say = asks workers_alone refl asked_alone words say.uses say.says ∙ count_said (text_given workers_name say.uses) say.workers
+    from : SayForms show_syntax show words → asked_by show_syntax show_asked words ≡ Some show
+    from say =
+        let shown : PlanForm → PlanForm → Option Show = λ form print. Some (record { form = form; print = print }) in
+        asks show_syntax refl show_asked words say.uses say.says ∙ (ap (λ (f : PlanForm). shown f (form_by (is_given (codes "print-json") say.uses))) say.read ∙ ap (λ (f : PlanForm). shown show.form f) say.put)

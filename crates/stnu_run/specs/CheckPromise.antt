@@ -12,9 +12,10 @@ use Rattle.command_engine.specs.declared.endings.End.{End}
 use Rattle.stnu_run.specs.Checking.{check_answers}
 use Rattle.stnu_run.specs.Faults.{refusing}
 use Rattle.stnu_run.specs.PlanAsking.{plan_program}
+use Rattle.stnu_run.specs.PlanInput.{plan_in}
 use Rattle.stnu_run.specs.Programs.{Program}
-use Rattle.stnu_run.specs.ToCheck.{plan_grammar}
 use Rattle.stnu_run.specs.Verdict.{controllable_line, refuted_line, PutsControllable, PutsRefuted}
+use Rattle.stnu_run.specs.declared.plan_input.PlanForm.{PlanForm}
 
 -- The verdict of a network is put: that it is controllable, and it is; or that it is not, and it is not, and a certificate that the
 -- judge accepts.
@@ -23,14 +24,14 @@ PutsVerdict net put end =
     (IsControllable net × PutsControllable put end)
     ⊎ ((¬ IsControllable net) × ((cert : Certificate) × (judgement_of net cert ≡ Accepted NotControllable) × PutsRefuted cert put end))
 
--- What `check` promises. `checks`: it puts the verdict of the network that the input declares, or the first refusal of the input.
+-- What `check` promises, of a plan of this form. `checks`: it puts the verdict of the network that the input declares, or the first refusal of the input.
 -- `controllable`: where it puts that a network is controllable, the network that the input declares is. `refutes`: where it puts that
 -- one is not, the network that the input declares is not.
-pub record CheckPromise (input put : List ℕ) (end : End) : Type 0 where
-  pub checks : AnswersText plan_grammar refusing PutsVerdict input put end
-  pub controllable : put ≡ controllable_line → (net : Plan) (rest : List (List ℕ)) → plan_grammar.declares (lines input) net rest → IsControllable net
-  pub refutes : (more : List ℕ) → put ≡ refuted_line ++ more → (net : Plan) (rest : List (List ℕ)) → plan_grammar.declares (lines input) net rest → ¬ IsControllable net
+pub record CheckPromise (form : PlanForm) (input put : List ℕ) (end : End) : Type 0 where
+  pub checks : AnswersText (plan_in form) refusing PutsVerdict input put end
+  pub controllable : put ≡ controllable_line → (net : Plan) (rest : List (List ℕ)) → (plan_in form).declares (lines input) net rest → IsControllable net
+  pub refutes : (more : List ℕ) → put ≡ refuted_line ++ more → (net : Plan) (rest : List (List ℕ)) → (plan_in form).declares (lines input) net rest → ¬ IsControllable net
 
 -- the program of `check`
-abbrev pub check_program : Unit {0} → Program
-check_program = plan_program check_answers (λ check. CheckPromise)
+abbrev pub check_program : PlanForm → Program
+check_program = plan_program (λ form. form) check_answers CheckPromise

@@ -8,6 +8,7 @@ use Rattle.stnu_run.specs.JudgePromise.{judge_program}
 use Rattle.stnu_run.specs.Judging.{judge_asked, judge_syntax}
 use Rattle.stnu_run.specs.RunPromise.{run_program}
 use Rattle.stnu_run.specs.Running.{run_asked, run_syntax}
+use Rattle.stnu_run.specs.Showing.{show_asked, show_program, show_syntax}
 use Rattle.stnu_run.specs.Programs.{Program, Defines}
 use Rattle.stnu_run.specs.Requests.{program_by, refuses_words}
 use Rattle.stnu_run.specs.SessionPromise.{session_program}
@@ -27,6 +28,7 @@ program_named command words =
     else when bytes_eq command (codes "check") run program_by check_syntax check_asked check_program words
     else when bytes_eq command (codes "run") run program_by run_syntax run_asked run_program words
     else when bytes_eq command (codes "session") run program_by session_syntax session_asked session_program words
+    else when bytes_eq command (codes "show") run program_by show_syntax show_asked show_program words
     else refuses_words
 
 -- the word of the command and the words after it: the first word is the program's name, the second that of the command

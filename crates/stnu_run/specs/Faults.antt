@@ -7,42 +7,43 @@ use Rattle.net_model.specs.Building.{word_of, which_word}
 use Rattle.net_model.specs.declared.format.FormatKind.{FormatKind}
 use Rattle.net_model.specs.declared.format.FormatKind.TheVariants.{NumberLimit}
 use Rattle.net_model.specs.declared.fault.BuildFault.TheVariants as part
+use Rattle.plan_json.specs.Words.{member_word}
+use Rattle.plan_json.specs.declared.fault.JsonFault.{JsonFault}
+use Rattle.plan_json.specs.declared.fault.JsonFault.TheVariants as json
 use Rattle.command_engine.specs.Reading.{Refusing}
 use Rattle.command_engine.specs.declared.endings.End.{End}
 use Rattle.command_engine.specs.declared.endings.End.TheVariants as end
 use Rattle.command_engine.specs.declared.machines.Stop.{Stop}
 use Rattle.command_engine.specs.declared.machines.Stop.TheVariants as stop
 use Rattle.stnu_run.specs.declared.faults.Fault.{Fault}
-use Rattle.stnu_run.specs.declared.faults.Fault.TheVariants.{Format, Part, LineTooLong, InputTooMuch}
+use Rattle.stnu_run.specs.declared.faults.Fault.TheVariants.{Format, Part, Document, DocumentTooLong, LineTooLong, InputTooMuch}
 
--- the class of a fault
-abbrev pub fault_class : Fault → List ℕ
-fault_class (Format number NumberLimit) = codes "limit"
-fault_class (Format number kind) = codes "format"
-fault_class (Part number (part.Limit which place)) = codes "limit"
-fault_class (Part number fault) = codes "plan"
-fault_class (LineTooLong number) = codes "limit"
-fault_class (InputTooMuch number) = codes "limit"
+-- what is printed of a fault of a document
+abbrev pub document_fault_words : JsonFault → List (List ℕ)
+document_fault_words json.NotJson = codes "json" ∷ codes "not-json" ∷ []
+document_fault_words (json.Shape member place) = codes "json" ∷ codes "shape" ∷ member_word member ∷ decimal place ∷ []
+document_fault_words (json.BadName member place) = codes "json" ∷ codes "bad-name" ∷ member_word member ∷ decimal place ∷ []
+document_fault_words (json.NumberLimit member place) = codes "limit" ∷ member_word member ∷ decimal place ∷ codes "number" ∷ []
+document_fault_words json.OutOfMemory = codes "json" ∷ codes "out of memory" ∷ []
 
--- the number of its line
-abbrev pub fault_number : Fault → ℕ
-fault_number (Format number kind) = number
-fault_number (Part number fault) = number
-fault_number (LineTooLong number) = number
-fault_number (InputTooMuch number) = number
+-- what is printed of a fault: its class, the number of its line, and the word that says what is wrong with the line; or that of a document
+abbrev pub fault_words : Fault → List (List ℕ)
+fault_words (Format number NumberLimit) = codes "limit" ∷ decimal number ∷ codes "number" ∷ []
+fault_words (Format number kind) = codes "format" ∷ decimal number ∷ format_word kind ∷ []
+fault_words (Part number (part.Limit which place)) = codes "limit" ∷ decimal number ∷ which_word which ∷ []
+fault_words (Part number fault) = codes "plan" ∷ decimal number ∷ word_of fault ∷ []
+fault_words (Document fault) = document_fault_words fault
+fault_words (DocumentTooLong number) = codes "limit" ∷ decimal number ∷ codes "json" ∷ []
+fault_words (LineTooLong number) = codes "limit" ∷ decimal number ∷ codes "line" ∷ []
+fault_words (InputTooMuch number) = codes "limit" ∷ decimal number ∷ codes "total" ∷ []
 
--- the word that says what is wrong with the line
-abbrev pub fault_word : Fault → List ℕ
-fault_word (Format number NumberLimit) = codes "number"
-fault_word (Format number kind) = format_word kind
-fault_word (Part number (part.Limit which place)) = which_word which
-fault_word (Part number fault) = word_of fault
-fault_word (LineTooLong number) = codes "line"
-fault_word (InputTooMuch number) = codes "total"
-
--- the line that is printed: `error`, the class of the fault, the number of its line, and the word
+-- the line that is printed
 abbrev pub fault_line : Fault → List ℕ
-fault_line fault = printed_line (codes "error" ∷ fault_class fault ∷ decimal (fault_number fault) ∷ fault_word fault ∷ [])
+fault_line fault = printed_line (codes "error" ∷ fault_words fault)
+
+abbrev pub document_fault_end : JsonFault → End
+document_fault_end (json.NumberLimit member place) = end.Limit
+document_fault_end fault = end.Fault
 
 -- a passed limit ends the run as such, and every other fault as a fault
 abbrev pub fault_end : Fault → End
@@ -50,6 +51,8 @@ fault_end (Format number NumberLimit) = end.Limit
 fault_end (Format number kind) = end.Fault
 fault_end (Part number (part.Limit which place)) = end.Limit
 fault_end (Part number fault) = end.Fault
+fault_end (Document fault) = document_fault_end fault
+fault_end (DocumentTooLong number) = end.Limit
 fault_end (LineTooLong number) = end.Limit
 fault_end (InputTooMuch number) = end.Limit
 

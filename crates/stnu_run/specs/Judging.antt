@@ -7,7 +7,7 @@ use Rattle.cert_checker.specs.Judgement.{judgement_of}
 use Rattle.cert_checker.specs.JudgementText.{judgement_text}
 use Rattle.cert_checker.specs.declared.judgement.Judgement.{Judgement}
 use Rattle.cert_checker.specs.declared.judgement.Judgement.TheVariants.{Accepted, Refused}
-use Rattle.command_words.specs.Arguments.{Arguments}
+use Rattle.command_words.specs.Arguments.{Arguments, flag_at}
 use Rattle.command_words.specs.Syntax.{Syntax}
 use Rattle.command_engine.specs.Machine.{Machine}
 use Rattle.command_engine.specs.Asked.{asked_machine}
@@ -18,9 +18,8 @@ use Rattle.command_engine.specs.declared.endings.End.TheVariants as end
 use Rattle.command_engine.specs.declared.pairs.Then.{Then}
 use Rattle.command_engine.specs.declared.pairs.Then.TheVariants.{First}
 use Rattle.stnu_run.specs.Faults.{refusing}
-use Rattle.stnu_run.specs.PlanText.{plan_begun, plan_reader}
+use Rattle.stnu_run.specs.PlanInput.{PlanInput, form_by, input_begun, input_reader, json_name}
 use Rattle.stnu_run.specs.CertificateTexts.{certificate_begun, certificate_reader}
-use Rattle.stnu_run.specs.declared.plan_text.PlanText.{PlanText}
 use Rattle.stnu_run.specs.declared.certificate_text.CertificateText.{CertificateText}
 use Rattle.stnu_run.specs.declared.judging.Judge.{Judge}
 
@@ -38,21 +37,21 @@ abbrev pub judge_answers : Judge → Plan × Certificate → List ℕ → End �
 judge_answers question value answer end =
     (answer ≡ judgement_line (judgement_of value.0 value.1)) × (end ≡ judgement_end (judgement_of value.0 value.1))
 
--- `judge` takes no words
+-- `judge` takes the form of the plan
 abbrev pub judge_syntax : Syntax
-judge_syntax = record { flags = []; options = []; operands = [] }
+judge_syntax = record { flags = json_name ∷ []; options = []; operands = [] }
 
 abbrev pub judge_asked : Arguments → Option Judge
-judge_asked arguments = Some (record {})
+judge_asked arguments = Some (record { form = form_by (flag_at 0 arguments) })
 
 -- how far the input of `judge` was read
 abbrev pub Judging : Type 0
-Judging = Asked Judge (Then PlanText Plan CertificateText)
+Judging = Asked Judge (Then PlanInput Plan CertificateText)
 
 -- before the first line
 abbrev pub judge_start : Judge → Judging
-judge_start judge = record { question = judge; text = First plan_begun certificate_begun }
+judge_start judge = record { question = judge; text = First (input_begun judge.form) certificate_begun }
 
 -- what `judge` means
 abbrev pub judge_machine : Machine Judging
-judge_machine = asked_machine judge_answers (then_reader plan_reader certificate_reader) refusing
+judge_machine = asked_machine judge_answers (then_reader input_reader certificate_reader) refusing

@@ -6,11 +6,16 @@ pub mod Judging
 pub mod ToRead
 pub mod ToJudge
 pub mod ToCheck
+pub mod DocumentSoFar
+pub mod DocumentTexts
+pub mod PlanDocument
+pub mod PlanInput
 pub mod JudgePromise
 pub mod Verdict
 pub mod Checking
 pub mod CheckPromise
 pub mod PlanAsking
+pub mod Showing
 pub mod Requests
 pub mod DefinedRuns
 pub mod Course

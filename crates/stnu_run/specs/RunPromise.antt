@@ -17,11 +17,12 @@ use Rattle.stnu_run.specs.EventAnswers.{due_line}
 use Rattle.stnu_run.specs.EventFaults.{HasEventFault}
 use Rattle.stnu_run.specs.ExecutionPromise.{ExecutionPromise}
 use Rattle.stnu_run.specs.Faults.{refusing}
+use Rattle.stnu_run.specs.PlanInput.{plan_in}
 use Rattle.stnu_run.specs.Programs.{Program, or_nothing, serves}
 use Rattle.stnu_run.specs.Running.{run_machine, run_start}
-use Rattle.stnu_run.specs.ToCheck.{plan_grammar}
 use Rattle.stnu_run.specs.Verdict.{controllable_line, PutsRefuted}
 use Rattle.stnu_run.specs.declared.faults.Fault.{Fault}
+use Rattle.stnu_run.specs.declared.plan_input.PlanForm.{PlanForm}
 
 -- An execution is opened: it is put that the network is controllable, and it is, with the first due moment, before all else; or that it is
 -- not, and it is not, and a certificate that the judge accepts.
@@ -30,22 +31,22 @@ OpensExecution net put end =
     (IsControllable net × ((due : Option ℕ) × (more : List ℕ) × AnswersDue net [] due × put ≡ controllable_line ++ (due_line due ++ more)))
     ⊎ ((¬ IsControllable net) × ((cert : Certificate) × (judgement_of net cert ≡ Accepted NotControllable) × PutsRefuted cert put end))
 
--- what opens an execution of `run`: the lines of a plan, which all come within the limits; nothing is put before
-abbrev pub plan_opens : Opening
-plan_opens used rest net before = DeclaresBy plan_grammar used rest net × (before ≡ [])
+-- what opens an execution of `run`: the lines of a plan of this form, which all come within the limits; nothing is put before
+abbrev pub plan_opens : PlanForm → Opening
+plan_opens form used rest net before = DeclaresBy (plan_in form) used rest net × (before ≡ [])
 
--- What `run` promises. `opens`: it opens the execution of the network that the input declares, or puts the first refusal of the input.
+-- What `run` promises, of a plan of this form. `opens`: it opens the execution of the network that the input declares, or puts the first refusal of the input.
 -- `execution`: what is promised of an execution that is opened so. `completes`: only for a controllable network and a faithful stream that is done
 -- does it end as whole. `refused`: only where a line tells what no faithful stream does does it end by a refused event. `faults`: only where the
 -- input has a first refusal, or its lines of events a fault, does it end by one.
-pub record RunPromise (input put : List ℕ) (end : End) : Type 0 where
-  pub opens : AnswersText plan_grammar refusing OpensExecution input put end
-  pub execution : ExecutionPromise plan_opens (input_lines input) put end
-  pub completes : end ≡ ends.Done → (net : Plan) × (listings : List Listing) × IsWholeDay plan_opens (input_lines input) net listings
-  pub refused : end ≡ ends.EventRefused → IsRefusedDay plan_opens (input_lines input)
+pub record RunPromise (form : PlanForm) (input put : List ℕ) (end : End) : Type 0 where
+  pub opens : AnswersText (plan_in form) refusing OpensExecution input put end
+  pub execution : ExecutionPromise (plan_opens form) (input_lines input) put end
+  pub completes : end ≡ ends.Done → (net : Plan) × (listings : List Listing) × IsWholeDay (plan_opens form) (input_lines input) net listings
+  pub refused : end ≡ ends.EventRefused → IsRefusedDay (plan_opens form) (input_lines input)
   pub faults : (end ≡ ends.Fault) ⊎ (end ≡ ends.Limit)
-      → (fault : Fault) × (IsFirstRefusal plan_grammar (input_lines input) fault ⊎ HasEventFault plan_opens (input_lines input) fault)
+      → (fault : Fault) × (IsFirstRefusal (plan_in form) (input_lines input) fault ⊎ HasEventFault (plan_opens form) (input_lines input) fault)
 
 -- the program of `run`
-abbrev pub run_program : Unit {0} → Program
-run_program run = serves run_machine (run_start run) (or_nothing RunPromise)
+abbrev pub run_program : PlanForm → Program
+run_program form = serves run_machine (run_start form) (or_nothing (RunPromise form))

@@ -1,12 +1,13 @@
 -- The command `run`: a plan, and after it lines of events, over which its network is executed. This project's own choice.
 use Rattle.std.specs.Prelude.{◌≡◌, ℕ, List, [], ◌∷◌, ◌++◌, Option}
+use Rattle.std.specs.Option.{option_map}
 use Rattle.net_model.specs.Network.{Plan}
 use Rattle.net_model.specs.declared.ids.PointId.{PointId}
 use Rattle.closure_model.specs.Tables.{Graph}
 use Rattle.cert_format.specs.declared.certificate.Certificate.{Certificate}
 use Rattle.execution_model.specs.Feeding.{Execution, started, IsDueAnswer}
 use Rattle.execution_model.specs.Laws.{setting_of, IsDispatchedByClosure}
-use Rattle.command_words.specs.Arguments.{Arguments, option_at}
+use Rattle.command_words.specs.Arguments.{Arguments, flag_at, option_at}
 use Rattle.command_words.specs.Syntax.{Syntax}
 use Rattle.command_engine.specs.Machine.{Machine}
 use Rattle.command_engine.specs.Phases.{text_then_phase_machine}
@@ -19,10 +20,10 @@ use Rattle.stnu_run.specs.Course.{Course}
 use Rattle.stnu_run.specs.EventAnswers.{due_line}
 use Rattle.stnu_run.specs.Executing.{executing_machine}
 use Rattle.stnu_run.specs.Faults.{refusing}
-use Rattle.stnu_run.specs.PlanText.{plan_begun, plan_reader}
+use Rattle.stnu_run.specs.PlanInput.{PlanInput, form_by, input_begun, input_reader, json_name}
 use Rattle.stnu_run.specs.Verdict.{controllable_line, PutsRefuted, Decides}
 use Rattle.stnu_run.specs.Workers.{has_workers, workers_name}
-use Rattle.stnu_run.specs.declared.plan_text.PlanText.{PlanText}
+use Rattle.stnu_run.specs.declared.plan_input.PlanForm.{PlanForm}
 
 -- the beginning of an execution: it is put that the network is controllable, and the first due moment; and it is executed by the lower bounds
 -- and waits of its closure
@@ -43,25 +44,26 @@ PutsBegun execution put = (due : Option ℕ) × IsDueAnswer execution due × (pu
 abbrev pub EndsRefuted : Certificate → List ℕ → Onward Course → Type 0
 EndsRefuted cert put onward = (end : End) × PutsRefuted cert put end × (onward ≡ Ends end)
 
--- by the verdict of the network its execution begins, or the certificate of its refutation is put
-abbrev pub run_begins : Unit {0} → Plan → List ℕ → Onward Course → Type 0
-run_begins start net answer onward = Decides net (BeginsExecution net answer onward) (λ cert. EndsRefuted cert answer onward)
+-- By the verdict of the network its execution begins, or the certificate of its refutation is put. The form in which the plan is given decides
+-- nothing of it.
+abbrev pub run_begins : PlanForm → Plan → List ℕ → Onward Course → Type 0
+run_begins form net answer onward = Decides net (BeginsExecution net answer onward) (λ cert. EndsRefuted cert answer onward)
 
--- `run` takes a number of workers, which decides nothing of what is asked
+-- `run` takes the form of the plan, and a number of workers, which decides nothing of what is asked
 abbrev pub run_syntax : Syntax
-run_syntax = record { flags = []; options = workers_name ∷ []; operands = [] }
+run_syntax = record { flags = json_name ∷ []; options = workers_name ∷ []; operands = [] }
 
-abbrev pub run_asked : Arguments → Option (Unit {0})
-run_asked arguments = has_workers (option_at 0 arguments)
+abbrev pub run_asked : Arguments → Option PlanForm
+run_asked arguments = option_map (λ workers. form_by (flag_at 0 arguments)) (has_workers (option_at 0 arguments))
 
--- how far the input of `run` was read; nothing is seen of how it begins, in which the number of workers stands
+-- how far the input of `run` was read; of how it begins nothing is seen but the form of the plan
 abbrev pub Running : Type 0
-Running = TextThenPhase (Unit {0}) PlanText Course
+Running = TextThenPhase PlanForm PlanInput Course
 
 -- before the first line
-abbrev pub run_start : Unit {0} → Running
-run_start run = Reading run plan_begun
+abbrev pub run_start : PlanForm → Running
+run_start form = Reading form (input_begun form)
 
 -- what `run` means
 abbrev pub run_machine : Machine Running
-run_machine = text_then_phase_machine run_begins plan_reader refusing executing_machine
+run_machine = text_then_phase_machine run_begins input_reader refusing executing_machine

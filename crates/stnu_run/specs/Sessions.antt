@@ -1,6 +1,7 @@
 -- The command `session`: a plan, then edits of its network and questions about it, and after `go` lines of events. This project's own choice.
 use Rattle.std.specs.Prelude.{◌≡◌, ◌⊎◌, ℕ, List, [], ◌∷◌, ◌++◌, Option, Some, None, Result, Ok, Err}
 use Rattle.texts.specs.Words.{words}
+use Rattle.std.specs.Option.{option_map}
 use Rattle.net_model.specs.Editing.{edited}
 use Rattle.net_model.specs.Network.{Plan}
 use Rattle.net_model.specs.declared.edit.Edit.{Edit}
@@ -19,7 +20,7 @@ use Rattle.edit_script.specs.declared.step.Step.{Step}
 use Rattle.edit_script.specs.declared.step.Step.TheVariants as step
 use Rattle.plan_session.specs.Sessions.{Accepts, IsOpenedOn}
 use Rattle.plan_session.specs.declared.answers.Report.{Report}
-use Rattle.command_words.specs.Arguments.{Arguments, option_at}
+use Rattle.command_words.specs.Arguments.{Arguments, flag_at, option_at}
 use Rattle.command_words.specs.Syntax.{Syntax}
 use Rattle.command_engine.specs.Machine.{Machine}
 use Rattle.command_engine.specs.Phases.{Within, text_then_phase_machine}
@@ -32,14 +33,14 @@ use Rattle.command_engine.specs.declared.phases.TextThenPhase.{TextThenPhase}
 use Rattle.command_engine.specs.declared.phases.TextThenPhase.TheVariants.{Reading}
 use Rattle.stnu_run.specs.Executing.{executing_machine}
 use Rattle.stnu_run.specs.Faults.{refusing, fault_line, fault_end, stop_fault}
-use Rattle.stnu_run.specs.PlanText.{plan_begun, plan_reader}
+use Rattle.stnu_run.specs.PlanInput.{PlanInput, form_by, input_begun, input_reader, json_name}
 use Rattle.stnu_run.specs.Running.{BeginsExecution}
 use Rattle.stnu_run.specs.SessionAnswers.{ready_line, ok_line, refused_line, report_line, table_text}
 use Rattle.stnu_run.specs.Standing.{Standing}
 use Rattle.stnu_run.specs.Verdict.{controllable_line, refuted_line, Decides}
 use Rattle.stnu_run.specs.Workers.{has_workers, workers_name}
 use Rattle.stnu_run.specs.declared.faults.Fault.TheVariants.{Format}
-use Rattle.stnu_run.specs.declared.plan_text.PlanText.{PlanText}
+use Rattle.stnu_run.specs.declared.plan_input.PlanForm.{PlanForm}
 use Rattle.stnu_run.specs.declared.session.InSession.{InSession}
 use Rattle.stnu_run.specs.declared.session.InSession.TheVariants.{Editing, Executing}
 
@@ -154,25 +155,25 @@ pub record OpensOn (net : Plan) (standing : Standing) : Type 0 where
   pub opened : IsOpenedOn net standing.session
   pub unreported : standing.report ≡ None
 
--- a session of the network of the plan is opened, and it is put that it is ready
-abbrev pub session_begins : Unit {0} → Plan → List ℕ → Onward InSession → Type 0
-session_begins start net answer onward = (standing : Standing) × OpensOn net standing × (answer ≡ ready_line) × (onward ≡ Goes (Editing standing))
+-- A session of the network of the plan is opened, and it is put that it is ready. The form in which the plan is given decides nothing of it.
+abbrev pub session_begins : PlanForm → Plan → List ℕ → Onward InSession → Type 0
+session_begins form net answer onward = (standing : Standing) × OpensOn net standing × (answer ≡ ready_line) × (onward ≡ Goes (Editing standing))
 
--- `session` takes a number of workers, which decides nothing of what is asked
+-- `session` takes the form of the plan, and a number of workers, which decides nothing of what is asked
 abbrev pub session_syntax : Syntax
-session_syntax = record { flags = []; options = workers_name ∷ []; operands = [] }
+session_syntax = record { flags = json_name ∷ []; options = workers_name ∷ []; operands = [] }
 
-abbrev pub session_asked : Arguments → Option (Unit {0})
-session_asked arguments = has_workers (option_at 0 arguments)
+abbrev pub session_asked : Arguments → Option PlanForm
+session_asked arguments = option_map (λ workers. form_by (flag_at 0 arguments)) (has_workers (option_at 0 arguments))
 
--- how far the input of `session` was read
+-- how far the input of `session` was read; of how it begins nothing is seen but the form of the plan
 abbrev pub SessionCommand : Type 0
-SessionCommand = TextThenPhase (Unit {0}) PlanText InSession
+SessionCommand = TextThenPhase PlanForm PlanInput InSession
 
 -- before the first line
-abbrev pub session_start : Unit {0} → SessionCommand
-session_start session = Reading session plan_begun
+abbrev pub session_start : PlanForm → SessionCommand
+session_start form = Reading form (input_begun form)
 
 -- what `session` means
 abbrev pub command_machine : Machine SessionCommand
-command_machine = text_then_phase_machine session_begins plan_reader refusing session_machine
+command_machine = text_then_phase_machine session_begins input_reader refusing session_machine

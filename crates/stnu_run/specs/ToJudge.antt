@@ -7,9 +7,10 @@ use Rattle.cert_format.specs.declared.certificate.Certificate.{Certificate}
 use Rattle.plan_port.specs.Limits.{most_line}
 use Rattle.command_engine.specs.Grammars.{Grammar}
 use Rattle.command_engine.specs.Pairs.{then_grammar}
-use Rattle.stnu_run.specs.ToCheck.{plan_grammar}
+use Rattle.stnu_run.specs.PlanInput.{plan_in}
 use Rattle.stnu_run.specs.ToRead.{RefusesFormat}
 use Rattle.stnu_run.specs.declared.faults.Fault.{Fault}
+use Rattle.stnu_run.specs.declared.plan_input.PlanForm.{PlanForm}
 
 -- lines after which more is wanted: the front of a certificate
 abbrev pub IsCertificateFront : List (List ℕ) → Type 0
@@ -27,6 +28,6 @@ certificate_texts past = record {
   refuses = λ lines next fault. IsCertificateFront lines × RefusesFormat IsCertificateFault past lines next fault;
 }
 
--- the grammar of a plan, with which the input begins, and a certificate after it
-abbrev pub judge_grammar : Grammar (Plan × Certificate) Fault
-judge_grammar = then_grammar plan_grammar certificate_texts 0
+-- the grammar of a plan of this form, with which the input begins, and a certificate after it
+abbrev pub judge_grammar : PlanForm → Grammar (Plan × Certificate) Fault
+judge_grammar form = then_grammar (plan_in form) certificate_texts 0

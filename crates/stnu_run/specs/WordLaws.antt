@@ -1,8 +1,33 @@
 -- What the laws of words speak of. This project's own choice.
-use Rattle.std.specs.Prelude.{◌≡◌, ◌↔◌, ℕ, List}
+use Rattle.std.specs.Prelude.{◌≡◌, ◌↔◌, ℕ, List, [], ◌∷◌, codes}
+use Rattle.command_words.specs.Arguments.{is_given}
+use Rattle.command_words.specs.Spelling.{Use, Says}
+use Rattle.command_words.specs.Syntax.{Syntax, Text}
 use Rattle.stnu_run.specs.DefinedRuns.{DefinedRun}
+use Rattle.stnu_run.specs.PlanInput.{form_by, json_name}
 use Rattle.stnu_run.specs.Programs.{Program, Defines}
 use Rattle.stnu_run.specs.declared.status.Status.{Status}
+use Rattle.stnu_run.specs.Workers.{SayWithWorkers}
+use Rattle.stnu_run.specs.declared.showing.Show.{Show}
+use Rattle.stnu_run.specs.declared.plan_input.PlanForm.{PlanForm}
+use Rattle.stnu_run.specs.declared.plan_input.PlanForm.TheVariants as form
+
+-- the words that say the form of a plan and nothing else
+abbrev pub form_words : PlanForm → List Text
+form_words form.Text = []
+form_words form.Json = codes "--json" ∷ []
+
+-- the words say uses of this command: this form of the plan, and a number of workers or none
+pub record SayFormAndWorkers (command : Syntax) (form : PlanForm) (words : List Text) : Type 0 where
+  pub say : SayWithWorkers command words
+  pub given : form_by (is_given json_name say.uses) ≡ form
+
+-- the words say uses of this command: these forms of the plan that is read and of the one that is put
+pub record SayForms (command : Syntax) (show : Show) (words : List Text) : Type 0 where
+  pub uses : List Use
+  pub says : Says command words uses
+  pub read : form_by (is_given json_name uses) ≡ show.form
+  pub put : form_by (is_given (codes "print-json") uses) ≡ show.print
 
 -- the words are not refused: no run of theirs ends with 2
 abbrev pub AreTaken : (words : List (List ℕ)) → Type 0

@@ -3,9 +3,10 @@
 ghost use Rattle.std.specs.Prelude.{◌≡◌, [], IfOk};
 ghost use Rattle.stnu_run.specs.CheckPromise.{CheckPromise, PutsVerdict};
 ghost use Rattle.stnu_run.specs.Checking.{check_answers, check_asked, check_syntax};
+ghost use Rattle.stnu_run.specs.Verdict.{Decides, PutsControllable, PutsRefuted};
 
 use crate::plan_asking::PlanQuestion;
-use crate::plan_text::PlanText;
+use crate::plan_input::{PlanForm, PlanInput};
 use crate::requests::Request;
 use crate::verdict::{Verdict, decide, put_controllable, put_refuted};
 use crate::workers::Workers;
@@ -20,13 +21,16 @@ use std::thread::Threads;
 /// else `not controllable` and a certificate which `judge` accepts. It ends with 0 in the first case, and with 1 in the second.
 #[derive(Drop)]
 pub struct Check {
+    form: PlanForm,
     workers: Workers,
 }
 
 impl Model for Check {
-    ghost Value = { Unit {0} };
+    ghost use Rattle.stnu_run.specs.declared.plan_input.PlanForm.{PlanForm};
 
-    ghost view = { λ check. tt };
+    ghost Value = { PlanForm };
+
+    ghost view = { λ check. check.form };
 }
 
 impl Question<Network> for Check {
@@ -50,7 +54,7 @@ impl Request for Check {
 
     fn words() -> Syntax<'static> {
         Syntax {
-            flags: &[],
+            flags: &["json"],
             options: &["workers"],
             operands: &[],
         }
@@ -58,19 +62,26 @@ impl Request for Check {
 
     fn of(arguments: &Arguments<'_>) -> Option<Check> {
         let workers = Workers::of(arguments.option(0))?;
-        Some(Check { workers })
+        let form = PlanForm::of(arguments.flag(0));
+        Some(Check { form, workers })
     }
 
     fn workers_decide_nothing() {}
 }
 
 /// The command: how far its input was read.
-pub type Checking = Asked<Check, PlanText>;
+pub type Checking = Asked<Check, PlanInput>;
 
 impl PlanQuestion for Check {
-    ghost puts = { λ check. PutsVerdict };
+    ghost form = { λ form. form };
 
-    ghost promised = { λ check. CheckPromise };
+    ghost puts = { λ form. PutsVerdict };
+
+    ghost promised = { CheckPromise };
+
+    fn plan_form(&self) -> PlanForm {
+        self.form
+    }
 
     fn puts_the_answer() {}
 
@@ -88,7 +99,7 @@ fn put_verdict<R: Threads + Sync>(
     workers: &Workers,
 ) -> Result<End, AllocError>
     requires { answer.old.text ≡ [] }
-    ensures { IfOk result (λ end. check_answers tt net answer.new.text end) }
+    ensures { IfOk result (λ end. Decides net (PutsControllable answer.new.text end) (λ cert. PutsRefuted cert answer.new.text end)) }
 {
     match decide(rt, alloc, net, workers)? {
         Verdict::Controllable(..) => put_controllable(answer),

@@ -7,7 +7,7 @@ ghost use Rattle.stnu_run.specs.Judging.{judge_answers, judge_asked, judge_start
 ghost use Rattle.stnu_run.specs.Programs.{or_nothing};
 
 use crate::certificate_text::CertificateText;
-use crate::plan_text::PlanText;
+use crate::plan_input::{PlanForm, PlanInput};
 use crate::promising::Promising;
 use crate::requests::Request;
 use cert_checker::laws::accepted_excludes;
@@ -22,7 +22,9 @@ use std::thread::Threads;
 /// What the judgement of a certificate of a network is: the command `judge` reads a plan and a certificate, and puts the judgement of
 /// the certificate. It ends with 0 where that is accepted, and with 1 where it is refused.
 #[derive(Clone, Copy)]
-pub struct Judge;
+pub struct Judge {
+    form: PlanForm,
+}
 
 impl Question<(Network, Certificate)> for Judge {
     ghost answers = { judge_answers };
@@ -47,33 +49,34 @@ impl Request for Judge {
 
     fn words() -> Syntax<'static> {
         Syntax {
-            flags: &[],
+            flags: &["json"],
             options: &[],
             operands: &[],
         }
     }
 
-    fn of(_arguments: &Arguments<'_>) -> Option<Judge> {
-        Some(Judge)
+    fn of(arguments: &Arguments<'_>) -> Option<Judge> {
+        let form = PlanForm::of(arguments.flag(0));
+        Some(Judge { form })
     }
 
     fn workers_decide_nothing() {}
 }
 
 /// The command: how far its input was read.
-pub type Judging = Asked<Judge, Then<PlanText, Network, CertificateText>>;
+pub type Judging = Asked<Judge, Then<PlanInput, Network, CertificateText>>;
 
 impl Promising for Judging {
     type Request = Judge;
 
     ghost start = { judge_start };
 
-    ghost promise = { λ judge. or_nothing JudgePromise };
+    ghost promise = { λ judge. or_nothing (JudgePromise judge.form) };
 
     fn begun(alloc: Global, request: Judge) -> Judging {
         Asked {
             question: request,
-            text: Then::First(PlanText::new(alloc), CertificateText::new(alloc)),
+            text: Then::First(request.form.begun(alloc), CertificateText::new(alloc)),
         }
     }
 

@@ -8,9 +8,12 @@ ghost use Rattle.stnu_run.specs.Programs.{DefinesOne, EachDefinesOne, serves};
 ghost use Rattle.stnu_run.specs.Requests.{asked_by};
 ghost use Rattle.stnu_run.specs.Running.{run_asked, run_syntax};
 ghost use Rattle.stnu_run.specs.Sessions.{session_asked, session_syntax};
-ghost use Rattle.stnu_run.specs.WordLaws.{AreTaken, DefineSame, DefineSameWhereTaken, SameRuns};
-ghost use Rattle.stnu_run.specs.Workers.{SayWithWorkers, SpellsWorkers, WorkersDecideNothing};
+ghost use Rattle.stnu_run.specs.Showing.{show_asked, show_syntax};
+ghost use Rattle.stnu_run.specs.WordLaws.{AreTaken, DefineSame, DefineSameWhereTaken, SameRuns, SayFormAndWorkers, SayForms, form_words};
+ghost use Rattle.stnu_run.specs.Workers.{SpellsWorkers, WorkersDecideNothing};
 ghost use Rattle.stnu_run.specs.declared.judging.Judge.{Judge};
+ghost use Rattle.stnu_run.specs.declared.plan_input.PlanForm.{PlanForm};
+ghost use Rattle.stnu_run.specs.declared.showing.Show.{Show};
 ghost use Rattle.stnu_run.specs.declared.status.Status.{Status};
 
 use crate::checking::Checking;
@@ -19,6 +22,7 @@ use crate::promising::Promising;
 use crate::requests::Request;
 use crate::running::Running;
 use crate::session::SessionCommand;
+use crate::showing::Showing;
 
 /// For given words and a given input at most one pair of bytes and status stands in the defined run.
 pub fn defined_run_is_one()
@@ -28,24 +32,33 @@ pub fn defined_run_is_one()
     each_is_lawful();
 }
 
-/// The words after `judge` are its own exactly where there are none.
+/// The words after `judge` are its own exactly where there are none, or where the one word is `--json`, by which the plan is a document.
 pub fn judge_is_read_exactly()
-    ensures { (words : List (List ℕ)) (judge : Judge) → asked_by judge_syntax judge_asked words ≡ Some judge ↔ words ≡ [] }
+    ensures { (words : List (List ℕ)) (judge : Judge) → asked_by judge_syntax judge_asked words ≡ Some judge ↔ words ≡ form_words judge.form }
 {}
 
-/// The words after `check` are its own exactly where they spell its uses, and the number of workers, where it is given, is one from 1 to 64.
+/// The words after `check` are its own exactly where they spell its uses, and the number of workers, where it is given, is one from 1 to 64. The
+/// plan is a document exactly where `--json` is given.
 pub fn check_is_read_exactly()
-    ensures { (words : List (List ℕ)) → asked_by check_syntax check_asked words ≡ Some tt ↔ SayWithWorkers check_syntax words }
+    ensures { (words : List (List ℕ)) (form : PlanForm) → asked_by check_syntax check_asked words ≡ Some form ↔ SayFormAndWorkers check_syntax form words }
 {}
 
-/// The words after `run` are its own exactly where they spell its uses, and the number of workers, where it is given, is one from 1 to 64.
+/// The words after `run` are its own exactly where they spell its uses, and the number of workers, where it is given, is one from 1 to 64. The
+/// plan is a document exactly where `--json` is given.
 pub fn run_is_read_exactly()
-    ensures { (words : List (List ℕ)) → asked_by run_syntax run_asked words ≡ Some tt ↔ SayWithWorkers run_syntax words }
+    ensures { (words : List (List ℕ)) (form : PlanForm) → asked_by run_syntax run_asked words ≡ Some form ↔ SayFormAndWorkers run_syntax form words }
 {}
 
-/// The words after `session` are its own exactly where they spell its uses, and the number of workers, where it is given, is one from 1 to 64.
+/// The words after `session` are its own exactly where they spell its uses, and the number of workers, where it is given, is one from 1 to 64. The
+/// plan is a document exactly where `--json` is given.
 pub fn session_is_read_exactly()
-    ensures { (words : List (List ℕ)) → asked_by session_syntax session_asked words ≡ Some tt ↔ SayWithWorkers session_syntax words }
+    ensures { (words : List (List ℕ)) (form : PlanForm) → asked_by session_syntax session_asked words ≡ Some form ↔ SayFormAndWorkers session_syntax form words }
+{}
+
+/// The words after `show` are its own exactly where they spell its uses. The plan is read as a document exactly where `--json` is given, and put as
+/// one exactly where `--print-json` is.
+pub fn show_is_read_exactly()
+    ensures { (words : List (List ℕ)) (show : Show) → asked_by show_syntax show_asked words ≡ Some show ↔ SayForms show_syntax show words }
 {}
 
 /// The number of workers changes nothing, in either spelling, and wherever it stands after the word of a command: the defined run of words with
@@ -76,6 +89,7 @@ fn each_is_lawful()
     is_lawful::<Checking>();
     is_lawful::<Running>();
     is_lawful::<SessionCommand>();
+    is_lawful::<Showing>();
 }
 
 /// The laws that a command keeps whatever is asked of it.

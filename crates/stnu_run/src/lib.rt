@@ -11,12 +11,15 @@ mod faults;
 mod judging;
 mod laws;
 mod plan_asking;
+mod plan_document;
+mod plan_input;
 mod plan_text;
 mod promising;
 mod requests;
 mod running;
 mod session;
 mod session_answers;
+mod showing;
 mod status;
 mod telling;
 mod verdict;
@@ -26,6 +29,6 @@ pub use dispatch::run;
 pub use executing::greatest_moments_are_one;
 pub use laws::{
     check_is_read_exactly, defined_run_is_one, judge_is_read_exactly, run_is_read_exactly,
-    session_is_read_exactly, workers_change_nothing,
+    session_is_read_exactly, show_is_read_exactly, workers_change_nothing,
 };
 pub use status::Status;

@@ -7,10 +7,11 @@ ghost use Rattle.command_engine.specs.Single.{IsSingleAnswer};
 ghost use Rattle.command_engine.specs.declared.endings.End.{End};
 ghost use Rattle.stnu_run.specs.Faults.{refusing};
 ghost use Rattle.stnu_run.specs.PlanAsking.{asking};
+ghost use Rattle.stnu_run.specs.PlanInput.{plan_in};
 ghost use Rattle.stnu_run.specs.Programs.{or_nothing};
-ghost use Rattle.stnu_run.specs.ToCheck.{plan_grammar};
+ghost use Rattle.stnu_run.specs.declared.plan_input.PlanForm.{PlanForm};
 
-use crate::plan_text::PlanText;
+use crate::plan_input::{PlanForm, PlanInput};
 use crate::promising::Promising;
 use crate::requests::Request;
 use command_engine::{Asked, Question};
@@ -19,11 +20,18 @@ use std::alloc::Global;
 
 /// A question about the network of a plan, as the words ask it. With the text of the plan it is a command of the program.
 pub trait PlanQuestion: Question<Network> + Request {
+    /// The form of the plan that is read.
+    ghost form: { Self → PlanForm };
+
     /// What is put for a network, and how the run ends then, in the subject's words.
     ghost puts: { Self → Plan → List ℕ → End → Type 0 };
 
     /// What is promised of an input, the bytes put for it, and how the run ends.
     ghost promised: { Self → (input put : List ℕ) → End → Type 0 };
+
+    /// The form of the plan that is read.
+    fn plan_form(&self) -> PlanForm
+        ensures { result ≡ form self.now };
 
     /// The law that the answer to a network is what is put.
     fn puts_the_answer()
@@ -31,24 +39,25 @@ pub trait PlanQuestion: Question<Network> + Request {
 
     /// The law that the promise is kept where the network of an input is answered so, or its first refusal is put.
     fn answers_keep_it()
-        ensures { (question : Self) (input put : List ℕ) (end : End) → AnswersText plan_grammar refusing (puts question) input put end → promised question input put end };
+        ensures { (question : Self) (input put : List ℕ) (end : End) → AnswersText (plan_in (form question)) refusing (puts question) input put end → promised question input put end };
 
     /// The law that a network has at most one answer.
     fn answers_once()
         ensures { IsSingleAnswer Self.answers };
 }
 
-impl<Q: PlanQuestion> Promising for Asked<Q, PlanText> {
+impl<Q: PlanQuestion> Promising for Asked<Q, PlanInput> {
     type Request = Q;
 
-    ghost start = { λ question. asking question };
+    ghost start = { λ question. asking Q.form question };
 
     ghost promise = { λ question. or_nothing (Q.promised question) };
 
-    fn begun(alloc: Global, request: Q) -> Asked<Q, PlanText> {
+    fn begun(alloc: Global, request: Q) -> Asked<Q, PlanInput> {
+        let text = request.plan_form().begun(alloc);
         Asked {
             question: request,
-            text: PlanText::new(alloc),
+            text,
         }
     }
 

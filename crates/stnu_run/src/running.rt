@@ -12,7 +12,7 @@ ghost use Rattle.stnu_run.specs.Running.{run_asked, run_begins, run_start, run_s
 
 use crate::event_answers::put_due;
 use crate::executing::Executing;
-use crate::plan_text::PlanText;
+use crate::plan_input::{PlanForm, PlanInput};
 use crate::promising::Promising;
 use crate::requests::Request;
 use crate::verdict::{Verdict, decide, put_refuted};
@@ -34,13 +34,16 @@ use table_closing::Closed;
 /// An event that no execution of the network shows ends it with 7, after the line `error event` and the cause.
 #[derive(Drop)]
 pub struct Run {
+    form: PlanForm,
     workers: Workers,
 }
 
 impl Model for Run {
-    ghost Value = { Unit {0} };
+    ghost use Rattle.stnu_run.specs.declared.plan_input.PlanForm.{PlanForm};
 
-    ghost view = { λ run. tt };
+    ghost Value = { PlanForm };
+
+    ghost view = { λ run. run.form };
 }
 
 impl Request for Run {
@@ -50,7 +53,7 @@ impl Request for Run {
 
     fn words() -> Syntax<'static> {
         Syntax {
-            flags: &[],
+            flags: &["json"],
             options: &["workers"],
             operands: &[],
         }
@@ -58,14 +61,15 @@ impl Request for Run {
 
     fn of(arguments: &Arguments<'_>) -> Option<Run> {
         let workers = Workers::of(arguments.option(0))?;
-        Some(Run { workers })
+        let form = PlanForm::of(arguments.flag(0));
+        Some(Run { form, workers })
     }
 
     fn workers_decide_nothing() {}
 }
 
 /// The command: how far its input was read.
-pub type Running = TextThenPhase<Run, PlanText, Executing>;
+pub type Running = TextThenPhase<Run, PlanInput, Executing>;
 
 impl Begin<Network> for Run {
     type Phase = Executing;
@@ -93,10 +97,11 @@ impl Promising for Running {
 
     ghost start = { run_start };
 
-    ghost promise = { λ run. or_nothing RunPromise };
+    ghost promise = { λ form. or_nothing (RunPromise form) };
 
     fn begun(alloc: Global, request: Run) -> Running {
-        TextThenPhase::Reading(request, PlanText::new(alloc))
+        let text = request.form.begun(alloc);
+        TextThenPhase::Reading(request, text)
     }
 
     fn keeps_its_promise() {

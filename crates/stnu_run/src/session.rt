@@ -10,7 +10,7 @@ ghost use Rattle.edit_script.specs.declared.step.Step.TheVariants as step;
 use crate::editing::Editing;
 use crate::executing::Executing;
 use crate::faults::{Fault, stop_fault};
-use crate::plan_text::PlanText;
+use crate::plan_input::{PlanForm, PlanInput};
 use crate::promising::Promising;
 use crate::requests::Request;
 use crate::running::begin_dispatched;
@@ -35,13 +35,16 @@ use std::thread::Threads;
 /// lines of events, as `run` does.
 #[derive(Drop)]
 pub struct OpenSession {
+    form: PlanForm,
     workers: Workers,
 }
 
 impl Model for OpenSession {
-    ghost Value = { Unit {0} };
+    ghost use Rattle.stnu_run.specs.declared.plan_input.PlanForm.{PlanForm};
 
-    ghost view = { λ session. tt };
+    ghost Value = { PlanForm };
+
+    ghost view = { λ session. session.form };
 }
 
 impl Request for OpenSession {
@@ -51,7 +54,7 @@ impl Request for OpenSession {
 
     fn words() -> Syntax<'static> {
         Syntax {
-            flags: &[],
+            flags: &["json"],
             options: &["workers"],
             operands: &[],
         }
@@ -59,7 +62,8 @@ impl Request for OpenSession {
 
     fn of(arguments: &Arguments<'_>) -> Option<OpenSession> {
         let workers = Workers::of(arguments.option(0))?;
-        Some(OpenSession { workers })
+        let form = PlanForm::of(arguments.flag(0));
+        Some(OpenSession { form, workers })
     }
 
     fn workers_decide_nothing() {}
@@ -75,7 +79,7 @@ pub enum InSession {
 }
 
 /// The command: how far its input was read.
-pub type SessionCommand = TextThenPhase<OpenSession, PlanText, InSession>;
+pub type SessionCommand = TextThenPhase<OpenSession, PlanInput, InSession>;
 
 impl Begin<Network> for OpenSession {
     type Phase = InSession;
@@ -143,10 +147,11 @@ impl Promising for SessionCommand {
 
     ghost start = { session_start };
 
-    ghost promise = { λ session. session_promise };
+    ghost promise = { session_promise };
 
     fn begun(alloc: Global, request: OpenSession) -> SessionCommand {
-        TextThenPhase::Reading(request, PlanText::new(alloc))
+        let text = request.form.begun(alloc);
+        TextThenPhase::Reading(request, text)
     }
 
     fn keeps_its_promise() {

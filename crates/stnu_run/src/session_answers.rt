@@ -24,10 +24,20 @@ pub(crate) fn push_refused(
     match cause {
         EditFault::Limit(which) => answer.push_line(&[refused, word, Word::Text(which.word())]),
         EditFault::StillUsed(User::Bound(id)) => {
-            answer.push_line(&[refused, word, Word::Text("bound"), Word::Name(bound_name(net, id))])
+            answer.push_line(&[
+                refused,
+                word,
+                Word::Text("bound"),
+                Word::Name(bound_name(net, id)),
+            ])
         }
         EditFault::StillUsed(User::Link(id)) => {
-            answer.push_line(&[refused, word, Word::Text("link"), Word::Name(link_name(net, id))])
+            answer.push_line(&[
+                refused,
+                word,
+                Word::Text("link"),
+                Word::Name(link_name(net, id)),
+            ])
         }
         EditFault::DuplicateName
         | EditFault::UnknownName

@@ -1,5 +1,5 @@
-use Rattle.stnu_run.proofs.WorkersLemmas.{workers_exactly}
+use Rattle.stnu_run.proofs.WorkersLemmas.{form_exactly}
 use Rattle.stnu_run.proofs.laws.run_is_read_exactly.Goals as goal
 
 pub returns : goal.returns
-returns c = workers_exactly
+returns c = form_exactly

@@ -2,7 +2,7 @@ use Rattle.stnu_run.proofs.RunLemmas.{run_keeps}
 use Rattle.stnu_run.proofs.running.RunningPromising.keeps_its_promise.Goals as goal
 
 pub returns : goal.returns
-returns c = run_keeps (record {
+returns c = λ form. run_keeps form (record {
   reading = c.lines_have_one_reading.ensures;
   taken = c.faithful_streams_are_taken.ensures;
   done = c.done_where_none_is_open.ensures;

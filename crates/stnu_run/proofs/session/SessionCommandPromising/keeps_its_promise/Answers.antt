@@ -2,7 +2,7 @@ use Rattle.stnu_run.proofs.SessionLemmas.{session_keeps}
 use Rattle.stnu_run.proofs.session.SessionCommandPromising.keeps_its_promise.Goals as goal
 
 pub returns : goal.returns
-returns c = session_keeps (record {
+returns c = λ form. session_keeps form (record {
   opens = c.sessions_open_in_one_way.ensures;
   follows = c.edits_are_followed_in_one_way.ensures;
 }) c.lines_have_one_reading.ensures (record {

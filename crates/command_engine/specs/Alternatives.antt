@@ -1,0 +1,31 @@
+-- A text of one of two kinds. This project's own choice.
+use Rattle.std.specs.Prelude.{ℕ, List}
+use Rattle.command_engine.specs.Reading.{Reader}
+use Rattle.command_engine.specs.declared.machines.Stop.{Stop}
+use Rattle.command_engine.specs.declared.reading.Step.{Step}
+use Rattle.command_engine.specs.declared.reading.Step.TheVariants.{Goes, Gives, Refused}
+use Rattle.command_engine.specs.declared.alternatives.Either.{Either}
+use Rattle.command_engine.specs.declared.alternatives.Either.TheVariants.{Left, Right}
+
+-- what a line brings of a text that is within another: that goes on where it goes on
+abbrev pub step_within : {S T V F : Type 0} → (S → T) → Step S V F → Step T V F
+step_within wrap (Goes state) = Goes (wrap state)
+step_within wrap (Gives value) = Gives value
+step_within wrap (Refused fault) = Refused fault
+
+module _ {A B V F : Type 0} (left : Reader A V F) (right : Reader B V F) where
+  abbrev pub longest_of : Either A B → ℕ
+  longest_of (Left text) = left.longest text
+  longest_of (Right text) = right.longest text
+
+  abbrev pub reads_of : Either A B → ℕ → List ℕ → Step (Either A B) V F
+  reads_of (Left text) number line = step_within Left (left.reads text number line)
+  reads_of (Right text) number line = step_within Right (right.reads text number line)
+
+  abbrev pub stops_of : Either A B → ℕ → Stop → F
+  stops_of (Left text) number stop = left.stops text number stop
+  stops_of (Right text) number stop = right.stops text number stop
+
+  -- the reader of a text of either kind
+  abbrev pub either_reader : Reader (Either A B) V F
+  either_reader = record { longest = longest_of; reads = reads_of; stops = stops_of }

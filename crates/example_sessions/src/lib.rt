@@ -1,0 +1,5 @@
+//! Sessions tried as tests: edits, and what a session answers after them.
+#![tactic(auto)]
+
+#[cfg(test)]
+mod sessions;

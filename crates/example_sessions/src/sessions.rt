@@ -1,0 +1,233 @@
+//! Lines of sessions: each edit with what it keeps and withdraws and the rounds that follow, and each question.
+
+ghost use Rattle.std.specs.Prelude.{◌≡◌, ◌<◌, length};
+
+use cert_format::print_certificate;
+use dispatch_net::Dispatch;
+use edit_script::{Step, read_step};
+use example_plans::network;
+use net_model::{Edit, LinkId, Name, Network, PointId};
+use parallel_rounds::NoGate;
+use plan_session::{Session, SessionFault, Verdict};
+use std::alloc::Global;
+use std::process::Abort;
+use std::test::Fail;
+use std::thread::Threads;
+
+/// A plan, the lines of a session, and the answers. First a loop that no single situation shows, dropped and added again; a bound whose key
+/// falls back to an older one; entries that follow from each other and go together with what both rest on; a wait that follows its link;
+/// and a bound that is tightened until it breaks.
+const SESSIONS: [(&str, &str, &str); 5] = [
+    (
+        "point A|point C|point D|bound b1 D C 1|bound b2 C D -1|link A 3 8 C",
+        "verdict|drop bound b2|verdict|add bound b2 C D -1|proof|drop bound zz|proof",
+        "not controllable|ok 6 5 1|controllable|ok 6 0 2|certificate 1|refutation|bound b1 D C 1|bound b2 C D -1|link C C A -8|up 1 3 D A C -7|low C 2 A D 2|up 5 4 A A C -5|drop 6 A A -3|walk 7|end|refused unknown-name|certificate 1|refutation|bound b1 D C 1|bound b2 C D -1|link C C A -8|up 1 3 D A C -7|low C 2 A D 2|up 5 4 A A C -5|drop 6 A A -3|walk 7|end|",
+    ),
+    (
+        "point A|point B|bound b1 A B 5|bound b2 A B 3|bound b3 B A -4",
+        "proof|drop bound b2|verdict|table",
+        "certificate 1|refutation|bound b2 A B 3|bound b3 B A -4|no 1 2 A A -1|walk 3|end|ok 2 2 2|controllable|after B A 4|table end|",
+    ),
+    (
+        "point X|point Y|point Z|bound a X Y 0|bound b Y X 0|bound g X Z -5|bound c Z X 3",
+        "verdict|drop bound g|verdict|drop point X|verdict",
+        "not controllable|ok 3 3 1|controllable|refused still-used|controllable|",
+    ),
+    (
+        "point A|point C|point D|bound b1 D C 4|link A 3 8 C",
+        "table|set link C 3 9|table|set link C 0 9|set bound b1 2|add point E|add bound b2 E D 0|add link A 1 2 C|drop link C|table|add link A 2 2 C|table|proof",
+        "after D A 3|wait D C 4|table end|ok 1 5 2|after D A 3|wait D C 5|table end|refused bad-interval|ok 3 3 2|ok 6 0 1|ok 6 0 2|refused two-links-on-point|ok 2 7 1|table end|ok 2 0 2|table end|controllable|",
+    ),
+    (
+        "point leave|point arrive|point meet|bound most leave meet 20|bound early meet arrive -2|link leave 5 15 arrive",
+        "verdict|set bound most 18|verdict|set bound most 16|table|proof|set bound most 17|table",
+        "controllable|ok 6 4 3|controllable|ok 6 4 2|not controllable|certificate 1|refutation|bound most leave meet 16|bound early meet arrive -2|link arrive arrive leave -15|no 1 2 leave arrive 14|up 4 3 leave leave arrive -1|drop 5 leave leave -1|walk 6|end|ok 6 5 3|after meet leave 5|after meet arrive 2|wait meet arrive 15|table end|",
+    ),
+];
+
+#[test]
+fn sessions_answer(rt: HostRuntime) -> Result<(), Fail> {
+    for workers in [1, 2, 7, 64] {
+        try_sessions(&rt, rt.alloc(), workers)?;
+    }
+    Ok(())
+}
+
+fn try_sessions<R: Abort + Threads + Sync>(
+    rt: &R,
+    alloc: Global,
+    workers: u32,
+) -> Result<(), Fail> {
+    for (plan, lines, expected) in SESSIONS {
+        let text = answers(rt, alloc, plan, lines, workers)?;
+        assert_eq!(rt; text.as_str(), expected, "{plan}: {lines}");
+    }
+    Ok(())
+}
+
+/// The answers of a session of a plan to lines.
+fn answers<R: Threads + Sync>(
+    rt: &R,
+    alloc: Global,
+    plan: &str,
+    lines: &str,
+    workers: u32,
+) -> Result<String, Fail> {
+    let mut text = String::new(alloc);
+    let mut session = open(rt, alloc, plan, workers)?;
+    answer_all(rt, alloc, &mut session, lines, &mut text)?;
+    Ok(text)
+}
+
+fn open<R: Threads + Sync>(
+    rt: &R,
+    alloc: Global,
+    plan: &str,
+    workers: u32,
+) -> Result<Session, Fail> {
+    let net = network(alloc, plan)?;
+    if workers < 1 || workers > 64 {
+        return Err(Fail::from("no such workers"));
+    }
+    Ok(Session::open(rt, alloc, net, workers, &NoGate)?)
+}
+
+fn answer_all<R: Threads + Sync>(
+    rt: &R,
+    alloc: Global,
+    session: &mut Session,
+    lines: &str,
+    text: &mut String,
+) -> Result<(), Fail> {
+    for line in lines.split('|') {
+        answer(rt, alloc, session, line, text)?;
+    }
+    Ok(())
+}
+
+fn answer<R: Threads + Sync>(
+    rt: &R,
+    alloc: Global,
+    session: &mut Session,
+    line: &str,
+    text: &mut String,
+) -> Result<(), Fail> {
+    match read_step(line.as_bytes())? {
+        Step::Edit(edit) => push_edit(rt, alloc, session, &edit, text),
+        Step::Verdict => push_line(text, verdict_word(session.verdict())),
+        Step::Proof => push_proof(rt, alloc, session, text),
+        Step::Table => push_table(alloc, session, text),
+        _ => Err(Fail::from("no such line")),
+    }
+}
+
+fn push_line(text: &mut String, line: &str) -> Result<(), Fail> {
+    text.push_str(line)?;
+    text.push('|')?;
+    Ok(())
+}
+
+fn verdict_word(verdict: Verdict) -> &'static str {
+    match verdict {
+        Verdict::Controllable => "controllable",
+        Verdict::NotControllable => "not controllable",
+        Verdict::Broken => "broken",
+    }
+}
+
+fn push_edit<R: Threads + Sync>(
+    rt: &R,
+    alloc: Global,
+    session: &mut Session,
+    edit: &Edit,
+    text: &mut String,
+) -> Result<(), Fail> {
+    let line = match session.apply(rt, alloc, edit, &NoGate) {
+        Ok(report) => {
+            format!(in alloc; "ok {} {} {}", report.kept, report.withdrawn, report.rounds)?
+        }
+        Err(SessionFault::Edit(cause)) => format!(in alloc; "refused {cause}")?,
+        Err(fault) => return Err(fault.into()),
+    };
+    push_line(text, line.as_str())
+}
+
+fn push_proof<R: Threads + Sync>(
+    rt: &R,
+    alloc: Global,
+    session: &Session,
+    text: &mut String,
+) -> Result<(), Fail> {
+    match session.verdict() {
+        Verdict::NotControllable => {
+            let certificate = session.certificate(rt, alloc)?;
+            let printed = print_certificate(alloc, &certificate)?;
+            push_lines(text, printed.as_slice())
+        }
+        verdict => push_line(text, verdict_word(verdict)),
+    }
+}
+
+/// Lines, with `|` in place of their ends.
+fn push_lines(text: &mut String, lines: &[u8]) -> Result<(), Fail> {
+    for byte in lines {
+        text.push(if *byte == b'\n' { '|' } else { *byte as char })?;
+    }
+    Ok(())
+}
+
+fn push_table(alloc: Global, session: &Session, text: &mut String) -> Result<(), Fail> {
+    match session.verdict() {
+        Verdict::Controllable => {
+            let dispatch = session.dispatch(alloc)?;
+            push_points(alloc, session.network(), &dispatch, text)
+        }
+        verdict => push_line(text, verdict_word(verdict)),
+    }
+}
+
+fn push_points(
+    alloc: Global,
+    net: &Network,
+    dispatch: &Dispatch,
+    text: &mut String,
+) -> Result<(), Fail>
+    requires { length dispatch.now.kept ≡ length net.now.points }
+{
+    for point in 0..net.points().len() as u32 {
+        push_point(alloc, net, dispatch, PointId(point), text)?;
+    }
+    push_line(text, "table end")
+}
+
+/// The lower bounds and waits of a point.
+fn push_point(
+    alloc: Global,
+    net: &Network,
+    dispatch: &Dispatch,
+    point: PointId,
+    text: &mut String,
+) -> Result<(), Fail>
+    requires { point.0 < length dispatch.now.kept }
+{
+    for (other, n) in dispatch.lower_bounds(point) {
+        let line = format!(in alloc; "after {} {} {n}", word(net, point)?, word(net, *other)?)?;
+        push_line(text, line.as_str())?;
+    }
+    for (link, n) in dispatch.waits(point) {
+        let line = format!(in alloc; "wait {} {} {n}", word(net, point)?, link_word(net, *link)?)?;
+        push_line(text, line.as_str())?;
+    }
+    Ok(())
+}
+
+/// The name of a point.
+fn word(net: &Network, point: PointId) -> Result<Name, Fail> {
+    Ok(*net.points().get(point.0 as usize).ok_or("no point")?)
+}
+
+/// The name of a link.
+fn link_word(net: &Network, link: LinkId) -> Result<Name, Fail> {
+    let link = net.links().get(link.0 as usize).ok_or("no link")?;
+    word(net, link.to)
+}

@@ -1,0 +1,164 @@
+ghost use Rattle.std.specs.Prelude.{◌<◌, ◌^◌, length};
+
+use crate::rows::{cells, network};
+use net_model::{Network, Part};
+use plan_format::print_plan;
+use plan_json::{from_json, to_json};
+use std::alloc::{AllocError, Global};
+use std::test::Fail;
+
+/// Documents, and the plan text of the network that each declares, or its fault.
+const DOCUMENTS: &str = r#"
+{"stnu":1,"points":[]} => stnu 1|end|
+{"stnu":1,"points":["A","B"],"bounds":[{"name":"b1","from":"A","to":"B","most":3}],"links":[{"from":"A","low":1,"high":5,"to":"B"}]} => stnu 1|point A|point B|bound b1 A B 3|link A 1 5 B|end|
+ {"links" : [ ] ,   "points":["\u0041","b-1.c_D"], "bounds":[{"to":"A","most":-1000000000,"from":"b-1.c_D","name":"A"}],"stnu":1}  => stnu 1|point A|point b-1.c_D|bound A b-1.c_D A -1000000000|end|
+{"stnu":2,"stnu":1,"points":["B"],"points":["A"]} => stnu 1|point A|end|
+{"stnu":1,"points":["A","B"],"links":[{"from":"A","low":3,"high":2,"to":"B","to":"A"}]} => link-to-itself
+{"stnu":1,"points":["A","A"]} => duplicate-name
+{"stnu":1,"points":["A"],"bounds":[{"name":"b","from":"B","to":"A","most":1}]} => unknown-name
+ => not-json
+   => not-json
+{] => not-json
+{} x => not-json
+{"stnu":1,"points":[],} => not-json
+{"stnu":1,"points":["A",]} => not-json
+{"stnu":01,"points":[]} => not-json
+{"stnu":1,"points":[+1]} => not-json
+{"stnu":1,"points":[1e400]} => not-json
+{'stnu':1,"points":[]} => not-json
+{"stnu":1,"points":["\ud800"]} => not-json
+[] => shape top 0
+"stnu" => shape top 0
+{} => shape top 0
+{"stnu":1} => shape top 0
+{"points":[]} => shape top 0
+{"stnu":1,"points":null} => shape top 0
+{"stnu":1,"points":[],"bounds":null} => shape top 0
+{"stnu":1,"points":[],"bounds":{}} => shape top 0
+{"stnu":1,"points":["A b"],"links":0} => shape top 0
+{"stnu":1,"points":[],"x":0} => shape top 0
+{"stnu":1,"points":[],"":0} => shape top 0
+{"stnu":1,"points":[],"Bounds":[]} => shape top 0
+{"stnu":1,"points":[],"stnu":2} => shape top 0
+{"stnu":2,"points":[]} => shape top 0
+{"stnu":0,"points":[]} => shape top 0
+{"stnu":-1,"points":[]} => shape top 0
+{"stnu":"1","points":[]} => shape top 0
+{"stnu":1.0,"points":[]} => shape top 0
+{"stnu":1e0,"points":[]} => shape top 0
+{"stnu":1,"points":["A",1]} => shape points 2
+{"stnu":1,"points":[["A"],"A b"]} => shape points 1
+{"stnu":1,"points":["A","A b"]} => bad-name points 2
+{"stnu":1,"points":["A",""]} => bad-name points 2
+{"stnu":1,"points":["A b",1]} => bad-name points 1
+{"stnu":1,"points":["9"],"bounds":[0]} => bad-name points 1
+{"stnu":1,"points":["aaaaaaaaaaaaaaaaaaaaaaaaaaaaaaaaa"]} => bad-name points 1
+{"stnu":1,"points":["\u00e9"]} => bad-name points 1
+{"stnu":1,"points":["A"],"bounds":[{"name":"b","from":"A","to":"A","most":1.5}]} => shape bounds 1
+{"stnu":1,"points":["A"],"bounds":[{"name":"b","from":"A","to":"A"}]} => shape bounds 1
+{"stnu":1,"points":["A"],"bounds":[{"name":"b","from":"A","to":"A","most":1,"x":1}]} => shape bounds 1
+{"stnu":1,"points":["A"],"bounds":[{"name":"b","from":"A","to":1,"most":1}]} => shape bounds 1
+{"stnu":1,"points":["A"],"bounds":[{"name":"b","from":"A","to":"A","most":"1"}]} => shape bounds 1
+{"stnu":1,"points":["A"],"bounds":[{"name":"b","from":"A","to":"A","low":1}]} => shape bounds 1
+{"stnu":1,"points":["A"],"bounds":[{"name":"b!","from":"A","to":"A","most":-0}]} => shape bounds 1
+{"stnu":1,"points":["A"],"bounds":[{"name":"b","from":"A","to":"A","most":5.0}]} => shape bounds 1
+{"stnu":1,"points":["A"],"bounds":[{"name":"b","from":"A","to":"A","most":5e0}]} => shape bounds 1
+{"stnu":1,"points":["A"],"bounds":[{"name":"b","from":"A","to":"A","most":9223372036854775808}]} => shape bounds 1
+{"stnu":1,"points":["A"],"bounds":[{"name":"b","from":"A","to":"A","most":-9223372036854775809}]} => shape bounds 1
+{"stnu":1,"points":["A"],"bounds":[{"name":"b","from":"A","to":"A","most":9223372036854775807}]} => limit bounds 1 number
+{"stnu":1,"points":["A"],"bounds":[{"name":"b","from":"A","to":"A","most":-9223372036854775808}]} => limit bounds 1 number
+{"stnu":1,"points":["A"],"bounds":[{"name":"b","from":"A","to":"A","most":1},{"name":"c","from":"A","to":"A","most":2000000000}]} => limit bounds 2 number
+{"stnu":1,"points":["A"],"bounds":[{"name":"b","from":"A","to":"A","most":-1000000001}],"links":[1]} => limit bounds 1 number
+{"stnu":1,"points":["A"],"bounds":[{"name":"b","from":"A","to":"A!","most":2000000000}]} => bad-name bounds 1
+{"stnu":1,"points":["A"],"links":[{"from":"A","low":1,"high":2,"to":"A","name":"l"}]} => shape links 1
+{"stnu":1,"points":["A"],"links":[{"from":"A","low":1,"high":2.5,"to":"A!"}]} => shape links 1
+{"stnu":1,"points":["A"],"links":[{"from":"A","low":1,"high":2000000000,"to":"A!"}]} => bad-name links 1
+{"stnu":1,"points":["A"],"links":[{"from":"A","low":-2000000000,"high":2,"to":"A"}]} => limit links 1 number
+{"stnu":1,"points":["A"],"links":[{"from":"A","low":3,"high":2000000000,"to":"A"}]} => limit links 1 number"#;
+
+/// The plan text of the network that a document declares, with `|` for each line end, or why there is none.
+fn told(alloc: Global, document: &[u8]) -> Result<Vec<u8>, AllocError> {
+    match from_json(alloc, document) {
+        Ok(parts) => built(alloc, parts.as_slice()),
+        Err(fault) => Ok(fault.to_string(alloc)?.into_bytes()),
+    }
+}
+
+/// The plan text of the network of parts, or why there is none.
+fn built(alloc: Global, parts: &[Part]) -> Result<Vec<u8>, AllocError>
+    requires { length parts.now < 2 ^ 32 }
+{
+    match Network::build(alloc, parts) {
+        Ok(net) => Ok(in_one_line(print_plan(alloc, &net)?)),
+        Err(fault) => Ok(fault.to_string(alloc)?.into_bytes()),
+    }
+}
+
+/// A text with `|` for each line end.
+fn in_one_line(mut text: Vec<u8>) -> Vec<u8> {
+    for byte in text.iter_mut() {
+        if *byte == b'\n' {
+            *byte = b'|';
+        }
+    }
+    text
+}
+
+#[test]
+fn documents(rt: HostRuntime) -> Result<(), Fail> {
+    for row in DOCUMENTS.trim_start().split('\n') {
+        let (document, answer) = cells(row).ok_or("a row")?;
+        let said = told(rt.alloc(), document.as_bytes())?;
+        assert_eq!(rt; said.as_slice(), answer.as_bytes(), "{document}");
+    }
+    Ok(())
+}
+
+/// So many lists, one inside the other.
+fn nested(alloc: Global, depth: usize) -> Result<Vec<u8>, AllocError> {
+    let mut text = Vec::new(alloc);
+    for _ in 0..depth {
+        text.push(b'[')?;
+    }
+    for _ in 0..depth {
+        text.push(b']')?;
+    }
+    Ok(text)
+}
+
+/// What nests deeper than 127, and what is no UTF-8, has no reading.
+#[test]
+fn no_reading(rt: HostRuntime) -> Result<(), Fail> {
+    for (depth, answer) in [
+        (127, b"shape top 0".as_slice()),
+        (128, b"not-json".as_slice()),
+    ] {
+        let text = nested(rt.alloc(), depth)?;
+        let said = told(rt.alloc(), &text)?;
+        assert_eq!(rt; said.as_slice(), answer, "{depth}");
+    }
+    let said = told(rt.alloc(), b"{\"stnu\":1,\"points\":[\"\xff\"]}")?;
+    assert_eq!(rt; said.as_slice(), b"not-json".as_slice());
+    Ok(())
+}
+
+/// Plan texts, and the documents of their networks, with `|` for each line end.
+const WRITTEN: &str =
+    r#"stnu 1|end => {|  "bounds": [],|  "links": [],|  "points": [],|  "stnu": 1|}
+stnu 1|point B|point A|bound b A B -5|link B 1 5 A|end => {|  "bounds": [|    {|      "from": "A",|      "most": -5,|      "name": "b",|      "to": "B"|    }|  ],|  "links": [|    {|      "from": "B",|      "high": 5,|      "low": 1,|      "to": "A"|    }|  ],|  "points": [|    "B",|    "A"|  ],|  "stnu": 1|}"#;
+
+/// The document of the network of a plan text.
+fn written(alloc: Global, plan: &str) -> Result<Vec<u8>, Fail> {
+    let net = network(alloc, plan)?;
+    Ok(to_json(alloc, &net)?)
+}
+
+#[test]
+fn documents_of_networks(rt: HostRuntime) -> Result<(), Fail> {
+    for row in WRITTEN.split('\n') {
+        let (plan, answer) = cells(row).ok_or("a row")?;
+        let document = in_one_line(written(rt.alloc(), plan)?);
+        assert_eq!(rt; document.as_slice(), answer.as_bytes(), "{plan}");
+    }
+    Ok(())
+}

@@ -1,0 +1,157 @@
+use crate::rows::{cells, network};
+use edit_script::{Step, read_step};
+use net_model::{Bound, Edit, EditFault, Link, Name, NameFault, Network, User};
+use std::alloc::{AllocError, Global};
+use std::process::Abort;
+use std::test::Fail;
+
+/// The plan that each edit changes: nothing uses the point E.
+const PLAN: &str =
+    "stnu 1|point A|point E|point C|point D|bound b1 D C 1|bound b2 C D -1|link A 3 8 C|end";
+
+/// An edit, and the points, bounds and links that it makes, or why it is refused.
+const EDITS: &str = "\
+add point b1 => A E C D b1; b1 3 2 1, b2 2 3 -1; 0 3 8 2
+drop point E => A C D; b1 2 1 1, b2 1 2 -1; 0 3 8 1
+add bound A A A -5 => A E C D; b1 3 2 1, b2 2 3 -1, A 0 0 -5; 0 3 8 2
+drop bound b1 => A E C D; b2 2 3 -1; 0 3 8 2
+set bound b1 -7 => A E C D; b1 3 2 -7, b2 2 3 -1; 0 3 8 2
+add link C 1 1 D => A E C D; b1 3 2 1, b2 2 3 -1; 0 3 8 2, 2 1 1 3
+drop link C => A E C D; b1 3 2 1, b2 2 3 -1; 
+set link C 5 5 => A E C D; b1 3 2 1, b2 2 3 -1; 0 5 5 2
+add point A => duplicate-name
+drop point b1 => unknown-name
+drop point C => still-used bound 0
+drop point A => still-used link 0
+add bound b1 x y 1 => duplicate-name
+add bound b3 x C 1 => unknown-name
+add bound b3 A x 1 => unknown-name
+drop bound A => unknown-name
+set bound b3 1 => unknown-name
+add link x 1 2 D => unknown-name
+add link A 1 2 x => unknown-name
+add link C 1 2 C => link-to-itself
+add link A 5 3 C => two-links-on-point
+add link A 0 3 D => bad-interval
+add link A 5 3 D => bad-interval
+drop link A => unknown-name
+drop link x => unknown-name
+set link A 0 0 => unknown-name
+set link C 0 3 => bad-interval
+set link C 5 3 => bad-interval";
+
+/// The names of points, with a blank between two.
+fn shown_points(alloc: Global, text: &mut String, points: &[Name]) -> Result<(), AllocError> {
+    let mut gap = "";
+    for name in points {
+        let one = format!(in alloc; "{gap}{name}")?;
+        text.push_str(one.as_str())?;
+        gap = " ";
+    }
+    Ok(())
+}
+
+fn shown_bounds(alloc: Global, text: &mut String, bounds: &[Bound]) -> Result<(), AllocError> {
+    let mut gap = "; ";
+    for b in bounds {
+        let one = format!(in alloc; "{gap}{} {} {} {}", b.name, b.from.0, b.to.0, b.most)?;
+        text.push_str(one.as_str())?;
+        gap = ", ";
+    }
+    Ok(())
+}
+
+fn shown_links(alloc: Global, text: &mut String, links: &[Link]) -> Result<(), AllocError> {
+    text.push_str("; ")?;
+    let mut gap = "";
+    for l in links {
+        let one = format!(in alloc; "{gap}{} {} {} {}", l.from.0, l.low, l.high, l.to.0)?;
+        text.push_str(one.as_str())?;
+        gap = ", ";
+    }
+    Ok(())
+}
+
+fn show(alloc: Global, text: &mut String, net: &Network) -> Result<(), AllocError> {
+    shown_points(alloc, text, net.points())?;
+    shown_bounds(alloc, text, net.bounds())?;
+    shown_links(alloc, text, net.links())
+}
+
+fn shown_network(alloc: Global, net: &Network) -> Result<String, AllocError> {
+    let mut text = String::new(alloc);
+    match show(alloc, &mut text, net) {
+        Ok(()) => Ok(text),
+        Err(error) => Err(error),
+    }
+}
+
+fn shown_fault(alloc: Global, fault: EditFault) -> Result<String, AllocError> {
+    match fault {
+        EditFault::StillUsed(User::Bound(id)) => format!(in alloc; "{fault} bound {}", id.0),
+        EditFault::StillUsed(User::Link(id)) => format!(in alloc; "{fault} link {}", id.0),
+        EditFault::Limit(which) => format!(in alloc; "{fault} {}", which.word()),
+        _ => fault.to_string(alloc),
+    }
+}
+
+/// What an edit makes of a network, or why it is refused.
+fn answer(alloc: Global, net: &Network, edit: &Edit) -> Result<String, AllocError> {
+    match net.apply(alloc, edit) {
+        Ok(new) => shown_network(alloc, &new),
+        Err(fault) => shown_fault(alloc, fault),
+    }
+}
+
+/// The edit of a line.
+fn edit_of(line: &str) -> Option<Edit> {
+    match read_step(line.as_bytes()) {
+        Ok(Step::Edit(edit)) => Some(edit),
+        _ => None,
+    }
+}
+
+fn try_edits(rt: &impl Abort, alloc: Global, net: &Network) -> Result<(), Fail> {
+    for row in EDITS.split('\n') {
+        let (line, wanted) = cells(row).ok_or("a row")?;
+        let edit = edit_of(line).ok_or("an edit")?;
+        let told = answer(alloc, net, &edit)?;
+        assert_eq!(rt; told.as_str(), wanted, "{line}");
+    }
+    Ok(())
+}
+
+#[test]
+fn edits(rt: HostRuntime) -> Result<(), Fail> {
+    let net = network(rt.alloc(), PLAN)?;
+    try_edits(&rt, rt.alloc(), &net)
+}
+
+/// Edits with a number beyond its limit, which no line tells: of a new bound c and a new link to A, and of b and the link to C.
+fn too_great() -> Result<[Edit; 4], NameFault> {
+    let (b, c) = (Name::new(b"b")?, Name::new(b"C")?);
+    let a = Name::new(b"A")?;
+    Ok([
+        Edit::AddBound(c, a, c, 1_000_000_001),
+        Edit::SetBound(b, -1_000_000_001),
+        Edit::AddLink(c, 1, 1_000_000_001, a),
+        Edit::SetLink(c, 1, 1_000_000_001),
+    ])
+}
+
+fn try_numbers(rt: &impl Abort, alloc: Global, net: &Network) -> Result<(), Fail> {
+    for edit in too_great()? {
+        let told = answer(alloc, net, &edit)?;
+        assert_eq!(rt; told.as_str(), "limit number", "{edit:?}");
+    }
+    Ok(())
+}
+
+#[test]
+fn numbers_beyond_their_limit(rt: HostRuntime) -> Result<(), Fail> {
+    let net = network(
+        rt.alloc(),
+        "stnu 1|point A|point C|bound b A C 1|link A 1 2 C|end",
+    )?;
+    try_numbers(&rt, rt.alloc(), &net)
+}

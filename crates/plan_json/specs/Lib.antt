@@ -1,0 +1,4 @@
+pub mod Document
+pub mod Reading
+pub mod Words
+pub mod Writing

@@ -1,0 +1,20 @@
+-- The words by which the faults of documents are printed. This project's own choice.
+use Rattle.std.specs.Prelude.{ℕ, List, ◌++◌, codes}
+use Rattle.std.specs.Fmt.{decimal}
+use Rattle.plan_json.specs.declared.fault.JsonFault.{JsonFault}
+use Rattle.plan_json.specs.declared.fault.JsonFault.TheVariants.{NotJson, Shape, BadName, NumberLimit, OutOfMemory}
+use Rattle.plan_json.specs.declared.fault.Member.{Member}
+use Rattle.plan_json.specs.declared.fault.Member.TheVariants.{Top, Points, Bounds, Links}
+
+abbrev pub member_word : Member → List ℕ
+member_word Top = codes "top"
+member_word Points = codes "points"
+member_word Bounds = codes "bounds"
+member_word Links = codes "links"
+
+abbrev pub json_fault_text : JsonFault → List ℕ
+json_fault_text NotJson = codes "not-json"
+json_fault_text (Shape member place) = codes "shape " ++ member_word member ++ codes " " ++ decimal place
+json_fault_text (BadName member place) = codes "bad-name " ++ member_word member ++ codes " " ++ decimal place
+json_fault_text (NumberLimit member place) = codes "limit " ++ member_word member ++ codes " " ++ decimal place ++ codes " number"
+json_fault_text OutOfMemory = codes "out of memory"

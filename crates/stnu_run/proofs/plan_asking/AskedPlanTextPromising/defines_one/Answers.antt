@@ -1,9 +1,0 @@
-use Rattle.stnu_run.specs.Faults.{refusing}
-use Rattle.stnu_run.specs.PlanAsking.{asking}
-use Rattle.stnu_run.specs.PlanText.{plan_reader}
-use Rattle.stnu_run.specs.Programs.{or_nothing}
-use Rattle.stnu_run.proofs.ProgramLemmas.{asked_defines_one}
-use Rattle.stnu_run.proofs.plan_asking.AskedPlanTextPromising.defines_one.Goals as goal
-
-pub returns : goal.returns
-returns g c = record { each = λ question. asked_defines_one g.Q.Question.answers plan_reader refusing (asking question) (or_nothing (g.Q.PlanQuestion.promised question)) c.answers_once.ensures }

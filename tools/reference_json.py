@@ -1,0 +1,191 @@
+"""Plans as JSON documents once more, by the rules of docs/FORMAT.md, without a line of the program.
+
+`show(text)` takes an input, bytes, and returns what `show --json` prints of it, and whether a network was declared; `document(text)` gives the
+lines of an input up to the line `end`. `fits(value, schema, root)` says whether a value that Python's `json` reads fits a JSON Schema; it knows
+the keywords that examples/plan.schema.json has.
+"""
+
+import json
+import math
+import re
+
+NAME = re.compile(r"[A-Za-z][A-Za-z0-9_.-]{0,31}")
+LISTS = {
+    "bounds": {"name": str, "from": str, "to": str, "most": int},
+    "links": {"from": str, "low": int, "high": int, "to": str},
+}
+MOST = {"points": 1000, "bounds": 20000, "links": 400}
+MOST_NUMBER = 1_000_000_000
+DEEPEST = 127
+
+
+class Refused(Exception):
+    """What is printed of a fault, after `error`."""
+
+
+def document(text):
+    """The bytes of the document, and the number of its end line; or the number after the last line where it has none."""
+    lines = text.split(b"\n")
+    if lines[-1] == b"":
+        lines.pop()
+    for number, line in enumerate(lines):
+        if re.sub(rb"[ \t\r]+", b" ", line).strip(b" ") == b"end":
+            return b"\n".join(lines[:number]), None
+    return None, len(lines) + 1
+
+
+def integer(digits):
+    """A whole number of 64 bits, signed or unsigned; any other is a float, as -0 is."""
+    number = int(digits)
+    if digits == "-0" or not -(2**63) <= number < 2**64:
+        return floating(digits)
+    return number
+
+
+def floating(digits):
+    value = float(digits)
+    if not math.isfinite(value):
+        raise ValueError(digits)
+    return value
+
+
+def refuse(word):
+    raise ValueError(word)
+
+
+def depth(value):
+    """How deep lists and objects nest."""
+    deepest, left = 0, [(value, 0)]
+    while left:
+        value, above = left.pop()
+        if isinstance(value, (list, dict)):
+            deepest = max(deepest, above + 1)
+            left += [(item, above + 1) for item in (value.values() if isinstance(value, dict) else value)]
+    return deepest
+
+
+def read(text):
+    """The value of a JSON text; of members of one name the last one counts."""
+    try:
+        decoded = text.decode()
+        value = json.loads(decoded, parse_int=integer, parse_float=floating, parse_constant=refuse)
+        json.dumps(value, ensure_ascii=False).encode()
+    except (ValueError, RecursionError):
+        raise Refused("json not-json") from None
+    if depth(value) > DEEPEST:
+        raise Refused("json not-json")
+    return value
+
+
+def is_whole(value):
+    return type(value) is int and -(2**63) <= value < 2**63
+
+
+def item(member, number, value, form):
+    """An item of bounds or of links."""
+    if type(value) is not dict or set(value) != set(form):
+        raise Refused(f"json shape {member} {number}")
+    if not all(is_whole(value[key]) if kind is int else type(value[key]) is str for key, kind in form.items()):
+        raise Refused(f"json shape {member} {number}")
+    if not all(NAME.fullmatch(value[key]) for key, kind in form.items() if kind is str):
+        raise Refused(f"json bad-name {member} {number}")
+    if any(abs(value[key]) > MOST_NUMBER for key, kind in form.items() if kind is int):
+        raise Refused(f"limit {member} {number} number")
+    return value
+
+
+def lists_of(value):
+    """The three lists of a document, as they are declared."""
+    top = Refused("json shape top 0")
+    if type(value) is not dict or not set(value) <= {"stnu", "points", "bounds", "links"} or not {"stnu", "points"} <= set(value):
+        raise top
+    if type(value["stnu"]) is not int or value["stnu"] != 1 or any(type(value.get(key, [])) is not list for key in ("points", "bounds", "links")):
+        raise top
+    for number, name in enumerate(value["points"], 1):
+        if type(name) is not str:
+            raise Refused(f"json shape points {number}")
+        if not NAME.fullmatch(name):
+            raise Refused(f"json bad-name points {number}")
+    for member, form in LISTS.items():
+        for number, one in enumerate(value.get(member, []), 1):
+            item(member, number, one, form)
+    return value["points"], value.get("bounds", []), value.get("links", [])
+
+
+def build(points, bounds, links):
+    """Refuses the first part that cannot stand in the plan, by its number among the parts."""
+    part, named, bound_names, ends = 0, set(), set(), set()
+    for name in points:
+        part += 1
+        if name in named:
+            raise Refused(f"plan {part} duplicate-name")
+        if len(named) == MOST["points"]:
+            raise Refused(f"limit {part} points")
+        named.add(name)
+    for bound in bounds:
+        part += 1
+        if bound["name"] in bound_names:
+            raise Refused(f"plan {part} duplicate-name")
+        if bound["from"] not in named or bound["to"] not in named:
+            raise Refused(f"plan {part} unknown-name")
+        if len(bound_names) == MOST["bounds"]:
+            raise Refused(f"limit {part} bounds")
+        bound_names.add(bound["name"])
+    for link in links:
+        part += 1
+        if link["from"] not in named or link["to"] not in named:
+            raise Refused(f"plan {part} unknown-name")
+        if link["from"] == link["to"]:
+            raise Refused(f"plan {part} link-to-itself")
+        if link["to"] in ends:
+            raise Refused(f"plan {part} two-links-on-point")
+        if not 1 <= link["low"] <= link["high"]:
+            raise Refused(f"plan {part} bad-interval")
+        if len(ends) == MOST["links"]:
+            raise Refused(f"limit {part} links")
+        ends.add(link["to"])
+
+
+def printed(points, bounds, links):
+    lines = ["stnu 1", *(f"point {name}" for name in points)]
+    lines += [f"bound {b['name']} {b['from']} {b['to']} {b['most']}" for b in bounds]
+    lines += [f"link {k['from']} {k['low']} {k['high']} {k['to']}" for k in links]
+    return "\n".join([*lines, "end"]) + "\n"
+
+
+def show(text):
+    """What `show --json` prints of an input, and the value of its document where a network was declared."""
+    try:
+        bytes_, missing = document(text)
+        if missing is not None:
+            raise Refused(f"format {missing} no-end")
+        value = read(bytes_)
+        lists = lists_of(value)
+        build(*lists)
+    except Refused as fault:
+        return f"error {fault}\n", None
+    return printed(*lists), value
+
+
+def status(said):
+    """The exit status that goes with what is printed."""
+    return 4 if said.startswith("error limit") else 3 if said.startswith("error") else 0
+
+
+TYPES = {"object": dict, "array": list, "string": str, "integer": int}
+
+
+def fits(value, schema, root):
+    """Whether a value fits a schema, by the keywords of examples/plan.schema.json."""
+    if "$ref" in schema:
+        return fits(value, root["$defs"][schema["$ref"].rpartition("/")[2]], root)
+    if type(value) is not TYPES[schema["type"]] or value != schema.get("const", value):
+        return False
+    if type(value) is str:
+        return re.fullmatch(schema["pattern"].strip("^$"), value) is not None
+    if type(value) is int:
+        return schema.get("minimum", value) <= value <= schema.get("maximum", value)
+    if type(value) is list:
+        return all(fits(one, schema["items"], root) for one in value)
+    known = schema["properties"]
+    return set(schema["required"]) <= set(value) <= set(known) and all(fits(one, known[key], root) for key, one in value.items())
