@@ -12,7 +12,7 @@ use Rattle.closure_model.specs.declared.derivation.Rule.{Rule}
 use Rattle.closure_model.specs.declared.derivation.Rule.TheVariants as by_rule
 use Rattle.derivation_edits.specs.Following.{Renumbering, moved_edge}
 use Rattle.derivation_edits.specs.Taken.{renumbering, point_in, is_new_bound, is_new_link}
-use Rattle.example_references.specs.declared.renaming.Edited.{Edited}
+use Rattle.example_references.specs.declared.edited.Edited.{Edited}
 
 -- the numbers after an edit
 abbrev pub numbers : Edited → Renumbering
