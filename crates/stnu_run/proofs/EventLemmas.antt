@@ -1,5 +1,5 @@
 -- The lines of events of a run: what each of them brings, and where the run stands after several.
-use Rattle.std.proofs.Common.{◌≡◌, ◌⊎◌, ℕ, ◌+◌, ◌-◌, List, [], ◌∷◌, ◌++◌, Option, Some, None, Result, Ok, Err, refl, sym, ap, ◌∙◌, subst, inl, inr, append_assoc}
+use Rattle.std.proofs.Common.{◌≡◌, ℕ, ◌+◌, ◌-◌, List, [], ◌∷◌, ◌++◌, Option, Some, None, Result, Ok, Err, sym, ap, ◌∙◌, subst, inl, inr, append_assoc}
 use Rattle.texts.specs.Lines.{InputLine, line_size}
 use Rattle.texts.specs.Words.{words}
 use Rattle.net_model.specs.Network.{Plan}

@@ -1,5 +1,5 @@
 -- A network is answered in one way by its verdict: the certificate of its refutation is one.
-use Rattle.std.proofs.Common.{◌≡◌, ◌⊎◌, ℕ, List, inl, inr, sym, ◌∙◌, subst}
+use Rattle.std.proofs.Common.{◌≡◌, ℕ, List, inl, inr, sym, ◌∙◌, subst}
 use Rattle.net_model.specs.Network.{Plan}
 use Rattle.cert_format.specs.declared.certificate.Certificate.{Certificate}
 use Rattle.refutations.proofs.OneCertificate.{certificate_one}

@@ -1,21 +1,19 @@
 -- `run` keeps its promise.
-use Rattle.std.proofs.Common.{◌≡◌, ◌⊎◌, ℕ, List, [], ◌++◌, length, Option, refl, sym, ap, ◌∙◌, subst, inl, inr, append_assoc, append-nil}
+use Rattle.std.proofs.Common.{◌≡◌, ◌⊎◌, ℕ, List, [], ◌++◌, length, refl, sym, ap, ◌∙◌, subst, inl, inr, append_assoc, append-nil}
 use Rattle.texts.specs.Lines.{InputLine, input_lines, lines}
 use Rattle.net_model.specs.Network.{Plan}
-use Rattle.net_model.specs.declared.ids.PointId.{PointId}
-use Rattle.closure_model.specs.Tables.{Graph}
 use Rattle.strategy_model.specs.Control.{IsControllable}
 use Rattle.cert_format.specs.declared.certificate.Certificate.{Certificate}
 use Rattle.refutations.specs.Refuting.{Refutes}
-use Rattle.execution_model.specs.Feeding.{started, IsDueAnswer}
-use Rattle.execution_model.specs.Laws.{setting_of, IsDispatchedByClosure}
+use Rattle.execution_model.specs.Feeding.{started}
+use Rattle.execution_model.specs.Laws.{setting_of}
 use Rattle.execution_model.specs.Streams.{Listing}
 use Rattle.command_engine.specs.Asked.{AnswersOutcome}
 use Rattle.command_engine.specs.Inputs.{AnswersOrRefuses, IsFirstRefusal, room_after}
 use Rattle.command_engine.specs.Limits.{most_input}
 use Rattle.command_engine.specs.Phases.{FollowsOutcome, GoesOn}
 use Rattle.command_engine.specs.Reading.{Outcome, Given, Faulty, reading}
-use Rattle.command_engine.specs.Runs.{Run as RunOver, Runs, begins}
+use Rattle.command_engine.specs.Runs.{Runs, begins}
 use Rattle.command_engine.specs.declared.endings.End.{End}
 use Rattle.command_engine.specs.declared.endings.End.TheVariants as ends
 use Rattle.command_engine.specs.declared.machines.Onward.{Onward}
@@ -35,7 +33,6 @@ use Rattle.stnu_run.specs.declared.faults.Fault.{Fault}
 use Rattle.stnu_run.specs.declared.plan_input.PlanForm.{PlanForm}
 use Rattle.stnu_run.proofs.DayLemmas.{ExecutionLaws}
 use Rattle.stnu_run.proofs.DueLemmas.{due_answered}
-use Rattle.stnu_run.proofs.EventLemmas.{at}
 use Rattle.stnu_run.proofs.ExecutionLemmas.{Opened, IsOpened, Lasts, lasts, execution_keeps, whole_by, refused_so, fault_so, fault_not}
 use Rattle.stnu_run.proofs.PlanInputLemmas.{input_by}
 

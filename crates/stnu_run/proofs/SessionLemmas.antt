@@ -1,5 +1,5 @@
 -- `session` keeps its promise.
-use Rattle.std.proofs.Common.{◌≡◌, ◌⊎◌, ℕ, ◌+◌, ◌-◌, List, [], ◌∷◌, ◌++◌, length, Option, refl, sym, ap, ◌∙◌, subst, arith, inl, inr, append_assoc, append-nil}
+use Rattle.std.proofs.Common.{◌≡◌, ◌⊎◌, ℕ, ◌+◌, ◌-◌, List, [], ◌∷◌, ◌++◌, length, refl, sym, ap, ◌∙◌, subst, arith, inl, inr, append_assoc, append-nil}
 use Rattle.std.proofs.lemmas.List.{length-append}
 use Rattle.texts.specs.Lines.{InputLine, input_lines, lines, line_size}
 use Rattle.net_model.specs.Network.{Plan}
@@ -29,7 +29,6 @@ use Rattle.command_engine.specs.declared.machines.Onward.{Onward}
 use Rattle.command_engine.proofs.InputLemmas.{IsGivenAt, OutcomeIs, declared_read, outcome_is, outcome_answered}
 use Rattle.command_engine.proofs.PhaseLemmas.{StillServes, answered_so, run_is}
 use Rattle.stnu_run.specs.Day.{IsWholeDay, IsRefusedDay}
-use Rattle.stnu_run.specs.EventAnswers.{due_line}
 use Rattle.stnu_run.specs.EventFaults.{HasEventFault}
 use Rattle.stnu_run.specs.Executing.{executing_machine}
 use Rattle.stnu_run.specs.ExecutionPromise.{PutsLast}
@@ -40,7 +39,6 @@ use Rattle.stnu_run.specs.SessionPromise.{TellSteps, IsEdited, IsNext, SaysSteps
 use Rattle.stnu_run.specs.Sessions.{net_of, OpensOn, session_begins, session_machine, session_start, command_machine}
 use Rattle.stnu_run.specs.Standing.{Standing}
 use Rattle.stnu_run.specs.ToRead.{Come}
-use Rattle.stnu_run.specs.Verdict.{controllable_line}
 use Rattle.stnu_run.specs.declared.faults.Fault.{Fault}
 use Rattle.stnu_run.specs.declared.plan_input.PlanForm.{PlanForm}
 use Rattle.stnu_run.specs.declared.session.InSession.{InSession}
@@ -51,7 +49,7 @@ use Rattle.stnu_run.proofs.EventLemmas.{at}
 use Rattle.stnu_run.proofs.ExecutionLemmas.{Opened, IsOpened, Lasts, lasts, execution_keeps, whole_by, refused_so, fault_so, fault_not, fault_ends_so}
 use Rattle.stnu_run.proofs.PlanInputLemmas.{input_by}
 use Rattle.stnu_run.proofs.ReplyLemmas.{come_first, come_then, come_both, room_both}
-use Rattle.stnu_run.proofs.SessionLines.{at_edit, EndsSession, HowEnds, at_end, by_fault, by_go, OverSteps, session_ends, over_steps, step_fault, end_there, go_there, StillEdited, still_edited}
+use Rattle.stnu_run.proofs.SessionLines.{at_edit, EndsSession, HowEnds, at_end, by_fault, by_go, session_ends, over_steps, step_fault, end_there, go_there, StillEdited, still_edited}
 use Rattle.stnu_run.proofs.SessionOnceLemmas.{OneWay, all_once}
 
 -- ---- places in an input

@@ -1,5 +1,5 @@
 -- The lines of a session: where it stands after those that tell steps, and how it ends.
-use Rattle.std.proofs.Common.{◌≡◌, ◌⊎◌, ℕ, ◌+◌, ◌-◌, List, [], ◌∷◌, ◌++◌, length, Option, Some, None, Result, Ok, Err, refl, sym, ap, ◌∙◌, subst, arith, inl, inr, append_assoc}
+use Rattle.std.proofs.Common.{◌≡◌, ◌⊎◌, ℕ, ◌+◌, ◌-◌, List, [], ◌∷◌, ◌++◌, length, Result, Ok, Err, refl, sym, ap, ◌∙◌, subst, arith, inl, inr, append_assoc}
 use Rattle.texts.specs.Lines.{InputLine, line_size}
 use Rattle.texts.specs.Words.{words}
 use Rattle.net_model.specs.Editing.{edited}
@@ -19,20 +19,18 @@ use Rattle.execution_model.specs.Feeding.{started}
 use Rattle.execution_model.specs.Laws.{setting_of}
 use Rattle.plan_session.specs.Sessions.{State}
 use Rattle.command_engine.specs.Inputs.{texts, room_after}
-use Rattle.command_engine.specs.Phases.{Within, wrapped}
-use Rattle.command_engine.specs.Runs.{Here, after_line, RepliesTo, Replies, Answers, Run as RunOver}
+use Rattle.command_engine.specs.Phases.{wrapped}
+use Rattle.command_engine.specs.Runs.{Here, RepliesTo, Answers, Run as RunOver}
 use Rattle.command_engine.specs.declared.endings.End.{End}
 use Rattle.command_engine.specs.declared.endings.End.TheVariants as ends
 use Rattle.command_engine.specs.declared.machines.Onward.{Onward}
 use Rattle.command_engine.specs.declared.machines.Onward.TheVariants.{Goes, Ends}
 use Rattle.command_engine.proofs.WrapLemmas.{Wraps, served_lines, served_run}
-use Rattle.stnu_run.specs.Course.{Course}
 use Rattle.stnu_run.specs.EventAnswers.{due_line}
 use Rattle.stnu_run.specs.Executing.{executing_machine}
 use Rattle.stnu_run.specs.Faults.{fault_line, fault_end}
-use Rattle.stnu_run.specs.Running.{BeginsExecution}
 use Rattle.stnu_run.specs.SessionPromise.{accepted_or, net_after, StillEdits, TellSteps, SaysSteps, IsStepFault}
-use Rattle.stnu_run.specs.Sessions.{net_of, SaysStep, StandsAfterEdit, StandsAfter, EditsOn, BeginsByGo, AnswersStep, TakesStep, session_machine}
+use Rattle.stnu_run.specs.Sessions.{net_of, SaysStep, StandsAfterEdit, StandsAfter, EditsOn, BeginsByGo, AnswersStep, session_machine}
 use Rattle.stnu_run.specs.Standing.{Standing}
 use Rattle.stnu_run.specs.ToRead.{Come}
 use Rattle.stnu_run.specs.Verdict.{controllable_line}
@@ -41,7 +39,7 @@ use Rattle.stnu_run.specs.declared.faults.Fault.TheVariants.{Format, LineTooLong
 use Rattle.stnu_run.specs.declared.session.InSession.{InSession}
 use Rattle.stnu_run.specs.declared.session.InSession.TheVariants.{Editing, Executing}
 use Rattle.stnu_run.proofs.EventLemmas.{at}
-use Rattle.stnu_run.proofs.ReplyLemmas.{Continues, Replied, replied, last_reply}
+use Rattle.stnu_run.proofs.ReplyLemmas.{Continues, replied, last_reply}
 use Rattle.stnu_run.proofs.ExecutionLemmas.{Opened}
 use Rattle.stnu_run.proofs.SessionOnceLemmas.{told_step, fault_step}
 

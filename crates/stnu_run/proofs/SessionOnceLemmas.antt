@@ -1,5 +1,5 @@
 -- Each line of a session has one answer, and after each it stands in one way.
-use Rattle.std.proofs.Common.{◌≡◌, ◌⊎◌, inl, inr, ℕ, ◌+◌, List, [], ◌∷◌, ◌++◌, Option, Some, None, Result, Ok, Err, length, refl, ap, sym, ◌∙◌, subst, arith}
+use Rattle.std.proofs.Common.{◌≡◌, ◌⊎◌, inl, inr, ℕ, List, [], ◌∷◌, ◌++◌, Some, Result, Ok, Err, ap, sym, ◌∙◌, subst}
 use Rattle.texts.specs.Words.{words}
 use Rattle.net_model.specs.Editing.{edited}
 use Rattle.net_model.specs.Network.{Plan}

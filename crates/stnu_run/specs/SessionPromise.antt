@@ -25,7 +25,7 @@ use Rattle.stnu_run.specs.Faults.{refusing, fault_line, fault_end}
 use Rattle.stnu_run.specs.PlanInput.{plan_in}
 use Rattle.stnu_run.specs.Programs.{Program, Promise, serves}
 use Rattle.stnu_run.specs.SessionAnswers.{ready_line}
-use Rattle.stnu_run.specs.Sessions.{net_of, SaysStep, StandsAfter, OpensOn, command_machine, session_start}
+use Rattle.stnu_run.specs.Sessions.{SaysStep, StandsAfter, OpensOn, command_machine, session_start}
 use Rattle.stnu_run.specs.Standing.{Standing}
 use Rattle.stnu_run.specs.ToRead.{Come}
 use Rattle.stnu_run.specs.declared.faults.Fault.{Fault}

@@ -1,5 +1,5 @@
 -- The command `session`: a plan, then edits of its network and questions about it, and after `go` lines of events. This project's own choice.
-use Rattle.std.specs.Prelude.{◌≡◌, ◌⊎◌, ℕ, List, [], ◌∷◌, ◌++◌, Option, Some, None, Result, Ok, Err}
+use Rattle.std.specs.Prelude.{◌≡◌, ◌⊎◌, ℕ, List, [], ◌∷◌, Option, Some, None, Result, Ok, Err}
 use Rattle.texts.specs.Words.{words}
 use Rattle.std.specs.Option.{option_map}
 use Rattle.net_model.specs.Editing.{edited}

@@ -1,10 +1,10 @@
-use Rattle.std.proofs.Common.{◌≡◌, List, ℕ, inl, inr, subst}
+use Rattle.std.proofs.Common.{inl, inr, subst}
 use Rattle.std.proofs.lemmas.Result.{IfOk-weaker}
 use Rattle.strategy_model.specs.Control.{IsControllable}
 use Rattle.refutations.specs.Refuting.{Refutes}
 use Rattle.command_engine.specs.declared.endings.End.{End}
 use Rattle.stnu_run.specs.Verdict.{Decides, IsVerdict, PutsControllable, PutsRefuted}
-use Rattle.stnu_run.specs.declared.verdict.Verdict.TheVariants.{Controllable, Refuted}
+use Rattle.stnu_run.specs.declared.verdict.Verdict.TheVariants.{Controllable}
 use Rattle.stnu_run.proofs.checking.put_verdict.Goals as goal
 
 pub returns-in-Controllable : goal.returns-in-Controllable

@@ -1,4 +1,3 @@
-use Rattle.std.proofs.Common.{List, ℕ}
 use Rattle.dispatch_net.specs.Dispatchable.{conditions_at}
 use Rattle.net_model.specs.declared.ids.PointId.{PointId}
 use Rattle.stnu_run.specs.SessionAnswers.{conditions_text}

@@ -1,7 +1,6 @@
-use Rattle.std.proofs.Common.{rules, ◌≡◌, ◌∙◌, ◌++◌, ℕ, List, ap, subst}
+use Rattle.std.proofs.Common.{rules, ◌∙◌, ◌++◌, ℕ, List, ap, subst}
 use Rattle.std.proofs.lemmas.Result.{on_ok_weaker}
 use Rattle.strategy_model.specs.Control.{IsControllable}
-use Rattle.dispatch_net.specs.Dispatchable.{DispatchLists}
 use Rattle.net_model.specs.Network.{Plan}
 use Rattle.stnu_run.specs.SessionAnswers.{table_text}
 use Rattle.stnu_run.specs.Sessions.{net_of, SaysTable}

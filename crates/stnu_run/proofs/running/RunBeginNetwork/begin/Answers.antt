@@ -1,4 +1,4 @@
-use Rattle.std.proofs.Common.{List, ℕ, inl, subst}
+use Rattle.std.proofs.Common.{inl, subst}
 use Rattle.std.proofs.lemmas.Result.{IfOk-weaker}
 use Rattle.net_model.specs.Network.{Plan}
 use Rattle.stnu_run.specs.Running.{BeginsExecution, run_begins}
