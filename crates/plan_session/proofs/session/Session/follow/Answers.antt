@@ -1,4 +1,4 @@
-use Rattle.std.proofs.Common.{◌≡◌, Some, ap, sym, ◌∙◌, subst}
+use Rattle.std.proofs.Common.{Some, ap, sym, ◌∙◌, subst}
 use Rattle.net_model.specs.Network.{Plan}
 use Rattle.plan_session.specs.Sessions.{State, FollowsEdit}
 use Rattle.plan_session.proofs.session.Session.follow.Goals as goal
