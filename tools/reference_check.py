@@ -29,13 +29,21 @@ class Rounds:
     """Nodes are (rule words, premises, source, target, label, weight); a key is (target, source, label), label -1 for none."""
 
     def __init__(self, plan):
+        """No node yet; `add_base` adds those of the bounds and links."""
         self.plan = plan
         self.nodes, self.newest = [], {}
         self.link_to = {link[3]: number for number, link in enumerate(plan.links)}
-        for name, source, target, most in plan.bounds:
-            self.add(("bound", name), (), source, target, -1, most)
-        for number, (source, _, high, target) in enumerate(plan.links):
-            self.add(("link", plan.points[target]), (), target, source, number, -high)
+
+    def add_base(self, is_new=lambda word, name: True):
+        """The base nodes of the bounds, and then of the links, that are new by their word and name."""
+        points = self.plan.points
+        for name, source, target, most in self.plan.bounds:
+            if is_new("bound", name):
+                self.add(("bound", name), (), source, target, -1, most)
+        for number, (source, _, high, target) in enumerate(self.plan.links):
+            if is_new("link", points[target]):
+                self.add(("link", points[target]), (), target, source, number, -high)
+        return self
 
     def weight(self, key):
         return self.nodes[self.newest[key]][5] if key in self.newest else None
@@ -139,17 +147,23 @@ class Rounds:
         return ["not controllable", "certificate 1", "refutation", *lines, *walk, "end"]
 
 
+    def make_all(self):
+        """Makes rounds until the table is closed or has a cycle: the cycle, or None where it is closed, and how many were made."""
+        made = 0
+        while True:
+            cycle = self.cycle()
+            if cycle is not None:
+                return cycle, made
+            made += 1
+            if not self.round():
+                return None, made
+
+
 def rounds_of(text):
     """The rounds of a plan as they end, the cycle in which they end or None where the table is closed, and how many were made."""
-    rounds = Rounds(Plan(text))
-    made = 0
-    while True:
-        cycle = rounds.cycle()
-        if cycle is not None:
-            return rounds, cycle, made
-        made += 1
-        if not rounds.round():
-            return rounds, None, made
+    rounds = Rounds(Plan(text)).add_base()
+    cycle, made = rounds.make_all()
+    return rounds, cycle, made
 
 
 def check(text):

@@ -27,6 +27,7 @@ RULE_WORDS = {
     b"bound": "NNNW", b"link": "NNNW", b"no": "IINNW", b"up": "IINNNW",
     b"low": "NINNW", b"cross": "NINNNW", b"drop": "INNW",
 }
+TABLE_WORDS = {b"order": "N", b"edge": "NNW", b"upper": "NNW", b"end": ""}
 
 
 class Answer(Exception):
@@ -56,6 +57,19 @@ class Rule:
     @property
     def label(self):
         return self.item if self.word == "link" else self.stated_label
+
+
+@dataclass
+class Entry:
+    """An entry of a table proof. It ends in a point, or where the link of its label begins."""
+
+    start: str
+    end: str
+    label: str
+    weight: int
+
+    def key(self, plan):
+        return self.start, self.end if self.label is None else plan.links[self.label][0], self.label
 
 
 def value_of(kind, word):
@@ -196,10 +210,36 @@ def read_certificate(lines):
     words = lines.next()
     if words is None:
         raise lines.missing("no-end")
-    if words[0] != b"refutation":
+    if words[0] not in (b"refutation", b"table"):
         raise lines.fault("unknown-word")
     if len(words) != 1:
         raise lines.fault("word-count")
+    return read_refutation(lines) if words[0] == b"refutation" else read_table(lines)
+
+
+def read_table(lines):
+    order, entries = [], []
+    while True:
+        words = lines.next()
+        if words is None:
+            raise lines.missing("no-end")
+        try:
+            if words[0] not in TABLE_WORDS or (words[0] == b"order" and entries):
+                raise Fault("unknown-word")
+            values = values_of(TABLE_WORDS[words[0]], words[1:])
+        except Fault as fault:
+            raise lines.fault(str(fault)) from None
+        if words[0] == b"end":
+            return lambda plan: judge_table(plan, order, entries)
+        if words[0] == b"order":
+            order += values
+        else:
+            start, other, weight = values
+            is_edge = words[0] == b"edge"
+            entries.append(Entry(start, other if is_edge else None, None if is_edge else other, weight))
+
+
+def read_refutation(lines):
     rules, walk = [], []
     while True:
         words = lines.next()
@@ -208,7 +248,7 @@ def read_certificate(lines):
         try:
             if words[0] == b"end":
                 values_of("", words[1:])
-                return rules, walk
+                return lambda plan: judge_refutation(plan, rules, walk)
             if words[0] == b"walk":
                 walk += values_of("I", words[1:])
             elif words[0] in RULE_WORDS and not walk:
@@ -298,18 +338,89 @@ def judge_walk(rules, walk):
         raise refuse(len(steps), "walk-not-negative", total)
 
 
+def judge_refutation(plan, rules, walk):
+    for number in range(1, len(rules) + 1):
+        judge_rule(plan, rules, number)
+    judge_walk(rules, walk)
+    return "accepted not controllable"
+
+
+def judge_entry(plan, number, entry):
+    """The names and the weight of an entry, by its line."""
+    known = entry.start in plan.points
+    known = known and (entry.end in plan.points if entry.label is None else entry.label in plan.links)
+    if not known:
+        raise Answer(1, "refused", number, "unknown-item")
+    if abs(entry.weight) > MOST_JUDGED_WEIGHT:
+        raise Answer(1, "refused", number, "weight-range")
+
+
+def judge_base(plan, stands):
+    for name, (start, end, most) in plan.bounds.items():
+        if not stands((start, end, None), most):
+            raise Answer(1, "refused", 0, "missing-base bound", name)
+    for end, (start, _, high) in plan.links.items():
+        if not stands((end, start, end), -high):
+            raise Answer(1, "refused", 0, "missing-base link", end)
+
+
+def judge_order(plan, order, entries):
+    places = {}
+    for number, point in enumerate(order, 1):
+        if point in places:
+            raise Answer(1, "refused", number, "order-broken")
+        places[point] = number
+    if len(places) < len(plan.points):
+        raise Answer(1, "refused", 0, "order-broken")
+    for number, entry in enumerate(entries, len(order) + 1):
+        if entry.label is None and entry.weight < 0 and places[entry.end] >= places[entry.start]:
+            raise Answer(1, "refused", number, "order-broken")
+
+
+def what_follows(plan, before, entry):
+    """The keys and weights that the rules give with an entry as the second premise."""
+    start, end, label = entry.key(plan)
+    if label is not None:
+        yield (start, end, None), max(entry.weight, -plan.links[label][1])
+    if entry.weight >= 0:
+        return
+    for first, weight in before.get(start, {}).items():
+        yield (first, end, label), max(weight, 0) + entry.weight
+    if start in plan.links and label != start:
+        activation, low, _ = plan.links[start]
+        yield (activation, end, label), low + entry.weight
+
+
+def judge_table(plan, order, entries):
+    for number, point in enumerate(order, 1):
+        if point not in plan.points:
+            raise Answer(1, "refused", number, "unknown-item")
+    for number, entry in enumerate(entries, len(order) + 1):
+        judge_entry(plan, number, entry)
+    least, before = {}, {}
+    for entry in entries:
+        key = entry.key(plan)
+        least[key] = min(entry.weight, least.get(key, entry.weight))
+        if entry.label is None:
+            before.setdefault(entry.end, {})[entry.start] = least[key]
+    stands = lambda key, weight: key in least and least[key] <= weight
+    judge_base(plan, stands)
+    judge_order(plan, order, entries)
+    for number, entry in enumerate(entries, len(order) + 1):
+        if not all(stands(key, weight) for key, weight in what_follows(plan, before, entry)):
+            raise Answer(1, "refused", number, "not-closed")
+    return "accepted controllable"
+
+
 def judge(data):
     """The answer to an input, with its line end, and the status."""
     lines = Lines(data)
     try:
         plan = read_plan(lines)
-        rules, walk = read_certificate(lines)
-        for number in range(1, len(rules) + 1):
-            judge_rule(plan, rules, number)
-        judge_walk(rules, walk)
+        certificate = read_certificate(lines)
+        return f"{certificate(plan)}\n", 0
     except Answer as answer:
         return f"{answer}\n", answer.status
-    return "accepted not controllable\n", 0
 
 
 def main():

@@ -1,4 +1,4 @@
-//! The executor against the slow one.
+//! The executor, on slim lists, against the slow one on whole lists.
 
 use crate::live::{Live, slow};
 use crate::plans::network;
@@ -12,13 +12,13 @@ use std::thread::Threads;
 
 /// Pseudo-random numbers, the same in each run.
 #[derive(Drop)]
-struct Draws {
-    state: u64,
+pub(crate) struct Draws {
+    pub(crate) state: u64,
 }
 
 impl Draws {
     /// A number below another, and 0 where that is 0.
-    fn draw(&mut self, below: u64) -> u64 {
+    pub(crate) fn draw(&mut self, below: u64) -> u64 {
         self.state = (self.state % 2_147_483_648 * 1_103_515_245 + 12_345) % 2_147_483_648;
         (self.state / 65_536).checked_rem(below).unwrap_or(0)
     }
@@ -95,7 +95,7 @@ fn faults_of(number: u32) -> u64 {
 }
 
 /// As many streams.
-fn try_streams(
+pub(crate) fn try_streams(
     rt: &(impl Abort + Threads + Sync),
     alloc: Global,
     net: &Network,

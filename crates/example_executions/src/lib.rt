@@ -7,6 +7,8 @@ mod compared;
 #[cfg(test)]
 mod completing;
 #[cfg(test)]
+mod days;
+#[cfg(test)]
 mod lists;
 #[cfg(test)]
 mod live;

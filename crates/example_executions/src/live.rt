@@ -41,7 +41,16 @@ pub(crate) fn slow(
     SlowExecutor::start(alloc, net, dispatch)
 }
 
-/// The executor, and how many points it has.
+/// What is left of a dispatchable network of a network where those lower bounds and waits are left out that others imply.
+fn slim(net: &Network, whole: Dispatch) -> Dispatch
+    requires of { IsDispatchOf net.now whole }
+    ensures dispatched { IsDispatchOf net.now result }
+    ensures made { result.made ≡ whole.made }
+{
+    whole.slim()
+}
+
+/// The executor on slim lists, and how many points it has.
 #[derive(Drop)]
 pub(crate) struct Live {
     executor: Executor,
@@ -55,7 +64,7 @@ impl Live {
         alloc: Global,
         net: &Network,
     ) -> Result<Live, Fail> {
-        let dispatch = dispatch(rt, alloc, net)?;
+        let dispatch = slim(net, dispatch(rt, alloc, net)?);
         let points = net.points().len() as u32;
         let executor = Executor::start(alloc, net, dispatch)?;
         Ok(Live { executor, points })

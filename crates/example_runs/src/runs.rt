@@ -106,14 +106,14 @@ struct Room {
 
 /// A row: the words, the input, what is put, and the exit status.
 #[derive(Clone, Copy)]
-struct Row<'a> {
-    words: &'a str,
-    input: &'a str,
-    put: &'a str,
-    status: u8,
+pub(crate) struct Row<'a> {
+    pub(crate) words: &'a str,
+    pub(crate) input: &'a str,
+    pub(crate) put: &'a str,
+    pub(crate) status: u8,
 }
 
-fn row_of(text: &str) -> Option<Row<'_>> {
+pub(crate) fn row_of(text: &str) -> Option<Row<'_>> {
     let (words, others) = text.split_once(" => ")?;
     let (input, others) = others.split_once(" => ")?;
     let (put, status) = others.split_once(" => ")?;
@@ -217,6 +217,17 @@ fn expect_steady_run<R: Abort + Threads + Sync>(
     expect_put(rt, alloc, row, port.written())
 }
 
+/// A run of the row over a port that gives its bytes so.
+pub(crate) fn try_calls<R: Abort + Threads + Sync>(
+    rt: &R,
+    alloc: Global,
+    row: Row<'_>,
+    calls: Calls,
+) -> Result<(), AllocError> {
+    let mut port = port_over(alloc, row.input, calls)?;
+    expect_run(rt, alloc, row, &mut port)
+}
+
 pub(crate) fn try_row<R: Abort + Threads + Sync>(
     rt: &R,
     alloc: Global,
@@ -224,8 +235,7 @@ pub(crate) fn try_row<R: Abort + Threads + Sync>(
     calls: Option<Calls>,
 ) -> Result<(), AllocError> {
     if let (Some(row), Some(calls)) = (row_of(text), calls) {
-        let mut port = port_over(alloc, row.input, calls)?;
-        expect_run(rt, alloc, row, &mut port)
+        try_calls(rt, alloc, row, calls)
     } else {
         assert!(rt; false, "{text}");
         Ok(())

@@ -12,9 +12,8 @@ use Rattle.closure_model.specs.declared.derivation.NodeId.{NodeId}
 use Rattle.closure_model.proofs.LawProofs.{node_of_key_is_one}
 use Rattle.closure_model.proofs.Lists.{Contains-none, Contains-head, Contains-tail, Contains-cases, each-contained}
 use Rattle.closure_model.proofs.RoundsLaw.{rounds_end_in_one_way}
-use Rattle.cert_format.specs.declared.certificate.Certificate.{Certificate}
 use Rattle.refutations.specs.Certifying.{certificate_by}
-use Rattle.refutations.specs.Refuting.{IsCertificateOf, CertificatesAreOne}
+use Rattle.refutations.specs.Refuting.{CertificatesAreOne}
 
 -- ---- lists in order with the same elements are one
 abbrev IsOrdered : List NodeId → Type 0

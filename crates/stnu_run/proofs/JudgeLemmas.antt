@@ -4,9 +4,11 @@ use Rattle.texts.specs.Lines.{lines}
 use Rattle.texts.specs.Printing.{printed_line}
 use Rattle.net_model.specs.Network.{Plan}
 use Rattle.strategy_model.specs.Control.{IsControllable}
+use Rattle.strategy_model.specs.Plays.{IsInstant}
 use Rattle.cert_format.specs.declared.certificate.Certificate.{Certificate}
 use Rattle.cert_checker.specs.Judgement.{judgement_of}
-use Rattle.cert_checker.specs.Laws.{AcceptedExcludes}
+use Rattle.cert_checker.specs.Laws.{AcceptedControls, AcceptedExcludes}
+use Rattle.cert_checker.specs.declared.judgement.Claim.{Claim}
 use Rattle.cert_checker.specs.declared.judgement.Claim.TheVariants.{NotControllable, Controllable}
 use Rattle.cert_checker.specs.declared.judgement.Judgement.{Judgement}
 use Rattle.cert_checker.specs.declared.judgement.Judgement.TheVariants.{Accepted, Refused as Rejected}
@@ -41,32 +43,46 @@ judge_answers_once question value a b x y one other = (one.0 ∙ sym other.0, on
 abbrev byte_at : ℕ → List ℕ → ℕ
 byte_at place bytes = get_or bytes place 0
 
-accepted : List ℕ
-accepted = printed_line (codes "accepted not controllable" ∷ [])
+-- the line with which each claim is accepted
+accepted : Claim → List ℕ
+accepted claim = judgement_line (Accepted claim)
 
-only_accepted : (judgement : Judgement) → judgement_line judgement ≡ accepted → judgement ≡ Accepted NotControllable
+only_accepted : (claim : Claim) (judgement : Judgement) → judgement_line judgement ≡ accepted claim → judgement ≡ Accepted claim
 unfolding accepted
-only_accepted (Accepted NotControllable) same = refl
-only_accepted (Accepted Controllable) same = let byte : ◌≡◌ {A = ℕ} 99 110 = ap (byte_at 9) same in absurd (omega arith)
-only_accepted (Rejected line why) same = let byte : ◌≡◌ {A = ℕ} 114 97 = ap (byte_at 0) same in absurd (omega arith)
+only_accepted NotControllable (Accepted NotControllable) same = refl
+only_accepted NotControllable (Accepted Controllable) same = let byte : ◌≡◌ {A = ℕ} 99 110 = ap (byte_at 9) same in absurd (omega arith)
+only_accepted Controllable (Accepted NotControllable) same = let byte : ◌≡◌ {A = ℕ} 110 99 = ap (byte_at 9) same in absurd (omega arith)
+only_accepted Controllable (Accepted Controllable) same = refl
+only_accepted NotControllable (Rejected line why) same = let byte : ◌≡◌ {A = ℕ} 114 97 = ap (byte_at 0) same in absurd (omega arith)
+only_accepted Controllable (Rejected line why) same = let byte : ◌≡◌ {A = ℕ} 114 97 = ap (byte_at 0) same in absurd (omega arith)
 
-no_refusal_line : (fault : Fault) → fault_line fault ≡ accepted → ⊥
+no_refusal_line : (claim : Claim) (fault : Fault) → fault_line fault ≡ accepted claim → ⊥
 unfolding accepted
-no_refusal_line fault same = let byte : ◌≡◌ {A = ℕ} 101 97 = ap (byte_at 0) same in omega arith
+no_refusal_line NotControllable fault same = let byte : ◌≡◌ {A = ℕ} 101 97 = ap (byte_at 0) same in omega arith
+no_refusal_line Controllable fault same = let byte : ◌≡◌ {A = ℕ} 101 97 = ap (byte_at 0) same in omega arith
 
-excludes_by : (form : PlanForm) → AcceptedExcludes → (input put : List ℕ) (end : End) → AnswersOrRefuses (judge_grammar form) refusing PutsJudgement input put end → put ≡ accepted → (net : Plan) (rest : List (List ℕ)) → (plan_in form).declares (lines input) net rest → IsControllable net → ⊥
-excludes_by form law input put end (inl (value, after, both, puts)) same net rest network controllable =
+-- where it is put that a claim is accepted, the claim is that of a certificate of the network that the input declares
+accepts_by : (form : PlanForm) (claim : Claim) (input put : List ℕ) (end : End) → AnswersOrRefuses (judge_grammar form) refusing PutsJudgement input put end → put ≡ accepted claim → (net : Plan) (rest : List (List ℕ)) → (plan_in form).declares (lines input) net rest
+    → IsInstant net × ((certificate : Certificate) × (judgement_of net certificate ≡ Accepted claim))
+accepts_by form claim input put end (inl (value, after, both, puts)) same net rest network =
     let one : value.0 ≡ net = input_one form (lines input) value.0 net both.0.rest rest both.0.declared network in
-    let judged : judgement_of value.0 value.1 ≡ Accepted NotControllable = only_accepted (judgement_of value.0 value.1) (sym puts.0 ∙ same) in
-    law net value.1 (record { sound = input_sound form (lines input) net rest network }) (subst (λ (n : Plan). judgement_of n value.1 ≡ Accepted NotControllable) one judged) controllable
-excludes_by form law input put end (inr (fault, first, puts)) same net rest network controllable =
-    no_refusal_line fault (sym puts.0 ∙ same)
+    let judged : judgement_of value.0 value.1 ≡ Accepted claim = only_accepted claim (judgement_of value.0 value.1) (sym puts.0 ∙ same) in
+    (record { sound = input_sound form (lines input) net rest network }, (value.1, subst (λ (n : Plan). judgement_of n value.1 ≡ Accepted claim) one judged))
+accepts_by form claim input put end (inr (fault, first, puts)) same net rest network =
+    absurd (no_refusal_line claim fault (sym puts.0 ∙ same))
 
-pub judge_keeps : AcceptedExcludes → (judge : Judge) (input put : List ℕ) (end : End) → Runs judge_machine (judge_start judge) input put end → JudgePromise judge.form input put end
+excludes_by : AcceptedExcludes → (net : Plan) → IsInstant net × ((certificate : Certificate) × (judgement_of net certificate ≡ Accepted NotControllable)) → IsControllable net → ⊥
+excludes_by law net (instant, (certificate, judged)) controllable = law net certificate instant judged controllable
+
+controls_by : AcceptedControls → (net : Plan) → IsInstant net × ((certificate : Certificate) × (judgement_of net certificate ≡ Accepted Controllable)) → IsControllable net
+controls_by law net (instant, (certificate, judged)) = law net certificate instant judged
+
+pub judge_keeps : AcceptedExcludes → AcceptedControls → (judge : Judge) (input put : List ℕ) (end : End) → Runs judge_machine (judge_start judge) input put end → JudgePromise judge.form input put end
 unfolding accepted
-judge_keeps law judge input put end runs =
+judge_keeps excludes controls judge input put end runs =
     let judges = answers_text (then_reader input_reader certificate_reader) (First (input_begun judge.form) certificate_begun) (judge_grammar judge.form) (judge_by judge.form) judge_answers refusing judge input put end runs in
     record {
       judges = judges;
-      excludes = λ same net rest network controllable. excludes_by judge.form law input put end judges.answers same net rest network controllable;
+      excludes = λ same net rest network controllable. excludes_by excludes net (accepts_by judge.form NotControllable input put end judges.answers same net rest network) controllable;
+      controls = λ same net rest network. controls_by controls net (accepts_by judge.form Controllable input put end judges.answers same net rest network);
     }

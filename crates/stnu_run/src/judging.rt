@@ -10,7 +10,7 @@ use crate::certificate_text::CertificateText;
 use crate::plan_input::{PlanForm, PlanInput};
 use crate::promising::Promising;
 use crate::requests::Request;
-use cert_checker::laws::accepted_excludes;
+use cert_checker::laws::{accepted_controls, accepted_excludes};
 use cert_checker::{Judgement, judge};
 use cert_format::Certificate;
 use command_engine::{Answer, Asked, End, Question, Then, Word};
@@ -31,14 +31,14 @@ impl Question<(Network, Certificate)> for Judge {
 
     fn answer<R: Threads + Sync>(
         self,
-        _rt: &R,
+        rt: &R,
         alloc: Global,
         answer: &mut Answer,
         value: (Network, Certificate),
     ) -> Result<End, AllocError> {
-        let judgement = judge(&value.0, &value.1)?;
-        put_judgement(alloc, answer, judgement)?;
-        Ok(judgement_end(judgement))
+        let judgement = judge(rt, alloc, &value.0, &value.1)?;
+        put_judgement(alloc, answer, &judgement)?;
+        Ok(judgement_end(&judgement))
     }
 }
 
@@ -82,6 +82,7 @@ impl Promising for Judging {
 
     fn keeps_its_promise() {
         accepted_excludes();
+        accepted_controls();
     }
 
     fn keeps_it_without_memory() {}
@@ -90,15 +91,19 @@ impl Promising for Judging {
 }
 
 /// Puts the line of a judgement into the buffer.
-fn put_judgement(alloc: Global, answer: &mut Answer, judgement: Judgement) -> Result<(), AllocError>
-    ensures { OnOk result (answer.new.text ≡ answer.old.text ++ judgement_line judgement) }
+fn put_judgement(
+    alloc: Global,
+    answer: &mut Answer,
+    judgement: &Judgement,
+) -> Result<(), AllocError>
+    ensures { OnOk result (answer.new.text ≡ answer.old.text ++ judgement_line judgement.now) }
 {
     let text = judgement.to_string(alloc)?;
     answer.push_line(&[Word::Text(text.as_str())])
 }
 
-fn judgement_end(judgement: Judgement) -> End
-    ensures { result ≡ judgement_end judgement }
+fn judgement_end(judgement: &Judgement) -> End
+    ensures { result ≡ judgement_end judgement.now }
 {
     match judgement {
         Judgement::Accepted(_) => End::Done,

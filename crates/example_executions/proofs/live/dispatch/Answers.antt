@@ -21,7 +21,6 @@ returns-clause-dispatched g c =
           c.in_ok-order.ensures.says c.in-Closed.is c.table.ensures c.as_slice.ensures;
       links = by.links;
       made = by.made;
-      keeps = by.kept;
     }
 
 pub returns-clause-kept : goal.returns-clause-kept
