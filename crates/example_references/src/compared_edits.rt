@@ -11,7 +11,7 @@ use crate::edited::Edited;
 use crate::following::{followed, new_base_nodes};
 use crate::plans::network;
 use crate::rounds::{base_nodes, rounds};
-use closure_model::Node;
+use closure_model::{Node, Rule};
 use net_model::{Edit, EditFault, Name, Network};
 use parallel_rounds::{NoGate, propagate};
 use std::alloc::Global;
@@ -29,15 +29,20 @@ const SPARE: u64 = 9;
 /// How many edits of a network are tried, one after another.
 const EDITS: u8 = 8;
 
-/// What is drawn from, and how many edits of each kind were accepted.
+/// What is drawn from, how many edits of each kind were accepted, and how many of all kept some nodes of rounds and withdrew others.
 #[derive(Drop)]
 struct Tried {
     draws: Draws,
     accepted: [u32; KINDS],
+    parting: u32,
 }
 
 impl Tried {
-    fn count(&mut self, edit: &Edit) {
+    /// Counts an accepted edit, by the numbers of nodes of rounds before it and of those that it keeps.
+    fn count(&mut self, edit: &Edit, earlier: usize, kept: usize) {
+        if 0 < kept && kept < earlier {
+            self.parting = self.parting.saturating_add(1);
+        }
         if let Some(count) = self.accepted.get_mut(kind(edit)) {
             *count = count.saturating_add(1);
         }
@@ -57,6 +62,7 @@ fn edits_followed_as_slow(rt: HostRuntime) -> Result<(), Fail> {
     let mut tried = Tried {
         draws: Draws { state: 7 },
         accepted: [0; KINDS],
+        parting: 0,
     };
     for _ in 0..DRAWN {
         try_network(&rt, rt.alloc(), &mut tried)?;
@@ -64,6 +70,7 @@ fn edits_followed_as_slow(rt: HostRuntime) -> Result<(), Fail> {
     for count in tried.accepted {
         assert!(rt; count >= 100, "{count}");
     }
+    assert!(rt; tried.parting >= 1_000, "{}", tried.parting);
     Ok(())
 }
 
@@ -124,8 +131,7 @@ fn try_edit<R: Threads + Sync>(
     };
     match standing.net.apply(alloc, &edit) {
         Ok(after) => {
-            tried.count(&edit);
-            let follows = same_following(alloc, &edit, after, standing)?;
+            let follows = same_following(alloc, tried, &edit, after, standing)?;
             Ok(same_rounds(rt, alloc, standing)? && follows)
         }
         Err(EditFault::OutOfMemory) => Err(Fail::from("no memory")),
@@ -136,6 +142,7 @@ fn try_edit<R: Threads + Sync>(
 /// Follows an edit, and says whether the slow program keeps as many nodes and has the same list then.
 fn same_following(
     alloc: Global,
+    tried: &mut Tried,
     edit: &Edit,
     after: Network,
     standing: &mut Standing,
@@ -151,6 +158,11 @@ fn same_following(
     let earlier = standing.nodes.len() as u64;
     let mut nodes = followed(alloc, &edited, standing.nodes.as_slice())?;
     let kept = nodes.len() as u64;
+    tried.count(
+        edit,
+        made(standing.nodes.as_slice()),
+        made(nodes.as_slice()),
+    );
     nodes.extend_from_slice(new_base_nodes(alloc, &edited)?.as_slice())?;
     let told = standing.store.follow(alloc, &standing.net, edit, &after)?;
     standing.net = after;
@@ -160,6 +172,14 @@ fn same_following(
             && told.withdrawn == earlier.saturating_sub(kept)
             && has_nodes(standing.store.dag(), standing.nodes.as_slice()),
     )
+}
+
+/// How many nodes are of rounds.
+fn made(nodes: &[Node]) -> usize {
+    nodes
+        .iter()
+        .filter(|node| !matches!(node.rule, Rule::Bound(_) | Rule::Link(_)))
+        .count()
 }
 
 /// Makes the rounds, and says whether the slow program makes the same nodes and as many rounds, and ends alike.
