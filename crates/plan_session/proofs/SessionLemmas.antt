@@ -1,5 +1,5 @@
 -- What is opened of a network, what it decides, and what comes of it.
-use Rattle.std.proofs.Common.{◌≡◌, ℕ, List, length, Option, Some, None, Result, Ok, Err, refl, ap, ◌∙◌, subst}
+use Rattle.std.proofs.Common.{◌≡◌, ℕ, List, length, Option, Some, Result, Ok, Err, refl, subst}
 use Rattle.std.specs.Prelude.{IfOk, IfSome}
 use Rattle.std.specs.declared.alloc.AllocError.{AllocError}
 use Rattle.net_model.specs.Network.{Plan}
@@ -9,7 +9,7 @@ use Rattle.strategy_model.specs.Control.{IsControllable}
 use Rattle.strategy_model.specs.Plays.{IsInstant}
 use Rattle.closure_model.specs.Closure.{IsClosure}
 use Rattle.closure_model.specs.Derivations.{Support, base_support}
-use Rattle.closure_model.specs.Orders.{IsOrder, IsCycle, first_left, placed_points}
+use Rattle.closure_model.specs.Orders.{IsOrder, IsCycle, placed_points}
 use Rattle.closure_model.specs.ReferenceRounds.{Ending, closed, looped, RoundsEnd, in_cycle, in_order, after_one}
 use Rattle.closure_model.specs.ReferenceRound.{after_round}
 use Rattle.closure_model.specs.Tables.{Graph}
@@ -23,12 +23,10 @@ use Rattle.support_records.specs.declared.store.Withdrawn.{Withdrawn}
 use Rattle.cert_format.specs.CertificateWords.{HasWeights}
 use Rattle.cert_format.specs.declared.certificate.Certificate.{Certificate}
 use Rattle.cert_checker.specs.Judgement.{judgement_of}
-use Rattle.cert_checker.specs.declared.judgement.Claim.TheVariants.{NotControllable, Controllable}
+use Rattle.cert_checker.specs.declared.judgement.Claim.TheVariants.{NotControllable}
 use Rattle.cert_checker.specs.declared.judgement.Judgement.TheVariants.{Accepted}
 use Rattle.refutations.specs.Certifying.{IsCertificateBy}
 use Rattle.refutations.specs.Refuting.{Refutes}
-use Rattle.table_proofs.specs.Certified.{Proves}
-use Rattle.table_proofs.specs.Proving.{table_proof_of}
 use Rattle.dispatch_net.specs.Dispatchable.{DispatchLists, IsDispatchBy}
 use Rattle.plan_session.specs.Sessions.{Opened, State, EndsWell, IsPlacedBy, IsSound, Opens, FollowsEdit, IsDispatchOfClosure}
 
@@ -40,7 +38,7 @@ says_well net support (Looped rounds cycle) says = says
 -- rounds that close have the order in which the points are placed
 pub ends_placed : (net : Plan) (start after : Support) (rounds : ℕ) (ending : Ending) → RoundsEnd net start rounds after ending → IsPlacedBy after.table ending
 ends_placed net start after rounds ending (in_cycle support first left) = tt
-ends_placed net start after rounds ending (in_order support none closes) = (none, refl)
+ends_placed net start after rounds ending (in_order support none closes) = refl
 ends_placed net start after rounds ending (after_one support later n how none some more) = ends_placed net (after_round net support) later n how more
 
 -- what was propagated is sound
@@ -65,7 +63,7 @@ module _ (net : Plan) (opened : Opened) (sound : IsSound net opened) where
   pub closed_well : (order : List PointId) → opened.ending ≡ closed order → IsClosure net opened.support.table × IsOrder opened.support.table order
   closed_well order is = subst (EndsWell net opened.support) is sound.ends
 
-  pub closed_placed : (order : List PointId) → opened.ending ≡ closed order → (first_left opened.support.table ≡ None) × (order ≡ placed_points opened.support.table)
+  pub closed_placed : (order : List PointId) → opened.ending ≡ closed order → order ≡ placed_points opened.support.table
   closed_placed order is = subst (IsPlacedBy opened.support.table) is sound.placed
 
   pub looped_well : (cycle : List PointId) → opened.ending ≡ looped cycle → IsCycle opened.support.table cycle
@@ -115,16 +113,6 @@ refutes net opened cycle cert opens never is by accepted weights = record {
     };
     is = by.is;
   };
-  accepted = accepted;
-  weights = weights;
-}
-
--- the table proof by the closure and its order proves the network controllable
-pub proves : (net : Plan) (table : Graph) (order : List PointId) (cert : Certificate) → IsControllable net → IsClosure net table → (first_left table ≡ None) × (order ≡ placed_points table) → cert ≡ table_proof_of net table order
-    → judgement_of net cert ≡ Accepted Controllable → HasWeights cert → Proves net cert
-proves net table order cert some closure placed is accepted weights = record {
-  some = some;
-  of = record { table = table; closure = closure; all_placed = placed.0; is = is ∙ ap (table_proof_of net table) placed.1 };
   accepted = accepted;
   weights = weights;
 }

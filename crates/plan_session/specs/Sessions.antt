@@ -8,7 +8,7 @@ use Rattle.net_model.specs.declared.ids.PointId.{PointId}
 use Rattle.strategy_model.specs.Control.{IsControllable}
 use Rattle.closure_model.specs.Closure.{IsClosure}
 use Rattle.closure_model.specs.Derivations.{Support, StandsOn, base_support}
-use Rattle.closure_model.specs.Orders.{IsOrder, IsCycle, first_left, placed_points}
+use Rattle.closure_model.specs.Orders.{IsOrder, IsCycle, placed_points}
 use Rattle.closure_model.specs.ReferenceRounds.{Ending, closed, looped, RoundsEnd}
 use Rattle.closure_model.specs.Tables.{Graph}
 use Rattle.closure_model.specs.declared.derivation.Node.{Node}
@@ -47,9 +47,9 @@ abbrev pub EndsWell : Plan → Support → Ending → Type 0
 EndsWell net support (closed order) = IsClosure net support.table × IsOrder support.table order
 EndsWell net support (looped cycle) = IsCycle support.table cycle
 
--- where the rounds closed, the order is that in which the points of the table are placed, and all are
+-- where the rounds closed, the order is that in which the points of the table are placed
 abbrev pub IsPlacedBy : Graph → Ending → Type 0
-IsPlacedBy table (closed order) = (first_left table ≡ None) × (order ≡ placed_points table)
+IsPlacedBy table (closed order) = order ≡ placed_points table
 IsPlacedBy table (looped cycle) = Unit {0}
 
 -- what is opened of a network stands on it, and its rounds ended well

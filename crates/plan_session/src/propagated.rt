@@ -22,6 +22,7 @@ use std::marker::Model;
 use std::thread::Threads;
 use support_records::Store;
 use table_histories::laws::later_nodes_fall;
+use table_proofs::laws::table_proofs_prove;
 use table_proofs::table_proof;
 
 /// The derivations of a network, from which rounds were made, and how these ended.
@@ -113,6 +114,7 @@ impl Propagated {
         ensures { IfOk result (Proves net.now) }
     {
         standing_cycles_exclude();
+        table_proofs_prove();
         // The proof reads here that the network is sound.
         let _ = net.points();
         match &self.outcome {

@@ -15,6 +15,7 @@ use Rattle.closure_model.specs.Tables.{Graph, edges_of}
 use Rattle.closure_model.proofs.BaseLemmas.{all_contained}
 use Rattle.closure_model.proofs.LawProofs.{closure_is_closed, closure_is_one}
 use Rattle.closure_model.proofs.Lists.{Contains-map_from}
+use Rattle.closure_model.proofs.OrderStays.{ordered_tables_are_placed}
 use Rattle.closure_model.proofs.TableLemmas.{listed_edge}
 use Rattle.cert_format.specs.CertificateWords.{HasWeights, IsEntryWeight}
 use Rattle.cert_format.specs.declared.certificate.Certificate.{Certificate}
@@ -31,7 +32,7 @@ use Rattle.refutations.proofs.OneCertificate.{certificate_one}
 use Rattle.refutations.proofs.RulesPass.{goes_on}
 use Rattle.table_proofs.specs.Proving.{entry_of, table_proof_of}
 use Rattle.table_proofs.specs.Laws.{TableProofsAreAccepted, TableProofsHaveWeights}
-use Rattle.table_proofs.specs.Certified.{IsTableProofOf, CertificatesAreOne}
+use Rattle.table_proofs.specs.Certified.{IsTableProofOf, TableProofsProve, CertificatesAreOne}
 use Rattle.table_proofs.proofs.ClosureLemmas.{edge_is, edge_within}
 use Rattle.table_proofs.proofs.Reading.{read_back, point_read, entry_read, weight_kept}
 use Rattle.table_proofs.proofs.Standing.{each_of, base_there, none_open}
@@ -88,6 +89,14 @@ table_proofs_have_weights net table order plan closure =
   where
     small : (edge : Edge) (entry : Entry) → entry.weight ≡ edge.weight → unsigned_abs edge.weight ≤ most_size → IsEntryWeight entry
     small edge entry kept within = let size = ap unsigned_abs kept in omega (arith, size, within)
+
+pub table_proofs_prove : TableProofsProve
+table_proofs_prove net table order plan some closure is placed = record {
+  some = some;
+  of = record { table = table; closure = closure; all_placed = ordered_tables_are_placed table order is; is = ap (table_proof_of net table) placed };
+  accepted = table_proofs_are_accepted net table order plan closure is;
+  weights = table_proofs_have_weights net table order plan closure;
+}
 
 table_proofs_are_one : (net : Plan) (cert other : Certificate) → IsTableProofOf net cert → IsTableProofOf net other → cert ≡ other
 table_proofs_are_one net cert other one two =

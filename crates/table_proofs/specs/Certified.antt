@@ -1,10 +1,11 @@
 -- The certificate of a network: where it is controllable its table proof, by its closure and the order in which the points of that are
 -- placed, else that of its refutation.
-use Rattle.std.specs.Prelude.{◌≡◌, ◌⊎◌, None}
-use Rattle.net_model.specs.Network.{Plan}
+use Rattle.std.specs.Prelude.{◌≡◌, ◌⊎◌, List, None}
+use Rattle.net_model.specs.Network.{Plan, IsPlan}
+use Rattle.net_model.specs.declared.ids.PointId.{PointId}
 use Rattle.strategy_model.specs.Control.{IsControllable}
 use Rattle.closure_model.specs.Closure.{IsClosure}
-use Rattle.closure_model.specs.Orders.{first_left, placed_points}
+use Rattle.closure_model.specs.Orders.{IsOrder, first_left, placed_points}
 use Rattle.closure_model.specs.Tables.{Graph}
 use Rattle.cert_format.specs.CertificateWords.{HasWeights}
 use Rattle.cert_format.specs.declared.certificate.Certificate.{Certificate}
@@ -28,6 +29,11 @@ pub record Proves (net : Plan) (cert : Certificate) : Type 0 where
   pub of : IsTableProofOf net cert
   pub accepted : judgement_of net cert ≡ Accepted Controllable
   pub weights : HasWeights cert
+
+-- where a network is controllable, the table proof by its closure and the order in which the points of that are placed proves it so
+abbrev pub TableProofsProve : Type 0
+TableProofsProve =
+    (net : Plan) (table : Graph) (order : List PointId) → IsPlan net → IsControllable net → IsClosure net table → IsOrder table order → order ≡ placed_points table → Proves net (table_proof_of net table order)
 
 -- a certificate decides a network: it proves the network controllable, or it refutes it
 abbrev pub Certifies : Plan → Certificate → Type 0

@@ -1,12 +1,12 @@
-use Rattle.std.proofs.Common.{List, ap, sym, subst}
+use Rattle.std.proofs.Common.{◌≡◌, List, ap, sym, subst}
 use Rattle.net_model.specs.declared.ids.PointId.{PointId}
 use Rattle.closure_model.specs.Closure.{IsClosure}
-use Rattle.closure_model.specs.Orders.{IsOrder}
+use Rattle.closure_model.specs.Orders.{IsOrder, placed_points}
 use Rattle.closure_model.specs.Tables.{Graph}
 use Rattle.parallel_rounds.specs.Propagated.{ending_of}
-use Rattle.plan_session.specs.Sessions.{IsSound, IsPlacedBy}
-use Rattle.closure_model.specs.ReferenceRounds.{closed}
-use Rattle.plan_session.proofs.SessionLemmas.{closed_well, closed_placed, looped_excludes, proves}
+use Rattle.table_proofs.specs.Certified.{Proves}
+use Rattle.plan_session.specs.Sessions.{IsSound}
+use Rattle.plan_session.proofs.SessionLemmas.{closed_well, closed_placed, looped_excludes}
 use Rattle.plan_session.proofs.propagated.Propagated.table_proof.Goals as goal
 
 pub table_proof-requires-clause-closure : goal.table_proof-requires-clause-closure
@@ -29,10 +29,10 @@ unreachable-requires c =
 pub returns : goal.returns
 returns c =
     let net = c.args.net.now in
-    let said = c.in_ok-certificate-in-Closed.ensures in
     let sound = subst (IsSound net) (sym c.self.view_is) c.requires.sound in
     let well = closed_well net _ sound c.in-Closed.order (ap ending_of c.in-Closed.is) in
     let placed = closed_placed net _ sound c.in-Closed.order (ap ending_of c.in-Closed.is) in
-    proves net c.table.result.now c.as_slice.result.now c.in_ok-certificate-in-Closed.certificate c.requires.controllable (subst (IsClosure net) (sym c.table.ensures) well.0)
-    (subst (λ (table : Graph). IsPlacedBy table (closed c.as_slice.result.now)) (sym c.table.ensures) (subst (λ (order : List PointId). IsPlacedBy c.self.inside.store.table (closed order)) (sym c.as_slice.ensures) placed))
-    said.proof said.accepted said.weights
+    let is_table = subst (λ (order : List PointId). IsClosure net c.table.result.now × IsOrder c.table.result.now order × (order ≡ placed_points c.table.result.now)) (sym c.as_slice.ensures)
+    (subst (λ (table : Graph). IsClosure net table × IsOrder table c.in-Closed.order × (c.in-Closed.order ≡ placed_points table)) (sym c.table.ensures) (well.0, well.1, placed)) in
+    subst (Proves net) (sym c.in_ok-certificate-in-Closed.ensures.proof)
+    (c.table_proofs_prove.ensures net c.table.result.now c.as_slice.result.now c.points.ensures.sound c.requires.controllable is_table.0 is_table.1 is_table.2)
