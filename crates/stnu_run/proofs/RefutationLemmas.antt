@@ -1,23 +1,28 @@
 -- The refutation of a network is one, so `check` answers a network in one way.
-use Rattle.std.proofs.Common.{◌≡◌, ℕ, suc, ◌<◌, List, [], ◌∷◌, map, ◌⊎◌, refl, sym, ap, ◌∙◌, subst, arith, inl, inr}
+use Rattle.std.proofs.Common.{◌≡◌, ℕ, suc, ◌<◌, Bool, true, false, List, [], ◌∷◌, ◌++◌, map, ◌⊎◌, refl, sym, ap, ◌∙◌, subst, arith, inl, inr}
 use Rattle.std.specs.List.{AllPairs, AllZip, Contains}
 use Rattle.std.proofs.lemmas.List.Elements.{recursion_from_All}
 use Rattle.net_model.specs.Network.{Plan}
 use Rattle.net_model.specs.declared.ids.PointId.{PointId}
 use Rattle.closure_model.specs.Derivations.{Support, base_support, IsNodeOf, IsUnder, AreAncestors}
 use Rattle.closure_model.specs.Keys.{Key}
+use Rattle.closure_model.specs.Orders.{placed_points}
+use Rattle.closure_model.specs.Tables.{Graph}
 use Rattle.closure_model.specs.ReferenceRounds.{Ending, closed, looped, cycle_keys, line_of, IsRefutationBy}
 use Rattle.closure_model.specs.declared.derivation.Node.{Node}
 use Rattle.closure_model.specs.declared.derivation.NodeId.{NodeId}
-use Rattle.closure_model.proofs.LawProofs.{node_of_key_is_one}
+use Rattle.closure_model.proofs.LawProofs.{closure_is_one, node_of_key_is_one}
 use Rattle.closure_model.proofs.Lists.{Contains-none, Contains-head, Contains-tail, Contains-cases, each-contained}
 use Rattle.closure_model.proofs.RoundsLaw.{rounds_end_in_one_way}
+use Rattle.cert_format.specs.CertificateWords.{printed_certificate}
 use Rattle.cert_format.specs.declared.certificate.Certificate.{Certificate}
 use Rattle.refutations.specs.Certifying.{certificate_by}
+use Rattle.table_proofs.specs.Certified.{IsTableProofOf}
+use Rattle.table_proofs.specs.Proving.{table_proof_of}
 use Rattle.command_engine.specs.declared.endings.End.{End}
-use Rattle.stnu_run.specs.Checking.{check_answers}
-use Rattle.stnu_run.specs.declared.plan_input.PlanForm.{PlanForm}
-use Rattle.stnu_run.specs.Verdict.{PutsControllable, PutsRefuted, IsCertificateOf, Decides}
+use Rattle.stnu_run.specs.Checking.{check_answers, check_yes}
+use Rattle.stnu_run.specs.Verdict.{controllable_line, PutsRefuted, IsCertificateOf, Decides}
+use Rattle.stnu_run.specs.declared.checking.CheckFlags.{CheckFlags}
 
 -- ---- lists in order with the same elements are one
 abbrev IsOrdered : List NodeId → Type 0
@@ -111,7 +116,17 @@ decided_once net Yes No Same same_yes same_no one other (inr (never, refuted)) (
 decided_once net Yes No Same same_yes same_no one other (inr (never, (cert, of, first))) (inr (also, (same, is, second))) =
     same_no one other cert first (subst (No other) (certificate_one net same cert is of) second)
 
-pub check_answers_once : (question : PlanForm) (net : Plan) (a b : List ℕ) (x y : End) → check_answers question net a x → check_answers question net b y → (a ≡ b) × (x ≡ y)
-check_answers_once question net a b x y =
-    decided_once {A = List ℕ × End} net (λ one. PutsControllable one.0 one.1) (λ one cert. PutsRefuted cert one.0 one.1) (λ one other. (one.0 ≡ other.0) × (one.1 ≡ other.1))
-    (λ one other puts also. (puts.0 ∙ sym also.0, puts.1 ∙ sym also.1)) (λ one other cert puts also. (puts.0 ∙ sym also.0, puts.1 ∙ sym also.1)) (a, x) (b, y)
+-- the table proof of a network is one
+table_proof_one : (net : Plan) (cert other : Certificate) → IsTableProofOf net cert → IsTableProofOf net other → cert ≡ other
+table_proof_one net cert other one two =
+    one.is ∙ (ap (λ (table : Graph). table_proof_of net table (placed_points table)) (closure_is_one net one.table two.table one.closure two.closure) ∙ sym two.is)
+
+yes_once : (proof : Bool) (net : Plan) (a b : List ℕ) (x y : End) → check_yes proof net a x → check_yes proof net b y → (a ≡ b) × (x ≡ y)
+yes_once false net a b x y puts also = (puts.0 ∙ sym also.0, puts.1 ∙ sym also.1)
+yes_once true net a b x y (cert, of, puts) (other, is, also) =
+    (puts.0 ∙ (ap (λ (c : Certificate). controllable_line ++ printed_certificate c) (table_proof_one net cert other of is) ∙ sym also.0), puts.1 ∙ sym also.1)
+
+pub check_answers_once : (flags : CheckFlags) (net : Plan) (a b : List ℕ) (x y : End) → check_answers flags net a x → check_answers flags net b y → (a ≡ b) × (x ≡ y)
+check_answers_once flags net a b x y =
+    decided_once {A = List ℕ × End} net (λ one. check_yes flags.proof net one.0 one.1) (λ one cert. PutsRefuted cert one.0 one.1) (λ one other. (one.0 ≡ other.0) × (one.1 ≡ other.1))
+    (λ one other puts also. yes_once flags.proof net one.0 other.0 one.1 other.1 puts also) (λ one other cert puts also. (puts.0 ∙ sym also.0, puts.1 ∙ sym also.1)) (a, x) (b, y)

@@ -2,6 +2,7 @@
 use Rattle.std.specs.Prelude.{◌≡◌, ◌⊎◌, ℕ, List, [], ◌∷◌, ◌++◌, codes}
 use Rattle.texts.specs.Printing.{printed_line}
 use Rattle.net_model.specs.Network.{Plan}
+use Rattle.closure_model.specs.Orders.{placed_points}
 use Rattle.closure_model.specs.ReferenceRounds.{IsRefutationOf}
 use Rattle.closure_model.specs.declared.derivation.Node.{Node}
 use Rattle.closure_model.specs.declared.derivation.NodeId.{NodeId}
@@ -27,6 +28,10 @@ refuted_line = printed_line (codes "not controllable" ∷ [])
 abbrev pub PutsControllable : List ℕ → End → Type 0
 PutsControllable put end = (put ≡ controllable_line) × (end ≡ Done)
 
+-- it is put that a network is controllable, and a certificate after that
+abbrev pub PutsProved : Certificate → List ℕ → End → Type 0
+PutsProved cert put end = (put ≡ controllable_line ++ printed_certificate cert) × (end ≡ Done)
+
 -- it is put that a network is not controllable, and a certificate after that
 abbrev pub PutsRefuted : Certificate → List ℕ → End → Type 0
 PutsRefuted cert put end = (put ≡ refuted_line ++ printed_certificate cert) × (end ≡ RefusedEnd)
@@ -47,7 +52,8 @@ Decides net Yes No = (IsControllable net × Yes) ⊎ ((¬ IsControllable net) ×
 abbrev pub Refutes : Plan → Certificate → Type 0
 Refutes net cert = (¬ IsControllable net) × IsCertificateOf net cert × HasWeights cert
 
--- what decides it: its closure with an order where it is controllable, else a certificate that refutes it
+-- what decides it: its closure with the order in which the points of that are placed where it is controllable, else a certificate that
+-- refutes it
 abbrev pub IsVerdict : Plan → Verdict → Type 0
-IsVerdict net (Controllable closed) = IsControllable net × IsDispatchedByClosure net closed.table closed.order
+IsVerdict net (Controllable closed) = IsControllable net × IsDispatchedByClosure net closed.table closed.order × (closed.order ≡ placed_points closed.table)
 IsVerdict net (Refuted cert) = Refutes net cert

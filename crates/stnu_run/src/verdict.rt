@@ -5,7 +5,7 @@ ghost use Rattle.closure_model.specs.Derivations.{base_support};
 ghost use Rattle.cert_format.specs.CertificateWords.{HasWeights};
 ghost use Rattle.parallel_rounds.specs.Propagated.{IsPropagated};
 ghost use Rattle.table_closing.specs.Closing.{HasDerivableCycle};
-ghost use Rattle.stnu_run.specs.Verdict.{IsVerdict, Refutes, PutsControllable, PutsRefuted};
+ghost use Rattle.stnu_run.specs.Verdict.{IsVerdict, Refutes, PutsControllable, PutsProved, PutsRefuted};
 
 use crate::workers::Workers;
 use cert_checker::laws::accepted_excludes;
@@ -99,6 +99,22 @@ pub(crate) fn put_controllable(answer: &mut Answer) -> Result<End, AllocError>
     ensures { IfOk result (λ end. PutsControllable answer.new.text end) }
 {
     answer.push_line(&[Word::Text("controllable")])?;
+    Ok(End::Done)
+}
+
+/// Puts that a network is controllable, and the certificate of it, into the buffer, which is empty.
+pub(crate) fn put_proved(
+    alloc: Global,
+    answer: &mut Answer,
+    certificate: &Certificate,
+) -> Result<End, AllocError>
+    requires empty { answer.old.text ≡ [] }
+    requires weights { HasWeights certificate.now }
+    ensures { IfOk result (λ end. PutsProved certificate.now answer.new.text end) }
+{
+    let text = print_certificate(alloc, certificate)?;
+    answer.push_line(&[Word::Text("controllable")])?;
+    answer.push_text(text.as_slice())?;
     Ok(End::Done)
 }
 

@@ -7,4 +7,8 @@ returns c = λ check net put end plan answered. verdict_put (record {
   stand = c.rounds_stand.ensures;
   met = c.cycles_are_met.ensures;
   accepted = c.refutations_are_accepted.ensures;
+}) (record {
+  order = c.placed_points_are_an_order.ensures;
+  accepted = c.table_proofs_are_accepted.ensures;
+  weights = c.table_proofs_have_weights.ensures;
 }) net (record { sound = plan }) check put end answered
