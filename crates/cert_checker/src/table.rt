@@ -260,7 +260,7 @@ fn judge_entries<R: Threads + Sync>(
     // The proof reads here that the network is sound.
     let _ = net.points();
     let first = order.len() as u64 + 1;
-    let mut edges = Vec::new(alloc);
+    let mut edges = Vec::with_capacity(alloc, entries.len())?;
     match read_edges(net, first, entries, &mut edges)? {
         Ok(()) => {
             let passes = edges_pass(rt, alloc, net, points, edges.as_slice())?;

@@ -145,6 +145,82 @@ module _ {B S V F P : Type 0} (begin : B → V → List ℕ → Onward P → Typ
       (subst (λ (p : List ℕ). Follows start (reading reader here (one.first ++ one.rest)) p end) (sym one.all)
       (runs_on start here one.first one.rest one.said one.last one.there end one.answers one.ends))
 
+  -- ---- the lines that were answered so far
+  -- the text is still read, and nothing was said
+  pub record StillReads (start : B) (said : List ℕ) (there : Here (TextThenPhase B S P)) : Type 0 where
+    pub text : Here S
+    pub stands : there ≡ at_text start text
+    pub nothing : said ≡ []
+
+  -- or the text was read in the first of them, and the phase that began from its value has answered the others
+  pub record StillServes (start : B) (here : Here S) (first rest : List InputLine) (said : List ℕ) (there : Here (TextThenPhase B S P)) : Type 0 where
+    pub value : V
+    pub number : ℕ
+    pub room : ℕ
+    pub others : List InputLine
+    pub reads : reading reader here (first ++ rest) ≡ Given value number room (others ++ rest)
+    pub answer : List ℕ
+    pub served : P
+    pub begins : begin start value answer (run.Goes served)
+    pub more : List ℕ
+    pub inner : Here P
+    pub answers : Answers phase (record { state = served; number = number; room = room }) others more inner
+    pub stands : there ≡ at_phase phase machine Serving wraps_phase inner
+    pub all : said ≡ answer ++ more
+
+  answered_by : (start : B) (here : Here S) (line : InputLine) (first rest : List InputLine) (said : List ℕ) (there : Here (TextThenPhase B S P)) (so_far : Answers machine (at_text start here) (line ∷ first) said there)
+      → ReadsOn start here line so_far.0 so_far.2 ⊎ BeginsPhase start here line so_far.0 so_far.2
+      → ((text : S) → Answers machine (at_text start (after_line here line text)) first so_far.1 there → StillReads start so_far.1 there ⊎ StillServes start (after_line here line text) first rest so_far.1 there)
+      → StillReads start said there ⊎ StillServes start here (line ∷ first) rest said there
+  answered_by start here line first rest said there so_far (inl on) later = by (later on.text (subst (λ (s : TextThenPhase B S P). Answers machine (after_line (at_text start here) line s) first so_far.1 there) on.so so_far.5))
+    where
+      all : said ≡ so_far.1
+      all = so_far.4 ∙ ap (λ (s : List ℕ). s ++ so_far.1) on.nothing
+
+      by : StillReads start so_far.1 there ⊎ StillServes start (after_line here line on.text) first rest so_far.1 there → StillReads start said there ⊎ StillServes start here (line ∷ first) rest said there
+      by (inl one) = inl (record { text = one.text; stands = one.stands; nothing = all ∙ one.nothing })
+      by (inr one) = inr (record {
+        value = one.value;
+        number = one.number;
+        room = one.room;
+        others = one.others;
+        reads = on.reads (first ++ rest) (λ state. reading reader (after_line here line state) (first ++ rest)) ∙ one.reads;
+        answer = one.answer;
+        served = one.served;
+        begins = one.begins;
+        more = one.more;
+        inner = one.inner;
+        answers = one.answers;
+        stands = one.stands;
+        all = all ∙ one.all;
+      })
+  answered_by start here line first rest said there so_far (inr on) later =
+      let next : Here P = record { state = on.served; number = here.number + 1; room = here.room - line_size line } in
+      let served = served_lines phase machine Serving wraps_phase next first so_far.1 there (subst (λ (s : TextThenPhase B S P). Answers machine (after_line (at_text start here) line s) first so_far.1 there) on.so so_far.5) in
+      inr (record {
+        value = on.value;
+        number = here.number + 1;
+        room = here.room - line_size line;
+        others = first;
+        reads = on.reads (first ++ rest) (λ state. reading reader (after_line here line state) (first ++ rest));
+        answer = so_far.0;
+        served = on.served;
+        begins = on.begins;
+        more = so_far.1;
+        inner = served.0;
+        answers = served.2;
+        stands = served.1;
+        all = so_far.4;
+      })
+
+  -- where a run stands after lines that were answered
+  pub answered_so : (start : B) (here : Here S) (first rest : List InputLine) (said : List ℕ) (there : Here (TextThenPhase B S P)) → Answers machine (at_text start here) first said there
+      → StillReads start said there ⊎ StillServes start here first rest said there
+  answered_so start here [] rest said there so_far = inl (record { text = here; stands = sym so_far.1; nothing = so_far.0 })
+  answered_so start here (line ∷ first) rest said there so_far =
+      answered_by start here line first rest said there so_far (goes start here line first so_far.0 so_far.2 so_far.3)
+      (λ text later. answered_so start (after_line here line text) first rest so_far.1 there later)
+
   -- while memory may be wanted nothing is said, where the phase wants none
   quiet_by : (start : B) (here : Here S) (line : InputLine) (first : List InputLine) (said : List ℕ) (there : Here (TextThenPhase B S P)) → WantsNone phase → machine.may_want there.state →
       (so_far : Answers machine (at_text start here) (line ∷ first) said there) → ReadsOn start here line so_far.0 so_far.2 ⊎ BeginsPhase start here line so_far.0 so_far.2 →

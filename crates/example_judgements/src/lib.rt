@@ -1,5 +1,11 @@
-//! The judgement of refutations: examples, tried as tests.
+//! The judgement of certificates: examples, tried as tests.
 #![tactic(auto)]
 
 #[cfg(test)]
 mod refutations;
+#[cfg(test)]
+mod rows;
+#[cfg(test)]
+mod tables;
+#[cfg(test)]
+mod wide;

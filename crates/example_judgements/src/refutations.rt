@@ -1,10 +1,6 @@
 //! Refutations of four networks, and what is refused of them.
 
-use cert_checker::judge;
-use cert_format::{Certificate, read_certificate};
-use net_model::{BuildFault, Name, NameFault, Network, Part, Weight};
-use std::alloc::{AllocError, Global};
-use std::process::Abort;
+use crate::rows::{Original, try_over};
 use std::test::Fail;
 
 /// Rows: the number of a line of a refutation and what stands in its place, or 0 and other lines in place of all, and the
@@ -73,148 +69,12 @@ const OVER_TWO_LINKS: &str = "10 walk 6 => accepted not controllable
 9 cross A1 4 A1 A2 C2 -9 => refused 9 unknown-item
 9 bound r C1 C2 2|up 9 4 C1 A2 C2 -8|cross C1 10 A1 A2 C2 -7|cross C1 10 A1 A2 C2 -8 => refused 12 too-low -8 -7";
 
-fn name(text: &str) -> Result<Name, NameFault> {
-    Name::new(text.as_bytes())
-}
-
-fn bound(item: &str, from: &str, to: &str, most: Weight) -> Result<Part, NameFault> {
-    Ok(Part::Bound(name(item)?, name(from)?, name(to)?, most))
-}
-
-fn link(from: &str, low: Weight, high: Weight, to: &str) -> Result<Part, NameFault> {
-    Ok(Part::Link(name(from)?, low, high, name(to)?))
-}
-
-fn push_points(parts: &mut Vec<Part>, points: &[&str]) -> Result<(), Fail> {
-    for point in points {
-        parts.push(Part::Point(name(point)?))?;
+/// A refutation of these lines.
+fn of_lines(lines: &str) -> Original<'_> {
+    Original {
+        kind: "refutation",
+        lines,
     }
-    Ok(())
-}
-
-fn push_bounds(parts: &mut Vec<Part>, bounds: &[(&str, &str, &str, Weight)]) -> Result<(), Fail> {
-    for (item, from, to, most) in bounds {
-        parts.push(bound(item, from, to, *most)?)?;
-    }
-    Ok(())
-}
-
-fn push_links(parts: &mut Vec<Part>, links: &[(&str, Weight, Weight, &str)]) -> Result<(), Fail> {
-    for (from, low, high, to) in links {
-        parts.push(link(from, *low, *high, to)?)?;
-    }
-    Ok(())
-}
-
-/// A network of these points, bounds `(name, from, to, most)` and links `(from, low, high, to)`.
-fn network(
-    alloc: Global,
-    points: &[&str],
-    bounds: &[(&str, &str, &str, Weight)],
-    links: &[(&str, Weight, Weight, &str)],
-) -> Result<Network, Fail> {
-    let mut parts = Vec::new(alloc);
-    push_points(&mut parts, points)?;
-    push_bounds(&mut parts, bounds)?;
-    push_links(&mut parts, links)?;
-    built(alloc, parts.as_slice())
-}
-
-fn built(alloc: Global, parts: &[Part]) -> Result<Network, Fail> {
-    if parts.len() > u32::MAX as usize {
-        return Err(BuildFault::OutOfMemory.into());
-    }
-    Ok(Network::build(alloc, parts)?)
-}
-
-/// The text of a refutation in which other lines stand in the place of one, by its number from 1, or of all, by 0.
-fn refutation(alloc: Global, lines: &str, place: usize, other: &str) -> Result<String, AllocError> {
-    let mut text = String::from_str(alloc, "certificate 1|refutation")?;
-    let lines = if place == 0 { other } else { lines };
-    for (index, line) in lines.split('|').enumerate() {
-        text.push('|')?;
-        text.push_str(if index + 1 == place { other } else { line })?;
-    }
-    text.push_str("|end|")?;
-    Ok(text)
-}
-
-/// The bytes of a text, with line ends.
-fn with_line_ends(alloc: Global, text: &str) -> Result<Vec<u8>, AllocError> {
-    text.bytes()
-        .map(|byte| if byte == b'|' { b'\n' } else { byte })
-        .collect(alloc)
-}
-
-/// The judgement of a text, or its fault.
-fn judged(alloc: Global, net: &Network, text: &[u8]) -> Result<String, AllocError> {
-    if text.len() > 1000 {
-        return String::from_str(alloc, "too long");
-    }
-    match read_certificate(alloc, text) {
-        Ok(certificate) => judgement_text(alloc, net, &certificate),
-        Err(fault) => fault.to_string(alloc),
-    }
-}
-
-fn judgement_text(
-    alloc: Global,
-    net: &Network,
-    certificate: &Certificate,
-) -> Result<String, AllocError> {
-    judge(net, certificate)?.to_string(alloc)
-}
-
-/// A row: the number of a line, what stands in its place, and the judgement.
-fn parts_of(row: &str) -> Option<(usize, &str, &str)> {
-    let (change, wanted) = row.split_once(" => ")?;
-    let (place, other) = change.split_once(' ')?;
-    Some((place.parse().ok()?, other, wanted))
-}
-
-fn try_row<R: Abort>(
-    rt: &R,
-    alloc: Global,
-    net: &Network,
-    lines: &str,
-    row: &str,
-) -> Result<(), AllocError> {
-    if let Some((place, other, wanted)) = parts_of(row) {
-        let text = refutation(alloc, lines, place, other)?;
-        let answer = judged(alloc, net, with_line_ends(alloc, text.as_str())?.as_slice())?;
-        assert!(rt; answer.as_str() == wanted, "{row}");
-    } else {
-        assert!(rt; false, "{row}");
-    }
-    Ok(())
-}
-
-fn try_rows<R: Abort>(
-    rt: &R,
-    alloc: Global,
-    net: &Network,
-    lines: &str,
-    rows: &str,
-) -> Result<(), AllocError> {
-    for row in rows.split('\n') {
-        try_row(rt, alloc, net, lines, row)?;
-    }
-    Ok(())
-}
-
-/// Tries rows over a network of these points, bounds and links.
-fn try_over<R: Abort>(
-    rt: &R,
-    alloc: Global,
-    points: &[&str],
-    bounds: &[(&str, &str, &str, Weight)],
-    links: &[(&str, Weight, Weight, &str)],
-    lines: &str,
-    rows: &str,
-) -> Result<(), Fail> {
-    let net = network(alloc, points, bounds, links)?;
-    try_rows(rt, alloc, &net, lines, rows)?;
-    Ok(())
 }
 
 #[test]
@@ -226,7 +86,7 @@ fn over_two_bounds(rt: HostRuntime) -> Result<(), Fail> {
         &["A", "B"],
         &bounds,
         &[],
-        "",
+        &of_lines(""),
         OVER_TWO_BOUNDS,
     )
 }
@@ -234,7 +94,15 @@ fn over_two_bounds(rt: HostRuntime) -> Result<(), Fail> {
 #[test]
 fn over_a_ring(rt: HostRuntime) -> Result<(), Fail> {
     let links = [("A", 1, 2, "B"), ("B", 1, 2, "A")];
-    try_over(&rt, rt.alloc(), &["A", "B"], &[], &links, "", OVER_RING)
+    try_over(
+        &rt,
+        rt.alloc(),
+        &["A", "B"],
+        &[],
+        &links,
+        &of_lines(""),
+        OVER_RING,
+    )
 }
 
 #[test]
@@ -248,7 +116,7 @@ fn over_one_link(rt: HostRuntime) -> Result<(), Fail> {
         &points,
         &bounds,
         &links,
-        ONE_LINK,
+        &of_lines(ONE_LINK),
         OVER_ONE_LINK,
     )
 }
@@ -268,7 +136,7 @@ fn over_two_links(rt: HostRuntime) -> Result<(), Fail> {
         &points,
         &bounds,
         &links,
-        TWO_LINKS,
+        &of_lines(TWO_LINKS),
         OVER_TWO_LINKS,
     )
 }

@@ -1,20 +1,19 @@
 -- Marks and counted places say what the places of following say.
-use Rattle.std.proofs.Common.{◌≡◌, ◌≢◌, ◌==◌, ℕ, suc, ◌+◌, ◌≤◌, ◌<◌, Bool, true, false, cond, not, is_none, is_some, ◌⊎◌, inl, inr, List, [], ◌∷◌, ◌++◌, length, get_or, take, map, fold, Option, Some, None, refl, ap, sym, ◌∙◌, subst, arith}
-use Rattle.std.specs.Prelude.{slice_get, nat_lt, if◌then◌else◌}
-use Rattle.std.specs.List.{count_by, slice_index_or}
-use Rattle.std.specs.Option.{option_map, option_and_then}
+use Rattle.std.proofs.Common.{◌≡◌, ℕ, suc, ◌+◌, ◌≤◌, ◌<◌, Bool, true, false, cond, not, is_none, is_some, ◌⊎◌, inl, inr, List, [], ◌∷◌, ◌++◌, length, get_or, take, map, Option, Some, None, refl, ap, sym, ◌∙◌, subst, arith}
+use Rattle.std.specs.Prelude.{slice_get, if◌then◌else◌}
+use Rattle.std.specs.List.{count_by}
+use Rattle.std.specs.Option.{option_map}
 use Rattle.std.proofs.lemmas.Bool.{cases_lt}
 use Rattle.std.proofs.lemmas.List.{map-append, get_or-map, get_or_past, length-append, length-map, take-append-le}
 use Rattle.std.proofs.lemmas.List.Sums.{sum_by-append}
 use Rattle.std.proofs.lemmas.Option.{slice_get-get_or}
 use Rattle.std.proofs.Math.ListN.{get_or-append}
-use Rattle.std.proofs.Math.Seq.{take-append_seam, take-length}
-use Rattle.net_model.specs.declared.ids.LinkId.{LinkId}
+use Rattle.std.proofs.Math.Seq.{take-length}
 use Rattle.closure_model.specs.declared.derivation.Node.{Node}
 use Rattle.closure_model.specs.declared.derivation.NodeId.{NodeId}
 use Rattle.closure_model.specs.declared.derivation.Rule.{Rule}
 use Rattle.closure_model.specs.declared.derivation.Rule.TheVariants as by_rule
-use Rattle.derivation_edits.specs.Following.{Renumbering, Following, none_followed, placed, follow_node, place_at, moved_rule, moved_node, moved_edge, followed}
+use Rattle.derivation_edits.specs.Following.{Renumbering, Following, none_followed, placed, follow_node, place_at, moved_rule, moved_node, followed}
 use Rattle.derivation_edits.proofs.Keeping.{with_rule}
 use Rattle.derivation_edits.proofs.MovedPremises.{place_before, place_last}
 use Rattle.derivation_edits.proofs.Prefixes.{one_more}

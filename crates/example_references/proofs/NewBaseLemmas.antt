@@ -1,6 +1,6 @@
 -- The new base nodes are those base nodes that are new.
-use Rattle.std.proofs.Common.{◌≡◌, ℕ, zero, suc, ◌+◌, Bool, true, false, cond, List, [], ◌∷◌, ◌++◌, map, Option, Some, refl, ap, sym, ◌∙◌, subst, arith}
-use Rattle.std.specs.Prelude.{slice_get, filter}
+use Rattle.std.proofs.Common.{◌≡◌, ℕ, Bool, true, false, cond, List, [], ◌∷◌, ◌++◌, map, Option, refl, ap, ◌∙◌}
+use Rattle.std.specs.Prelude.{filter}
 use Rattle.std.specs.List.{Contains, enumerate_from}
 use Rattle.std.specs.Option.{option_map_or}
 use Rattle.std.proofs.lemmas.List.Elements.{filter-append}
@@ -12,7 +12,7 @@ use Rattle.closure_model.proofs.Basing.{numbered_at}
 use Rattle.closure_model.proofs.Lists.{Contains-head, Contains-tail}
 use Rattle.derivation_edits.specs.Taken.{new_bounds, new_links, new_base_nodes, is_new_bound, is_new_link}
 use Rattle.example_references.specs.Marks.{is_new_base}
-use Rattle.example_references.specs.declared.renaming.Edited.{Edited}
+use Rattle.example_references.specs.declared.edited.Edited.{Edited}
 
 -- the images that pass one test are those of the items that pass another
 filtered : {X Y : Type 0} (made : X → Y) (p : Y → Bool) (q : X → Bool) (xs : List X) → ((x : X) → Contains xs x → p (made x) ≡ q x) → filter p (map made xs) ≡ map made (filter q xs)

@@ -1,6 +1,6 @@
 -- What is kept of a derivation list, by marks: a node is marked where it is not kept, and the number of a kept one is how many of those
 -- before it are.
-use Rattle.std.specs.Prelude.{Bool, true, false, List, [], ◌∷◌, ◌++◌, slice_get, take, not, Option, Some, None, is_none, if◌then◌else◌}
+use Rattle.std.specs.Prelude.{Bool, true, false, List, [], ◌∷◌, ◌++◌, slice_get, take, not, Option, Some, None, if◌then◌else◌}
 use Rattle.std.specs.List.{slice_index_or, count_by}
 use Rattle.std.specs.Option.{option_map, option_and_then, option_map_or}
 use Rattle.net_model.specs.Network.{activation}
@@ -12,7 +12,7 @@ use Rattle.closure_model.specs.declared.derivation.Rule.{Rule}
 use Rattle.closure_model.specs.declared.derivation.Rule.TheVariants as by_rule
 use Rattle.derivation_edits.specs.Following.{Renumbering, moved_edge}
 use Rattle.derivation_edits.specs.Taken.{renumbering, point_in, is_new_bound, is_new_link}
-use Rattle.example_references.specs.declared.renaming.Edited.{Edited}
+use Rattle.example_references.specs.declared.edited.Edited.{Edited}
 
 -- the numbers after an edit
 abbrev pub numbers : Edited → Renumbering

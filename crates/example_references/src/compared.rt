@@ -53,8 +53,9 @@ fn star(alloc: Global, points: u32) -> Result<String, Fail> {
     let mut lines = String::new(alloc);
     lines.push_str("point first|point last|link first 2 5 last")?;
     for number in 0..points {
+        let least = number.saturating_add(1);
         lines.push_str(format!(in alloc;
-            "|point p{number}|bound a{number} first p{number} 300|bound b{number} p{number} first -{number}"
+            "|point p{number}|bound a{number} first p{number} 300|bound b{number} p{number} first -{least}"
         )?.as_str())?;
     }
     Ok(lines)
@@ -142,7 +143,7 @@ fn try_closing(
 }
 
 /// Whether a list has these nodes, and no others.
-fn has_nodes(dag: &Dag, nodes: &[Node]) -> bool {
+pub(crate) fn has_nodes(dag: &Dag, nodes: &[Node]) -> bool {
     for (place, node) in nodes.iter().enumerate() {
         let id = NodeId(place as u64);
         if id.0 >= dag.len() || dag.node(id) != node {
@@ -152,7 +153,7 @@ fn has_nodes(dag: &Dag, nodes: &[Node]) -> bool {
     dag.len() == nodes.len() as u64
 }
 
-fn is_end(outcome: &Outcome, end: &(u64, Ending)) -> bool {
+pub(crate) fn is_end(outcome: &Outcome, end: &(u64, Ending)) -> bool {
     match (outcome, &end.1) {
         (Outcome::Closed { rounds, order }, Ending::Closed(wanted)) => {
             *rounds == end.0 && order.as_slice() == wanted.as_slice()

@@ -11,7 +11,7 @@ pub(crate) struct Draws {
 
 impl Draws {
     /// A number below another, and 0 where that is 0.
-    fn draw(&mut self, below: u64) -> u64 {
+    pub(crate) fn draw(&mut self, below: u64) -> u64 {
         self.state = (self.state % 2_147_483_648 * 1_103_515_245 + 12_345) % 2_147_483_648;
         (self.state / 65_536).checked_rem(below).unwrap_or(0)
     }
@@ -79,8 +79,9 @@ fn push_bounds(
     for number in 0..size.bounds {
         let from = draws.draw(size.points);
         let to = other(draws, size.points, from);
-        let sign = if draws.draw(3) == 0 { "-" } else { "" };
+        let below = draws.draw(3) == 0;
         let most = draws.draw(12);
+        let sign = if below && most > 0 { "-" } else { "" };
         lines.push_str(format!(in alloc; "|bound b{number} p{from} p{to} {sign}{most}")?.as_str())?;
     }
     Ok(())

@@ -1,14 +1,14 @@
 //! What is kept of derivation lists, and what is new, in small edits.
 
+use crate::edited::Edited;
 use crate::following::{followed, new_base_nodes};
 use crate::plans::{are_nodes, network};
-use crate::renaming::Edited;
 use crate::rounds::{base_nodes, rounds};
 use closure_model::Node;
-use net_model::{Edit, Name, Network};
+use example_plans::edit;
+use net_model::Network;
 use std::alloc::Global;
 use std::process::Abort;
-use std::str::SplitWhitespace;
 use std::test::Fail;
 
 /// An edit of a network, and what is kept of the nodes of its rounds, and the new base nodes. No new base nodes: `-`.
@@ -102,38 +102,4 @@ fn are(net: &Network, nodes: &[Node], text: &str) -> bool {
     } else {
         are_nodes(net, nodes, text)
     }
-}
-
-fn edit(line: &str) -> Option<Edit> {
-    let mut words = line.split_whitespace();
-    match words.next()? {
-        "drop" => drop(&mut words),
-        "set" => set(&mut words),
-        _ => add(&mut words),
-    }
-}
-
-fn drop(words: &mut SplitWhitespace<'_>) -> Option<Edit> {
-    match words.next()? {
-        "bound" => Some(Edit::DropBound(name(words)?)),
-        _ => Some(Edit::DropLink(name(words)?)),
-    }
-}
-
-fn set(words: &mut SplitWhitespace<'_>) -> Option<Edit> {
-    words.next()?;
-    Some(Edit::SetBound(name(words)?, number(words)?))
-}
-
-fn add(words: &mut SplitWhitespace<'_>) -> Option<Edit> {
-    words.next()?;
-    Some(Edit::AddLink(name(words)?, number(words)?, number(words)?, name(words)?))
-}
-
-fn name(words: &mut SplitWhitespace<'_>) -> Option<Name> {
-    Name::new(words.next()?.as_bytes()).ok()
-}
-
-fn number(words: &mut SplitWhitespace<'_>) -> Option<i64> {
-    words.next()?.parse().ok()
 }

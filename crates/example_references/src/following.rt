@@ -6,7 +6,7 @@ ghost use Rattle.derivation_edits.specs.Following.{followed};
 ghost use Rattle.derivation_edits.specs.Taken.{new_base_nodes};
 ghost use Rattle.example_references.specs.Marks.{numbers, mark_at, place_of, rule_after, node_after, is_new_base, with_some};
 
-use crate::renaming::Edited;
+use crate::edited::Edited;
 use crate::rounds::base_nodes;
 use closure_model::{Node, NodeId, Rule};
 use std::alloc::Global;

@@ -1,6 +1,6 @@
 //! The reference rows, orders, rounds and refutations, and what an edit keeps of a derivation list, as plain slow programs on lists, each
 //! of which gives what its definition says, tried on small networks as tests. They stand on no part of the engine; a test makes the rounds
-//! of drawn networks by both, and closes them without rounds.
+//! of drawn networks by both, closes them without rounds, and follows drawn edits of them.
 #![tactic(auto)]
 
 #[cfg(test)]
@@ -8,9 +8,14 @@ mod closed;
 #[cfg(test)]
 mod compared;
 #[cfg(test)]
+mod compared_edits;
+#[cfg(test)]
 mod deducing;
 #[cfg(test)]
 mod drawn;
+#[cfg(test)]
+mod drawn_edits;
+mod edited;
 mod ending;
 #[cfg(test)]
 mod followed;
@@ -35,4 +40,5 @@ mod settling;
 #[cfg(test)]
 mod tried;
 
+pub use edited::Edited;
 pub use ending::Ending;

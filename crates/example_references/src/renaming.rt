@@ -5,16 +5,9 @@ ghost use Rattle.derivation_edits.specs.Following.{moved_label, moved_edge};
 ghost use Rattle.derivation_edits.specs.Taken.{sets_bound, sets_link, point_in, is_point, is_same_bound, is_same_link, same_place, same_link_place, bound_in, link_in, is_new_bound, is_new_link};
 ghost use Rattle.example_references.specs.Marks.{numbers, link_before, is_new_base};
 
+use crate::edited::Edited;
 use closure_model::Rule;
 use net_model::{Bound, BoundId, Edge, Edit, Link, LinkId, Name, Network, PointId};
-
-/// A network, an edit, and the network after it.
-#[derive(Drop)]
-pub(crate) struct Edited<'a> {
-    pub(crate) before: &'a Network,
-    pub(crate) edit: &'a Edit,
-    pub(crate) after: &'a Network,
-}
 
 impl<'a> Edited<'a> {
     fn point_in(&self, point: PointId) -> Option<PointId>

@@ -9,3 +9,5 @@ mod documents;
 mod ports;
 #[cfg(test)]
 mod runs;
+#[cfg(test)]
+mod sessions;

@@ -17,6 +17,20 @@ stnu judge => stnu 1|point A|point C|point D|bound b1 D C 1|bound b2 C D -1|link
 stnu judge => stnu 1|point A|point C|point D|bound b1 D C 1|bound b2 C D -1|link A 3 8 C|end|certificate 1|refutation|bound b1 D C 1|bound b2 C D -1|link C C A -8|low C 2 A D 3|up 1 3 D A C -7|drop 5 D A -3|no 4 6 A A 0|walk 7|end| => refused 8 walk-not-negative 0| => 1
 stnu judge => stnu 1|point A|point C|point D|bound b1 D C 1|bound b2 C D -1|link A 3 8 C|end|certificate 1|refutation|bound b1 D C 1|bound b2 C D -1|link C C A -8|low C 2 A D 2|up 1 3 D A C -7|drop 5 D A -3|no 4 7 A A -1|walk 7|end| => refused 7 premise| => 1
 stnu judge => stnu 1|end|certificate 1|refutation|end| => refused 1 walk-broken| => 1
+stnu judge => stnu 1|point A|point B|bound b1 A B 5|bound b2 B A -2|end|certificate 1|table|order A|order B|edge A A 3|edge B A -2|edge A B 5|end| => accepted controllable| => 0
+stnu judge => stnu 1|point A|point B|bound b1 A B 5|bound b2 B A -2|end|certificate 1|table|order A|order B|edge B A -2|edge A B 5|end| => refused 3 not-closed| => 1
+stnu judge => stnu 1|point A|point B|bound b1 A B 5|bound b2 B A -2|end|certificate 1|table|order A|order B|edge A A 3|edge B A -2|end| => refused 0 missing-base bound b1| => 1
+stnu judge => stnu 1|point A|point C|point D|bound b1 D C 4|link A 3 8 C|end|certificate 1|table|order A|order C|order D|edge A A 0|edge C A -3|upper C C -8|edge D A -3|upper D C -4|edge D C 4|end| => accepted controllable| => 0
+stnu judge => stnu 1|point A|point C|point D|bound b1 D C 4|link A 3 8 C|end|certificate 1|table|order A|edge A A 0|order C|end| => error format 12 unknown-word| => 3
+stnu judge => stnu 1|point A|point B|bound b1 A B 5|bound b2 B A -2|end|certificate 1|table|order A|order B|edge A A 2|edge B A -2|edge A B 5|end| => accepted controllable| => 0
+stnu check --proof => stnu 1|point A|point B|bound b1 A B 5|bound b2 B A -2|end| => controllable|certificate 1|table|order A|order B|edge A A 3|edge B A -2|edge A B 5|end| => 0
+stnu check --workers 2 --proof => stnu 1|point A|point C|point D|bound b1 D C 4|link A 3 8 C|end| => controllable|certificate 1|table|order A|order C|order D|edge A A 0|edge C A -3|upper C C -8|edge D A -3|upper D C -4|edge D C 4|end| => 0
+stnu check --proof => stnu 1|end| => controllable|certificate 1|table|end| => 0
+stnu check --proof => stnu 1|point A|point B|bound b1 A B 3|bound b2 B A -5|end| => not controllable|certificate 1|refutation|bound b1 A B 3|bound b2 B A -5|no 1 2 A A -2|walk 3|end| => 1
+stnu check --proof --proof => stnu 1|end| => error words| => 2
+stnu check --proof=1 => stnu 1|end| => error words| => 2
+stnu check --workers --proof => stnu 1|end| => error words| => 2
+stnu run --proof => stnu 1|end| => error words| => 2
 stnu judge => stnu 1|point A|point C|point D|bound b1 D C 1|bound b2 C D -1|link A 3 8 C| => error format 8 no-end| => 3
 stnu judge =>  => error format 1 no-header| => 3
 stnu judge => point A|end| => error format 1 no-header| => 3
@@ -106,14 +120,14 @@ struct Room {
 
 /// A row: the words, the input, what is put, and the exit status.
 #[derive(Clone, Copy)]
-struct Row<'a> {
-    words: &'a str,
-    input: &'a str,
-    put: &'a str,
-    status: u8,
+pub(crate) struct Row<'a> {
+    pub(crate) words: &'a str,
+    pub(crate) input: &'a str,
+    pub(crate) put: &'a str,
+    pub(crate) status: u8,
 }
 
-fn row_of(text: &str) -> Option<Row<'_>> {
+pub(crate) fn row_of(text: &str) -> Option<Row<'_>> {
     let (words, others) = text.split_once(" => ")?;
     let (input, others) = others.split_once(" => ")?;
     let (put, status) = others.split_once(" => ")?;
@@ -217,6 +231,17 @@ fn expect_steady_run<R: Abort + Threads + Sync>(
     expect_put(rt, alloc, row, port.written())
 }
 
+/// A run of the row over a port that gives its bytes so.
+pub(crate) fn try_calls<R: Abort + Threads + Sync>(
+    rt: &R,
+    alloc: Global,
+    row: Row<'_>,
+    calls: Calls,
+) -> Result<(), AllocError> {
+    let mut port = port_over(alloc, row.input, calls)?;
+    expect_run(rt, alloc, row, &mut port)
+}
+
 pub(crate) fn try_row<R: Abort + Threads + Sync>(
     rt: &R,
     alloc: Global,
@@ -224,8 +249,7 @@ pub(crate) fn try_row<R: Abort + Threads + Sync>(
     calls: Option<Calls>,
 ) -> Result<(), AllocError> {
     if let (Some(row), Some(calls)) = (row_of(text), calls) {
-        let mut port = port_over(alloc, row.input, calls)?;
-        expect_run(rt, alloc, row, &mut port)
+        try_calls(rt, alloc, row, calls)
     } else {
         assert!(rt; false, "{text}");
         Ok(())

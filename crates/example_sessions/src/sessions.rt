@@ -15,9 +15,9 @@ use std::test::Fail;
 use std::thread::Threads;
 
 /// A plan, the lines of a session, and the answers. First a loop that no single situation shows, dropped and added again; a bound whose key
-/// falls back to an older one; entries that follow from each other and go together with what both rest on; a wait that follows its link;
-/// and a bound that is tightened until it breaks.
-const SESSIONS: [(&str, &str, &str); 5] = [
+/// falls back to an older one; entries that follow from each other and go together with what both rest on; a wait that follows its link; a
+/// bound that is tightened until it breaks; and two bounds of which one is dropped and added again.
+const SESSIONS: [(&str, &str, &str); 6] = [
     (
         "point A|point C|point D|bound b1 D C 1|bound b2 C D -1|link A 3 8 C",
         "verdict|drop bound b2|verdict|add bound b2 C D -1|proof|drop bound zz|proof",
@@ -35,13 +35,18 @@ const SESSIONS: [(&str, &str, &str); 5] = [
     ),
     (
         "point A|point C|point D|bound b1 D C 4|link A 3 8 C",
-        "table|set link C 3 9|table|set link C 0 9|set bound b1 2|add point E|add bound b2 E D 0|add link A 1 2 C|drop link C|table|add link A 2 2 C|table|proof",
-        "after D A 3|wait D C 4|table end|ok 1 5 2|after D A 3|wait D C 5|table end|refused bad-interval|ok 3 3 2|ok 6 0 1|ok 6 0 2|refused two-links-on-point|ok 2 7 1|table end|ok 2 0 2|table end|controllable|",
+        "proof|table|set link C 3 9|table|set link C 0 9|set bound b1 2|add point E|add bound b2 E D 0|add link A 1 2 C|drop link C|table|add link A 2 2 C|table",
+        "certificate 1|table|order A|order C|order D|edge A A 0|edge C A -3|upper C C -8|edge D A -3|upper D C -4|edge D C 4|end|after D A 3|wait D C 4|table end|ok 1 5 2|after D A 3|wait D C 5|table end|refused bad-interval|ok 3 3 2|ok 6 0 1|ok 6 0 2|refused two-links-on-point|ok 2 7 1|table end|ok 2 0 2|table end|",
     ),
     (
         "point leave|point arrive|point meet|bound most leave meet 20|bound early meet arrive -2|link leave 5 15 arrive",
         "verdict|set bound most 18|verdict|set bound most 16|table|proof|set bound most 17|table",
         "controllable|ok 6 4 3|controllable|ok 6 4 2|not controllable|certificate 1|refutation|bound most leave meet 16|bound early meet arrive -2|link arrive arrive leave -15|no 1 2 leave arrive 14|up 4 3 leave leave arrive -1|drop 5 leave leave -1|walk 6|end|ok 6 5 3|after meet leave 5|after meet arrive 2|wait meet arrive 15|table end|",
+    ),
+    (
+        "point A|point B|bound b1 A B 5|bound b2 B A -2",
+        "proof|drop bound b2|proof|add bound b2 B A -2|proof",
+        "certificate 1|table|order A|order B|edge A A 3|edge B A -2|edge A B 5|end|ok 1 2 1|certificate 1|table|order A|order B|edge A B 5|end|ok 1 0 2|certificate 1|table|order A|order B|edge A A 3|edge B A -2|edge A B 5|end|",
     ),
 ];
 
@@ -158,14 +163,9 @@ fn push_proof<R: Threads + Sync>(
     session: &Session,
     text: &mut String,
 ) -> Result<(), Fail> {
-    match session.verdict() {
-        Verdict::NotControllable => {
-            let certificate = session.certificate(rt, alloc)?;
-            let printed = print_certificate(alloc, &certificate)?;
-            push_lines(text, printed.as_slice())
-        }
-        verdict => push_line(text, verdict_word(verdict)),
-    }
+    let certificate = session.certificate(rt, alloc)?;
+    let printed = print_certificate(alloc, &certificate)?;
+    push_lines(text, printed.as_slice())
 }
 
 /// Lines, with `|` in place of their ends.

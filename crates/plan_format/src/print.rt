@@ -13,13 +13,12 @@ use std::alloc::{AllocError, Global};
 use texts::push_line;
 
 /// The plan text of a network: the header, the points, the bounds and the links, each list in its order, and `end`,
-/// with one blank between words and a line end after each line. It reads back to the same three lists. The numbers of the
-/// network are at most 1,000,000,000 in size, as those of a built network are. `AllocError` comes only for want of memory.
+/// with one blank between words and a line end after each line. Where the numbers of the network are at most 1,000,000,000 in size, as
+/// those of a built network are, it reads back to the same three lists. `AllocError` comes only for want of memory.
 #[tactic(auto, unfolding(crate::specs::PlanPrinting::printed_plan))]
 pub fn print_plan(alloc: Global, net: &Network) -> Result<Vec<u8>, AllocError>
-    requires { HasPlanNumbers net.now }
     ensures text { IfOk result (λ text. text.items ≡ printed_plan net.now) }
-    ensures read_back { IfOk result (λ text. ReadsBack text.items net.now) }
+    ensures read_back { HasPlanNumbers net.now → IfOk result (λ text. ReadsBack text.items net.now) }
 {
     let mut out = Vec::new(alloc);
     push_line(&mut out, b"stnu", &[b"1".as_slice()])?;

@@ -1,5 +1,5 @@
 -- What is opened of a network, what it decides, and what comes of it.
-use Rattle.std.proofs.Common.{◌≡◌, List, length, Option, Some, Result, Ok, Err, refl, subst}
+use Rattle.std.proofs.Common.{◌≡◌, ℕ, List, length, Option, Some, None, Result, Ok, Err, refl, ap, ◌∙◌, subst}
 use Rattle.std.specs.Prelude.{IfOk, IfSome}
 use Rattle.std.specs.declared.alloc.AllocError.{AllocError}
 use Rattle.net_model.specs.Network.{Plan}
@@ -8,9 +8,10 @@ use Rattle.net_model.specs.declared.ids.PointId.{PointId}
 use Rattle.strategy_model.specs.Control.{IsControllable}
 use Rattle.strategy_model.specs.Plays.{IsInstant}
 use Rattle.closure_model.specs.Closure.{IsClosure}
-use Rattle.closure_model.specs.Derivations.{Support}
-use Rattle.closure_model.specs.Orders.{IsOrder, IsCycle}
-use Rattle.closure_model.specs.ReferenceRounds.{closed, looped, RoundsEnd}
+use Rattle.closure_model.specs.Derivations.{Support, base_support}
+use Rattle.closure_model.specs.Orders.{IsOrder, IsCycle, first_left, placed_points}
+use Rattle.closure_model.specs.ReferenceRounds.{Ending, closed, looped, RoundsEnd, in_cycle, in_order, after_one}
+use Rattle.closure_model.specs.ReferenceRound.{after_round}
 use Rattle.closure_model.specs.Tables.{Graph}
 use Rattle.controllability.specs.Laws.{OrderedClosuresAreControllable, StandingCyclesExclude}
 use Rattle.table_histories.specs.LaterNodes.{LaterNodesFall}
@@ -22,23 +23,50 @@ use Rattle.support_records.specs.declared.store.Withdrawn.{Withdrawn}
 use Rattle.cert_format.specs.CertificateWords.{HasWeights}
 use Rattle.cert_format.specs.declared.certificate.Certificate.{Certificate}
 use Rattle.cert_checker.specs.Judgement.{judgement_of}
-use Rattle.cert_checker.specs.declared.judgement.Claim.TheVariants.{NotControllable}
+use Rattle.cert_checker.specs.declared.judgement.Claim.TheVariants.{NotControllable, Controllable}
 use Rattle.cert_checker.specs.declared.judgement.Judgement.TheVariants.{Accepted}
 use Rattle.refutations.specs.Certifying.{IsCertificateBy}
 use Rattle.refutations.specs.Refuting.{Refutes}
+use Rattle.table_proofs.specs.Certified.{Proves}
+use Rattle.table_proofs.specs.Proving.{table_proof_of}
 use Rattle.dispatch_net.specs.Dispatchable.{DispatchLists, IsDispatchBy}
-use Rattle.plan_session.specs.Sessions.{Opened, State, EndsWell, IsSound, Opens, FollowsEdit, IsDispatchOfClosure}
+use Rattle.plan_session.specs.Sessions.{Opened, State, EndsWell, IsPlacedBy, IsSound, Opens, FollowsEdit, IsDispatchOfClosure}
 
 -- what an outcome says of a table is what its ending does
 pub says_well : (net : Plan) (support : Support) (outcome : Outcome) → Says net support outcome → EndsWell net support (ending_of outcome)
 says_well net support (Closed rounds order) says = says
 says_well net support (Looped rounds cycle) says = says
 
+-- rounds that close have the order in which the points are placed
+pub ends_placed : (net : Plan) (start after : Support) (rounds : ℕ) (ending : Ending) → RoundsEnd net start rounds after ending → IsPlacedBy after.table ending
+ends_placed net start after rounds ending (in_cycle support first left) = tt
+ends_placed net start after rounds ending (in_order support none closes) = (none, refl)
+ends_placed net start after rounds ending (after_one support later n how none some more) = ends_placed net (after_round net support) later n how more
+
+-- what was propagated is sound
+pub propagated_sound : (net : Plan) (before after : Support) (outcome : Outcome) → IsPropagated net before after outcome → IsSound net (record { support = after; ending = ending_of outcome })
+propagated_sound net before after outcome propagated = record {
+  stands = propagated.stands;
+  ends = says_well net after outcome propagated.says;
+  placed = ends_placed net before after (rounds_of outcome) (ending_of outcome) propagated.ends;
+}
+
+-- what was propagated from the base is what is opened
+pub opens : (net : Plan) (start after : Support) (outcome : Outcome) → start ≡ base_support net → IsPropagated net start after outcome → Opens net (record { support = after; ending = ending_of outcome })
+opens net start after outcome base propagated = record {
+  rounds = rounds_of outcome;
+  ends = subst (λ (s : Support). RoundsEnd net s (rounds_of outcome) after (ending_of outcome)) base propagated.ends;
+  sound = propagated_sound net start after outcome propagated;
+}
+
 -- ---- the verdict
 module _ (net : Plan) (opened : Opened) (sound : IsSound net opened) where
   -- rounds that closed gave the closure, with an order
   pub closed_well : (order : List PointId) → opened.ending ≡ closed order → IsClosure net opened.support.table × IsOrder opened.support.table order
   closed_well order is = subst (EndsWell net opened.support) is sound.ends
+
+  pub closed_placed : (order : List PointId) → opened.ending ≡ closed order → (first_left opened.support.table ≡ None) × (order ≡ placed_points opened.support.table)
+  closed_placed order is = subst (IsPlacedBy opened.support.table) is sound.placed
 
   pub looped_well : (cycle : List PointId) → opened.ending ≡ looped cycle → IsCycle opened.support.table cycle
   looped_well cycle is = subst (EndsWell net opened.support) is sound.ends
@@ -64,7 +92,7 @@ follows fall old edit new before start after outcome answer followed propagated 
   made = propagated.history.nodes;
   list = propagated.history.more;
   falls = fall new start after followed.stands propagated.history;
-  sound = record { stands = propagated.stands; ends = says_well new after outcome propagated.says };
+  sound = propagated_sound new start after outcome propagated;
 }
 
 -- ---- the certificate
@@ -87,6 +115,16 @@ refutes net opened cycle cert opens never is by accepted weights = record {
     };
     is = by.is;
   };
+  accepted = accepted;
+  weights = weights;
+}
+
+-- the table proof by the closure and its order proves the network controllable
+pub proves : (net : Plan) (table : Graph) (order : List PointId) (cert : Certificate) → IsControllable net → IsClosure net table → (first_left table ≡ None) × (order ≡ placed_points table) → cert ≡ table_proof_of net table order
+    → judgement_of net cert ≡ Accepted Controllable → HasWeights cert → Proves net cert
+proves net table order cert some closure placed is accepted weights = record {
+  some = some;
+  of = record { table = table; closure = closure; all_placed = placed.0; is = is ∙ ap (table_proof_of net table) placed.1 };
   accepted = accepted;
   weights = weights;
 }

@@ -8,7 +8,7 @@ use Rattle.net_model.specs.declared.ids.PointId.{PointId}
 use Rattle.strategy_model.specs.Control.{IsControllable}
 use Rattle.closure_model.specs.Closure.{IsClosure}
 use Rattle.closure_model.specs.Derivations.{Support, StandsOn, base_support}
-use Rattle.closure_model.specs.Orders.{IsOrder, IsCycle}
+use Rattle.closure_model.specs.Orders.{IsOrder, IsCycle, first_left, placed_points}
 use Rattle.closure_model.specs.ReferenceRounds.{Ending, closed, looped, RoundsEnd}
 use Rattle.closure_model.specs.Tables.{Graph}
 use Rattle.closure_model.specs.declared.derivation.Node.{Node}
@@ -16,7 +16,7 @@ use Rattle.table_histories.specs.LaterNodes.{FallFrom}
 use Rattle.support_records.specs.Followed.{IsFollowed}
 use Rattle.support_records.specs.declared.store.Withdrawn.{Withdrawn}
 use Rattle.cert_format.specs.declared.certificate.Certificate.{Certificate}
-use Rattle.refutations.specs.Refuting.{Refutes}
+use Rattle.table_proofs.specs.Certified.{Certifies}
 use Rattle.dispatch_net.specs.Dispatchable.{DispatchLists, IsDispatchBy}
 use Rattle.plan_session.specs.declared.answers.Report.{Report}
 use Rattle.plan_session.specs.declared.answers.SessionFault.{SessionFault}
@@ -47,10 +47,16 @@ abbrev pub EndsWell : Plan → Support → Ending → Type 0
 EndsWell net support (closed order) = IsClosure net support.table × IsOrder support.table order
 EndsWell net support (looped cycle) = IsCycle support.table cycle
 
+-- where the rounds closed, the order is that in which the points of the table are placed, and all are
+abbrev pub IsPlacedBy : Graph → Ending → Type 0
+IsPlacedBy table (closed order) = (first_left table ≡ None) × (order ≡ placed_points table)
+IsPlacedBy table (looped cycle) = Unit {0}
+
 -- what is opened of a network stands on it, and its rounds ended well
 pub record IsSound (net : Plan) (opened : Opened) : Type 0 where
   pub stands : StandsOn net opened.support
   pub ends : EndsWell net opened.support opened.ending
+  pub placed : IsPlacedBy opened.support.table opened.ending
 
 -- ---- how a session begins
 -- what is opened of a network first: the reference rounds are made from its base nodes and its base table
@@ -108,10 +114,9 @@ IsVerdictOf session verdict.Controllable = IsOpen session × IsControllable sess
 IsVerdictOf session verdict.NotControllable = IsOpen session × (¬ IsControllable session.net)
 IsVerdictOf session verdict.Broken = IsBroken session
 
--- the answer to the proof of the verdict, where that is not controllable: the certificate of the refutation of the network as it stands,
--- whatever edits led to it
+-- the answer to the proof of the verdict: the certificate that decides the network as it stands, whatever edits led to it
 abbrev pub AnswersProof : State → Result Certificate AskFault → Type 0
-AnswersProof session (Ok cert) = IsOpen session × Refutes session.net cert
+AnswersProof session (Ok cert) = IsOpen session × Certifies session.net cert
 AnswersProof session (Err ask_fault.Broken) = IsBroken session
 AnswersProof session (Err ask_fault.OutOfMemory) = IsOpen session
 

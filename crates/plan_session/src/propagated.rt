@@ -3,6 +3,7 @@
 ghost use Rattle.std.specs.Prelude.{◌≡◌, ◌↔◌, ◌≤◌, IfOk, IsTrue};
 ghost use Rattle.strategy_model.specs.Control.{IsControllable};
 ghost use Rattle.refutations.specs.Refuting.{Refutes};
+ghost use Rattle.table_proofs.specs.Certified.{Proves};
 ghost use Rattle.work_board.specs.Limits.{most_seats};
 ghost use Rattle.parallel_rounds.specs.Propagated.{rounds_of};
 ghost use Rattle.plan_session.specs.Sessions.{IsSound, Opens, FollowsEdit, IsDispatchOfClosure};
@@ -21,6 +22,7 @@ use std::marker::Model;
 use std::thread::Threads;
 use support_records::Store;
 use table_histories::laws::later_nodes_fall;
+use table_proofs::table_proof;
 
 /// The derivations of a network, from which rounds were made, and how these ended.
 #[derive(Debug, Drop)]
@@ -97,6 +99,28 @@ impl Propagated {
         match self.outcome {
             Outcome::Closed { .. } => true,
             Outcome::Looped { .. } => false,
+        }
+    }
+
+    /// The table proof of the network.
+    pub(crate) fn table_proof(
+        &self,
+        alloc: Global,
+        net: &Network,
+    ) -> Result<Certificate, AllocError>
+        requires sound { IsSound net.now self.now }
+        requires controllable { IsControllable net.now }
+        ensures { IfOk result (Proves net.now) }
+    {
+        standing_cycles_exclude();
+        // The proof reads here that the network is sound.
+        let _ = net.points();
+        match &self.outcome {
+            Outcome::Closed { order, .. } => {
+                let certificate = table_proof(alloc, net, self.store.table(), order.as_slice())?;
+                Ok(certificate)
+            }
+            Outcome::Looped { .. } => unreachable!(),
         }
     }
 

@@ -3,7 +3,8 @@ ghost use Rattle.net_model.specs.Editing.{edited};
 ghost use Rattle.net_model.specs.Network.{IsPlan, HasPlanNumbers};
 ghost use Rattle.strategy_model.specs.Control.{IsControllable};
 ghost use Rattle.cert_format.specs.declared.certificate.Certificate.{Certificate};
-ghost use Rattle.refutations.specs.Refuting.{IsCertificateOf, Refutes};
+ghost use Rattle.refutations.specs.Refuting.{Refutes};
+ghost use Rattle.table_proofs.specs.Certified.{Certifies, Proves};
 ghost use Rattle.work_board.specs.Limits.{most_seats};
 ghost use Rattle.plan_session.specs.Sessions.{IsOpen, IsOpenedOn, AnswersEdit, IsVerdictOf, AnswersProof, IsDispatchOfClosure, Lends};
 
@@ -13,12 +14,12 @@ use cert_format::Certificate;
 use dispatch_net::Dispatch;
 use net_model::{Edit, EditFault, Network};
 use parallel_rounds::{Gate, NoGate};
-use refutations::laws::certificates_are_one;
 use std::alloc::{AllocError, Global};
 use std::marker::Model;
 use std::mem;
 use std::thread::Threads;
 use support_records::Store;
+use table_proofs::laws::certificates_are_one;
 
 /// A plan under edits: the network as it stands, and its derivations, of which an edit withdraws what rests on what it takes away. Contracts
 /// see it as the network, and the derivations with how the last rounds ended, unless the session is broken. No answer depends on the number
@@ -141,27 +142,38 @@ impl Session {
         }
     }
 
-    /// The certificate that refutes the network as it stands, where it is not controllable: that of the rounds from its base, whatever edits
-    /// led to it. `Broken` comes exactly where the session is broken. `OutOfMemory` comes only for want of memory, and the session is as it
-    /// was.
+    /// The certificate that decides the network as it stands: its table proof, where some strategy controls it, else that of its refutation by
+    /// the rounds from its base. It is a function of the network, whatever edits led to it, and the judge accepts it. `Broken` comes exactly
+    /// where the session is broken. `OutOfMemory` comes only for want of memory, and the session is as it was.
     pub fn certificate<R: Threads + Sync>(
         &self,
         rt: &R,
         alloc: Global,
     ) -> Result<Certificate, AskFault>
-        requires { IsOpen self.now → ¬ IsControllable self.now.net }
         ensures answers { AnswersProof self.now result }
-        ensures one { (other : Certificate) → IsCertificateOf self.now.net other → IfOk result (λ cert. cert ≡ other) }
+        ensures one { (other : Certificate) → Certifies self.now.net other → IfOk result (λ cert. cert ≡ other) }
     {
         certificates_are_one();
-        if self.opened.is_none() {
-            return Err(AskFault::Broken);
+        match self.verdict() {
+            Verdict::Broken => Err(AskFault::Broken),
+            Verdict::Controllable => Ok(self.table_proof(alloc)?),
+            Verdict::NotControllable => Ok(self.refutation(rt, alloc)?),
         }
-        let certificate = self.refutation(rt, alloc)?;
-        Ok(certificate)
     }
 
-    /// The certificate by the rounds from the base: those of the session, where no edit came after them, else new ones.
+    /// The table proof by the closure that the session has.
+    fn table_proof(&self, alloc: Global) -> Result<Certificate, AllocError>
+        requires open { IsOpen self.now }
+        requires controllable { IsControllable self.now.net }
+        ensures { IfOk result (Proves self.now.net) }
+    {
+        match &self.opened {
+            None => unreachable!(),
+            Some(opened) => opened.table_proof(alloc, &self.net),
+        }
+    }
+
+    /// The refutation by the rounds from the base: those of the session, where no edit came after them, else new ones.
     fn refutation<R: Threads + Sync>(
         &self,
         rt: &R,

@@ -1,6 +1,6 @@
 -- The beginning of an execution, by the closure of its network.
 use Rattle.std.proofs.Common.{◌≡◌, ℕ, List, [], ap, subst, ◌∙◌}
-use Rattle.net_model.specs.Network.{Plan}
+use Rattle.net_model.specs.Network.{Plan, IsPlan}
 use Rattle.net_model.specs.declared.ids.PointId.{PointId}
 use Rattle.closure_model.specs.Tables.{Graph}
 use Rattle.dispatch_net.specs.Dispatchable.{MayDispatch, DispatchLists, dispatchable}
@@ -10,9 +10,14 @@ use Rattle.execution_model.specs.Feeding.{started, IsDueAnswer}
 use Rattle.execution_model.specs.Laws.{IsDispatchedByClosure}
 use Rattle.execution_model.proofs.GraphLemmas.{closures_are_graphs}
 use Rattle.live_executor.specs.Sound.{IsDispatchOf}
+use Rattle.plan_session.specs.Sessions.{IsDispatchOfClosure}
 use Rattle.command_engine.specs.declared.machines.Onward.TheVariants.{Goes}
 use Rattle.stnu_run.specs.Course.{Course}
 use Rattle.stnu_run.specs.Running.{BeginsExecution, PutsBegun}
+
+-- a network with the dispatchable network of its closure
+pub by_closure : (net : Plan) (lists : DispatchLists) → IsPlan net → (is : IsDispatchOfClosure net lists) → IsDispatchedByClosure net is.table is.order
+by_closure net lists plan is = record { instant = record { sound = plan }; closure = is.closure; ordered = is.ordered }
 
 module _ (net : Plan) (table : Graph) (order : List PointId) (by : IsDispatchedByClosure net table order) where
   pub may_dispatch : MayDispatch net table order

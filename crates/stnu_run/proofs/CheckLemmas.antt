@@ -9,7 +9,8 @@ use Rattle.table_proofs.specs.Certified.{Proves}
 use Rattle.command_engine.specs.Inputs.{AnswersOrRefuses, AnswersText}
 use Rattle.command_engine.specs.declared.endings.End.{End}
 use Rattle.stnu_run.specs.Verdict.{controllable_line, refuted_line}
-use Rattle.stnu_run.specs.CheckPromise.{CheckPromise, PutsVerdict, PutsYes}
+use Rattle.stnu_run.specs.CheckPromise.{CheckPromise, PutsVerdict}
+use Rattle.stnu_run.specs.Checking.{PutsYes}
 use Rattle.stnu_run.specs.Faults.{fault_line, refusing}
 use Rattle.stnu_run.specs.PlanInput.{plan_in}
 use Rattle.stnu_run.specs.declared.faults.Fault.{Fault}

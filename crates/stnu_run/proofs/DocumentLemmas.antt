@@ -20,8 +20,8 @@ use Rattle.command_engine.specs.declared.reading.Step.{Step}
 use Rattle.command_engine.specs.declared.reading.Step.TheVariants.{Goes, Gives, Refused}
 use Rattle.command_engine.proofs.GrammarLemmas.{IsOnce, KeepsTo, reads_by}
 use Rattle.command_engine.proofs.LeadLemmas.{stands_by}
-use Rattle.stnu_run.specs.DocumentSoFar.{DocumentSoFar}
-use Rattle.stnu_run.specs.DocumentTexts.{DeclaresDocument, IsDocumentFault, IsEndLine, IsInside, RefusesDocument, bytes_of, document_texts, left_after, most_document, told}
+use Rattle.stnu_run.specs.DocumentSoFar.{DocumentSoFar, most_document}
+use Rattle.stnu_run.specs.DocumentTexts.{DeclaresDocument, IsDocumentFault, IsEndLine, IsInside, RefusesDocument, bytes_of, document_texts, left_after, told}
 use Rattle.stnu_run.specs.PlanDocument.{are_end, document_begun, document_reader, document_step, document_stop, parts_step, with_line}
 use Rattle.stnu_run.specs.declared.faults.Fault.{Fault}
 use Rattle.stnu_run.specs.declared.faults.Fault.TheVariants.{Part as PartFault, Document}

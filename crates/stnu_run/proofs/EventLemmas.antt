@@ -1,5 +1,5 @@
 -- The lines of events of a run: what each of them brings, and where the run stands after several.
-use Rattle.std.proofs.Common.{◌≡◌, ◌⊎◌, ℕ, ◌+◌, ◌-◌, List, [], ◌∷◌, ◌++◌, Option, Some, None, Result, Ok, Err, refl, sym, ap, ◌∙◌, subst, inl, inr, append_assoc}
+use Rattle.std.proofs.Common.{◌≡◌, ℕ, ◌+◌, ◌-◌, List, [], ◌∷◌, ◌++◌, Option, Some, None, Result, Ok, Err, sym, ap, ◌∙◌, subst, inl, inr, append_assoc}
 use Rattle.texts.specs.Lines.{InputLine, line_size}
 use Rattle.texts.specs.Words.{words}
 use Rattle.net_model.specs.Network.{Plan}
@@ -7,7 +7,7 @@ use Rattle.net_model.specs.declared.ids.PointId.{PointId}
 use Rattle.net_model.specs.declared.format.FormatKind.{FormatKind}
 use Rattle.net_model.specs.declared.format.FormatKind.TheVariants.{NoEnd}
 use Rattle.plan_port.specs.Limits.{most_line}
-use Rattle.plan_port.specs.Lines.{Coming, Comes, TooLong, TooMuch, coming}
+use Rattle.plan_port.specs.Lines.{Comes, TooLong, TooMuch, coming}
 use Rattle.event_stream.specs.EventText.{EventLine, blank, completed, done, IsLine, IsFaultOf}
 use Rattle.event_stream.specs.Laws.{OneReading}
 use Rattle.execution_model.specs.Execution.{Moments}
@@ -17,7 +17,7 @@ use Rattle.execution_model.specs.declared.feeding.Fed.TheVariants as fed
 use Rattle.execution_model.specs.declared.feeding.Finished.{Finished}
 use Rattle.execution_model.specs.declared.feeding.Finished.TheVariants as finished
 use Rattle.execution_model.specs.declared.feeding.Why.{Why}
-use Rattle.command_engine.specs.Runs.{Here, after_line, RepliesTo, Replies, Run}
+use Rattle.command_engine.specs.Runs.{Here, Run}
 use Rattle.command_engine.specs.declared.endings.End.{End}
 use Rattle.command_engine.specs.declared.endings.End.TheVariants as ends
 use Rattle.command_engine.specs.declared.machines.Onward.{Onward}
@@ -29,7 +29,7 @@ use Rattle.stnu_run.specs.Executing.{RefusesEvent, AnswersFeed, AnswersEnd, Answ
 use Rattle.stnu_run.specs.Faults.{fault_end}
 use Rattle.stnu_run.specs.declared.faults.Fault.{Fault}
 use Rattle.stnu_run.specs.declared.faults.Fault.TheVariants.{Format, LineTooLong as LongLine, InputTooMuch as MuchInput}
-use Rattle.stnu_run.proofs.ReplyLemmas.{GoesOver, first_reply, last_reply}
+use Rattle.stnu_run.proofs.ReplyLemmas.{Continues, Replied, replied, last_reply}
 
 -- where the execution of a network stands in a run
 abbrev pub at : Plan → Execution → List PointId → (number room : ℕ) → Here Course
@@ -107,29 +107,6 @@ module _ (state : Course) (number : ℕ) (none : state.execution.refused ≡ Non
       subst (λ (f : Finished). AnswersEnd state.net number f after answer onward) by.0 answers
 
 -- ---- a run over a line, and others
--- how a run goes on after the answer to a line
-abbrev Continues : Here Course → InputLine → List InputLine → List ℕ → End → Onward Course → List ℕ → Type 0
-Continues here line lines put end (Ends other) answer = (put ≡ answer) × (end ≡ other)
-Continues here line lines put end (Goes state) answer = (more : List ℕ) × (put ≡ answer ++ more) × Run executing_machine (after_line here line state) lines more end
-
--- the reply to the first line, by what comes of it
-record Replied (here : Here Course) (line : InputLine) (lines : List InputLine) (put : List ℕ) (end : End) (how : Coming) : Type 0 where
-  pub answer : List ℕ
-  pub onward : Onward Course
-  pub replies : RepliesTo executing_machine how here line.text answer onward
-  pub on : Continues here line lines put end onward answer
-
-replied : (here : Here Course) (line : InputLine) (lines : List InputLine) (put : List ℕ) (end : End) (how : Coming) → coming most_line here.room line ≡ how
-    → Run executing_machine here (line ∷ lines) put end → Replied here line lines put end how
-replied here line lines put end how comes run = by (first_reply executing_machine here line lines put end run)
-  where
-    so : (answer : List ℕ) (onward : Onward Course) → Replies executing_machine here (line ∷ lines) answer onward → RepliesTo executing_machine how here line.text answer onward
-    so answer onward replies = subst (λ (h : Coming). RepliesTo executing_machine h here line.text answer onward) comes replies
-
-    by : Replies executing_machine here (line ∷ lines) put (Ends end) ⊎ GoesOver executing_machine here line lines put end → Replied here line lines put end how
-    by (inl replies) = record { answer = put; onward = Ends end; replies = so put (Ends end) replies; on = (refl, refl) }
-    by (inr goes) = record { answer = goes.answer; onward = Goes goes.state; replies = so goes.answer (Goes goes.state) goes.replies; on = (goes.more, goes.all, goes.later) }
-
 -- a run ends by a fault, with its line
 abbrev pub EndsBy : Fault → List ℕ → End → Type 0
 EndsBy fault put end = (put ≡ event_refusal fault) × (end ≡ fault_end fault)
@@ -150,16 +127,16 @@ pub too_long : (net : Plan) (execution : Execution) (listed : List PointId) (num
     → coming most_line room line ≡ TooLong → Run executing_machine (at net execution listed number room) (line ∷ lines) put end → EndsBy (LongLine (number + 1)) put end
 too_long net execution listed number room line lines put end long run =
     let here = at net execution listed number room in
-    let one = replied here line lines put end TooLong long run in
-    let on = subst (λ (o : Onward Course). Continues here line lines put end o one.answer) one.replies.1 one.on in
+    let one = replied executing_machine here line lines put end TooLong long run in
+    let on = subst (λ (o : Onward Course). Continues executing_machine here line lines put end o one.answer) one.replies.1 one.on in
     (on.0 ∙ one.replies.2.0, on.1 ∙ one.replies.2.1)
 
 pub too_much : (net : Plan) (execution : Execution) (listed : List PointId) (number room : ℕ) (line : InputLine) (lines : List InputLine) (put : List ℕ) (end : End)
     → coming most_line room line ≡ TooMuch → Run executing_machine (at net execution listed number room) (line ∷ lines) put end → EndsBy (MuchInput (number + 1)) put end
 too_much net execution listed number room line lines put end much run =
     let here = at net execution listed number room in
-    let one = replied here line lines put end TooMuch much run in
-    let on = subst (λ (o : Onward Course). Continues here line lines put end o one.answer) one.replies.1 one.on in
+    let one = replied executing_machine here line lines put end TooMuch much run in
+    let on = subst (λ (o : Onward Course). Continues executing_machine here line lines put end o one.answer) one.replies.1 one.on in
     (on.0 ∙ one.replies.2.0, on.1 ∙ one.replies.2.1)
 
 module _ (reading : (net : Plan) (line : List (List ℕ)) → OneReading net line) where
@@ -182,14 +159,14 @@ module _ (reading : (net : Plan) (line : List (List ℕ)) → OneReading net lin
     abbrev here : Here Course
     here = at net execution listed number room
 
-    one : Replied here line lines put end Comes
-    one = replied here line lines put end Comes comes run
+    one : Replied executing_machine here line lines put end Comes
+    one = replied executing_machine here line lines put end Comes comes run
 
     tells : (told : EventLine) → IsLine net told line.text → AnswersEvent here.state (number + 1) told one.answer one.onward
     tells told is = told_answers here.state (number + 1) told line.text one.answer one.onward is one.replies
 
-    on_as : (onward : Onward Course) → one.onward ≡ onward → Continues here line lines put end onward one.answer
-    on_as onward is = subst (λ (o : Onward Course). Continues here line lines put end o one.answer) is one.on
+    on_as : (onward : Onward Course) → one.onward ≡ onward → Continues executing_machine here line lines put end onward one.answer
+    on_as onward is = subst (λ (o : Onward Course). Continues executing_machine here line lines put end o one.answer) is one.on
 
     pub one_blank : IsLine net blank line.text → Run executing_machine (at net execution listed (number + 1) (room - line_size line)) lines put end
     one_blank is =

@@ -45,7 +45,7 @@ use Rattle.stnu_run.proofs.EventLemmas.{at, EndsRefused as RefusesSo, one_refuse
 use Rattle.stnu_run.proofs.ReplyLemmas.{room_both}
 
 -- a fault ends no run as one whose event is refused, or that is whole
-fault_ends_so : (fault : Fault) → (fault_end fault ≡ ends.Limit) ⊎ (fault_end fault ≡ ends.Fault)
+pub fault_ends_so : (fault : Fault) → (fault_end fault ≡ ends.Limit) ⊎ (fault_end fault ≡ ends.Fault)
 fault_ends_so (Format number kind.NumberLimit) = inl refl
 fault_ends_so (Format number k) = inr refl
 fault_ends_so (Part number (part.Limit which place)) = inl refl
@@ -74,6 +74,18 @@ not_decided final done end (inl (shut, is)) (inl fault) = absurd (cc (is, fault)
 not_decided final done end (inl (shut, is)) (inr limit) = absurd (cc (is, limit))
 not_decided final done end (inr (point, opens, is)) (inl fault) = absurd (cc (is, fault))
 not_decided final done end (inr (point, opens, is)) (inr limit) = absurd (cc (is, limit))
+
+-- an execution is opened, and goes on over lines of events
+pub record Opened (net : Plan) (number room : ℕ) (rest : List InputLine) (put : List ℕ) (end : End) : Type 0 where
+  pub controllable : IsControllable net
+  pub table : Graph
+  pub order : List PointId
+  pub by_closure : IsDispatchedByClosure net table order
+  pub due : Option ℕ
+  pub first : IsDueAnswer (started (setting_of net table)) due
+  pub more : List ℕ
+  pub all : put ≡ controllable_line ++ (due_line due ++ more)
+  pub later : RunOver executing_machine (at net (started (setting_of net table)) [] number room) rest more end
 
 -- an execution is opened by these lines, after these bytes: of a controllable network, by its closure; and it goes on over the other lines
 pub record IsOpened (net : Plan) (used rest : List InputLine) (before put : List ℕ) (end : End) : Type 0 where

@@ -28,3 +28,8 @@ pub mod UseLemmas
 pub mod WorkersLemmas
 pub mod SameLemmas
 pub mod NothingLemmas
+pub mod SessionOnceLemmas
+pub mod SessionLines
+pub mod SessionLemmas
+pub mod EditingLemmas
+pub mod SessionTextLemmas

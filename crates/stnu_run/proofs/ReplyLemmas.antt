@@ -1,10 +1,12 @@
 -- A run over lines, by what comes first; and lines that come.
 use Rattle.std.proofs.Common.{◌≡◌, ◌⊎◌, ℕ, ◌-◌, List, [], ◌∷◌, ◌++◌, refl, sym, ap, ◌∙◌, subst, inl, inr, append_assoc}
 use Rattle.texts.specs.Lines.{InputLine, line_size}
+use Rattle.plan_port.specs.Lines.{Coming, coming}
 use Rattle.command_engine.specs.Inputs.{room_after}
 use Rattle.command_engine.specs.Machine.{Machine}
-use Rattle.command_engine.specs.Runs.{Here, after_line, Replies, Answers, Run}
+use Rattle.command_engine.specs.Runs.{Here, after_line, RepliesTo, Replies, Answers, Run}
 use Rattle.command_engine.specs.declared.endings.End.{End}
+use Rattle.command_engine.specs.declared.machines.Onward.{Onward}
 use Rattle.command_engine.specs.declared.machines.Onward.TheVariants.{Goes, Ends}
 use Rattle.stnu_run.specs.ToRead.{Come}
 
@@ -59,6 +61,29 @@ module _ {C : Type 0} (machine : Machine C) where
             all = all ∙ (ap (λ (s : List ℕ). s ++ last) answers.4 ∙ append_assoc answers.0 answers.1 last);
             later = record { first = first; rest = rest; said = answers.1; there = there; last = last; divided = tail; answers = later; ends = ends; all = refl };
           })
+
+  -- how a run goes on after the answer to a line
+  abbrev pub Continues : Here C → InputLine → List InputLine → List ℕ → End → Onward C → List ℕ → Type 0
+  Continues here line lines put end (Ends other) answer = (put ≡ answer) × (end ≡ other)
+  Continues here line lines put end (Goes state) answer = (more : List ℕ) × (put ≡ answer ++ more) × Run machine (after_line here line state) lines more end
+
+  -- the reply to the first line, by what comes of it
+  pub record Replied (here : Here C) (line : InputLine) (lines : List InputLine) (put : List ℕ) (end : End) (how : Coming) : Type 0 where
+    pub answer : List ℕ
+    pub onward : Onward C
+    pub replies : RepliesTo machine how here line.text answer onward
+    pub on : Continues here line lines put end onward answer
+
+  pub replied : (here : Here C) (line : InputLine) (lines : List InputLine) (put : List ℕ) (end : End) (how : Coming) → coming (machine.longest here.state) here.room line ≡ how
+      → Run machine here (line ∷ lines) put end → Replied here line lines put end how
+  replied here line lines put end how comes run = by (first_reply here line lines put end run)
+    where
+      so : (answer : List ℕ) (onward : Onward C) → Replies machine here (line ∷ lines) answer onward → RepliesTo machine how here line.text answer onward
+      so answer onward replies = subst (λ (h : Coming). RepliesTo machine h here line.text answer onward) comes replies
+
+      by : Replies machine here (line ∷ lines) put (Ends end) ⊎ GoesOver here line lines put end → Replied here line lines put end how
+      by (inl replies) = record { answer = put; onward = Ends end; replies = so put (Ends end) replies; on = (refl, refl) }
+      by (inr goes) = record { answer = goes.answer; onward = Goes goes.state; replies = so goes.answer (Goes goes.state) goes.replies; on = (goes.more, goes.all, goes.later) }
 
 -- ---- lines that come
 pub come_first : (room : ℕ) (before after : List InputLine) → Come room (before ++ after) → Come room before

@@ -1,20 +1,19 @@
 -- `run` keeps its promise.
-use Rattle.std.proofs.Common.{◌≡◌, ◌⊎◌, ℕ, List, [], ◌++◌, length, Option, refl, sym, ap, ◌∙◌, subst, inl, inr, append_assoc, append-nil}
+use Rattle.std.proofs.Common.{◌≡◌, ◌⊎◌, ℕ, List, [], ◌++◌, length, refl, sym, ap, ◌∙◌, subst, inl, inr, append_assoc, append-nil}
 use Rattle.texts.specs.Lines.{InputLine, input_lines, lines}
-use Rattle.net_model.specs.Network.{Plan, IsPlan}
-use Rattle.net_model.specs.declared.ids.PointId.{PointId}
-use Rattle.closure_model.specs.Tables.{Graph}
+use Rattle.net_model.specs.Network.{Plan}
 use Rattle.strategy_model.specs.Control.{IsControllable}
 use Rattle.cert_format.specs.declared.certificate.Certificate.{Certificate}
-use Rattle.execution_model.specs.Feeding.{started, IsDueAnswer}
-use Rattle.execution_model.specs.Laws.{setting_of, IsDispatchedByClosure}
+use Rattle.refutations.specs.Refuting.{Refutes}
+use Rattle.execution_model.specs.Feeding.{started}
+use Rattle.execution_model.specs.Laws.{setting_of}
 use Rattle.execution_model.specs.Streams.{Listing}
 use Rattle.command_engine.specs.Asked.{AnswersOutcome}
 use Rattle.command_engine.specs.Inputs.{AnswersOrRefuses, IsFirstRefusal, room_after}
 use Rattle.command_engine.specs.Limits.{most_input}
 use Rattle.command_engine.specs.Phases.{FollowsOutcome, GoesOn}
 use Rattle.command_engine.specs.Reading.{Outcome, Given, Faulty, reading}
-use Rattle.command_engine.specs.Runs.{Run as RunOver, Runs, begins}
+use Rattle.command_engine.specs.Runs.{Runs, begins}
 use Rattle.command_engine.specs.declared.endings.End.{End}
 use Rattle.command_engine.specs.declared.endings.End.TheVariants as ends
 use Rattle.command_engine.specs.declared.machines.Onward.{Onward}
@@ -29,15 +28,13 @@ use Rattle.stnu_run.specs.Faults.{refusing, fault_end}
 use Rattle.stnu_run.specs.PlanInput.{input_begun, input_reader, plan_in}
 use Rattle.stnu_run.specs.RunPromise.{OpensExecution, plan_opens, RunPromise}
 use Rattle.stnu_run.specs.Running.{run_begins, run_machine, run_start}
-use Rattle.stnu_run.specs.Verdict.{controllable_line, PutsRefuted, IsCertificateOf}
+use Rattle.stnu_run.specs.Verdict.{controllable_line, PutsRefuted}
 use Rattle.stnu_run.specs.declared.faults.Fault.{Fault}
 use Rattle.stnu_run.specs.declared.plan_input.PlanForm.{PlanForm}
 use Rattle.stnu_run.proofs.DayLemmas.{ExecutionLaws}
 use Rattle.stnu_run.proofs.DueLemmas.{due_answered}
-use Rattle.stnu_run.proofs.EventLemmas.{at}
-use Rattle.stnu_run.proofs.ExecutionLemmas.{IsOpened, Lasts, lasts, execution_keeps, whole_by, refused_so, fault_so, fault_not}
-use Rattle.stnu_run.proofs.PlanInputLemmas.{input_by, input_sound}
-use Rattle.stnu_run.proofs.VerdictLemmas.{Laws, certificate_accepted}
+use Rattle.stnu_run.proofs.ExecutionLemmas.{Opened, IsOpened, Lasts, lasts, execution_keeps, whole_by, refused_so, fault_so, fault_not}
+use Rattle.stnu_run.proofs.PlanInputLemmas.{input_by}
 
 module _ (form : PlanForm) where
   -- ---- what follows on the reading of a plan
@@ -49,23 +46,10 @@ module _ (form : PlanForm) where
   abbrev Follows : Outcome Plan Fault → List ℕ → End → Type 0
   Follows outcome put end = FollowsOutcome run_begins input_reader refusing executing_machine form outcome put end
 
-  -- an execution is opened, and goes on over lines of events
-  record Opened (net : Plan) (number room : ℕ) (rest : List InputLine) (put : List ℕ) (end : End) : Type 0 where
-    pub controllable : IsControllable net
-    pub table : Graph
-    pub order : List PointId
-    pub by_closure : IsDispatchedByClosure net table order
-    pub due : Option ℕ
-    pub first : IsDueAnswer (started (setting_of net table)) due
-    pub more : List ℕ
-    pub all : put ≡ controllable_line ++ (due_line due ++ more)
-    pub later : RunOver executing_machine (at net (started (setting_of net table)) [] number room) rest more end
-
   -- or a certificate is put
   record RefutedSo (net : Plan) (put : List ℕ) (end : End) : Type 0 where
-    pub never : IsControllable net → ⊥
     pub cert : Certificate
-    pub of : IsCertificateOf net cert
+    pub refutes : Refutes net cert
     pub puts : PutsRefuted cert put end
 
   module _ (net : Plan) (number room : ℕ) (rest : List InputLine) (put answer more : List ℕ) (onward : Onward Course) (end : End) (all : put ≡ answer ++ more)
@@ -85,9 +69,9 @@ module _ (form : PlanForm) where
       all = all ∙ (ap (λ (a : List ℕ). a ++ more) begins.put ∙ append_assoc controllable_line (due_line begins.due) more);
       later = goes_as _ begins.goes;
     })
-    begun (inr (never, (cert, of, (ended, puts, is)))) =
+    begun (inr (cert, refutes, (ended, puts, is))) =
         let over = goes_as _ is in
-        inr (record { never = never; cert = cert; of = of; puts = (all ∙ (ap (λ (m : List ℕ). answer ++ m) over.0 ∙ (append-nil answer ∙ puts.0)), over.1 ∙ puts.1) })
+        inr (record { cert = cert; refutes = refutes; puts = (all ∙ (ap (λ (m : List ℕ). answer ++ m) over.0 ∙ (append-nil answer ∙ puts.0)), over.1 ∙ puts.1) })
 
   opened_or : (net : Plan) (number room : ℕ) (rest : List InputLine) (put : List ℕ) (end : End) → Follows (Given net number room rest) put end
       → Opened net number room rest put end ⊎ RefutedSo net put end
@@ -118,18 +102,18 @@ module _ (form : PlanForm) where
   follows_answered (Given net number room rest) put end follows = (number, room, rest, follows)
   follows_answered (Faulty fault) put end follows = follows
 
-  module _ (verdict : Laws) (laws : ExecutionLaws) where
-    opens_by : (net : Plan) → IsPlan net → (put : List ℕ) (end : End) → Begins net put end → OpensExecution net put end
-    opens_by net plan put end (number, room, rest, follows) = by (opened_or net number room rest put end follows)
+  module _ (laws : ExecutionLaws) where
+    opens_by : (net : Plan) (put : List ℕ) (end : End) → Begins net put end → OpensExecution net put end
+    opens_by net put end (number, room, rest, follows) = by (opened_or net number room rest put end follows)
       where
         by : Opened net number room rest put end ⊎ RefutedSo net put end → OpensExecution net put end
         by (inl opened) =
             let first = due_answered net _ _ opened.by_closure [] (started (setting_of net opened.table)) refl refl opened.due opened.first in
             inl (opened.controllable, (opened.due, opened.more, first, opened.all))
-        by (inr refuted) = inr (refuted.never, (refuted.cert, certificate_accepted verdict net (record { sound = plan }) refuted.cert refuted.of, refuted.puts))
+        by (inr refuted) = inr (refuted.refutes.never, (refuted.cert, refuted.refutes.accepted, refuted.puts))
 
     opens_text : (input put : List ℕ) (end : End) → AnswersOrRefuses (plan_in form) refusing Begins input put end → AnswersOrRefuses (plan_in form) refusing OpensExecution input put end
-    opens_text input put end (inl (net, after, is, begins)) = inl (net, after, is, opens_by net (input_sound form (lines input) net after is) put end begins)
+    opens_text input put end (inl (net, after, is, begins)) = inl (net, after, is, opens_by net put end begins)
     opens_text input put end (inr refused) = inr refused
 
     module _ (input put : List ℕ) (end : End) (follows : Follows (outcome_of (input_lines input)) put end) where
@@ -142,7 +126,7 @@ module _ (form : PlanForm) where
 
           by : Opened net (length used) (room_after most_input used) rest put end ⊎ RefutedSo net put end → IsOpened net used rest before put end
           by (inl opened) = opened_after net used rest before put end nothing opened
-          by (inr refuted) = absurd (refuted.never controls)
+          by (inr refuted) = absurd (refuted.refutes.never controls)
 
       -- how the run ended: by the first refusal of the input, by a certificate, or after an execution was opened
       data Ending : Type 0 where
@@ -201,7 +185,7 @@ module _ (form : PlanForm) where
         record {
           opens = record {
             answers = opens_text input put end text.answers;
-            declared = λ net is. opens_by net (input_sound form _ net _ is.declares.declared) put end (text.declared net is);
+            declared = λ net is. opens_by net put end (text.declared net is);
             refuses = text.refuses;
           };
           execution = execution_keeps laws (plan_opens form) (input_lines input) put end (leads input put end follows);

@@ -194,7 +194,7 @@ module _ (reading : (net : Plan) (line : List (List ℕ)) → OneReading net lin
   }
 
 -- ---- the beginning is one
-begun_one : (net : Plan) (a b : List ℕ) (x y : Onward Course) → BeginsExecution net a x → BeginsExecution net b y → (a ≡ b) × (x ≡ y)
+pub begun_one : (net : Plan) (a b : List ℕ) (x y : Onward Course) → BeginsExecution net a x → BeginsExecution net b y → (a ≡ b) × (x ≡ y)
 begun_one net a b x y one other =
     let same : one.table ≡ other.table = closure_is_one net one.table other.table one.by_closure.closure other.by_closure.closure in
     let from : Graph → Execution = λ table. started (setting_of net table) in

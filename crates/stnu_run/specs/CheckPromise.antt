@@ -1,5 +1,5 @@
 -- What `check` promises of what it puts for an input. This project's own choice.
-use Rattle.std.specs.Prelude.{◌≡◌, ◌⊎◌, ℕ, Bool, true, false, List, ◌++◌}
+use Rattle.std.specs.Prelude.{◌≡◌, ◌⊎◌, ℕ, true, List, ◌++◌}
 use Rattle.texts.specs.Lines.{lines}
 use Rattle.net_model.specs.Network.{Plan}
 use Rattle.strategy_model.specs.Control.{IsControllable}
@@ -11,21 +11,15 @@ use Rattle.cert_checker.specs.declared.judgement.Judgement.TheVariants.{Accepted
 use Rattle.table_proofs.specs.Certified.{Proves}
 use Rattle.command_engine.specs.Inputs.{AnswersText}
 use Rattle.command_engine.specs.declared.endings.End.{End}
-use Rattle.stnu_run.specs.Checking.{check_answers}
+use Rattle.stnu_run.specs.Checking.{PutsYes, check_answers}
 use Rattle.stnu_run.specs.Faults.{refusing}
 use Rattle.stnu_run.specs.PlanAsking.{plan_program}
 use Rattle.stnu_run.specs.PlanInput.{plan_in}
 use Rattle.stnu_run.specs.Programs.{Program}
-use Rattle.stnu_run.specs.Verdict.{controllable_line, refuted_line, PutsControllable, PutsProved, PutsRefuted}
+use Rattle.stnu_run.specs.Verdict.{controllable_line, refuted_line, PutsRefuted}
 use Rattle.stnu_run.specs.declared.checking.CheckFlags.{CheckFlags}
 
--- It is put that a network is controllable, and then, where a proof is wanted, a certificate that proves it: that of its closure and of the
--- order in which the points of that are placed, which the judge accepts.
-abbrev pub PutsYes : (proof : Bool) → Plan → List ℕ → End → Type 0
-PutsYes false net put end = PutsControllable put end
-PutsYes true net put end = (cert : Certificate) × Proves net cert × PutsProved cert put end
-
--- The verdict of a network is put: that it is controllable, and it is; or that it is not, and it is not, and a certificate that the
+-- The verdict of a network is put: that it is controllable, and it is, and a certificate that proves it where that is wanted; or that it is not, and it is not, and a certificate that the
 -- judge accepts.
 abbrev pub PutsVerdict : CheckFlags → Plan → List ℕ → End → Type 0
 PutsVerdict flags net put end =

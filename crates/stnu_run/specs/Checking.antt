@@ -3,7 +3,7 @@ use Rattle.std.specs.Prelude.{ℕ, Bool, true, false, List, [], ◌∷◌, codes
 use Rattle.std.specs.Option.{option_map}
 use Rattle.net_model.specs.Network.{Plan}
 use Rattle.cert_format.specs.declared.certificate.Certificate.{Certificate}
-use Rattle.table_proofs.specs.Certified.{IsTableProofOf}
+use Rattle.table_proofs.specs.Certified.{Proves}
 use Rattle.command_words.specs.Arguments.{Arguments, flag_at, option_at}
 use Rattle.command_words.specs.Syntax.{Syntax}
 use Rattle.command_engine.specs.declared.endings.End.{End}
@@ -12,15 +12,16 @@ use Rattle.stnu_run.specs.Verdict.{PutsControllable, PutsProved, PutsRefuted, De
 use Rattle.stnu_run.specs.Workers.{has_workers, workers_name}
 use Rattle.stnu_run.specs.declared.checking.CheckFlags.{CheckFlags}
 
--- The answer to a network that is controllable, by whether a proof of that is wanted: that it is, and then, where one is, its table proof.
-abbrev pub check_yes : (proof : Bool) → Plan → List ℕ → End → Type 0
-check_yes false net put end = PutsControllable put end
-check_yes true net put end = (cert : Certificate) × IsTableProofOf net cert × PutsProved cert put end
+-- It is put that a network is controllable, and then, where a proof is wanted, the certificate that proves it: its table proof, which the judge
+-- accepts.
+abbrev pub PutsYes : (proof : Bool) → Plan → List ℕ → End → Type 0
+PutsYes false net put end = PutsControllable put end
+PutsYes true net put end = (cert : Certificate) × Proves net cert × PutsProved cert put end
 
 -- The answer to a network is its verdict: that it is controllable, with its table proof where that is wanted, or that it is not, and the
--- certificate of its refutation. The form in which the plan is given decides nothing of it, and of the number of workers nothing is seen.
+-- certificate that refutes it. The form in which the plan is given decides nothing of it, and of the number of workers nothing is seen.
 abbrev pub check_answers : CheckFlags → Plan → List ℕ → End → Type 0
-check_answers flags net put end = Decides net (check_yes flags.proof net put end) (λ cert. PutsRefuted cert put end)
+check_answers flags net put end = Decides net (PutsYes flags.proof net put end) (λ cert. PutsRefuted cert put end)
 
 -- the name of the flag by which a proof is wanted
 abbrev pub proof_name : List ℕ

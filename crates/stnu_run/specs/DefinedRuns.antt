@@ -11,6 +11,8 @@ use Rattle.stnu_run.specs.Running.{run_asked, run_syntax}
 use Rattle.stnu_run.specs.Showing.{show_asked, show_program, show_syntax}
 use Rattle.stnu_run.specs.Programs.{Program, Defines}
 use Rattle.stnu_run.specs.Requests.{program_by, refuses_words}
+use Rattle.stnu_run.specs.SessionPromise.{session_program}
+use Rattle.stnu_run.specs.Sessions.{session_asked, session_syntax}
 use Rattle.stnu_run.specs.declared.status.Status.{Status}
 
 -- one program where this is so, else another
@@ -25,6 +27,7 @@ program_named command words =
     when bytes_eq command (codes "judge") run program_by judge_syntax judge_asked judge_program words
     else when bytes_eq command (codes "check") run program_by check_syntax check_asked check_program words
     else when bytes_eq command (codes "run") run program_by run_syntax run_asked run_program words
+    else when bytes_eq command (codes "session") run program_by session_syntax session_asked session_program words
     else when bytes_eq command (codes "show") run program_by show_syntax show_asked show_program words
     else refuses_words
 

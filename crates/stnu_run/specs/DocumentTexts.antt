@@ -14,12 +14,9 @@ use Rattle.plan_json.specs.declared.fault.JsonFault.{JsonFault}
 use Rattle.plan_json.specs.declared.fault.JsonFault.TheVariants as json
 use Rattle.command_engine.specs.Grammars.{Grammar, Next, Line, NoLine, number_after}
 use Rattle.command_engine.specs.declared.machines.Stop.TheVariants.{LineTooLong as LongStop, InputTooMuch as MuchStop, InputEnded}
+use Rattle.stnu_run.specs.DocumentSoFar.{most_document}
 use Rattle.stnu_run.specs.declared.faults.Fault.{Fault}
 use Rattle.stnu_run.specs.declared.faults.Fault.TheVariants.{Format, Part as PartFault, Document, DocumentTooLong, InputTooMuch}
-
--- the greatest number of bytes of the lines of a document and of the line that ends it, line ends not among them
-abbrev pub most_document : ℕ
-most_document = 67108864
 
 -- the line that ends a document: its only word is `end`
 abbrev pub IsEndLine : List ℕ → Type 0

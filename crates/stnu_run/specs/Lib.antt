@@ -29,3 +29,8 @@ pub mod ExecutionPromise
 pub mod RunPromise
 pub mod Workers
 pub mod WordLaws
+pub mod Standing
+pub mod StandingCode
+pub mod SessionAnswers
+pub mod Sessions
+pub mod SessionPromise

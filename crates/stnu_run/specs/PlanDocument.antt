@@ -15,8 +15,8 @@ use Rattle.command_engine.specs.declared.machines.Stop.{Stop}
 use Rattle.command_engine.specs.declared.machines.Stop.TheVariants as stop
 use Rattle.command_engine.specs.declared.reading.Step.{Step}
 use Rattle.command_engine.specs.declared.reading.Step.TheVariants.{Goes, Gives, Refused}
-use Rattle.stnu_run.specs.DocumentTexts.{most_document, told}
-use Rattle.stnu_run.specs.DocumentSoFar.{DocumentSoFar}
+use Rattle.stnu_run.specs.DocumentTexts.{told}
+use Rattle.stnu_run.specs.DocumentSoFar.{DocumentSoFar, most_document}
 use Rattle.stnu_run.specs.declared.faults.Fault.{Fault}
 use Rattle.stnu_run.specs.declared.faults.Fault.TheVariants.{Format, Part as PartFault, Document, DocumentTooLong, InputTooMuch}
 

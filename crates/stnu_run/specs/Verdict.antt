@@ -3,13 +3,10 @@ use Rattle.std.specs.Prelude.{◌≡◌, ◌⊎◌, ℕ, List, [], ◌∷◌, �
 use Rattle.texts.specs.Printing.{printed_line}
 use Rattle.net_model.specs.Network.{Plan}
 use Rattle.closure_model.specs.Orders.{placed_points}
-use Rattle.closure_model.specs.ReferenceRounds.{IsRefutationOf}
-use Rattle.closure_model.specs.declared.derivation.Node.{Node}
-use Rattle.closure_model.specs.declared.derivation.NodeId.{NodeId}
 use Rattle.strategy_model.specs.Control.{IsControllable}
-use Rattle.cert_format.specs.CertificateWords.{printed_certificate, HasWeights}
+use Rattle.cert_format.specs.CertificateWords.{printed_certificate}
 use Rattle.cert_format.specs.declared.certificate.Certificate.{Certificate}
-use Rattle.refutations.specs.Certifying.{certificate_by}
+use Rattle.refutations.specs.Refuting.{Refutes}
 use Rattle.execution_model.specs.Laws.{IsDispatchedByClosure}
 use Rattle.command_engine.specs.declared.endings.End.{End}
 use Rattle.command_engine.specs.declared.endings.End.TheVariants.{Done, Refused as RefusedEnd}
@@ -36,24 +33,12 @@ PutsProved cert put end = (put ≡ controllable_line ++ printed_certificate cert
 abbrev pub PutsRefuted : Certificate → List ℕ → End → Type 0
 PutsRefuted cert put end = (put ≡ refuted_line ++ printed_certificate cert) × (end ≡ RefusedEnd)
 
--- a certificate is that of the refutation of a network
-pub record IsCertificateOf (net : Plan) (cert : Certificate) : Type 0 where
-  pub nodes : List Node
-  pub lines : List NodeId
-  pub walk : List ℕ
-  pub refutation : IsRefutationOf net nodes lines walk
-  pub is : cert ≡ certificate_by net nodes lines walk
-
--- the verdict of a network: it is controllable, and then this is so; or it is not, and then this of the certificate of its refutation
+-- the verdict of a network: it is controllable, and then this is so; or it is not, and then this of the certificate that refutes it
 abbrev pub Decides : Plan → Type 0 → (Certificate → Type 0) → Type 0
-Decides net Yes No = (IsControllable net × Yes) ⊎ ((¬ IsControllable net) × ((cert : Certificate) × IsCertificateOf net cert × No cert))
-
--- a certificate refutes a network: it is not controllable, and the certificate is that of its refutation, of weights that can be printed
-abbrev pub Refutes : Plan → Certificate → Type 0
-Refutes net cert = (¬ IsControllable net) × IsCertificateOf net cert × HasWeights cert
+Decides net Yes No = (IsControllable net × Yes) ⊎ ((cert : Certificate) × Refutes net cert × No cert)
 
 -- what decides it: its closure with the order in which the points of that are placed where it is controllable, else a certificate that
 -- refutes it
 abbrev pub IsVerdict : Plan → Verdict → Type 0
-IsVerdict net (Controllable closed) = IsControllable net × IsDispatchedByClosure net closed.table closed.order × (closed.order ≡ placed_points closed.table)
+IsVerdict net (Controllable same closed) = (same ≡ net) × IsControllable same × IsDispatchedByClosure same closed.table closed.order × (closed.order ≡ placed_points closed.table)
 IsVerdict net (Refuted cert) = Refutes net cert

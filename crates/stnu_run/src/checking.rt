@@ -2,7 +2,7 @@
 
 ghost use Rattle.std.specs.Prelude.{◌≡◌, [], IfOk};
 ghost use Rattle.stnu_run.specs.CheckPromise.{CheckPromise, PutsVerdict};
-ghost use Rattle.stnu_run.specs.Checking.{check_answers, check_asked, check_syntax, check_yes};
+ghost use Rattle.stnu_run.specs.Checking.{check_answers, check_asked, check_syntax, PutsYes};
 ghost use Rattle.stnu_run.specs.Verdict.{IsVerdict};
 ghost use Rattle.stnu_run.specs.declared.verdict.Verdict.TheVariants.{Controllable};
 
@@ -11,17 +11,14 @@ use crate::plan_input::{PlanForm, PlanInput};
 use crate::requests::Request;
 use crate::verdict::{Verdict, decide, put_controllable, put_proved, put_refuted};
 use crate::workers::Workers;
-use closure_model::laws::base_stands;
-use closure_model::{order_laws, round_laws};
+use closure_model::order_laws::ordered_tables_are_placed;
 use command_engine::{Answer, Asked, End, Question};
 use command_words::{Arguments, Syntax};
 use net_model::Network;
-use refutations::laws::refutations_are_accepted;
 use std::alloc::{AllocError, Global};
 use std::marker::Model;
 use std::thread::Threads;
 use table_closing::Closed;
-use table_proofs::laws::{table_proofs_are_accepted, table_proofs_have_weights};
 use table_proofs::table_proof;
 
 /// Whether a network is controllable: the command `check` reads a plan, and puts `controllable` where a strategy controls its network,
@@ -59,7 +56,7 @@ impl Question<Network> for Check {
         answer: &mut Answer,
         value: Network,
     ) -> Result<End, AllocError> {
-        put_verdict(rt, alloc, answer, &value, &self)
+        put_verdict(rt, alloc, answer, value, &self)
     }
 }
 
@@ -101,15 +98,7 @@ impl PlanQuestion for Check {
         self.flags.form
     }
 
-    fn puts_the_answer() {
-        refutations_are_accepted();
-        base_stands();
-        round_laws::rounds_stand();
-        order_laws::cycles_are_met();
-        order_laws::placed_points_are_an_order();
-        table_proofs_are_accepted();
-        table_proofs_have_weights();
-    }
+    fn puts_the_answer() {}
 
     fn answers_keep_it() {}
 
@@ -121,19 +110,21 @@ fn put_verdict<R: Threads + Sync>(
     rt: &R,
     alloc: Global,
     answer: &mut Answer,
-    net: &Network,
+    net: Network,
     check: &Check,
 ) -> Result<End, AllocError>
     requires { answer.old.text ≡ [] }
-    ensures { IfOk result (check_answers check.now net.now answer.new.text) }
+    ensures { IfOk result (check_answers check.now net answer.new.text) }
 {
     match decide(rt, alloc, net, &check.workers)? {
-        Verdict::Controllable(closed) => put_yes(alloc, answer, net, &closed, check.flags.proof),
+        Verdict::Controllable(net, closed) => {
+            put_yes(alloc, answer, &net, &closed, check.flags.proof)
+        }
         Verdict::Refuted(certificate) => put_refuted(alloc, answer, &certificate),
     }
 }
 
-/// Puts that a network is controllable into the buffer, which is empty, and its table proof where a proof is wanted.
+/// Puts that a network is controllable into the buffer, which is empty, and the certificate that proves it where that is wanted.
 fn put_yes(
     alloc: Global,
     answer: &mut Answer,
@@ -142,13 +133,13 @@ fn put_yes(
     proof: bool,
 ) -> Result<End, AllocError>
     requires empty { answer.old.text ≡ [] }
-    requires verdict { IsVerdict net.now (Controllable closed.now) }
-    ensures { IfOk result (check_yes proof net.now answer.new.text) }
+    requires verdict { IsVerdict net.now (Controllable net.now closed.now) }
+    ensures { IfOk result (PutsYes proof net.now answer.new.text) }
 {
     if !proof {
         return put_controllable(answer);
     }
-    order_laws::ordered_tables_are_placed();
+    ordered_tables_are_placed();
     let certificate = table_proof(alloc, net, &closed.table, closed.order.as_slice())?;
     put_proved(alloc, answer, &certificate)
 }

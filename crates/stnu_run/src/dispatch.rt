@@ -8,6 +8,7 @@ use crate::checking::Checking;
 use crate::judging::Judging;
 use crate::promising::serve_asked;
 use crate::running::Running;
+use crate::session::SessionCommand;
 use crate::showing::Showing;
 use crate::status::Status;
 use crate::telling::{RefusedWords, tell};
@@ -17,14 +18,14 @@ use std::thread::Threads;
 
 /// Does all that the program does: reads the input of the command that the words name over a port, and puts its answers.
 /// The first word is the program's name; the second is the word of a command. The words that it takes stand after it, in any order and each
-/// at most once: all four take `--json`, by which the plan is a JSON document, ended by a line `end`; `show` takes `--print-json`, by which it puts
-/// one; `check` and `run` take `--workers N`, or `--workers=N`, with N from 1 to 64. So many workers, by default 1, make the rows of each
+/// at most once: all five take `--json`, by which the plan is a JSON document, ended by a line `end`; `show` takes `--print-json`, by which it puts
+/// one; `check`, `run` and `session` take `--workers N`, or `--workers=N`, with N from 1 to 64. So many workers, by default 1, make the rows of each
 /// round; how many decides nothing of what is put. Each line is answered before more of the input is
 /// taken, and nothing after the line that ends the command's input is looked at. What a command reads and puts is told beside it.
 ///
 /// The run ends at its first refusal, with one line and a status that say which: `error words` (2), `error format`,
 /// `error json` and `error plan` (3), `error limit` (4). It ends with 5 where a read failed, after the line `error read`, with 6 where a
-/// write failed, and with 8 for want of memory: then nothing was put, or what the command promises for that. Else the command ends it: with 0 (accepted, controllable, shown, or
+/// write failed, and with 8 for want of memory: then nothing was put, or what the command promises for that. Else the command ends it: with 0 (accepted, controllable, shown, a session that is ended, or
 /// an execution that is complete), with 1 (refused, or not controllable), or with 7 (an event refused). The words, the answers and the statuses are this project's own choice.
 pub fn run<R: Threads + Sync, P: Port>(
     rt: &R,
@@ -75,6 +76,7 @@ fn run_command<R: Threads + Sync, P: Port>(
         "judge" => serve_asked::<R, Judging, P>(rt, alloc, words, port),
         "check" => serve_asked::<R, Checking, P>(rt, alloc, words, port),
         "run" => serve_asked::<R, Running, P>(rt, alloc, words, port),
+        "session" => serve_asked::<R, SessionCommand, P>(rt, alloc, words, port),
         "show" => serve_asked::<R, Showing, P>(rt, alloc, words, port),
         _ => tell(rt, alloc, RefusedWords, port),
     }

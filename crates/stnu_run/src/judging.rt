@@ -37,8 +37,8 @@ impl Question<(Network, Certificate)> for Judge {
         value: (Network, Certificate),
     ) -> Result<End, AllocError> {
         let judgement = judge(rt, alloc, &value.0, &value.1)?;
-        put_judgement(alloc, answer, judgement)?;
-        Ok(judgement_end(judgement))
+        put_judgement(alloc, answer, &judgement)?;
+        Ok(judgement_end(&judgement))
     }
 }
 
@@ -91,15 +91,19 @@ impl Promising for Judging {
 }
 
 /// Puts the line of a judgement into the buffer.
-fn put_judgement(alloc: Global, answer: &mut Answer, judgement: Judgement) -> Result<(), AllocError>
-    ensures { OnOk result (answer.new.text ≡ answer.old.text ++ judgement_line judgement) }
+fn put_judgement(
+    alloc: Global,
+    answer: &mut Answer,
+    judgement: &Judgement,
+) -> Result<(), AllocError>
+    ensures { OnOk result (answer.new.text ≡ answer.old.text ++ judgement_line judgement.now) }
 {
     let text = judgement.to_string(alloc)?;
     answer.push_line(&[Word::Text(text.as_str())])
 }
 
-fn judgement_end(judgement: Judgement) -> End
-    ensures { result ≡ judgement_end judgement }
+fn judgement_end(judgement: &Judgement) -> End
+    ensures { result ≡ judgement_end judgement.now }
 {
     match judgement {
         Judgement::Accepted(_) => End::Done,

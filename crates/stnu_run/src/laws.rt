@@ -7,6 +7,7 @@ ghost use Rattle.stnu_run.specs.Judging.{judge_asked, judge_syntax};
 ghost use Rattle.stnu_run.specs.Programs.{DefinesOne, EachDefinesOne, serves};
 ghost use Rattle.stnu_run.specs.Requests.{asked_by};
 ghost use Rattle.stnu_run.specs.Running.{run_asked, run_syntax};
+ghost use Rattle.stnu_run.specs.Sessions.{session_asked, session_syntax};
 ghost use Rattle.stnu_run.specs.Showing.{show_asked, show_syntax};
 ghost use Rattle.stnu_run.specs.WordLaws.{AreTaken, DefineSame, DefineSameWhereTaken, SameRuns, SayCheckFlags, SayFormAndWorkers, SayForms, form_words};
 ghost use Rattle.stnu_run.specs.Workers.{SpellsWorkers, WorkersDecideNothing};
@@ -21,6 +22,7 @@ use crate::judging::Judging;
 use crate::promising::Promising;
 use crate::requests::Request;
 use crate::running::Running;
+use crate::session::SessionCommand;
 use crate::showing::Showing;
 
 /// For given words and a given input at most one pair of bytes and status stands in the defined run.
@@ -46,6 +48,12 @@ pub fn check_is_read_exactly()
 /// plan is a document exactly where `--json` is given.
 pub fn run_is_read_exactly()
     ensures { (words : List (List ℕ)) (form : PlanForm) → asked_by run_syntax run_asked words ≡ Some form ↔ SayFormAndWorkers run_syntax form words }
+{}
+
+/// The words after `session` are its own exactly where they spell its uses, and the number of workers, where it is given, is one from 1 to 64. The
+/// plan is a document exactly where `--json` is given.
+pub fn session_is_read_exactly()
+    ensures { (words : List (List ℕ)) (form : PlanForm) → asked_by session_syntax session_asked words ≡ Some form ↔ SayFormAndWorkers session_syntax form words }
 {}
 
 /// The words after `show` are its own exactly where they spell its uses. The plan is read as a document exactly where `--json` is given, and put as
@@ -81,6 +89,7 @@ fn each_is_lawful()
     is_lawful::<Judging>();
     is_lawful::<Checking>();
     is_lawful::<Running>();
+    is_lawful::<SessionCommand>();
     is_lawful::<Showing>();
 }
 

@@ -4,6 +4,7 @@
 mod certificate_text;
 mod checking;
 mod dispatch;
+mod editing;
 mod event_answers;
 mod executing;
 mod faults;
@@ -16,6 +17,8 @@ mod plan_text;
 mod promising;
 mod requests;
 mod running;
+mod session;
+mod session_answers;
 mod showing;
 mod status;
 mod telling;
@@ -26,6 +29,6 @@ pub use dispatch::run;
 pub use executing::greatest_moments_are_one;
 pub use laws::{
     check_is_read_exactly, defined_run_is_one, judge_is_read_exactly, run_is_read_exactly,
-    show_is_read_exactly, workers_change_nothing,
+    session_is_read_exactly, show_is_read_exactly, workers_change_nothing,
 };
 pub use status::Status;

@@ -29,13 +29,13 @@ pub struct PlanDocument {
 
 impl Model for PlanDocument {
     ghost use Rattle.std.specs.Prelude.{◌≡◌, ◌≤◌, false, []};
-    ghost use Rattle.stnu_run.specs.DocumentSoFar.{DocumentSoFar};
+    ghost use Rattle.stnu_run.specs.DocumentSoFar.{DocumentSoFar, most_document};
 
     ghost Value = { DocumentSoFar };
 
     ghost view = { λ d. record { bytes = d.bytes.items; begun = d.begun; left = d.left } };
 
-    ghost invariant = { λ d. (d.left ≤ 67108864) × (d.begun ≡ false → d.bytes.items ≡ []) };
+    ghost invariant = { λ d. (d.left ≤ most_document) × (d.begun ≡ false → d.bytes.items ≡ []) };
 }
 
 impl PlanDocument {

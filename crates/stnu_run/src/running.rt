@@ -4,6 +4,7 @@ ghost use Rattle.std.specs.Prelude.{◌≡◌, ◌≤◌, [], length, IfOk, OnOk
 ghost use Rattle.command_engine.specs.Machine.{HasRoom};
 ghost use Rattle.execution_model.specs.Feeding.{IsDueAnswer};
 ghost use Rattle.execution_model.specs.Laws.{IsDispatchedByClosure};
+ghost use Rattle.plan_session.specs.Sessions.{IsDispatchOfClosure};
 ghost use Rattle.stnu_run.specs.Executing.{executing_machine, answer_room};
 ghost use Rattle.stnu_run.specs.Programs.{or_nothing};
 ghost use Rattle.stnu_run.specs.RunPromise.{RunPromise};
@@ -16,16 +17,12 @@ use crate::promising::Promising;
 use crate::requests::Request;
 use crate::verdict::{Verdict, decide, put_refuted};
 use crate::workers::Workers;
-use closure_model::laws::base_stands;
-use closure_model::{order_laws, round_laws};
 use command_engine::{Answer, Begin, Onward, TextThenPhase, Word};
 use command_words::{Arguments, Syntax};
-use derivation_dag::Supports;
 use dispatch_net::Dispatch;
 use event_stream::laws::lines_have_one_reading;
 use execution_model::laws as execution_laws;
 use net_model::Network;
-use refutations::laws::refutations_are_accepted;
 use std::alloc::{AllocError, Global};
 use std::marker::Model;
 use std::thread::Threads;
@@ -86,8 +83,8 @@ impl Begin<Network> for Run {
         answer: &mut Answer,
         value: Network,
     ) -> Result<Onward<Executing>, AllocError> {
-        match decide(rt, alloc, &value, &self.workers)? {
-            Verdict::Controllable(closed) => begin_execution(alloc, answer, value, &closed),
+        match decide(rt, alloc, value, &self.workers)? {
+            Verdict::Controllable(net, closed) => begin_execution(alloc, answer, net, &closed),
             Verdict::Refuted(certificate) => {
                 Ok(Onward::Ends(put_refuted(alloc, answer, &certificate)?))
             }
@@ -108,10 +105,6 @@ impl Promising for Running {
     }
 
     fn keeps_its_promise() {
-        base_stands();
-        round_laws::rounds_stand();
-        order_laws::cycles_are_met();
-        refutations_are_accepted();
         lines_have_one_reading();
         execution_laws::faithful_streams_are_taken();
         execution_laws::done_where_none_is_open();
@@ -140,6 +133,23 @@ fn begin_execution(
     ensures room { IfOk result (λ onward. HasRoom executing_machine onward answer.new.capacity) }
 {
     let dispatch = Dispatch::of(alloc, &net, &closed.table, closed.order.as_slice())?;
+    begin_dispatched(alloc, answer, net, dispatch)
+}
+
+/// The same by the dispatchable network of its closure.
+pub(crate) fn begin_dispatched(
+    alloc: Global,
+    answer: &mut Answer,
+    net: Network,
+    dispatch: Dispatch,
+) -> Result<Onward<Executing>, AllocError>
+    requires empty { answer.old.text ≡ [] }
+    requires dispatch { IsDispatchOfClosure net dispatch }
+    ensures begins { IfOk result (BeginsExecution net answer.new.text) }
+    ensures room { IfOk result (λ onward. HasRoom executing_machine onward answer.new.capacity) }
+{
+    // The proof reads here that the network is sound.
+    let _ = net.points();
     let state = Executing::start(alloc, net, dispatch.slim())?;
     put_begun(answer, &state)?;
     Ok(Onward::Goes(state))

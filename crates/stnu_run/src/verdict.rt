@@ -1,23 +1,17 @@
 //! The verdict of a network: every command that has one decides it here.
 
-ghost use Rattle.std.specs.Prelude.{◌≡◌, [], IfOk};
-ghost use Rattle.closure_model.specs.Derivations.{base_support};
+ghost use Rattle.std.specs.Prelude.{◌≡◌, [], IfOk, OnOk, if◌then◌else◌};
+ghost use Rattle.strategy_model.specs.Control.{IsControllable};
 ghost use Rattle.cert_format.specs.CertificateWords.{HasWeights};
-ghost use Rattle.parallel_rounds.specs.Propagated.{IsPropagated};
-ghost use Rattle.table_closing.specs.Closing.{HasDerivableCycle};
-ghost use Rattle.stnu_run.specs.Verdict.{IsVerdict, Refutes, PutsControllable, PutsProved, PutsRefuted};
+ghost use Rattle.refutations.specs.Refuting.{Refutes};
+ghost use Rattle.stnu_run.specs.Verdict.{controllable_line, refuted_line, IsVerdict, PutsControllable, PutsProved, PutsRefuted};
 
 use crate::workers::Workers;
-use cert_checker::laws::accepted_excludes;
 use cert_format::{Certificate, print_certificate};
-use closure_model::laws::cycles_are_in_closures;
-use closure_model::order_laws::orders_exclude_cycles;
 use command_engine::{Answer, End, Word};
-use controllability::laws::ordered_closures_are_controllable;
-use derivation_dag::Plain;
+use controllability::laws::{cycles_of_tables_exclude, ordered_closures_are_controllable};
 use net_model::Network;
-use parallel_rounds::Outcome;
-use refutations::refutation;
+use plan_session::AskFault;
 use std::alloc::{AllocError, Global};
 use std::thread::Threads;
 use table_closing::Closed;
@@ -25,27 +19,28 @@ use table_closing::Closed;
 /// The verdict of a network, and by what it is decided.
 #[derive(Drop)]
 pub(crate) enum Verdict {
-    /// Some strategy controls the network.
-    Controllable(Closed),
+    /// Some strategy controls the network, which is handed back.
+    Controllable(Network, Closed),
     /// None does, and this refutes it.
     Refuted(Certificate),
 }
 
-/// Decides whether a network is controllable, by closing its table; rounds are made only where it is not, since the nodes of the
-/// certificate are theirs. `AllocError` comes only for want of memory.
+/// Decides whether a network is controllable, by closing its table; a session is opened only where it is not, since the nodes of the
+/// certificate are those of its rounds. `AllocError` comes only for want of memory.
 pub(crate) fn decide<R: Threads + Sync>(
     rt: &R,
     alloc: Global,
-    net: &Network,
+    net: Network,
     workers: &Workers,
 ) -> Result<Verdict, AllocError>
-    ensures { IfOk result (IsVerdict net.now) }
+    ensures { IfOk result (IsVerdict net) }
 {
     ordered_closures_are_controllable();
+    cycles_of_tables_exclude();
     // The proof reads here that the network is sound.
     let _ = net.points();
-    match workers.close(rt, alloc, net)? {
-        Some(closed) => Ok(Verdict::Controllable(closed)),
+    match workers.close(rt, alloc, &net)? {
+        Some(closed) => Ok(Verdict::Controllable(net, closed)),
         None => {
             let certificate = refute(rt, alloc, net, workers)?;
             Ok(Verdict::Refuted(certificate))
@@ -53,43 +48,33 @@ pub(crate) fn decide<R: Threads + Sync>(
     }
 }
 
-/// The certificate of the refutation of a network of which a cycle of negative ordinary edges is derivable.
+/// The certificate that refutes a network, which is not controllable.
 fn refute<R: Threads + Sync>(
     rt: &R,
     alloc: Global,
-    net: &Network,
+    net: Network,
     workers: &Workers,
 ) -> Result<Certificate, AllocError>
-    requires { HasDerivableCycle net.now }
-    ensures { IfOk result (Refutes net.now) }
+    requires { ¬ IsControllable net }
+    ensures { IfOk result (Refutes net) }
 {
-    let mut store = Plain::of(alloc, net)?;
-    let outcome = workers.propagate(rt, alloc, net, &mut store)?;
-    certify(alloc, net, &store, &outcome)
+    let session = workers.open(rt, alloc, net)?;
+    match session.certificate(rt, alloc) {
+        Ok(certificate) => Ok(certificate),
+        Err(AskFault::OutOfMemory) => Err(AllocError),
+        Err(AskFault::Broken) => unreachable!(),
+    }
 }
 
-/// The same, by the outcome of the propagation from the base table of the network, and the store that it left.
-fn certify(
-    alloc: Global,
-    net: &Network,
-    store: &Plain,
-    outcome: &Outcome,
-) -> Result<Certificate, AllocError>
-    requires propagated { IsPropagated net.now (base_support net.now) store.now outcome.now }
-    requires cycle { HasDerivableCycle net.now }
-    ensures { IfOk result (Refutes net.now) }
+/// Puts whether a network is controllable into the buffer, which is empty.
+pub(crate) fn push_verdict(answer: &mut Answer, controllable: bool) -> Result<(), AllocError>
+    requires { answer.old.text ≡ [] }
+    ensures { OnOk result (answer.new.text ≡ (if controllable then controllable_line else refuted_line)) }
 {
-    cycles_are_in_closures();
-    orders_exclude_cycles();
-    accepted_excludes();
-    // The proof reads here that the network is sound.
-    let _ = net.points();
-    match outcome {
-        Outcome::Closed { .. } => unreachable!(),
-        Outcome::Looped { cycle, .. } => {
-            let certificate = refutation(alloc, net, store, store.dag(), cycle.as_slice())?;
-            Ok(certificate)
-        }
+    if controllable {
+        answer.push_line(&[Word::Text("controllable")])
+    } else {
+        answer.push_line(&[Word::Text("not controllable")])
     }
 }
 

@@ -1,15 +1,14 @@
 //! The workers that make the rows of a round, and test a closed table.
 
 ghost use Rattle.std.specs.Prelude.{◌≡◌, ◌≤◌, option_map, IfOk, IfSome};
-ghost use Rattle.closure_model.specs.Derivations.{StandsOn};
-ghost use Rattle.parallel_rounds.specs.Propagated.{IsPropagated};
+ghost use Rattle.plan_session.specs.Sessions.{IsOpenedOn};
 ghost use Rattle.table_closing.specs.Closing.{ClosesTo};
 ghost use Rattle.stnu_run.specs.Workers.{count_of, has_workers, most_workers};
 
-use derivation_dag::Supports;
 use net_model::Network;
 use net_model::text::natural;
-use parallel_rounds::{NoGate, Outcome, propagate};
+use parallel_rounds::NoGate;
+use plan_session::Session;
 use std::alloc::{AllocError, Global};
 use std::marker::Model;
 use std::thread::Threads;
@@ -50,19 +49,16 @@ impl Workers {
         }
     }
 
-    /// Makes rounds until the table of a store is closed, or until it has a cycle of negative ordinary edges. `AllocError` comes only for
-    /// want of memory; then the store is lost, and the caller drops it.
-    pub(crate) fn propagate<R: Threads + Sync, S: Supports>(
+    /// Opens a session of a network. `AllocError` comes only for want of memory.
+    pub(crate) fn open<R: Threads + Sync>(
         &self,
         rt: &R,
         alloc: Global,
-        net: &Network,
-        store: &mut S,
-    ) -> Result<Outcome, AllocError>
-        requires { StandsOn net.now (S.support store.old) }
-        ensures { IfOk result (IsPropagated net.now (S.support store.old) (S.support store.new)) }
+        net: Network,
+    ) -> Result<Session, AllocError>
+        ensures { IfOk result (IsOpenedOn net) }
     {
-        propagate(rt, alloc, net, store, self.count, &NoGate)
+        Session::open(rt, alloc, net, self.count, &NoGate)
     }
 
     /// The closure of a network and the order of its points, or `None` exactly where a cycle of negative ordinary edges is derivable.

@@ -1,5 +1,5 @@
 -- What holds of the edges of a closure: they are edges of the network, and it is a sound table.
-use Rattle.std.proofs.Common.{◌<◌, ◌≤◌, ℤ, List, length, Option, Some, None, ap, sym, subst, ◌∙◌, arith}
+use Rattle.std.proofs.Common.{◌<◌, ◌≤◌, ℤ, length, Option, Some, None, ap, sym, subst, ◌∙◌, arith}
 use Rattle.std.specs.Prelude.{MatchOption, unsigned_abs}
 use Rattle.std.specs.List.{All, Contains}
 use Rattle.std.specs.Option.{option_map}

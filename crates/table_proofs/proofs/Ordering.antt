@@ -1,14 +1,14 @@
 -- The order of a closure passes: no point stands twice, none is missing, and each negative ordinary edge falls.
-use Rattle.std.proofs.Common.{◌≡◌, ◌≢◌, ℕ, zero, suc, ◌+◌, ◌<◌, ◌≤◌, ◌==◌, ℤ, Bool, true, false, not, ◌&&◌, List, [], ◌∷◌, ◌++◌, length, get_or, Option, Some, None, Ok, refl, ap, sym, ◌∙◌, subst, arith, append_assoc, length-append}
+use Rattle.std.proofs.Common.{◌≡◌, ◌≢◌, ℕ, suc, ◌+◌, ◌<◌, ◌≤◌, ◌==◌, ℤ, Bool, true, false, not, ◌&&◌, List, [], ◌∷◌, ◌++◌, length, get_or, Option, Some, None, Ok, refl, ap, sym, ◌∙◌, subst, arith, append_assoc, length-append}
 use Rattle.std.specs.Prelude.{nat_lt, int_lt, pos, is_none}
-use Rattle.std.specs.List.{AllPairs, Contains, list_any, list_all, position, enumerate_from}
+use Rattle.std.specs.List.{AllPairs, Contains, list_any, list_all, enumerate_from}
 use Rattle.std.specs.Option.{option_map_or}
 use Rattle.std.proofs.lemmas.Bool.Decides.{nat_tests}
 use Rattle.std.proofs.lemmas.List.{get_or_append_left, get_or_at}
 use Rattle.std.proofs.lemmas.List.Quantifiers.{position-Some}
 use Rattle.std.proofs.lemmas.List.Folds.{list_any_none}
 use Rattle.net_model.specs.Network.{Plan}
-use Rattle.net_model.specs.Rules.{is_ordinary, is_negative}
+use Rattle.net_model.specs.Rules.{is_negative}
 use Rattle.net_model.specs.declared.ids.PointId.{PointId}
 use Rattle.net_model.specs.declared.ids.LinkId.{LinkId}
 use Rattle.net_model.specs.declared.part.Edge.{Edge}
@@ -17,7 +17,7 @@ use Rattle.closure_model.specs.Keys.{Shape, ordinary_key}
 use Rattle.closure_model.specs.Orders.{goes, IsOrder}
 use Rattle.closure_model.specs.Tables.{Graph, weight_of, HasEdge, IsFor, edges_of}
 use Rattle.closure_model.proofs.TableLemmas.{listed_edge}
-use Rattle.cert_checker.specs.Lines.{◌>>=◌, unless}
+use Rattle.cert_checker.specs.Lines.{unless}
 use Rattle.cert_checker.specs.Tables.{stand_once, is_complete, place_in, comes_before, rises, placed_passes, order_passes, none_refused}
 use Rattle.cert_checker.specs.Walk.{refusal}
 use Rattle.cert_checker.specs.declared.judgement.CertFault.TheVariants.{OrderBroken}

@@ -1,10 +1,10 @@
 -- The lines of a table proof are read as the points of its order and the edges of its table.
-use Rattle.std.proofs.Common.{◌≡◌, ℕ, ◌+◌, ◌<◌, ◌≤◌, ℤ, true, List, [], ◌∷◌, length, map, Option, Some, None, Result, Ok, Err, refl, ap, sym, ◌∙◌, arith}
-use Rattle.std.specs.Prelude.{slice_get, unsigned_abs, nat_le}
+use Rattle.std.proofs.Common.{◌≡◌, ℕ, ◌+◌, ◌≤◌, ℤ, true, List, [], ◌∷◌, map, Option, Some, None, Result, Ok, refl, ap, sym, ◌∙◌, arith}
+use Rattle.std.specs.Prelude.{slice_get, unsigned_abs}
 use Rattle.std.specs.List.{AllByRecursion}
 use Rattle.std.specs.Option.{option_map, option_and_then}
 use Rattle.std.proofs.lemmas.Bool.Decides.{nat_tests}
-use Rattle.net_model.specs.Limits.{most_size, most_weight}
+use Rattle.net_model.specs.Limits.{most_size}
 use Rattle.net_model.specs.Network.{Plan, IsPlan, IsPoint, point_named}
 use Rattle.net_model.specs.Edges.{IsEdge, IsLabelled}
 use Rattle.net_model.specs.declared.ids.PointId.{PointId}

@@ -1,7 +1,7 @@
 -- The edges of a sound table are those of its rows, one after another.
 use Rattle.std.proofs.Common.{◌≡◌, ℕ, ◌+◌, List, [], ◌∷◌, ◌++◌, length, map, refl, ap, sym, ◌∙◌, arith}
 use Rattle.std.specs.Option.{option_map}
-use Rattle.std.specs.List.{All, Contains, filter_map, flat_map, range_with_len}
+use Rattle.std.specs.List.{All, Contains, flat_map, range_with_len}
 use Rattle.std.proofs.lemmas.List.{append-nil, map-append}
 use Rattle.std.proofs.lemmas.List.Elements.{filter_map-append}
 use Rattle.std.proofs.lemmas.List.FromFn.{map-range_with_len_more}
@@ -12,7 +12,7 @@ use Rattle.net_model.specs.declared.ids.PointId.{PointId}
 use Rattle.net_model.specs.declared.part.Edge.{Edge}
 use Rattle.closure_model.specs.Closure.{IsClosure}
 use Rattle.closure_model.specs.Keys.{Key, Shape, edge_of, all_points, row_keys}
-use Rattle.closure_model.specs.Tables.{Graph, weight_of, HasEdge, edges_of, row_of, edges_at, IsGraph}
+use Rattle.closure_model.specs.Tables.{Graph, weight_of, edges_of, row_of, edges_at, IsGraph}
 use Rattle.closure_model.proofs.BaseLemmas.{all_contained}
 use Rattle.closure_model.proofs.Listed.{edges_listed, row_listed}
 use Rattle.closure_model.proofs.Lists.{Contains-filter_from, Contains-head, Contains-tail}

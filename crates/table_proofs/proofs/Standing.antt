@@ -1,7 +1,7 @@
 -- In the edges of a closure stand the base edges of the network and whatever the rules give from them.
-use Rattle.std.proofs.Common.{◌≡◌, ℕ, ℤ, ◌≤ℤ◌, ◌==◌, Bool, true, false, not, ◌&&◌, List, [], ◌∷◌, ◌++◌, map, Option, Some, None, Ok, refl, ap, sym, ◌∙◌, subst, arith, cond, ◌⊎◌, inl, inr}
+use Rattle.std.proofs.Common.{◌≡◌, ℕ, ℤ, ◌≤ℤ◌, ◌==◌, Bool, true, false, not, ◌&&◌, List, [], ◌∷◌, map, Option, Some, None, Ok, refl, ap, ◌∙◌, arith, cond, ◌⊎◌, inl, inr}
 use Rattle.std.specs.Prelude.{find, int_le}
-use Rattle.std.specs.List.{All, AllByRecursion, Contains, list_any, filter_map, cons_option, position, enumerate_from}
+use Rattle.std.specs.List.{AllByRecursion, Contains, filter_map, cons_option, enumerate_from}
 use Rattle.std.proofs.lemmas.Bool.Decides.{nat_tests}
 use Rattle.std.proofs.lemmas.Int.{ints}
 use Rattle.std.proofs.lemmas.List.Elements.{All-contains, All-from_recursion, Contains-append_left, Contains-append_right}
@@ -13,7 +13,7 @@ use Rattle.net_model.specs.declared.ids.LinkId.{LinkId}
 use Rattle.net_model.specs.declared.part.Edge.{Edge}
 use Rattle.net_model.specs.declared.part.Link.{Link}
 use Rattle.closure_model.specs.Keys.{key_of, edge_of}
-use Rattle.closure_model.specs.Tables.{Graph, weight_of, HasAtMost, HasBase, IsClosed, edges_of, base_edges}
+use Rattle.closure_model.specs.Tables.{Graph, HasAtMost, HasBase, IsClosed, edges_of, base_edges}
 use Rattle.closure_model.proofs.Lists.{each-append, each-map, Contains-head, Contains-tail, Contains-map, Contains-cases, Contains-none}
 use Rattle.closure_model.proofs.TableLemmas.{at_most_gives, edge_listed}
 use Rattle.cert_checker.specs.Tables.{same_label_id, same_key, stands_among, refused_at, none_refused, base_of_bound, base_of_link, base_of, is_missing, none_missing, base_stands, link_ids, conclusions, is_open}

@@ -1,7 +1,6 @@
 use Rattle.std.proofs.Common.{◌≡◌, List, ap, ◌∙◌}
 use Rattle.std.specs.Prelude.{filter}
 use Rattle.std.proofs.lemmas.Result.{IfOk-weaker}
-use Rattle.closure_model.specs.Derivations.{base_nodes}
 use Rattle.closure_model.specs.declared.derivation.Node.{Node}
 use Rattle.derivation_edits.specs.Taken.{new_base_nodes}
 use Rattle.example_references.specs.Marks.{is_new_base}

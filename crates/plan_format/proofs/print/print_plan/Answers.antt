@@ -10,5 +10,5 @@ returns c =
     let text : c.push_line-2.new.out.items ≡ printed_plan net = c.in_ok-push_line-2.ensures ∙ rw (c.in_ok-push_links.ensures, c.in_ok-push_bounds.ensures, c.in_ok-push_points.ensures, c.in_ok-push_line.ensures, c.new-out.ensures.items, c.points.ensures.points, c.as_slice.ensures) (printed_pieces net) in
     record {
       text = text;
-      read_back = subst (λ (bytes : List ℕ). ReadsBack bytes net) (sym text) (reads_back net c.points.ensures.sound c.requires);
+      read_back = λ numbers. subst (λ (bytes : List ℕ). ReadsBack bytes net) (sym text) (reads_back net c.points.ensures.sound numbers);
     }

@@ -1,7 +1,7 @@
-use Rattle.std.proofs.Common.{List, ◌∙◌, sym, subst}
+use Rattle.std.proofs.Common.{List, sym, subst}
 use Rattle.net_model.specs.declared.ids.PointId.{PointId}
 use Rattle.dispatch_net.specs.Dispatchable.{MayDispatch}
-use Rattle.stnu_run.proofs.BeginLemmas.{may_dispatch, dispatch_of, begins_so}
+use Rattle.stnu_run.proofs.BeginLemmas.{may_dispatch}
 use Rattle.stnu_run.proofs.running.begin_execution.Goals as goal
 
 pub of-requires : goal.of-requires
@@ -10,17 +10,14 @@ of-requires c =
     let closed = c.args.closed.now in
     subst (λ (o : List PointId). MayDispatch net closed.table o) (sym c.as_slice.ensures) (may_dispatch net closed.table closed.order c.requires.closure)
 
-pub start-requires-clause-dispatch : goal.start-requires-clause-dispatch
-start-requires-clause-dispatch c =
-    let net = c.args.net in
+pub begin_dispatched-requires-clause-dispatch : goal.begin_dispatched-requires-clause-dispatch
+begin_dispatched-requires-clause-dispatch c =
     let closed = c.args.closed.now in
-    let of = c.in_ok-dispatch.ensures.dispatchable in
-    dispatch_of net closed.table closed.order c.requires.closure c.slim.result (c.slim.ensures.links ∙ of.links) (c.slim.ensures.made ∙ of.made)
-
-pub returns-clause-begins : goal.returns-clause-begins
-returns-clause-begins c =
-    let net = c.args.net in
-    let closed = c.args.closed.now in
-    let of = c.in_ok-dispatch.ensures.dispatchable in
-    begins_so net closed.table closed.order c.requires.closure c.slim.result (c.slim.ensures.links ∙ of.links) (c.slim.ensures.made ∙ of.made) c.in_ok-state.state c.in_ok-state.ensures
-    c.put_begun.new.answer.text c.in_ok-put_begun.ensures.put
+    record {
+      table = closed.table;
+      order = closed.order;
+      closure = c.requires.closure.closure;
+      ordered = c.requires.closure.ordered;
+      by = c.in_ok-dispatch.ensures.dispatchable;
+      whole = c.in_ok-dispatch.ensures.whole;
+    }

@@ -3,11 +3,6 @@ use Rattle.stnu_run.proofs.running.RunningPromising.keeps_its_promise.Goals as g
 
 pub returns : goal.returns
 returns c = λ form. run_keeps form (record {
-  base = c.base_stands.ensures;
-  stand = c.rounds_stand.ensures;
-  met = c.cycles_are_met.ensures;
-  accepted = c.refutations_are_accepted.ensures;
-}) (record {
   reading = c.lines_have_one_reading.ensures;
   taken = c.faithful_streams_are_taken.ensures;
   done = c.done_where_none_is_open.ensures;

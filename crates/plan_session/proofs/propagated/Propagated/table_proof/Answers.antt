@@ -1,0 +1,38 @@
+use Rattle.std.proofs.Common.{List, ap, sym, subst}
+use Rattle.net_model.specs.declared.ids.PointId.{PointId}
+use Rattle.closure_model.specs.Closure.{IsClosure}
+use Rattle.closure_model.specs.Orders.{IsOrder}
+use Rattle.closure_model.specs.Tables.{Graph}
+use Rattle.parallel_rounds.specs.Propagated.{ending_of}
+use Rattle.plan_session.specs.Sessions.{IsSound, IsPlacedBy}
+use Rattle.closure_model.specs.ReferenceRounds.{closed}
+use Rattle.plan_session.proofs.SessionLemmas.{closed_well, closed_placed, looped_excludes, proves}
+use Rattle.plan_session.proofs.propagated.Propagated.table_proof.Goals as goal
+
+pub table_proof-requires-clause-closure : goal.table_proof-requires-clause-closure
+table_proof-requires-clause-closure c =
+    let net = c.args.net.now in
+    let well = closed_well net _ (subst (IsSound net) (sym c.self.view_is) c.requires.sound) c.in-Closed.order (ap ending_of c.in-Closed.is) in
+    subst (IsClosure net) (sym c.table.ensures) well.0
+
+pub table_proof-requires-clause-order : goal.table_proof-requires-clause-order
+table_proof-requires-clause-order c =
+    let net = c.args.net.now in
+    let well = closed_well net _ (subst (IsSound net) (sym c.self.view_is) c.requires.sound) c.in-Closed.order (ap ending_of c.in-Closed.is) in
+    subst (λ (table : Graph). IsOrder table c.as_slice.result.now) (sym c.table.ensures) (subst (λ (order : List PointId). IsOrder c.self.inside.store.table order) (sym c.as_slice.ensures) well.1)
+
+pub unreachable-requires : goal.unreachable-requires
+unreachable-requires c =
+    looped_excludes c.args.net.now _ (subst (IsSound c.args.net.now) (sym c.self.view_is) c.requires.sound) c.standing_cycles_exclude.ensures (record { sound = c.points.ensures.sound })
+    c.in-Looped.cycle (ap ending_of c.in-Looped.is) c.requires.controllable
+
+pub returns : goal.returns
+returns c =
+    let net = c.args.net.now in
+    let said = c.in_ok-certificate-in-Closed.ensures in
+    let sound = subst (IsSound net) (sym c.self.view_is) c.requires.sound in
+    let well = closed_well net _ sound c.in-Closed.order (ap ending_of c.in-Closed.is) in
+    let placed = closed_placed net _ sound c.in-Closed.order (ap ending_of c.in-Closed.is) in
+    proves net c.table.result.now c.as_slice.result.now c.in_ok-certificate-in-Closed.certificate c.requires.controllable (subst (IsClosure net) (sym c.table.ensures) well.0)
+    (subst (λ (table : Graph). IsPlacedBy table (closed c.as_slice.result.now)) (sym c.table.ensures) (subst (λ (order : List PointId). IsPlacedBy c.self.inside.store.table (closed order)) (sym c.as_slice.ensures) placed))
+    said.proof said.accepted said.weights

@@ -1,0 +1,13 @@
+use Rattle.std.proofs.Common.{rules, inl, subst}
+use Rattle.net_model.specs.Network.{Plan}
+use Rattle.strategy_model.specs.Control.{IsControllable}
+use Rattle.stnu_run.specs.Running.{BeginsExecution}
+use Rattle.stnu_run.specs.Sessions.{net_of}
+use Rattle.stnu_run.proofs.session.go.Goals as goal
+
+pub returns-clause-answers : goal.returns-clause-answers
+returns-clause-answers c =
+    let put = c.begin_dispatched.new.answer.text in
+    let onward = c.in_ok-begin_dispatched.field-0 in
+    let controls : IsControllable (net_of c.args.state) = c.is_controllable.ensures.yes (search rules) in
+    inl (controls, (onward, subst (λ (n : Plan). BeginsExecution n put onward) c.in_ok-net.ensures.0 c.in_ok-begin_dispatched.ensures.begins, c.executing.ensures))

@@ -1,0 +1,135 @@
+"""Random plans, streams and inputs, what the slow programs answer to them, and what a program does: what compare-run and compare-session share."""
+
+import io
+import os
+import select
+import subprocess
+
+ODD_WORDS = ["at", "done", "end", "0", "-1", "01", "4000000000000", "4000000000001", "p0", "p1", "P1", "p!", "x" * 33, "#"]
+UNITS = [1, 1, 1, 100_000_000]
+PATIENCE = 20
+
+
+def random_plan(choose, unit):
+    count = choose.randint(2, 9)
+    lines = ["stnu 1"] + [f"point p{i}" for i in range(count)]
+    for end in choose.sample(range(count), choose.choice([0, 1, 1, 1, 2, 3, 4][: 3 + count // 2])):
+        begin = choose.choice([i for i in range(count) if i != end])
+        low = choose.randint(1, 5)
+        lines.append(f"link p{begin} {low * unit} {(low + choose.randint(0, 4)) * unit} p{end}")
+    for number in range(choose.randint(0, 2 * count)):
+        begin, end = choose.sample(range(count), 2)
+        lines.append(f"bound b{number} p{begin} p{end} {choose.randint(-4, 9) * unit}")
+    return [*lines, "end"]
+
+
+def random_stream(choose, execution, unit):
+    """The events of a day: each completion at its moment, and now and then the moment alone."""
+    names, lines, moment, idle = execution.points, [], 0, choose.randint(0, 2)
+    lasts = {end: choose.randint(low, high) // unit * unit for _, low, high, end in execution.links}
+    while True:
+        awaited = {end: execution.moments[begin] for begin, _, _, end in execution.links if execution.moments[end] is None}
+        completed = [end for end, began in awaited.items() if began is not None and began + lasts[end] == moment]
+        choose.shuffle(completed)
+        if completed or choose.random() < 0.3:
+            lines.append(" ".join(["at", str(moment), *(names[end] for end in completed)]))
+        for end in completed:
+            execution.moments[end] = moment
+        execution.act(moment)
+        if not awaited:
+            idle -= 1
+        if idle < 0:
+            return [*lines, "done"]
+        moment += unit
+
+
+def with_a_word_changed(choose, lines):
+    place = choose.randrange(len(lines))
+    words = lines[place].split(" ")
+    k = choose.randrange(len(words))
+    if words[k].lstrip("-").isdigit() and choose.random() < 0.7:
+        words[k] = str(int(words[k]) + choose.choice([-2, -1, 1, 2]))
+    else:
+        words[k] = choose.choice(ODD_WORDS if choose.random() < 0.5 else choose.choice(lines).split(" "))
+    return lines[:place] + [" ".join(words)] + lines[place + 1 :]
+
+
+def with_a_line_changed(choose, lines):
+    place = choose.randrange(len(lines))
+    line, other = lines[place], choose.choice(lines)
+    longer = f" {line} {choose.choice(ODD_WORDS)}"
+    changed = choose.choice(
+        [[], [line, other], [other], [line, "# a remark"], [" \t", line], [longer], [line.rpartition(" ")[0]]]
+    )
+    return lines[:place] + changed + lines[place + 1 :] or [""]
+
+
+def with_a_completion_changed(choose, lines):
+    """A completion left out, told twice, told in another line, or put in place of another point's; or a moment moved."""
+    events = [line.split(" ") for line in lines]
+    places = [place for place, words in enumerate(events) if words[0] == "at"]
+    if not places:
+        return lines
+    words, other = events[choose.choice(places)], events[choose.choice(places)]
+    if len(words) < 3 or choose.random() < 0.3:
+        words[1] = str(max(0, int(words[1]) + choose.choice([-2, -1, 1, 2]) * choose.choice(UNITS)))
+        return [" ".join(words) for words in events]
+    name = words.pop(choose.randrange(2, len(words)))
+    moved = choose.choice([[], [name], [name, name], [f"p{choose.randrange(4)}"]])
+    (words if moved != [name] else other).extend(moved)
+    return [" ".join(words) for words in events]
+
+
+class Counted(io.BytesIO):
+    """An input that counts how often a line of it was asked for, its end included."""
+
+    asked = 0
+
+    def readline(self, most):
+        self.asked += 1
+        return super().readline(most)
+
+
+def wanted_of(run, data):
+    """The answers of a slow program to the lines of an input, each alone, the last one to its end, and the status."""
+    stream = Counted(data)
+    answers = [""] * (len(data.splitlines()) + 1)
+
+    def put(lines):
+        answers[stream.asked - 1] += "".join(f"{line}\n" for line in lines)
+
+    return answers, run(stream, put)
+
+
+def given_at_once(command, data):
+    """The answers to an input and the status; None for it where the run has not ended in PATIENCE seconds."""
+    try:
+        done = subprocess.run(command, input=data, stdout=subprocess.PIPE, check=False, timeout=PATIENCE)
+    except subprocess.TimeoutExpired as expired:
+        return (expired.stdout or b"").decode(), None
+    return done.stdout.decode(), done.returncode
+
+
+def given_line_by_line(command, data, answers):
+    """The same, where a line is sent when the answer to the one before has come, or has not come for PATIENCE seconds."""
+    given = b""
+    with subprocess.Popen(command, stdin=subprocess.PIPE, stdout=subprocess.PIPE, bufsize=0) as child:
+        for line, answer in zip(data.splitlines(keepends=True), answers):
+            try:
+                child.stdin.write(line)
+            except BrokenPipeError:
+                break
+            left = len(answer) if line.endswith(b"\n") else 0
+            while left > 0:
+                if not select.select([child.stdout], [], [], PATIENCE)[0]:
+                    child.kill()
+                    return f"{given.decode()} and then nothing to {line}", None
+                piece = os.read(child.stdout.fileno(), left)
+                if not piece:
+                    break
+                given, left = given + piece, left - len(piece)
+        child.stdin.close()
+        given += child.stdout.read()
+    return given.decode(), child.returncode
+
+
