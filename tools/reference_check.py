@@ -1,6 +1,6 @@
 """`check` once more, by the definitions of rows and rounds in docs/DEFINITIONS.md, without a line of the program.
 
-`check(text)` takes a plan without faults, and returns what `check` prints of it, how many rounds were made and how many nodes the
+`check(text)` takes a plan without faults, and returns what `check` prints of it, with `proof` what `check --proof` does, how many rounds were made and how many nodes the
 derivation list has in the end; `rounds_of(text)` gives the rounds themselves, of which reference_run.py takes the closed table. It is
 slow: every row looks through all its keys for the least.
 """
@@ -58,14 +58,19 @@ class Rounds:
         weight = self.weight((target, source, -1))
         return weight is not None and weight < 0
 
-    def cycle(self):
-        """The cycle of negative ordinary edges, or None where the points have an order."""
-        left = set(range(len(self.plan.points)))
+    def placed(self):
+        """The points in their order as far as they can be placed, and those that are left."""
+        placed, left = [], set(range(len(self.plan.points)))
         while True:
             free = [x for x in sorted(left) if not any(self.negative(x, y) for y in left)]
             if not free:
-                break
+                return placed, left
+            placed.append(free[0])
             left.remove(free[0])
+
+    def cycle(self):
+        """The cycle of negative ordinary edges, or None where the points have an order."""
+        left = self.placed()[1]
         if not left:
             return None
         path = [min(left)]
@@ -146,6 +151,14 @@ class Rounds:
         walk = [f"walk {number[step]}" for step in steps]
         return ["not controllable", "certificate 1", "refutation", *lines, *walk, "end"]
 
+    def table_proof(self):
+        """What `check --proof` prints of a closed table."""
+        points, links = self.plan.points, self.plan.links
+        lines = [f"order {points[point]}" for point in self.placed()[0]]
+        for target, source, label in sorted(self.newest):
+            words = ["edge", points[source], points[target]] if label < 0 else ["upper", points[source], points[links[label][3]]]
+            lines.append(" ".join([*words, str(self.weight((target, source, label)))]))
+        return ["controllable", "certificate 1", "table", *lines, "end"]
 
     def make_all(self):
         """Makes rounds until the table is closed or has a cycle: the cycle, or None where it is closed, and how many were made."""
@@ -166,7 +179,10 @@ def rounds_of(text):
     return rounds, cycle, made
 
 
-def check(text):
+def check(text, proof=False):
     rounds, cycle, made = rounds_of(text)
-    lines = ["controllable"] if cycle is None else rounds.refutation(cycle)
+    if cycle is not None:
+        lines = rounds.refutation(cycle)
+    else:
+        lines = rounds.table_proof() if proof else ["controllable"]
     return "\n".join(lines) + "\n", made, len(rounds.nodes)

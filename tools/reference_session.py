@@ -144,9 +144,9 @@ class Session:
         return ["controllable" if self.cycle is None else "not controllable"]
 
     def proof(self):
-        """A refutation, of the rounds of the network itself; until there are proofs of a yes, the verdict stands in its place."""
+        """The table proof, or a refutation of the rounds of the network itself."""
         if self.cycle is None:
-            return self.verdict()
+            return self.rounds.table_proof()[1:]
         rounds, cycle, _ = rounds_of("\n".join(self.network.lines()))
         return rounds.refutation(cycle)[1:]
 

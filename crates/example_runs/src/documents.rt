@@ -9,7 +9,7 @@ use std::thread::Threads;
 use stnu_run::run;
 
 /// Rows: the words, the input, what is put, and the exit status; `|` stands for a line end. In order: the plan that cannot be kept of two bounds, as a
-/// document; an empty plan shown as a document, and that shown as a text; documents with a fault; where a document ends; parts that are refused;
+/// document, and one that can, with its proof; an empty plan shown as a document, and that shown as a text; documents with a fault; where a document ends; parts that are refused;
 /// a certificate and events after a document; and words.
 const RUNS: &str =
     r#"stnu check --json => {"stnu":1,"points":["A","B"],"bounds":[{"name":"b1","from":"A","to":"B","most":3},{"name":"b2","from":"B","to":"A","most":-5}]}|end| => not controllable|certificate 1|refutation|bound b1 A B 3|bound b2 B A -5|no 1 2 A A -2|walk 3|end| => 1
@@ -18,6 +18,7 @@ stnu show --json => {|  "bounds": [],|  "links": [],|  "points": [],|  "stnu": 1
 stnu show => # a plan|stnu 1||link B 1 5 A|point A|end| => error plan 4 unknown-name| => 3
 stnu show => # a plan|stnu 1|point B|bound b B B 0|point A|link B 1 5 A|bound a A B -3|end| => stnu 1|point B|point A|bound b B B 0|bound a A B -3|link B 1 5 A|end| => 0
 stnu show --json --print-json => {"links":[{"to":"A","high":5,"low":1,"from":"B"}],"points":["B","A"],|"stnu":1}|end|more => {|  "bounds": [],|  "links": [|    {|      "from": "B",|      "high": 5,|      "low": 1,|      "to": "A"|    }|  ],|  "points": [|    "B",|    "A"|  ],|  "stnu": 1|}|end| => 0
+stnu check --json --proof => {"stnu":1,"points":["A","B"],"bounds":[{"name":"b1","from":"A","to":"B","most":5},{"name":"b2","from":"B","to":"A","most":-2}]}|end| => controllable|certificate 1|table|order A|order B|edge A A 3|edge B A -2|edge A B 5|end| => 0
 stnu check --json => {]|end| => error json not-json| => 3
 stnu check --json => end| => error json not-json| => 3
 stnu check --json => {"stnu":2,"points":[]}|end| => error json shape top 0| => 3

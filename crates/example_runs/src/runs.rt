@@ -22,6 +22,15 @@ stnu judge => stnu 1|point A|point B|bound b1 A B 5|bound b2 B A -2|end|certific
 stnu judge => stnu 1|point A|point B|bound b1 A B 5|bound b2 B A -2|end|certificate 1|table|order A|order B|edge A A 3|edge B A -2|end| => refused 0 missing-base bound b1| => 1
 stnu judge => stnu 1|point A|point C|point D|bound b1 D C 4|link A 3 8 C|end|certificate 1|table|order A|order C|order D|edge A A 0|edge C A -3|upper C C -8|edge D A -3|upper D C -4|edge D C 4|end| => accepted controllable| => 0
 stnu judge => stnu 1|point A|point C|point D|bound b1 D C 4|link A 3 8 C|end|certificate 1|table|order A|edge A A 0|order C|end| => error format 12 unknown-word| => 3
+stnu judge => stnu 1|point A|point B|bound b1 A B 5|bound b2 B A -2|end|certificate 1|table|order A|order B|edge A A 2|edge B A -2|edge A B 5|end| => accepted controllable| => 0
+stnu check --proof => stnu 1|point A|point B|bound b1 A B 5|bound b2 B A -2|end| => controllable|certificate 1|table|order A|order B|edge A A 3|edge B A -2|edge A B 5|end| => 0
+stnu check --workers 2 --proof => stnu 1|point A|point C|point D|bound b1 D C 4|link A 3 8 C|end| => controllable|certificate 1|table|order A|order C|order D|edge A A 0|edge C A -3|upper C C -8|edge D A -3|upper D C -4|edge D C 4|end| => 0
+stnu check --proof => stnu 1|end| => controllable|certificate 1|table|end| => 0
+stnu check --proof => stnu 1|point A|point B|bound b1 A B 3|bound b2 B A -5|end| => not controllable|certificate 1|refutation|bound b1 A B 3|bound b2 B A -5|no 1 2 A A -2|walk 3|end| => 1
+stnu check --proof --proof => stnu 1|end| => error words| => 2
+stnu check --proof=1 => stnu 1|end| => error words| => 2
+stnu check --workers --proof => stnu 1|end| => error words| => 2
+stnu run --proof => stnu 1|end| => error words| => 2
 stnu judge => stnu 1|point A|point C|point D|bound b1 D C 1|bound b2 C D -1|link A 3 8 C| => error format 8 no-end| => 3
 stnu judge =>  => error format 1 no-header| => 3
 stnu judge => point A|end| => error format 1 no-header| => 3

@@ -18,7 +18,7 @@ stnu session => stnu 1|point X|point Y|point Z|bound a X Y 0|bound b Y X 0|bound
 stnu session => stnu 1|point A|point C|point D|bound b1 D C 1|bound b2 C D -1|link A 3 8 C|end|go|drop bound b2|go|at 0|at 5 C|done| => ready|not controllable|ok|controllable|due 0|act 0 A|due 7|act 5 D|due none|complete| => 0
 stnu session => stnu 1|point A|point C|point D|bound b1 D C 4|link A 3 8 C|end|go|at 0|at 3 C|done|nothing here|is looked at => ready|controllable|due 0|act 0 A|due 4|act 3 D|due none|complete| => 0
 stnu session => stnu 1|point A|point C|point D|bound b1 D C 4|link A 3 8 C|end|table|end| => ready|after D A 3|wait D C 4|table end| => 0
-stnu session => stnu 1|point A|point C|point D|bound b1 D C 4|link A 3 8 C|end|verdict|proof|report|# a remark||end| => ready|controllable|controllable|report none| => 0
+stnu session => stnu 1|point A|point C|point D|bound b1 D C 4|link A 3 8 C|end|verdict|proof|report|# a remark||end| => ready|controllable|certificate 1|table|order A|order C|order D|edge A A 0|edge C A -3|upper C C -8|edge D A -3|upper D C -4|edge D C 4|end|report none| => 0
 stnu session => stnu 1|point A|point C|point D|bound b1 D C 1|bound b2 C D -1|link A 3 8 C|end|table|go|end| => ready|not controllable|not controllable| => 0
 stnu session => stnu 1|point A|point C|point D|bound b1 D C 4|link A 3 8 C|end|add point E|add bound b2 E D -5|set bound b1 6|set link C 2 9|drop bound b2|add bound b3 E A 0|plan|end| => ready|ok|ok|ok|ok|ok|ok|stnu 1|point A|point C|point D|point E|bound b1 D C 6|bound b3 E A 0|link A 2 9 C|end| => 0
 stnu session => stnu 1|end|add point A|report|drop point A|plan|verdict|table|end| => ready|ok|report 0 0 1|ok|stnu 1|end|controllable|table end| => 0

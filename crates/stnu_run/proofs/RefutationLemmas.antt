@@ -1,12 +1,14 @@
 -- A network is answered in one way by its verdict: the certificate of its refutation is one.
-use Rattle.std.proofs.Common.{◌≡◌, ℕ, List, inl, inr, sym, ◌∙◌, subst}
+use Rattle.std.proofs.Common.{◌≡◌, ℕ, Bool, true, false, List, ◌++◌, inl, inr, sym, ap, ◌∙◌, subst}
 use Rattle.net_model.specs.Network.{Plan}
+use Rattle.cert_format.specs.CertificateWords.{printed_certificate}
 use Rattle.cert_format.specs.declared.certificate.Certificate.{Certificate}
 use Rattle.refutations.proofs.OneCertificate.{certificate_one}
+use Rattle.table_proofs.proofs.LawProofs.{certificates_are_one}
 use Rattle.command_engine.specs.declared.endings.End.{End}
-use Rattle.stnu_run.specs.Checking.{check_answers}
-use Rattle.stnu_run.specs.declared.plan_input.PlanForm.{PlanForm}
-use Rattle.stnu_run.specs.Verdict.{PutsControllable, PutsRefuted, Decides}
+use Rattle.stnu_run.specs.Checking.{PutsYes, check_answers}
+use Rattle.stnu_run.specs.Verdict.{controllable_line, PutsRefuted, Decides}
+use Rattle.stnu_run.specs.declared.checking.CheckFlags.{CheckFlags}
 
 -- a verdict is one, where what is said of each answer is
 pub decided_once : {A : Type 0} (net : Plan) (Yes : A → Type 0) (No : A → Certificate → Type 0) (Same : A → A → Type 0)
@@ -18,7 +20,12 @@ decided_once net Yes No Same same_yes same_no one other (inr (cert, refutes, fir
 decided_once net Yes No Same same_yes same_no one other (inr (cert, refutes, first)) (inr (same, also, second)) =
     same_no one other cert first (subst (No other) (certificate_one net same cert also.of refutes.of) second)
 
-pub check_answers_once : (question : PlanForm) (net : Plan) (a b : List ℕ) (x y : End) → check_answers question net a x → check_answers question net b y → (a ≡ b) × (x ≡ y)
-check_answers_once question net a b x y =
-    decided_once {A = List ℕ × End} net (λ one. PutsControllable one.0 one.1) (λ one cert. PutsRefuted cert one.0 one.1) (λ one other. (one.0 ≡ other.0) × (one.1 ≡ other.1))
-    (λ one other puts also. (puts.0 ∙ sym also.0, puts.1 ∙ sym also.1)) (λ one other cert puts also. (puts.0 ∙ sym also.0, puts.1 ∙ sym also.1)) (a, x) (b, y)
+yes_once : (proof : Bool) (net : Plan) (a b : List ℕ) (x y : End) → PutsYes proof net a x → PutsYes proof net b y → (a ≡ b) × (x ≡ y)
+yes_once false net a b x y puts also = (puts.0 ∙ sym also.0, puts.1 ∙ sym also.1)
+yes_once true net a b x y (cert, proves, puts) (other, is, also) =
+    (puts.0 ∙ (ap (λ (c : Certificate). controllable_line ++ printed_certificate c) (certificates_are_one net cert other (inl proves) (inl is)) ∙ sym also.0), puts.1 ∙ sym also.1)
+
+pub check_answers_once : (flags : CheckFlags) (net : Plan) (a b : List ℕ) (x y : End) → check_answers flags net a x → check_answers flags net b y → (a ≡ b) × (x ≡ y)
+check_answers_once flags net a b x y =
+    decided_once {A = List ℕ × End} net (λ one. PutsYes flags.proof net one.0 one.1) (λ one cert. PutsRefuted cert one.0 one.1) (λ one other. (one.0 ≡ other.0) × (one.1 ≡ other.1))
+    (λ one other puts also. yes_once flags.proof net one.0 other.0 one.1 other.1 puts also) (λ one other cert puts also. (puts.0 ∙ sym also.0, puts.1 ∙ sym also.1)) (a, x) (b, y)

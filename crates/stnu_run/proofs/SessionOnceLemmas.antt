@@ -35,7 +35,7 @@ use Rattle.stnu_run.specs.Verdict.{controllable_line}
 use Rattle.stnu_run.specs.declared.faults.Fault.TheVariants.{Format}
 use Rattle.stnu_run.specs.declared.session.InSession.{InSession}
 use Rattle.stnu_run.specs.declared.session.InSession.TheVariants.{Editing, Executing}
-use Rattle.stnu_run.proofs.RefutationLemmas.{decided_once}
+use Rattle.table_proofs.proofs.LawProofs.{certificates_are_one}
 use Rattle.stnu_run.proofs.RunOnceLemmas.{begun_one, executing_single}
 
 -- ---- the answer to a line
@@ -50,9 +50,7 @@ verdict_said_once net a b (inr (never, one)) (inl (controls, other)) = absurd (n
 verdict_said_once net a b (inr (never, one)) (inr (also, other)) = one ∙ sym other
 
 proof_said_once : (net : Plan) (a b : List ℕ) → SaysProof net a → SaysProof net b → a ≡ b
-proof_said_once net a b =
-    decided_once {A = List ℕ} net (λ said. said ≡ controllable_line) (λ said cert. said ≡ printed_certificate cert) (λ one other. one ≡ other)
-    (λ one other puts also. puts ∙ sym also) (λ one other cert puts also. puts ∙ sym also) a b
+proof_said_once net a b (cert, decides, is) (other, also, same) = is ∙ (ap printed_certificate (certificates_are_one net cert other decides also) ∙ sym same)
 
 table_said_once : (net : Plan) (a b : List ℕ) → SaysTable net a → SaysTable net b → a ≡ b
 table_said_once net a b (inl (controls, (table, closure, one))) (inl (also, (same, is, other))) = one ∙ (ap (λ (t : Graph). table_text net (dispatchable net t)) (closure_is_one net table same closure is) ∙ sym other)

@@ -14,12 +14,14 @@ use Rattle.command_words.specs.Reading.{arguments_of}
 use Rattle.command_words.specs.Spelling.{Use, name_of, valued, flag, operand, is_plain, Spells, SpellsAll, AreOf, Says}
 use Rattle.command_words.specs.Syntax.{Syntax, Text, are_apart, is_in, is_sound}
 use Rattle.command_words.proofs.LawLemmas.{read_exactly}
+use Rattle.stnu_run.specs.Checking.{check_asked, check_syntax, proof_name}
 use Rattle.stnu_run.specs.Judging.{judge_asked, judge_syntax}
 use Rattle.stnu_run.specs.PlanInput.{form_by, json_name}
 use Rattle.stnu_run.specs.Requests.{asked_by}
 use Rattle.stnu_run.specs.Showing.{show_asked, show_syntax}
-use Rattle.stnu_run.specs.WordLaws.{SayFormAndWorkers, SayForms, form_words}
-use Rattle.stnu_run.specs.Workers.{most_workers, workers_name, count_in, count_of, workers_of, has_workers, SpellsWorkers, SaysCount, HasWorkers, DifferInWorkers, WorkersDecideNothing}
+use Rattle.stnu_run.specs.WordLaws.{SayCheckFlags, SayFormAndWorkers, SayForms, form_words}
+use Rattle.stnu_run.specs.Workers.{most_workers, workers_name, count_in, count_of, workers_of, has_workers, SpellsWorkers, SayWithWorkers, SaysCount, HasWorkers, DifferInWorkers, WorkersDecideNothing}
+use Rattle.stnu_run.specs.declared.checking.CheckFlags.{CheckFlags}
 use Rattle.stnu_run.specs.declared.judging.Judge.{Judge}
 use Rattle.stnu_run.specs.declared.showing.Show.{Show}
 use Rattle.stnu_run.specs.declared.plan_input.PlanForm.{PlanForm}
@@ -162,6 +164,42 @@ module _ {A : Type 0} (command : Syntax) (asked : Arguments → Option A) (law :
       asks command law.sound asked (front ++ (others ++ back)) (place.before ++ valued workers_name (decimal number) ∷ place.after) says
       ∙ (sym (law.same _ _ (differ_other place.before place.after none count number spells.0 spells.1 spells_other.0 spells_other.1)) ∙ asked_placed)
 
+-- ---- a command that takes a number of workers, and asks what its flags say
+abbrev with_workers : {A : Type 0} → A → Option (Unit {0}) → Option A
+with_workers request workers = option_map (λ w. request) workers
+
+module _ {A : Type 0} (command : Syntax) (sound : is_sound command ≡ true) (asked : Arguments → Option A) (told : List Use → A)
+    (is_told : (uses : List Use) → asked (arguments_by command uses) ≡ with_workers (told uses) (has_workers (text_given workers_name uses))) where
+  told_where : (uses : List Use) → HasWorkers uses → asked (arguments_by command uses) ≡ Some (told uses)
+  told_where uses (count, is) = is_told uses ∙ ap (λ (found : Option ℕ). with_workers (told uses) (is_found found)) is
+
+  -- the number of workers decides nothing, where the flags decide what is told
+  decide_nothing : is_in workers_name command.flags ≡ false → ((uses others : List Use) → DifferInWorkers uses others → told uses ≡ told others) → WorkersDecideNothing command asked
+  decide_nothing no_flag kept = record {
+    sound = sound;
+    no_flag = no_flag;
+    same = λ uses others differ. told_where uses differ.one ∙ (ap Some (kept uses others differ) ∙ sym (told_where others differ.other));
+  }
+
+  -- what is asked is what uses say that say a number of workers or none
+  said_exactly : (words : List Text) (request : A) → asked_by command asked words ≡ Some request ↔ ((say : SayWithWorkers command words) × (told say.uses ≡ request))
+  said_exactly words request = (to, from)
+    where
+      by : (uses : List Use) → Says command words uses → (found : Option (Unit {0})) → has_workers (text_given workers_name uses) ≡ found → with_workers (told uses) found ≡ Some request
+          → (say : SayWithWorkers command words) × (told say.uses ≡ request)
+      by uses says None same is = absurd cc
+      by uses says (Some tt) same is = (record { uses = uses; says = says; workers = says_count (text_given workers_name uses) same }, (let one : told uses ≡ request = cc in one))
+
+      to : asked_by command asked words ≡ Some request → (say : SayWithWorkers command words) × (told say.uses ≡ request)
+      to is =
+          let means = meant command sound asked words request is in
+          by means.0 means.1 (has_workers (text_given workers_name means.0)) refl (sym (is_told means.0) ∙ means.2)
+
+      from : (say : SayWithWorkers command words) × (told say.uses ≡ request) → asked_by command asked words ≡ Some request
+      from (say, given) =
+          asks command sound asked words say.uses say.says
+          ∙ (is_told say.uses ∙ (ap (with_workers (told say.uses)) (count_said (text_given workers_name say.uses) say.workers) ∙ ap Some given))
+
 -- ---- a command that takes the form of the plan, and a number of workers
 abbrev pub plan_words : Syntax
 plan_words = record { flags = json_name ∷ []; options = workers_name ∷ []; operands = [] }
@@ -169,41 +207,33 @@ plan_words = record { flags = json_name ∷ []; options = workers_name ∷ []; o
 abbrev pub asked_form : Arguments → Option PlanForm
 asked_form arguments = option_map (λ workers. form_by (flag_at 0 arguments)) (has_workers (option_at 0 arguments))
 
--- what is asked by whether the flag is given, where there are workers
-abbrev form_where : Bool → Option (Unit {0}) → Option PlanForm
-form_where given workers = option_map (λ w. form_by given) workers
-
-form_asked : (uses : List Use) → HasWorkers uses → asked_form (arguments_by plan_words uses) ≡ Some (form_by (is_given json_name uses))
-form_asked uses (count, is) = ap (λ (found : Option ℕ). form_where (is_given json_name uses) (is_found found)) is
+abbrev told_form : List Use → PlanForm
+told_form uses = form_by (is_given json_name uses)
 
 -- the number of workers decides nothing of the form
 pub workers_decide_no_form : WorkersDecideNothing plan_words asked_form
-workers_decide_no_form = record {
-  sound = refl;
-  no_flag = refl;
-  same = λ uses others differ.
-      form_asked uses differ.one ∙ (ap (λ (given : Bool). Some (form_by given)) (differ.flags json_name refl) ∙ sym (form_asked others differ.other));
-}
+workers_decide_no_form = decide_nothing plan_words refl asked_form told_form (λ uses. refl) refl (λ uses others differ. ap form_by (differ.flags json_name refl))
 
 pub form_exactly : (words : List Text) (form : PlanForm) → asked_by plan_words asked_form words ≡ Some form ↔ SayFormAndWorkers plan_words form words
-form_exactly words form = (to, from)
-  where
-    by : (uses : List Use) → Says plan_words words uses → (found : Option (Unit {0})) → has_workers (text_given workers_name uses) ≡ found → form_where (is_given json_name uses) found ≡ Some form → SayFormAndWorkers plan_words form words
-    by uses says None same is = absurd cc
-    by uses says (Some tt) same is = record {
-      say = record { uses = uses; says = says; workers = says_count (text_given workers_name uses) same };
-      given = (let one : form_by (is_given json_name uses) ≡ form = cc in one);
-    }
+form_exactly words form =
+    let exactly = said_exactly plan_words refl asked_form told_form (λ uses. refl) words form in
+    (λ is. let said = exactly.0 is in record { say = said.0; given = said.1 }, λ say. exactly.1 (say.say, say.given))
 
-    to : asked_by plan_words asked_form words ≡ Some form → SayFormAndWorkers plan_words form words
-    to is =
-        let means = meant plan_words refl asked_form words form is in
-        by means.0 means.1 (has_workers (text_given workers_name means.0)) refl means.2
+-- ---- the flags of `check`, and a number of workers
+abbrev told_flags : List Use → CheckFlags
+told_flags uses = record { form = form_by (is_given json_name uses); proof = is_given proof_name uses }
 
-    from : SayFormAndWorkers plan_words form words → asked_by plan_words asked_form words ≡ Some form
-    from say =
-        asks plan_words refl asked_form words say.say.uses say.say.says
-        ∙ (ap (form_where (is_given json_name say.say.uses)) (count_said (text_given workers_name say.say.uses) say.say.workers) ∙ ap Some say.given)
+pub workers_decide_no_flag : WorkersDecideNothing check_syntax check_asked
+workers_decide_no_flag =
+    decide_nothing check_syntax refl check_asked told_flags (λ uses. refl) refl
+    (λ uses others differ. ap (λ (json : Bool). record { form = form_by json; proof = is_given proof_name uses }) (differ.flags json_name refl)
+    ∙ ap (λ (proof : Bool). record { form = form_by (is_given json_name others); proof = proof }) (differ.flags proof_name refl))
+
+pub check_exactly : (words : List Text) (flags : CheckFlags) → asked_by check_syntax check_asked words ≡ Some flags ↔ SayCheckFlags check_syntax flags words
+check_exactly words flags =
+    let exactly = said_exactly check_syntax refl check_asked told_flags (λ uses. refl) words flags in
+    (λ is. let said = exactly.0 is in record { say = record { say = said.0; given = ap (λ (f : CheckFlags). f.form) said.1 }; proof = ap (λ (f : CheckFlags). f.proof) said.1 },
+    λ say. exactly.1 (say.say.say, ap (λ (f : PlanForm). record { form = f; proof = is_given proof_name say.say.say.uses }) say.say.given ∙ ap (λ (proof : Bool). record { form = flags.form; proof = proof }) say.proof))
 
 -- ---- a command that takes the form of the plan alone
 json_is : (name : Text) → is_in name (json_name ∷ []) ≡ true → name ≡ json_name

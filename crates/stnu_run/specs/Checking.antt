@@ -1,23 +1,36 @@
 -- The command `check`: a plan, and then whether the network that it declares is controllable. This project's own choice.
-use Rattle.std.specs.Prelude.{ℕ, List, [], ◌∷◌, Option}
+use Rattle.std.specs.Prelude.{ℕ, Bool, true, false, List, [], ◌∷◌, codes, Option}
 use Rattle.std.specs.Option.{option_map}
 use Rattle.net_model.specs.Network.{Plan}
+use Rattle.cert_format.specs.declared.certificate.Certificate.{Certificate}
+use Rattle.table_proofs.specs.Certified.{Proves}
 use Rattle.command_words.specs.Arguments.{Arguments, flag_at, option_at}
 use Rattle.command_words.specs.Syntax.{Syntax}
 use Rattle.command_engine.specs.declared.endings.End.{End}
 use Rattle.stnu_run.specs.PlanInput.{form_by, json_name}
-use Rattle.stnu_run.specs.Verdict.{PutsControllable, PutsRefuted, Decides}
+use Rattle.stnu_run.specs.Verdict.{PutsControllable, PutsProved, PutsRefuted, Decides}
 use Rattle.stnu_run.specs.Workers.{has_workers, workers_name}
-use Rattle.stnu_run.specs.declared.plan_input.PlanForm.{PlanForm}
+use Rattle.stnu_run.specs.declared.checking.CheckFlags.{CheckFlags}
 
--- The answer to a network is its verdict: that it is controllable, or that it is not, and the certificate of its refutation. The form in which the
--- plan is given decides nothing of it, and of the number of workers nothing is seen.
-abbrev pub check_answers : PlanForm → Plan → List ℕ → End → Type 0
-check_answers form net put end = Decides net (PutsControllable put end) (λ cert. PutsRefuted cert put end)
+-- It is put that a network is controllable, and then, where a proof is wanted, the certificate that proves it: its table proof, which the judge
+-- accepts.
+abbrev pub PutsYes : (proof : Bool) → Plan → List ℕ → End → Type 0
+PutsYes false net put end = PutsControllable put end
+PutsYes true net put end = (cert : Certificate) × Proves net cert × PutsProved cert put end
 
--- `check` takes the form of the plan, and a number of workers, which decides nothing of what is asked
+-- The answer to a network is its verdict: that it is controllable, with its table proof where that is wanted, or that it is not, and the
+-- certificate that refutes it. The form in which the plan is given decides nothing of it, and of the number of workers nothing is seen.
+abbrev pub check_answers : CheckFlags → Plan → List ℕ → End → Type 0
+check_answers flags net put end = Decides net (PutsYes flags.proof net put end) (λ cert. PutsRefuted cert put end)
+
+-- the name of the flag by which a proof is wanted
+abbrev pub proof_name : List ℕ
+proof_name = codes "proof"
+
+-- `check` takes the form of the plan, whether a proof is wanted, and a number of workers, which decides nothing of what is asked
 abbrev pub check_syntax : Syntax
-check_syntax = record { flags = json_name ∷ []; options = workers_name ∷ []; operands = [] }
+check_syntax = record { flags = json_name ∷ proof_name ∷ []; options = workers_name ∷ []; operands = [] }
 
-abbrev pub check_asked : Arguments → Option PlanForm
-check_asked arguments = option_map (λ workers. form_by (flag_at 0 arguments)) (has_workers (option_at 0 arguments))
+abbrev pub check_asked : Arguments → Option CheckFlags
+check_asked arguments =
+    option_map (λ workers. record { form = form_by (flag_at 0 arguments); proof = flag_at 1 arguments }) (has_workers (option_at 0 arguments))

@@ -12,6 +12,8 @@ use Rattle.strategy_model.specs.Control.{IsControllable}
 use Rattle.closure_model.specs.Closure.{IsClosure}
 use Rattle.closure_model.specs.Tables.{Graph}
 use Rattle.cert_format.specs.CertificateWords.{printed_certificate}
+use Rattle.cert_format.specs.declared.certificate.Certificate.{Certificate}
+use Rattle.table_proofs.specs.Certified.{Certifies}
 use Rattle.dispatch_net.specs.Dispatchable.{dispatchable}
 use Rattle.plan_format.specs.PlanPrinting.{printed_plan}
 use Rattle.plan_port.specs.Limits.{most_line}
@@ -37,7 +39,7 @@ use Rattle.stnu_run.specs.PlanInput.{PlanInput, form_by, input_begun, input_read
 use Rattle.stnu_run.specs.Running.{BeginsExecution}
 use Rattle.stnu_run.specs.SessionAnswers.{ready_line, ok_line, refused_line, report_line, table_text}
 use Rattle.stnu_run.specs.Standing.{Standing}
-use Rattle.stnu_run.specs.Verdict.{controllable_line, refuted_line, Decides}
+use Rattle.stnu_run.specs.Verdict.{controllable_line, refuted_line}
 use Rattle.stnu_run.specs.Workers.{has_workers, workers_name}
 use Rattle.stnu_run.specs.declared.faults.Fault.TheVariants.{Format}
 use Rattle.stnu_run.specs.declared.plan_input.PlanForm.{PlanForm}
@@ -58,9 +60,9 @@ SaysEdit net (Err cause) answer = answer ≡ refused_line net cause
 abbrev pub SaysVerdict : Plan → List ℕ → Type 0
 SaysVerdict net answer = (IsControllable net × (answer ≡ controllable_line)) ⊎ ((¬ IsControllable net) × (answer ≡ refuted_line))
 
--- the answer to `proof`: that the network is controllable, or the certificate of its refutation, which the judge accepts
+-- the answer to `proof`: the certificate that decides the network, which the judge accepts
 abbrev pub SaysProof : Plan → List ℕ → Type 0
-SaysProof net answer = Decides net (answer ≡ controllable_line) (λ cert. answer ≡ printed_certificate cert)
+SaysProof net answer = (cert : Certificate) × Certifies net cert × (answer ≡ printed_certificate cert)
 
 -- the answer to `table`: by what each point is executed, as the closure of the network gives it, or that it is not controllable
 abbrev pub SaysTable : Plan → List ℕ → Type 0

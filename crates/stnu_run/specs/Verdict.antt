@@ -2,6 +2,7 @@
 use Rattle.std.specs.Prelude.{◌≡◌, ◌⊎◌, ℕ, List, [], ◌∷◌, ◌++◌, codes}
 use Rattle.texts.specs.Printing.{printed_line}
 use Rattle.net_model.specs.Network.{Plan}
+use Rattle.closure_model.specs.Orders.{placed_points}
 use Rattle.strategy_model.specs.Control.{IsControllable}
 use Rattle.cert_format.specs.CertificateWords.{printed_certificate}
 use Rattle.cert_format.specs.declared.certificate.Certificate.{Certificate}
@@ -24,6 +25,10 @@ refuted_line = printed_line (codes "not controllable" ∷ [])
 abbrev pub PutsControllable : List ℕ → End → Type 0
 PutsControllable put end = (put ≡ controllable_line) × (end ≡ Done)
 
+-- it is put that a network is controllable, and a certificate after that
+abbrev pub PutsProved : Certificate → List ℕ → End → Type 0
+PutsProved cert put end = (put ≡ controllable_line ++ printed_certificate cert) × (end ≡ Done)
+
 -- it is put that a network is not controllable, and a certificate after that
 abbrev pub PutsRefuted : Certificate → List ℕ → End → Type 0
 PutsRefuted cert put end = (put ≡ refuted_line ++ printed_certificate cert) × (end ≡ RefusedEnd)
@@ -32,7 +37,8 @@ PutsRefuted cert put end = (put ≡ refuted_line ++ printed_certificate cert) ×
 abbrev pub Decides : Plan → Type 0 → (Certificate → Type 0) → Type 0
 Decides net Yes No = (IsControllable net × Yes) ⊎ ((cert : Certificate) × Refutes net cert × No cert)
 
--- what decides it: its closure with an order where it is controllable, else a certificate that refutes it
+-- what decides it: its closure with the order in which the points of that are placed where it is controllable, else a certificate that
+-- refutes it
 abbrev pub IsVerdict : Plan → Verdict → Type 0
-IsVerdict net (Controllable same closed) = (same ≡ net) × IsControllable same × IsDispatchedByClosure same closed.table closed.order
+IsVerdict net (Controllable same closed) = (same ≡ net) × IsControllable same × IsDispatchedByClosure same closed.table closed.order × (closed.order ≡ placed_points closed.table)
 IsVerdict net (Refuted cert) = Refutes net cert

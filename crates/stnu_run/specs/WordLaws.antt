@@ -8,6 +8,8 @@ use Rattle.stnu_run.specs.PlanInput.{form_by, json_name}
 use Rattle.stnu_run.specs.Programs.{Program, Defines}
 use Rattle.stnu_run.specs.declared.status.Status.{Status}
 use Rattle.stnu_run.specs.Workers.{SayWithWorkers}
+use Rattle.stnu_run.specs.Checking.{proof_name}
+use Rattle.stnu_run.specs.declared.checking.CheckFlags.{CheckFlags}
 use Rattle.stnu_run.specs.declared.showing.Show.{Show}
 use Rattle.stnu_run.specs.declared.plan_input.PlanForm.{PlanForm}
 use Rattle.stnu_run.specs.declared.plan_input.PlanForm.TheVariants as form
@@ -21,6 +23,11 @@ form_words form.Json = codes "--json" ∷ []
 pub record SayFormAndWorkers (command : Syntax) (form : PlanForm) (words : List Text) : Type 0 where
   pub say : SayWithWorkers command words
   pub given : form_by (is_given json_name say.uses) ≡ form
+
+-- the words say uses of this command: these flags of `check`, and a number of workers or none
+pub record SayCheckFlags (command : Syntax) (flags : CheckFlags) (words : List Text) : Type 0 where
+  pub say : SayFormAndWorkers command flags.form words
+  pub proof : is_given proof_name say.say.uses ≡ flags.proof
 
 -- the words say uses of this command: these forms of the plan that is read and of the one that is put
 pub record SayForms (command : Syntax) (show : Show) (words : List Text) : Type 0 where

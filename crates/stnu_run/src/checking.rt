@@ -2,35 +2,48 @@
 
 ghost use Rattle.std.specs.Prelude.{◌≡◌, [], IfOk};
 ghost use Rattle.stnu_run.specs.CheckPromise.{CheckPromise, PutsVerdict};
-ghost use Rattle.stnu_run.specs.Checking.{check_answers, check_asked, check_syntax};
-ghost use Rattle.stnu_run.specs.Verdict.{Decides, PutsControllable, PutsRefuted};
+ghost use Rattle.stnu_run.specs.Checking.{check_answers, check_asked, check_syntax, PutsYes};
+ghost use Rattle.stnu_run.specs.Verdict.{IsVerdict};
+ghost use Rattle.stnu_run.specs.declared.verdict.Verdict.TheVariants.{Controllable};
 
 use crate::plan_asking::PlanQuestion;
 use crate::plan_input::{PlanForm, PlanInput};
 use crate::requests::Request;
-use crate::verdict::{Verdict, decide, put_controllable, put_refuted};
+use crate::verdict::{Verdict, decide, put_controllable, put_proved, put_refuted};
 use crate::workers::Workers;
+use closure_model::order_laws::ordered_tables_are_placed;
 use command_engine::{Answer, Asked, End, Question};
 use command_words::{Arguments, Syntax};
 use net_model::Network;
 use std::alloc::{AllocError, Global};
 use std::marker::Model;
 use std::thread::Threads;
+use table_closing::Closed;
+use table_proofs::table_proof;
 
 /// Whether a network is controllable: the command `check` reads a plan, and puts `controllable` where a strategy controls its network,
-/// else `not controllable` and a certificate which `judge` accepts. It ends with 0 in the first case, and with 1 in the second.
+/// else `not controllable` and a certificate which `judge` accepts. Where a proof is wanted, a certificate which `judge` accepts stands after
+/// `controllable` too. It ends with 0 in the first case, and with 1 in the second.
 #[derive(Drop)]
 pub struct Check {
-    form: PlanForm,
+    flags: CheckFlags,
     workers: Workers,
 }
 
+/// What the flags of `check` say.
+#[derive(Clone, Copy)]
+pub struct CheckFlags {
+    form: PlanForm,
+    /// Whether a proof is wanted where the network is controllable.
+    proof: bool,
+}
+
 impl Model for Check {
-    ghost use Rattle.stnu_run.specs.declared.plan_input.PlanForm.{PlanForm};
+    ghost use Rattle.stnu_run.specs.declared.checking.CheckFlags.{CheckFlags};
 
-    ghost Value = { PlanForm };
+    ghost Value = { CheckFlags };
 
-    ghost view = { λ check. check.form };
+    ghost view = { λ check. check.flags };
 }
 
 impl Question<Network> for Check {
@@ -43,7 +56,7 @@ impl Question<Network> for Check {
         answer: &mut Answer,
         value: Network,
     ) -> Result<End, AllocError> {
-        put_verdict(rt, alloc, answer, value, &self.workers)
+        put_verdict(rt, alloc, answer, value, &self)
     }
 }
 
@@ -54,7 +67,7 @@ impl Request for Check {
 
     fn words() -> Syntax<'static> {
         Syntax {
-            flags: &["json"],
+            flags: &["json", "proof"],
             options: &["workers"],
             operands: &[],
         }
@@ -63,7 +76,9 @@ impl Request for Check {
     fn of(arguments: &Arguments<'_>) -> Option<Check> {
         let workers = Workers::of(arguments.option(0))?;
         let form = PlanForm::of(arguments.flag(0));
-        Some(Check { form, workers })
+        let proof = arguments.flag(1);
+        let flags = CheckFlags { form, proof };
+        Some(Check { flags, workers })
     }
 
     fn workers_decide_nothing() {}
@@ -73,14 +88,14 @@ impl Request for Check {
 pub type Checking = Asked<Check, PlanInput>;
 
 impl PlanQuestion for Check {
-    ghost form = { λ form. form };
+    ghost form = { λ flags. flags.form };
 
-    ghost puts = { λ form. PutsVerdict };
+    ghost puts = { PutsVerdict };
 
     ghost promised = { CheckPromise };
 
     fn plan_form(&self) -> PlanForm {
-        self.form
+        self.flags.form
     }
 
     fn puts_the_answer() {}
@@ -96,13 +111,35 @@ fn put_verdict<R: Threads + Sync>(
     alloc: Global,
     answer: &mut Answer,
     net: Network,
-    workers: &Workers,
+    check: &Check,
 ) -> Result<End, AllocError>
     requires { answer.old.text ≡ [] }
-    ensures { IfOk result (λ end. Decides net (PutsControllable answer.new.text end) (λ cert. PutsRefuted cert answer.new.text end)) }
+    ensures { IfOk result (check_answers check.now net answer.new.text) }
 {
-    match decide(rt, alloc, net, workers)? {
-        Verdict::Controllable(..) => put_controllable(answer),
+    match decide(rt, alloc, net, &check.workers)? {
+        Verdict::Controllable(net, closed) => {
+            put_yes(alloc, answer, &net, &closed, check.flags.proof)
+        }
         Verdict::Refuted(certificate) => put_refuted(alloc, answer, &certificate),
     }
+}
+
+/// Puts that a network is controllable into the buffer, which is empty, and the certificate that proves it where that is wanted.
+fn put_yes(
+    alloc: Global,
+    answer: &mut Answer,
+    net: &Network,
+    closed: &Closed,
+    proof: bool,
+) -> Result<End, AllocError>
+    requires empty { answer.old.text ≡ [] }
+    requires verdict { IsVerdict net.now (Controllable net.now closed.now) }
+    ensures { IfOk result (PutsYes proof net.now answer.new.text) }
+{
+    if !proof {
+        return put_controllable(answer);
+    }
+    ordered_tables_are_placed();
+    let certificate = table_proof(alloc, net, &closed.table, closed.order.as_slice())?;
+    put_proved(alloc, answer, &certificate)
 }

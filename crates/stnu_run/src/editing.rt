@@ -139,7 +139,7 @@ impl Editing {
         Ok((session.into_network(), dispatch))
     }
 
-    /// Puts the proof of the verdict.
+    /// Puts the certificate that decides the network as it stands.
     fn push_proof<R: Threads + Sync>(
         &self,
         rt: &R,
@@ -149,9 +149,6 @@ impl Editing {
         requires { answer.old.text ≡ [] }
         ensures { OnOk result (SaysProof (net_of self.now) answer.new.text) }
     {
-        if self.is_controllable() {
-            return push_verdict(answer, true);
-        }
         match self.session.certificate(rt, alloc) {
             Ok(certificate) => {
                 let text = print_certificate(alloc, &certificate)?;

@@ -9,8 +9,9 @@ ghost use Rattle.stnu_run.specs.Requests.{asked_by};
 ghost use Rattle.stnu_run.specs.Running.{run_asked, run_syntax};
 ghost use Rattle.stnu_run.specs.Sessions.{session_asked, session_syntax};
 ghost use Rattle.stnu_run.specs.Showing.{show_asked, show_syntax};
-ghost use Rattle.stnu_run.specs.WordLaws.{AreTaken, DefineSame, DefineSameWhereTaken, SameRuns, SayFormAndWorkers, SayForms, form_words};
+ghost use Rattle.stnu_run.specs.WordLaws.{AreTaken, DefineSame, DefineSameWhereTaken, SameRuns, SayCheckFlags, SayFormAndWorkers, SayForms, form_words};
 ghost use Rattle.stnu_run.specs.Workers.{SpellsWorkers, WorkersDecideNothing};
+ghost use Rattle.stnu_run.specs.declared.checking.CheckFlags.{CheckFlags};
 ghost use Rattle.stnu_run.specs.declared.judging.Judge.{Judge};
 ghost use Rattle.stnu_run.specs.declared.plan_input.PlanForm.{PlanForm};
 ghost use Rattle.stnu_run.specs.declared.showing.Show.{Show};
@@ -38,9 +39,9 @@ pub fn judge_is_read_exactly()
 {}
 
 /// The words after `check` are its own exactly where they spell its uses, and the number of workers, where it is given, is one from 1 to 64. The
-/// plan is a document exactly where `--json` is given.
+/// plan is a document exactly where `--json` is given, and a proof is wanted exactly where `--proof` is.
 pub fn check_is_read_exactly()
-    ensures { (words : List (List ℕ)) (form : PlanForm) → asked_by check_syntax check_asked words ≡ Some form ↔ SayFormAndWorkers check_syntax form words }
+    ensures { (words : List (List ℕ)) (flags : CheckFlags) → asked_by check_syntax check_asked words ≡ Some flags ↔ SayCheckFlags check_syntax flags words }
 {}
 
 /// The words after `run` are its own exactly where they spell its uses, and the number of workers, where it is given, is one from 1 to 64. The

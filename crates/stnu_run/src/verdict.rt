@@ -4,7 +4,7 @@ ghost use Rattle.std.specs.Prelude.{◌≡◌, [], IfOk, OnOk, if◌then◌else�
 ghost use Rattle.strategy_model.specs.Control.{IsControllable};
 ghost use Rattle.cert_format.specs.CertificateWords.{HasWeights};
 ghost use Rattle.refutations.specs.Refuting.{Refutes};
-ghost use Rattle.stnu_run.specs.Verdict.{controllable_line, refuted_line, IsVerdict, PutsControllable, PutsRefuted};
+ghost use Rattle.stnu_run.specs.Verdict.{controllable_line, refuted_line, IsVerdict, PutsControllable, PutsProved, PutsRefuted};
 
 use crate::workers::Workers;
 use cert_format::{Certificate, print_certificate};
@@ -84,6 +84,22 @@ pub(crate) fn put_controllable(answer: &mut Answer) -> Result<End, AllocError>
     ensures { IfOk result (λ end. PutsControllable answer.new.text end) }
 {
     answer.push_line(&[Word::Text("controllable")])?;
+    Ok(End::Done)
+}
+
+/// Puts that a network is controllable, and the certificate of it, into the buffer, which is empty.
+pub(crate) fn put_proved(
+    alloc: Global,
+    answer: &mut Answer,
+    certificate: &Certificate,
+) -> Result<End, AllocError>
+    requires empty { answer.old.text ≡ [] }
+    requires weights { HasWeights certificate.now }
+    ensures { IfOk result (λ end. PutsProved certificate.now answer.new.text end) }
+{
+    let text = print_certificate(alloc, certificate)?;
+    answer.push_line(&[Word::Text("controllable")])?;
+    answer.push_text(text.as_slice())?;
     Ok(End::Done)
 }
 

@@ -1,24 +1,32 @@
-use Rattle.std.proofs.Common.{inl, inr, subst}
+use Rattle.std.proofs.Common.{IfOk, inl, inr, subst}
 use Rattle.std.proofs.lemmas.Result.{IfOk-weaker}
-use Rattle.strategy_model.specs.Control.{IsControllable}
+use Rattle.net_model.specs.Network.{Plan}
 use Rattle.refutations.specs.Refuting.{Refutes}
 use Rattle.command_engine.specs.declared.endings.End.{End}
-use Rattle.stnu_run.specs.Verdict.{Decides, IsVerdict, PutsControllable, PutsRefuted}
+use Rattle.stnu_run.specs.Checking.{PutsYes, check_answers}
+use Rattle.stnu_run.specs.declared.checking.CheckFlags.{CheckFlags}
+use Rattle.stnu_run.specs.Verdict.{IsVerdict, PutsRefuted}
 use Rattle.stnu_run.specs.declared.verdict.Verdict.TheVariants.{Controllable}
+use Rattle.stnu_run.proofs.VerdictLemmas.{own_verdict}
 use Rattle.stnu_run.proofs.checking.put_verdict.Goals as goal
+
+pub put_yes-requires-clause-verdict : goal.put_yes-requires-clause-verdict
+put_yes-requires-clause-verdict g c = own_verdict c.args.net c.in-Controllable.net c.in-Controllable.closed (subst (IsVerdict c.args.net) c.in-Controllable.is c.in_ok-net.ensures)
 
 pub returns-in-Controllable : goal.returns-in-Controllable
 returns-in-Controllable g c =
-    let net = c.args.net in
-    let put = c.put_controllable.new.answer.text in
-    let verdict : IsVerdict net (Controllable c.in-Controllable.field-0 c.in-Controllable.field-1) = subst (IsVerdict net) c.in-Controllable.is c.in_ok-decide.ensures in
-    let controls : IsControllable net = subst IsControllable verdict.0 verdict.1 in
-    IfOk-weaker c.put_controllable.result (λ (end : End). PutsControllable put end) (λ (end : End). Decides net (PutsControllable put end) (λ cert. PutsRefuted cert put end)) (λ end puts. inl (controls, puts)) c.put_controllable.ensures
+    let net = c.in-Controllable.net in
+    let put = c.put_yes.new.answer.text in
+    let flags = c.args.check.now in
+    let verdict : IsVerdict c.args.net (Controllable net c.in-Controllable.closed) = subst (IsVerdict c.args.net) c.in-Controllable.is c.in_ok-net.ensures in
+    IfOk-weaker c.put_yes.result (PutsYes flags.proof net put) (check_answers flags c.args.net put)
+    (λ (end : End) puts. subst (λ (n : Plan). check_answers flags n put end) verdict.0 (inl (verdict.1, puts)))
+    (subst (λ (f : CheckFlags). IfOk c.put_yes.result (PutsYes f.proof net put)) c.check.view_is c.put_yes.ensures)
 
-pub returns : goal.returns
-returns g c =
+pub returns-in-Refuted : goal.returns-in-Refuted
+returns-in-Refuted g c =
     let net = c.args.net in
     let cert = c.in-Refuted.certificate in
     let put = c.put_refuted.new.answer.text in
-    let refutes : Refutes net cert = subst (IsVerdict net) c.in-Refuted.is c.in_ok-decide.ensures in
-    IfOk-weaker c.put_refuted.result (λ (end : End). PutsRefuted cert put end) (λ (end : End). Decides net (PutsControllable put end) (λ other. PutsRefuted other put end)) (λ end puts. inr (cert, refutes, puts)) c.put_refuted.ensures
+    let refutes : Refutes net cert = subst (IsVerdict net) c.in-Refuted.is c.in_ok-net.ensures in
+    IfOk-weaker c.put_refuted.result (λ (end : End). PutsRefuted cert put end) (check_answers c.args.check.now net put) (λ end puts. inr (cert, refutes, puts)) c.put_refuted.ensures

@@ -1,5 +1,5 @@
-use Rattle.stnu_run.proofs.WorkersLemmas.{form_exactly}
+use Rattle.stnu_run.proofs.WorkersLemmas.{check_exactly}
 use Rattle.stnu_run.proofs.laws.check_is_read_exactly.Goals as goal
 
 pub returns : goal.returns
-returns c = form_exactly
+returns c = check_exactly

@@ -1,5 +1,5 @@
-use Rattle.stnu_run.proofs.WorkersLemmas.{workers_decide_no_form}
+use Rattle.stnu_run.proofs.WorkersLemmas.{workers_decide_no_flag}
 use Rattle.stnu_run.proofs.checking.CheckRequest.workers_decide_nothing.Goals as goal
 
 pub returns : goal.returns
-returns c = workers_decide_no_form
+returns c = workers_decide_no_flag

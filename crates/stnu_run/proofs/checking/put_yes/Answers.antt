@@ -1,0 +1,19 @@
+use Rattle.std.proofs.Common.{◌≡◌, List, subst}
+use Rattle.std.proofs.lemmas.Result.{IfOk-weaker}
+use Rattle.net_model.specs.declared.ids.PointId.{PointId}
+use Rattle.table_proofs.specs.Proving.{table_proof_of}
+use Rattle.stnu_run.specs.Checking.{PutsYes}
+use Rattle.stnu_run.specs.Verdict.{PutsProved}
+use Rattle.stnu_run.proofs.VerdictLemmas.{proved_yes, table_proof_proves}
+use Rattle.stnu_run.proofs.checking.put_yes.Goals as goal
+
+pub returns : goal.returns
+returns c =
+    let net = c.args.net.now in
+    let closed = c.args.closed.now in
+    let cert = c.in_ok-certificate.certificate in
+    let said = c.in_ok-certificate.ensures in
+    let put = c.put_proved.new.answer.text in
+    let is = subst (λ (order : List PointId). cert ≡ table_proof_of net closed.table order) c.as_slice.ensures said.proof in
+    let proves = table_proof_proves c.ordered_tables_are_placed.ensures net closed cert c.requires.verdict is said.accepted said.weights in
+    IfOk-weaker c.put_proved.result (PutsProved cert put) (PutsYes c.args.proof net put) (proved_yes net cert proves c.args.proof c.if-not-proof.false put) c.put_proved.ensures
