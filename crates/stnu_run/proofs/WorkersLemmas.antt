@@ -231,9 +231,10 @@ workers_decide_no_flag =
 
 pub check_exactly : (words : List Text) (flags : CheckFlags) → asked_by check_syntax check_asked words ≡ Some flags ↔ SayCheckFlags check_syntax flags words
 check_exactly words flags =
-    let exactly = said_exactly check_syntax refl check_asked told_flags (λ uses. refl) words flags in
-    (λ is. let said = exactly.0 is in record { say = record { say = said.0; given = ap (λ (f : CheckFlags). f.form) said.1 }; proof = ap (λ (f : CheckFlags). f.proof) said.1 },
-    λ say. exactly.1 (say.say.say, ap (λ (f : PlanForm). record { form = f; proof = is_given proof_name say.say.say.uses }) say.say.given ∙ ap (λ (proof : Bool). record { form = flags.form; proof = proof }) say.proof))
+    let exactly = said_exactly check_syntax refl check_asked told_flags (λ uses. refl) words flags in (
+      λ is. let said = exactly.0 is in record { say = record { say = said.0; given = ap (λ (f : CheckFlags). f.form) said.1 }; proof = ap (λ (f : CheckFlags). f.proof) said.1 },
+      λ say. exactly.1 (say.say.say, ap (λ (f : PlanForm). record { form = f; proof = is_given proof_name say.say.say.uses }) say.say.given ∙ ap (λ (proof : Bool). record { form = flags.form; proof = proof }) say.proof),
+    )
 
 -- ---- a command that takes the form of the plan alone
 json_is : (name : Text) → is_in name (json_name ∷ []) ≡ true → name ≡ json_name
