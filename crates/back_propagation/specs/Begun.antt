@@ -1,4 +1,4 @@
--- What a row begins with, told which ordinary edges are fresh. This project's own choice.
+-- What a row begins with, told which ordinary edges are fresh.
 use Rattle.std.specs.Prelude.{◌≡◌, ◌&&◌, ◌<◌, ℕ, ℤ, not, Bool, true, false, List, length, slice_get, Some, if◌then◌else◌}
 use Rattle.std.specs.List.{Contains, flat_map, list_any}
 use Rattle.std.specs.Option.{option_map_or}

@@ -1,4 +1,4 @@
--- The entries of a row, gone through by the keys of the row in their order. This project's own choice.
+-- The entries of a row, gone through by the keys of the row in their order.
 use Rattle.std.specs.Prelude.{◌≡◌, ◌≢◌, ◌==◌, ◌&&◌, ℤ, List, [], ◌∷◌, map, Option, Some, None, if◌then◌else◌}
 use Rattle.std.specs.List.{AllByRecursion}
 use Rattle.net_model.specs.declared.ids.LinkId.{LinkId}

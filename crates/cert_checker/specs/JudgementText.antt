@@ -1,5 +1,4 @@
--- The text of a judgement: accepted with its claim, or refused with the line, the word of the fault, and its numbers or its name. This
--- project's own choice.
+-- The text of a judgement: accepted with its claim, or refused with the line, the word of the fault, and its numbers or its name.
 use Rattle.std.specs.Prelude.{ℕ, List, ◌++◌, codes}
 use Rattle.std.specs.Fmt.{decimal, signed_decimal}
 use Rattle.cert_checker.specs.declared.judgement.Claim.{Claim}

@@ -1,5 +1,5 @@
 -- The grammar of the texts of certificates: their lines and sections, the certificate that lines declare, and their first
--- fault. This project's own choice.
+-- fault.
 use Rattle.std.specs.Prelude.{◌≡◌, ◌≢◌, ℕ, ◌+◌, ◌≤◌, Bool, true, false, IsTrue, List, [], ◌∷◌, ◌++◌, map, length, if◌then◌else◌}
 use Rattle.std.specs.List.{All}
 use Rattle.texts.specs.Words.{are_passed_over, words}

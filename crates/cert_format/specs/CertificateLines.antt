@@ -1,4 +1,4 @@
--- What is read of a line of a certificate, by its words. This project's own choice.
+-- What is read of a line of a certificate, by its words.
 use Rattle.std.specs.Prelude.{◌≡◌, ℕ, ℤ, true, false, List, [], ◌∷◌, Option, None, Some, Result, Ok, Err, codes, if◌then◌else◌, refl}
 use Rattle.std.specs.Str.{bytes_eq}
 use Rattle.texts.specs.Words.{is_remark}

@@ -1,4 +1,4 @@
--- What is read of the text of a certificate, line by line, or its first fault. This project's own choice.
+-- What is read of the text of a certificate, line by line, or its first fault.
 use Rattle.std.specs.Prelude.{◌≡◌, ℕ, ◌+◌, List, [], ◌∷◌, ◌++◌, length, Option, None, Some, Result, Ok, Err, if◌then◌else◌}
 use Rattle.texts.specs.Words.{is_remark, words}
 use Rattle.texts.specs.Lines.{lines}

@@ -1,4 +1,4 @@
--- How the lines of a certificate are spelled. This project's own choice.
+-- How the lines of a certificate are spelled.
 use Rattle.std.specs.Prelude.{◌≤◌, ℕ, List, [], ◌∷◌, ◌++◌, map, Option, None, Some, IsTrue, IfSome, codes, unsigned_abs}
 use Rattle.std.specs.List.{All}
 use Rattle.std.specs.Fmt.{decimal, signed_decimal}

@@ -1,4 +1,4 @@
--- The first words of the lines of a certificate. This project's own choice.
+-- The first words of the lines of a certificate.
 use Rattle.std.specs.Prelude.{ℕ, Bool, true, false, List, [], ◌∷◌, Option, codes, find}
 use Rattle.std.specs.Str.{bytes_eq}
 use Rattle.cert_format.specs.declared.keyword.Keyword.{Keyword}

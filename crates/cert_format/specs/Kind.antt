@@ -1,4 +1,4 @@
--- The kinds of the lines of a refutation. This project's own choice.
+-- The kinds of the lines of a refutation.
 use Rattle.std.specs.Prelude.{Bool, true, false}
 use Rattle.cert_format.specs.declared.kind.LineKind.{LineKind}
 use Rattle.cert_format.specs.declared.kind.LineKind.TheVariants.{Up, Cross}

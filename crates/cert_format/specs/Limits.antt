@@ -1,4 +1,4 @@
--- The greatest numbers in the text of a certificate. This project's own choice.
+-- The greatest numbers in the text of a certificate.
 use Rattle.std.specs.Prelude.{ℕ}
 
 -- the greatest size of a weight in the text, in whole moments

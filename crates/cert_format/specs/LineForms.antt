@@ -1,5 +1,4 @@
--- The forms of the lines of a certificate: what stands after the first word, and how a line departs from its form first. This
--- project's own choice.
+-- The forms of the lines of a certificate: what stands after the first word, and how a line departs from its form first.
 use Rattle.std.specs.Prelude.{◌≡◌, ◌≢◌, ◌⊎◌, ◌≤◌, ◌<◌, ℕ, ℤ, pos, neg_ℤ, unsigned_abs, Bool, true, false, List, [], ◌∷◌, ◌++◌, length, codes}
 use Rattle.texts.specs.Words.{are_passed_over}
 use Rattle.net_model.specs.Names.{is_name}

@@ -1,5 +1,5 @@
 -- What a round leaves to the rows of the next one: after it an ordinary edge is fresh unless the table before reached as far with its
--- key, and whatever follows without a fresh first premise is met. This project's own choice.
+-- key, and whatever follows without a fresh first premise is met.
 use Rattle.std.specs.Prelude.{◌≡◌, ℤ, ◌≤ℤ◌, ◌<ℤ◌, pos, Bool, false, List, [], filter, slice_index_or, Some}
 use Rattle.std.specs.Int.{int_max}
 use Rattle.std.specs.List.{Contains, flat_map, list_any}

@@ -1,5 +1,5 @@
 -- A lean row: a row that is made from what can still change it alone. Of the keys that have not fallen, only those from which something
--- follows that the table does not meet are settled, and only what the table does not meet need be offered. This project's own choice.
+-- follows that the table does not meet are settled, and only what the table does not meet need be offered.
 use Rattle.std.specs.Prelude.{◌≡◌, ℕ, ℤ, ◌≤ℤ◌, ◌<ℤ◌, ◌<◌, ◌||◌, Bool, true, false, List, [], ◌∷◌, ◌++◌, fold, slice_get, slice_set, Some, is_some}
 use Rattle.net_model.specs.Network.{Plan, IsPlan}
 use Rattle.net_model.specs.declared.ids.PointId.{PointId}

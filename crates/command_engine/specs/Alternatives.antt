@@ -1,4 +1,4 @@
--- A text of one of two kinds. This project's own choice.
+-- A text of one of two kinds.
 use Rattle.std.specs.Prelude.{ℕ, List}
 use Rattle.command_engine.specs.Reading.{Reader}
 use Rattle.command_engine.specs.declared.machines.Stop.{Stop}

@@ -1,4 +1,4 @@
--- A command that reads a text and answers once what it says. This project's own choice.
+-- A command that reads a text and answers once what it says.
 use Rattle.std.specs.Prelude.{◌≡◌, ℕ, List, []}
 use Rattle.command_engine.specs.Machine.{Machine}
 use Rattle.command_engine.specs.Reading.{Reader, Refusing, Outcome, Given, Faulty}

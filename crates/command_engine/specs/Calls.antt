@@ -1,4 +1,4 @@
--- The failed calls of a run: no call comes after one but the line that tells of it. This project's own choice.
+-- The failed calls of a run: no call comes after one but the line that tells of it.
 use Rattle.std.specs.Prelude.{◌≡◌, ◌⊎◌, ℕ, List, ◌++◌, length, Some}
 use Rattle.plan_port.specs.Talk.{Talk, Seen, WhereTold, raised, place_of}
 use Rattle.command_engine.specs.Breaks.{IsPart, read_fault_line}

@@ -1,4 +1,4 @@
--- The exit status of a run. This project's own choice.
+-- The exit status of a run.
 use Rattle.std.specs.Prelude.{ℕ}
 use Rattle.command_engine.specs.declared.endings.End.{End}
 use Rattle.command_engine.specs.declared.endings.End.TheVariants.{Done, Refused, Fault, Limit, EventRefused}

@@ -1,4 +1,4 @@
--- The grammar of a text that is read line by line, free of any reader; and that a reader reads by it. This project's own choice.
+-- The grammar of a text that is read line by line, free of any reader; and that a reader reads by it.
 use Rattle.std.specs.Prelude.{◌≡◌, ◌↔◌, ℕ, ◌+◌, List, [], ◌∷◌, ◌++◌, length}
 use Rattle.command_engine.specs.Reading.{Reader}
 use Rattle.command_engine.specs.declared.machines.Stop.{Stop}

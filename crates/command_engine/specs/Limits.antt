@@ -1,4 +1,4 @@
--- The sizes that every command keeps. This project's own choice.
+-- The sizes that every command keeps.
 use Rattle.std.specs.Prelude.{ℕ}
 
 -- how many bytes an input may have

@@ -1,4 +1,4 @@
--- What a command means: what it answers to each line of its input, and how it goes on. This project's own choice.
+-- What a command means: what it answers to each line of its input, and how it goes on.
 use Rattle.std.specs.Prelude.{ℕ, ◌≤◌, List}
 use Rattle.command_engine.specs.declared.endings.End.{End}
 use Rattle.command_engine.specs.declared.machines.Onward.{Onward}

@@ -1,4 +1,4 @@
--- A text, and after it another. This project's own choice.
+-- A text, and after it another.
 use Rattle.std.specs.Prelude.{◌≡◌, ◌⊎◌, ℕ, ◌+◌, List, ◌++◌, length}
 use Rattle.command_engine.specs.Grammars.{Grammar}
 use Rattle.command_engine.specs.Reading.{Reader, Outcome, Given, Faulty, reading}

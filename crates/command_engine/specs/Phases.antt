@@ -1,4 +1,4 @@
--- A text, and after it a phase that begins from what it says. This project's own choice.
+-- A text, and after it a phase that begins from what it says.
 use Rattle.std.specs.Prelude.{◌≡◌, ℕ, List, [], ◌++◌}
 use Rattle.texts.specs.Lines.{InputLine}
 use Rattle.command_engine.specs.Machine.{Machine}

@@ -1,4 +1,4 @@
--- When a command takes and puts. This project's own choice.
+-- When a command takes and puts.
 use Rattle.std.specs.Prelude.{◌≡◌, ℕ, List, ◌∷◌, ◌++◌, length}
 use Rattle.std.specs.List.{flat_map}
 use Rattle.plan_port.specs.Talk.{Piece, Talk}

@@ -1,4 +1,4 @@
--- The reading of a text over the lines of an input: its value, or its first fault. This project's own choice.
+-- The reading of a text over the lines of an input: its value, or its first fault.
 use Rattle.std.specs.Prelude.{ℕ, ◌+◌, ◌-◌, List, [], ◌∷◌}
 use Rattle.texts.specs.Lines.{InputLine, line_size}
 use Rattle.plan_port.specs.Lines.{Coming, Comes, TooLong, TooMuch, coming}

@@ -1,4 +1,4 @@
--- The run of a command over the lines of an input. This project's own choice.
+-- The run of a command over the lines of an input.
 use Rattle.std.specs.Prelude.{◌≡◌, ℕ, ◌+◌, ◌-◌, List, [], ◌∷◌, ◌++◌, map}
 use Rattle.texts.specs.Lines.{InputLine, input_lines, whole_lines, unfinished, whole_line, open_line, line_size}
 use Rattle.plan_port.specs.Lines.{Coming, Comes, TooLong, TooMuch, coming}

@@ -1,4 +1,4 @@
--- A command that is run over a port: what is put, when, and how the run ends. This project's own choice.
+-- A command that is run over a port: what is put, when, and how the run ends.
 use Rattle.std.specs.Prelude.{◌≡◌, ℕ, List, ◌++◌}
 use Rattle.std.specs.Option.{is_some}
 use Rattle.plan_port.specs.Talk.{Piece, Talk, Seen, WhereTold}

@@ -1,4 +1,4 @@
--- Commands that give at most one answer. This project's own choice.
+-- Commands that give at most one answer.
 use Rattle.std.specs.Prelude.{◌≡◌, ℕ, List, ◌++◌}
 use Rattle.command_engine.specs.Machine.{Machine}
 use Rattle.command_engine.specs.declared.endings.End.{End}

@@ -1,4 +1,4 @@
--- The words of a line that is printed, and what the buffer of an answer holds. This project's own choice.
+-- The words of a line that is printed, and what the buffer of an answer holds.
 use Rattle.std.specs.Prelude.{ℕ, ◌+◌, List, [], ◌∷◌, map, length}
 use Rattle.std.specs.Fmt.{decimal}
 use Rattle.std.specs.List.{flat_map}

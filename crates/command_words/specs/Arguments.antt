@@ -1,4 +1,4 @@
--- What words give to a command. This project's own choice.
+-- What words give to a command.
 use Rattle.std.specs.Prelude.{◌≡◌, Some, None, ℕ, Bool, false, List, [], ◌∷◌, map, Option, find, slice_get}
 use Rattle.std.specs.Option.{option_and_then, unwrap_or}
 use Rattle.std.specs.List.{list_any}

@@ -1,4 +1,4 @@
--- What words are read as, from left to right. This project's own choice. That it is what they mean is the law `arguments_are_those_meant`.
+-- What words are read as, from left to right. That it is what they mean is the law `arguments_are_those_meant`.
 use Rattle.std.specs.Prelude.{ℕ, ◌==◌, ◌||◌, Bool, true, false, not, List, [], ◌∷◌, ◌++◌, map, length, Option, Some, None, slice_get, if◌then◌else◌}
 use Rattle.std.specs.Option.{option_and_then, option_map}
 use Rattle.std.specs.List.{list_any, before_first, after_first}

@@ -1,4 +1,4 @@
--- Which words a command takes after its own: a line of data. This project's own choice.
+-- Which words a command takes after its own: a line of data.
 use Rattle.std.specs.Prelude.{ℕ, ◌==◌, ◌&&◌, Bool, true, false, not, List, [], ◌∷◌, ◌++◌, length, codes, nat_lt}
 use Rattle.std.specs.List.{list_all, list_any}
 use Rattle.std.specs.Str.{bytes_eq}

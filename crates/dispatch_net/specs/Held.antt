@@ -1,4 +1,4 @@
--- What holds of a dispatchable network as it is held. This project's own choice.
+-- What holds of a dispatchable network as it is held.
 use Rattle.std.specs.Prelude.{◌≡◌, ◌⊎◌, ℕ, ℤ, ◌<◌, ◌==◌, ◌&&◌, Bool, false, List, length, find, Option, None}
 use Rattle.std.specs.List.{All, AllPairs, list_any, slice_index_or}
 use Rattle.std.specs.Option.{option_map_or}

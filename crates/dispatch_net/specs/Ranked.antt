@@ -1,4 +1,4 @@
--- The lists of a closed table with an order go down along the order. This project's own choice.
+-- The lists of a closed table with an order go down along the order.
 use Rattle.std.specs.Prelude.{ℕ, ℤ, pos, ◌<◌, ◌<ℤ◌, ◌≤ℤ◌, List}
 use Rattle.std.specs.List.{Contains}
 use Rattle.net_model.specs.Network.{Plan, IsPlan}

@@ -1,4 +1,4 @@
--- The grammar of the lines of a session, and the first fault of a line. This project's own choice.
+-- The grammar of the lines of a session, and the first fault of a line.
 use Rattle.std.specs.Prelude.{◌≡◌, ℕ, ◌||◌, Bool, true, false, List, [], ◌∷◌, Option, Some, None, codes, if◌then◌else◌}
 use Rattle.std.specs.Fmt.{signed_decimal}
 use Rattle.std.specs.Str.{bytes_eq}

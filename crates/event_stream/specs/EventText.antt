@@ -1,4 +1,4 @@
--- The grammar of lines of events, and the first fault of a line. This project's own choice.
+-- The grammar of lines of events, and the first fault of a line.
 use Rattle.std.specs.Prelude.{◌≡◌, ◌≢◌, ◌⊎◌, ℕ, ◌<◌, ◌≤◌, ◌||◌, Bool, true, false, List, [], ◌∷◌, None, Some, IsTrue, codes}
 use Rattle.std.specs.List.{All}
 use Rattle.std.specs.Fmt.{decimal}

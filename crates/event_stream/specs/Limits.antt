@@ -1,4 +1,4 @@
--- The greatest sizes of a line of events. This project's own choice.
+-- The greatest sizes of a line of events.
 use Rattle.std.specs.Prelude.{ℕ}
 
 -- the greatest moment of an event

@@ -1,4 +1,4 @@
--- A text of lines that are counted, and a question about it. This project's own choice.
+-- A text of lines that are counted, and a question about it.
 use Rattle.std.specs.Prelude.{◌≡◌, ℕ, List, [], ◌∷◌, codes, if◌then◌else◌}
 use Rattle.std.specs.Str.{bytes_eq}
 use Rattle.std.specs.Fmt.{decimal}

@@ -1,4 +1,4 @@
--- A command that answers lines, and then, at the line `go`, serves another phase through one wrap. This project's own choice.
+-- A command that answers lines, and then, at the line `go`, serves another phase through one wrap.
 use Rattle.std.specs.Prelude.{◌≡◌, ℕ, Bool, true, false, List, [], ◌∷◌, codes}
 use Rattle.std.specs.Str.{bytes_eq}
 use Rattle.std.specs.Fmt.{decimal}

@@ -1,4 +1,4 @@
--- A text of which all lines together have a limit, and whose faults have no line. This project's own choice.
+-- A text of which all lines together have a limit, and whose faults have no line.
 use Rattle.std.specs.Prelude.{◌≡◌, ℕ, ◌-◌, IsTrue, false, List, [], ◌∷◌, ◌++◌, length, codes, if◌then◌else◌}
 use Rattle.std.specs.List.{All, concat}
 use Rattle.std.specs.Str.{bytes_eq}

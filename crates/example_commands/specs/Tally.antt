@@ -1,4 +1,4 @@
--- A phase that answers each line by the number of the line, and wants no memory. This project's own choice.
+-- A phase that answers each line by the number of the line, and wants no memory.
 use Rattle.std.specs.Prelude.{◌≡◌, ℕ, Bool, true, false, List, [], ◌∷◌, codes}
 use Rattle.std.specs.Str.{bytes_eq}
 use Rattle.std.specs.Fmt.{decimal}

@@ -1,4 +1,4 @@
--- Parts of an execution that is stepped through moment by moment. This project's own choice.
+-- Parts of an execution that is stepped through moment by moment.
 use Rattle.std.specs.Prelude.{◌≡◌, ℕ, ◌+◌, ◌<◌, ◌≤◌, List, [], Option, Some, None, Result, Ok, Err}
 use Rattle.net_model.specs.declared.ids.PointId.{PointId}
 use Rattle.execution_model.specs.Execution.{Moments, Setting, acts_at}

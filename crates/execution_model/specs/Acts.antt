@@ -1,4 +1,4 @@
--- The acts of a schedule: when its executable points are executed, by moment and then by number. This project's own choice.
+-- The acts of a schedule: when its executable points are executed, by moment and then by number.
 use Rattle.std.specs.Prelude.{◌≡◌, ℕ, zero, suc, ◌-◌, ◌==◌, ◌&&◌, Bool, List, [], ◌∷◌, ◌++◌, map, filter, is_none, Ok}
 use Rattle.net_model.specs.Network.{Plan, activation}
 use Rattle.net_model.specs.declared.ids.PointId.{PointId}

@@ -1,5 +1,5 @@
 -- What a feed and the end of an execution come to, told by strategies: the moments are those of the earliest schedule, and no strategy that
--- controls the network plays any of the points sooner. This project's own choice.
+-- controls the network plays any of the points sooner.
 use Rattle.std.specs.Prelude.{◌≡◌, ◌↔◌, ℕ, suc, ◌+◌, ◌-◌, ◌<◌, ◌≤◌, List, [], ◌∷◌, ◌++◌, Some, Ok}
 use Rattle.std.specs.List.{All}
 use Rattle.net_model.specs.Network.{Plan}

@@ -1,5 +1,5 @@
 -- What a feed of an execution is: time runs to the moment before, the completions of the moment are taken, and the acts of the moment are
--- made; its refusals, the end of an execution, and the next due moment. This project's own choice.
+-- made; its refusals, the end of an execution, and the next due moment.
 use Rattle.std.specs.Prelude.{◌≡◌, ◌≢◌, ℕ, ◌+◌, ◌-◌, ◌<◌, ◌≤◌, nat_le, nat_lt, unsigned_abs, Bool, false, IsSome, List, [], ◌∷◌, ◌++◌, length, map, find, fold, Option, Some, None, is_some, Result, Ok, Err, slice_set, if◌then◌else◌}
 use Rattle.std.specs.List.{All}
 use Rattle.std.specs.Option.{option_map, option_map_or, option_and_then}

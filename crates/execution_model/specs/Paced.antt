@@ -1,4 +1,4 @@
--- What holds of the moments so far in every state that an execution reaches, and what is due then by slim lists. This project's own choice.
+-- What holds of the moments so far in every state that an execution reaches, and what is due then by slim lists.
 use Rattle.std.specs.Prelude.{◌≡◌, ◌≢◌, ℕ, ◌+◌, ◌<◌, ◌≤◌, unsigned_abs, true, false, List, [], ◌∷◌, length, Some}
 use Rattle.std.specs.List.{Contains}
 use Rattle.net_model.specs.declared.ids.PointId.{PointId}

@@ -1,4 +1,4 @@
--- What slim lists keep: every feed, every end and every next due moment of an execution. This project's own choice.
+-- What slim lists keep: every feed, every end and every next due moment of an execution.
 use Rattle.std.specs.Prelude.{◌≡◌, ◌↔◌, ℕ, List, Option, Ok}
 use Rattle.net_model.specs.Network.{Plan}
 use Rattle.net_model.specs.declared.ids.PointId.{PointId}

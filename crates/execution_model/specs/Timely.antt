@@ -1,5 +1,4 @@
--- When the completions of a feed are in time, measured against the moments executed so far; and what a list of feeds comes to. This
--- project's own choice.
+-- When the completions of a feed are in time, measured against the moments executed so far; and what a list of feeds comes to.
 use Rattle.std.specs.Prelude.{◌≡◌, ℕ, ◌+◌, ◌≤◌, unsigned_abs, List, [], ◌∷◌, fold, Some, None, Result, Ok, Err}
 use Rattle.std.specs.List.{All, Contains, IsDistinct}
 use Rattle.net_model.specs.declared.ids.PointId.{PointId}

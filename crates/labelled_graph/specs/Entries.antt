@@ -1,4 +1,4 @@
--- The entries of a row of a table, and the edges that they stand for. This project's own choice.
+-- The entries of a row of a table, and the edges that they stand for.
 use Rattle.std.specs.Prelude.{ℕ, Bool, Option, is_none}
 use Rattle.std.specs.Option.{option_map}
 use Rattle.net_model.specs.declared.ids.PointId.{PointId}

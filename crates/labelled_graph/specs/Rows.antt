@@ -1,4 +1,4 @@
--- Rows of a table: the entries of the edges that end in one point, in the order of their keys. This project's own choice.
+-- Rows of a table: the entries of the edges that end in one point, in the order of their keys.
 use Rattle.std.specs.Prelude.{◌≡◌, ◌<◌, ◌≤◌, ℕ, ℤ, T, List, length, map, refl, slice_index_or}
 use Rattle.std.specs.Coded.{Coded, code_by, coded_ℤ, coded×}
 use Rattle.std.specs.FinMap as map_of

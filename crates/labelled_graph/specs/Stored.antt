@@ -1,4 +1,4 @@
--- How a table is stored: a row for each point. This project's own choice.
+-- How a table is stored: a row for each point.
 use Rattle.std.specs.Prelude.{◌≡◌, ◌<◌, ℕ, ℤ, List, length, Option, Some, slice_index_or}
 use Rattle.std.specs.FinMap as map_of
 use Rattle.std.specs.List.{All, filter_map}

@@ -1,4 +1,4 @@
--- The moments so far as they are kept, and how they change. This project's own choice.
+-- The moments so far as they are kept, and how they change.
 use Rattle.std.specs.Prelude.{◌≡◌, ℕ, ◌<◌, ◌≤◌, Bool, true, List, length, map, filter, Option, Some, None, is_none, if◌then◌else◌}
 use Rattle.std.specs.List.{range_with_len, count_by}
 use Rattle.net_model.specs.Limits.{most_points}

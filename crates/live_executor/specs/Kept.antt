@@ -1,4 +1,4 @@
--- What an executor keeps. This project's own choice.
+-- What an executor keeps.
 use Rattle.std.specs.Prelude.{◌≡◌, ℕ, ◌≤◌, ◌+◌, ◌*◌, length, List, Option, Some, Result, Ok, Err}
 use Rattle.std.specs.Option.{option_map_or}
 use Rattle.net_model.specs.Limits.{most_size}

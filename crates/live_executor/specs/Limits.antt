@@ -1,4 +1,4 @@
--- How great the moments of an execution are. This project's own choice.
+-- How great the moments of an execution are.
 use Rattle.std.specs.Prelude.{ℕ, ◌<◌, Option, IfSome}
 use Rattle.std.specs.List.{All}
 use Rattle.execution_model.specs.Execution.{Moments}

@@ -1,4 +1,4 @@
--- What the parts of a feed give. This project's own choice.
+-- What the parts of a feed give.
 use Rattle.std.specs.Prelude.{◌≡◌, ℕ, ◌-◌, List, ◌++◌, Result, Ok, Err}
 use Rattle.net_model.specs.declared.ids.PointId.{PointId}
 use Rattle.execution_model.specs.Execution.{Moments, Setting, acts_at, acted, time_runs, acts_while}

@@ -1,4 +1,4 @@
--- What is found in a table: an order of its points, or a cycle. This project's own choice.
+-- What is found in a table: an order of its points, or a cycle.
 use Rattle.std.specs.Prelude.{Option, Some, None}
 use Rattle.net_model.specs.declared.ids.PointId.{PointId}
 use Rattle.closure_model.specs.Tables.{Graph}

@@ -1,4 +1,4 @@
--- An order that is kept while edges fall. This project's own choice.
+-- An order that is kept while edges fall.
 use Rattle.std.specs.Prelude.{◌≡◌, ◌==◌, ◌<◌, ◌<ℤ◌, ℕ, pos, List, length, None, slice_index_or}
 use Rattle.std.specs.List.{All, position_or_len}
 use Rattle.net_model.specs.declared.ids.PointId.{PointId}

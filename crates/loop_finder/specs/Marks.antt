@@ -1,4 +1,4 @@
--- How the points that are placed, and how far the list of each point was looked through, are kept. This project's own choice.
+-- How the points that are placed, and how far the list of each point was looked through, are kept.
 use Rattle.std.specs.Prelude.{◌≡◌, ◌<◌, ◌≤◌, ℕ, Bool, true, false, List, length, slice_index_or}
 use Rattle.net_model.specs.declared.ids.PointId.{PointId}
 use Rattle.closure_model.specs.Orders.{is_among}

@@ -1,4 +1,4 @@
--- Where the negative ordinary edges of a table go. This project's own choice.
+-- Where the negative ordinary edges of a table go.
 use Rattle.std.specs.Prelude.{◌≡◌, ◌<◌, ◌&&◌, ℕ, pos, int_lt, not, is_none, Bool, List, [], ◌∷◌, ◌++◌, length, filter, find, Option, slice_index_or, slice_set, if◌then◌else◌}
 use Rattle.std.specs.List.{All}
 use Rattle.net_model.specs.declared.ids.PointId.{PointId}

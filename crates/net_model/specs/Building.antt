@@ -1,4 +1,4 @@
--- What a list of parts builds, or the first part that is refused and why. This project's own choice.
+-- What a list of parts builds, or the first part that is refused and why.
 use Rattle.std.specs.Prelude.{◌≡◌, ℕ, ℤ, ◌+◌, ◌==◌, ◌||◌, Bool, true, false, List, [], ◌∷◌, ◌++◌, length, Option, Result, Ok, Err, Some, None, is_some, nat_le, pos, int_lt, not, codes}
 use Rattle.net_model.specs.Network.{Plan, point_named, bound_named, activation, empty}
 use Rattle.net_model.specs.declared.ids.PointId.{PointId}

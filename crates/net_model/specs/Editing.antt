@@ -1,4 +1,4 @@
--- What an edit makes of a network, or why it is refused. This project's own choice.
+-- What an edit makes of a network, or why it is refused.
 use Rattle.std.specs.Prelude.{◌≡◌, ◌==◌, ◌||◌, ◌-◌, ℕ, ℤ, Bool, true, false, List, map, Option, Some, None, Result, Ok, Err, nat_lt, pos, int_lt, not, if◌then◌else◌, slice_get, codes}
 use Rattle.std.specs.List.{position, remove, slice_set}
 use Rattle.std.specs.Option.{option_map, option_and_then}

@@ -1,4 +1,4 @@
--- The words by which the faults of lines and of texts are printed. This project's own choice.
+-- The words by which the faults of lines and of texts are printed.
 use Rattle.std.specs.Prelude.{ℕ, List, ◌++◌, codes}
 use Rattle.std.specs.Fmt.{decimal}
 use Rattle.net_model.specs.declared.format.FormatKind.{FormatKind}

@@ -1,4 +1,4 @@
--- The greatest counts and sizes. This project's own choice.
+-- The greatest counts and sizes.
 use Rattle.std.specs.Prelude.{ℕ, ℤ, Bool, nat_le, unsigned_abs}
 
 -- how many points a network may have

@@ -1,4 +1,4 @@
--- The names of points and bounds. This project's own choice.
+-- The names of points and bounds.
 use Rattle.std.specs.Prelude.{ℕ, ◌-◌, ◌==◌, ◌&&◌, ◌||◌, Bool, false, List, [], ◌∷◌, ◌++◌, length, nat_le, nat_lt, replicate}
 use Rattle.std.specs.List.{list_all}
 

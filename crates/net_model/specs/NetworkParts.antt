@@ -1,4 +1,4 @@
--- The parts that declare a network. This project's own choice.
+-- The parts that declare a network.
 use Rattle.std.specs.Prelude.{ℕ, List, [], ◌++◌, map}
 use Rattle.std.specs.List.{slice_index_or}
 use Rattle.net_model.specs.Network.{Plan}

@@ -1,4 +1,4 @@
--- What the places of a line ask for, and how the words of a line depart from it first. This project's own choice.
+-- What the places of a line ask for, and how the words of a line depart from it first.
 use Rattle.std.specs.Prelude.{◌≡◌, ◌≢◌, ◌⊎◌, ℕ, ◌<◌, ◌≤◌, false, List, [], ◌∷◌, length, Option, Some, None, IsTrue}
 use Rattle.net_model.specs.Limits.{most_number}
 use Rattle.net_model.specs.Names.{is_name}

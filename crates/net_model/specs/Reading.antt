@@ -1,4 +1,4 @@
--- Reading the words of a line from left to right: the first word that is refused decides. This project's own choice.
+-- Reading the words of a line from left to right: the first word that is refused decides.
 use Rattle.std.specs.Prelude.{Result, Ok, Err}
 use Rattle.net_model.specs.declared.format.FormatKind.{FormatKind}
 

@@ -1,4 +1,4 @@
--- What is known of a table before a round. This project's own choice.
+-- What is known of a table before a round.
 use Rattle.std.specs.Prelude.{◌≡◌}
 use Rattle.closure_model.specs.Orders.{IsOrder}
 use Rattle.closure_model.specs.Tables.{Graph}

@@ -1,4 +1,4 @@
--- The targets whose rows are made in a round. This project's own choice.
+-- The targets whose rows are made in a round.
 use Rattle.std.specs.Prelude.{◌≡◌, ◌<◌, ◌&&◌, pos, int_lt, Bool, false, List, [], map}
 use Rattle.std.specs.List.{All, AllPairs, Contains, list_any, slice_index_or}
 use Rattle.net_model.specs.Network.{Plan}

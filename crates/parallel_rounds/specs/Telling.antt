@@ -1,4 +1,4 @@
--- What is told of the last round. This project's own choice.
+-- What is told of the last round.
 use Rattle.std.specs.Prelude.{◌≡◌, ◌≢◌, ◌==◌, Bool, not, true, List, [], length, map, filter, is_none, IsPermutation}
 use Rattle.std.specs.List.{All, Contains}
 use Rattle.std.specs.List.Sorted.{IsNonDecreasingBy}

@@ -1,4 +1,4 @@
--- The first fault of a text that is no plan text, version 1. This project's own choice.
+-- The first fault of a text that is no plan text, version 1.
 use Rattle.std.specs.Prelude.{◌≡◌, ◌≢◌, ◌⊎◌, ℕ, ◌+◌, false, List, [], ◌∷◌, ◌++◌, length, Option, Some, None, codes, if◌then◌else◌}
 use Rattle.std.specs.List.{All}
 use Rattle.std.specs.Str.{bytes_eq}

@@ -1,4 +1,4 @@
--- The grammar of plan texts, version 1. This project's own choice.
+-- The grammar of plan texts, version 1.
 use Rattle.std.specs.Prelude.{◌≡◌, ℕ, ◌+◌, true, List, [], ◌∷◌, ◌++◌, map, length}
 use Rattle.std.specs.List.{All}
 use Rattle.texts.specs.Words.{words, are_passed_over}

@@ -1,4 +1,4 @@
--- The lines of a plan text, version 1, each by its words. This project's own choice.
+-- The lines of a plan text, version 1, each by its words.
 use Rattle.std.specs.Prelude.{ℕ, List, [], ◌∷◌, Result, Ok, Err, codes, if◌then◌else◌}
 use Rattle.std.specs.Str.{bytes_eq}
 use Rattle.texts.specs.Words.{is_remark}

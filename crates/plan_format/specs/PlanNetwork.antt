@@ -1,4 +1,4 @@
--- The network that the lines of a text declare. This project's own choice.
+-- The network that the lines of a text declare.
 use Rattle.std.specs.Prelude.{◌≡◌, ℕ, ◌+◌, List, ◌++◌, Some, None, slice_get, Result, Ok, Err, codes}
 use Rattle.std.specs.Fmt.{decimal}
 use Rattle.net_model.specs.Network.{Plan}

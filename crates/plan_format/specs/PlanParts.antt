@@ -1,4 +1,4 @@
--- How the parts of a plan are spelled. This project's own choice.
+-- How the parts of a plan are spelled.
 use Rattle.std.specs.Prelude.{◌≡◌, ℕ, true, List, [], ◌∷◌, codes, IsTrue}
 use Rattle.std.specs.Fmt.{signed_decimal}
 use Rattle.net_model.specs.Names.{is_name}

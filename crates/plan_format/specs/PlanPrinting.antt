@@ -1,4 +1,4 @@
--- The plan text of a network. This project's own choice.
+-- The plan text of a network.
 use Rattle.std.specs.Prelude.{◌≡◌, ℕ, List, [], ◌∷◌, ◌++◌, map, length, Ok}
 use Rattle.net_model.specs.Network.{Plan}
 use Rattle.texts.specs.Printing.{printed}

@@ -1,4 +1,4 @@
--- A plan text of which lines are read one after another. This project's own choice.
+-- A plan text of which lines are read one after another.
 use Rattle.std.specs.Prelude.{◌≡◌, ◌≤◌, ℕ, ◌+◌, List, [], ◌∷◌, ◌++◌, length, Result, Ok, Err}
 use Rattle.std.specs.List.{All}
 use Rattle.net_model.specs.declared.format.FormatKind.{FormatKind}

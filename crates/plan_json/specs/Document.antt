@@ -1,4 +1,4 @@
--- The parts that a JSON document declares, or its first fault, by the data of `serde_json`. This project's own choice.
+-- The parts that a JSON document declares, or its first fault, by the data of `serde_json`.
 use Rattle.std.specs.Prelude.{ℕ, ◌+◌, ◌==◌, Bool, false, ℤ, List, [], ◌∷◌, ◌++◌, Option, Some, None, is_some, option_and_then, option_map, Result, Ok, Err, codes, if◌then◌else◌}
 use Rattle.net_model.specs.Names.{is_name}
 use Rattle.net_model.specs.Limits.{within_limit}

@@ -1,4 +1,4 @@
--- The words by which the faults of documents are printed. This project's own choice.
+-- The words by which the faults of documents are printed.
 use Rattle.std.specs.Prelude.{ℕ, List, ◌++◌, codes}
 use Rattle.std.specs.Fmt.{decimal}
 use Rattle.plan_json.specs.declared.fault.JsonFault.{JsonFault}

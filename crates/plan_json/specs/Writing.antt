@@ -1,4 +1,4 @@
--- The document of a network, and its text. This project's own choice.
+-- The document of a network, and its text.
 use Rattle.std.specs.Prelude.{◌≡◌, ℕ, List, [], ◌∷◌, ◌++◌, map, codes, Some, Ok}
 use Rattle.std.specs.List.{All, join_with_byte}
 use Rattle.texts.specs.Lines.{lines}

@@ -1,4 +1,4 @@
--- The greatest sizes and counts of what comes over a port. This project's own choice.
+-- The greatest sizes and counts of what comes over a port.
 use Rattle.std.specs.Prelude.{ℕ}
 
 -- how many bytes a line may have for which a reader needs no memory

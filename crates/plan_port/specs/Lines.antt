@@ -1,4 +1,4 @@
--- What comes of the next line of an input. This project's own choice.
+-- What comes of the next line of an input.
 -- `longest` is how many bytes a line may have, `room` how many more bytes the whole input may have.
 use Rattle.std.specs.Prelude.{◌≡◌, ℕ, nat_lt, nat_le, ◌&&◌, ◌||◌, List, [], length, if◌then◌else◌}
 use Rattle.texts.specs.Lines.{InputLine, whole_lines, unfinished, open_line}

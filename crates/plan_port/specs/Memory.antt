@@ -1,4 +1,4 @@
--- A port in memory. This project's own choice.
+-- A port in memory.
 use Rattle.std.specs.Prelude.{◌≡◌, ◌⊎◌, ℕ, ◌-◌, ◌<◌, min, Bool, true, false, ◌==◌, if◌then◌else◌, List, [], ◌∷◌, length, take, drop, Some, slice_index}
 use Rattle.std.specs.List.{list_any}
 use Rattle.plan_port.specs.Talk.{Talk, Seen, silence, raised, with_pieces, with_put, with_failed_take, with_failed_put}

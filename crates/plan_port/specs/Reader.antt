@@ -1,4 +1,4 @@
--- A reader of lines, as its callers see it. This project's own choice.
+-- A reader of lines, as its callers see it.
 use Rattle.std.specs.Prelude.{◌≡◌, ◌⊎◌, ℕ, ◌+◌, ◌-◌, ◌<◌, ◌≤◌, Bool, true, false, ◌||◌, if◌then◌else◌, List, [], ◌∷◌, ◌++◌, length, take, drop, All, Option, Some, None, is_some, IfSome}
 use Rattle.std.specs.List.{concat}
 use Rattle.texts.specs.Lines.{InputLine, input_lines, line_size}

@@ -1,4 +1,4 @@
--- A port in memory with a fixed room. This project's own choice.
+-- A port in memory with a fixed room.
 use Rattle.std.specs.Prelude.{◌≡◌, ℕ, ◌-◌, ◌<◌, ◌≤◌, min, Bool, true, false, List, [], ◌∷◌, length, take, drop, Option, Some, None}
 use Rattle.plan_port.specs.Talk.{Talk, Seen, silence, with_pieces, with_put}
 use Rattle.plan_port.specs.declared.ports.Took.{Took}

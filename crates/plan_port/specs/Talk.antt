@@ -1,4 +1,4 @@
--- What is said over a port, and how contracts see a port. This project's own choice.
+-- What is said over a port, and how contracts see a port.
 use Rattle.std.specs.Prelude.{◌≡◌, ℕ, ◌+◌, ◌<◌, ◌≤◌, min, List, [], ◌∷◌, ◌++◌, length, take, map, Option, Some, None, IfSome, IsSomeAnd}
 use Rattle.std.specs.Option.{option_map}
 use Rattle.plan_port.specs.Limits.{last_count}

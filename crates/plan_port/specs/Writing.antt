@@ -1,4 +1,4 @@
--- What a writing of some bytes did. This project's own choice.
+-- What a writing of some bytes did.
 use Rattle.std.specs.Prelude.{◌≡◌, ℕ, ◌<◌, List, length, take}
 use Rattle.plan_port.specs.Talk.{Seen, Talk, WhereTold, with_put, with_failed_put, raised}
 use Rattle.plan_port.specs.declared.writing.Written.{Written}

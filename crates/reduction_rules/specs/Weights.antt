@@ -1,4 +1,4 @@
--- Which weights an edge may have. This project's own choice.
+-- Which weights an edge may have.
 use Rattle.std.specs.Prelude.{ℤ, ◌≤◌, unsigned_abs}
 use Rattle.net_model.specs.Limits.{most_weight}
 

@@ -1,5 +1,5 @@
 -- The certificate that refutes a network, made from nodes of a derivation list and a walk: each node is a rule line with the names
--- of the network, and its premises are named by the numbers of their lines. This project's own choice.
+-- of the network, and its premises are named by the numbers of their lines.
 use Rattle.std.specs.Prelude.{◌≡◌, ℕ, Bool, true, false, List, [], Option, Some, None, is_some, if◌then◌else◌, slice_get, refl}
 use Rattle.std.specs.List.{filter_map, slice_index_or}
 use Rattle.std.specs.Option.{option_map, option_map_or}

@@ -1,4 +1,4 @@
--- When the nodes of a derivation list can be made into rule lines. This project's own choice.
+-- When the nodes of a derivation list can be made into rule lines.
 use Rattle.std.specs.Prelude.{◌≡◌, ◌<◌, true, length, List, IfSome, IsSome, IsSomeAnd}
 use Rattle.std.specs.List.{All, AllByRecursion, AllPairs, Contains}
 use Rattle.net_model.specs.Network.{Plan, IsPoint}

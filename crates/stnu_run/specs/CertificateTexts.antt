@@ -1,4 +1,4 @@
--- The text of a certificate as a text that is read line by line, which says the certificate. This project's own choice.
+-- The text of a certificate as a text that is read line by line, which says the certificate.
 use Rattle.std.specs.Prelude.{ℕ, Result, Ok, Err}
 use Rattle.texts.specs.Words.{words}
 use Rattle.net_model.specs.declared.format.FormatKind.{FormatKind}

@@ -1,4 +1,4 @@
--- What `check` promises of what it puts for an input. This project's own choice.
+-- What `check` promises of what it puts for an input.
 use Rattle.std.specs.Prelude.{◌≡◌, ◌⊎◌, ℕ, true, List, ◌++◌}
 use Rattle.texts.specs.Lines.{lines}
 use Rattle.net_model.specs.Network.{Plan}

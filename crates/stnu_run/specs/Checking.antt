@@ -1,4 +1,4 @@
--- The command `check`: a plan, and then whether the network that it declares is controllable. This project's own choice.
+-- The command `check`: a plan, and then whether the network that it declares is controllable.
 use Rattle.std.specs.Prelude.{ℕ, Bool, true, false, List, [], ◌∷◌, codes, Option}
 use Rattle.std.specs.Option.{option_map}
 use Rattle.net_model.specs.Network.{Plan}

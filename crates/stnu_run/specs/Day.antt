@@ -1,5 +1,4 @@
 -- An input that opens the execution of a network, and lines of events after that which list a stream; and what is put for it by a schedule.
--- This project's own choice.
 use Rattle.std.specs.Prelude.{◌≡◌, ◌⊎◌, ℕ, suc, ◌+◌, ◌-◌, ◌<◌, List, [], ◌∷◌, ◌++◌, length, Option}
 use Rattle.std.specs.List.{All}
 use Rattle.texts.specs.Lines.{InputLine}

@@ -1,5 +1,4 @@
--- The commands of the program by their words, and the defined run: what the program puts for words and an input. This project's own
--- choice.
+-- The commands of the program by their words, and the defined run: what the program puts for words and an input.
 use Rattle.std.specs.Prelude.{ℕ, List, ◌∷◌, codes, Bool, true, false, Option, Some, None}
 use Rattle.std.specs.Str.{bytes_eq}
 use Rattle.stnu_run.specs.CheckPromise.{check_program}

@@ -1,4 +1,4 @@
--- How far a document was read. This project's own choice.
+-- How far a document was read.
 use Rattle.std.specs.Prelude.{ℕ, Bool, List}
 
 -- the greatest number of bytes of the lines of a document and of the line that ends it, line ends not among them

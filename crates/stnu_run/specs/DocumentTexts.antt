@@ -1,4 +1,4 @@
--- A plan as a JSON document in an input: the lines before the first line whose only word is `end`. This project's own choice.
+-- A plan as a JSON document in an input: the lines before the first line whose only word is `end`.
 use Rattle.std.specs.Prelude.{◌≡◌, ℕ, ◌-◌, List, [], ◌∷◌, ◌++◌, length, Option, Some, None, Result, Ok, Err}
 use Rattle.std.specs.List.{All, join_with_byte}
 use Rattle.texts.specs.Words.{words}

@@ -1,5 +1,4 @@
--- The next due moment: as it is answered, and told by schedules: the first moment at which a point is executed while nothing completes. This
--- project's own choice.
+-- The next due moment: as it is answered, and told by schedules: the first moment at which a point is executed while nothing completes.
 use Rattle.std.specs.Prelude.{◌≡◌, ◌≢◌, ℕ, suc, ◌-◌, ◌<◌, ◌≤◌, List, [], ◌∷◌, ◌++◌, Option, Some, None, Ok}
 use Rattle.std.specs.Option.{option_map_or}
 use Rattle.net_model.specs.Network.{Plan}

@@ -1,4 +1,4 @@
--- The answers to events: acts, due moments, and why an event is refused. This project's own choice.
+-- The answers to events: acts, due moments, and why an event is refused.
 use Rattle.std.specs.Prelude.{ℕ, List, [], ◌∷◌, codes, Option, Some, None}
 use Rattle.std.specs.List.{flat_map, slice_index_or}
 use Rattle.std.specs.Fmt.{decimal}

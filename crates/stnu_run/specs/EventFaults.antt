@@ -1,4 +1,4 @@
--- The first fault of the lines of events of an input, with its line. This project's own choice.
+-- The first fault of the lines of events of an input, with its line.
 use Rattle.std.specs.Prelude.{◌≡◌, ◌⊎◌, ℕ, ◌+◌, List, [], ◌∷◌, ◌++◌, length}
 use Rattle.texts.specs.Lines.{InputLine}
 use Rattle.net_model.specs.Network.{Plan}

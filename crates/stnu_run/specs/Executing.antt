@@ -1,5 +1,4 @@
--- The phase of `run` that executes a network over lines of events: each feed is answered by its acts and the next due moment. This
--- project's own choice.
+-- The phase of `run` that executes a network over lines of events: each feed is answered by its acts and the next due moment.
 use Rattle.std.specs.Prelude.{◌≡◌, ◌⊎◌, ℕ, ◌+◌, ◌*◌, List, [], ◌++◌, length, Option}
 use Rattle.std.specs.List.{All}
 use Rattle.net_model.specs.Network.{Plan, IsPoint}

@@ -1,4 +1,4 @@
--- What is promised of an execution over lines of events, of any command that opens one. This project's own choice.
+-- What is promised of an execution over lines of events, of any command that opens one.
 use Rattle.std.specs.Prelude.{◌≡◌, ℕ, List, ◌++◌, Some, Err}
 use Rattle.texts.specs.Lines.{InputLine}
 use Rattle.net_model.specs.Network.{Plan}

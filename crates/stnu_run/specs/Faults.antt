@@ -1,4 +1,4 @@
--- The line that is printed for the first refusal of an input, and how it ends the run. This project's own choice.
+-- The line that is printed for the first refusal of an input, and how it ends the run.
 use Rattle.std.specs.Prelude.{ℕ, List, [], ◌∷◌, codes}
 use Rattle.std.specs.Fmt.{decimal}
 use Rattle.texts.specs.Printing.{printed_line}

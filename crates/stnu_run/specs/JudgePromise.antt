@@ -1,4 +1,4 @@
--- What `judge` promises of what it puts for an input. This project's own choice.
+-- What `judge` promises of what it puts for an input.
 use Rattle.std.specs.Prelude.{◌≡◌, ℕ, List, [], ◌∷◌, codes}
 use Rattle.texts.specs.Lines.{lines}
 use Rattle.texts.specs.Printing.{printed_line}

@@ -1,4 +1,4 @@
--- The command `judge`: a plan, and after it a certificate, which is judged. This project's own choice.
+-- The command `judge`: a plan, and after it a certificate, which is judged.
 use Rattle.std.specs.Prelude.{◌≡◌, ℕ, List, [], ◌∷◌, Option, Some}
 use Rattle.texts.specs.Printing.{printed_line}
 use Rattle.net_model.specs.Network.{Plan}

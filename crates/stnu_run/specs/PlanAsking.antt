@@ -1,4 +1,4 @@
--- Commands that read a plan and answer it once. This project's own choice.
+-- Commands that read a plan and answer it once.
 use Rattle.std.specs.Prelude.{ℕ, List}
 use Rattle.net_model.specs.Network.{Plan}
 use Rattle.command_engine.specs.Asked.{asked_machine}

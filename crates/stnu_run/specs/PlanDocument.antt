@@ -1,4 +1,4 @@
--- A plan as a JSON document that is read line by line. This project's own choice.
+-- A plan as a JSON document that is read line by line.
 use Rattle.std.specs.Prelude.{ℕ, ◌-◌, Bool, true, false, List, [], ◌∷◌, ◌++◌, length, Option, Some, None, Result, Ok, Err, codes, unwrap_or, if◌then◌else◌}
 use Rattle.std.specs.Str.{bytes_eq}
 use Rattle.texts.specs.Words.{words}

@@ -1,4 +1,4 @@
--- A plan in an input, as a plan text or as a JSON document. This project's own choice.
+-- A plan in an input, as a plan text or as a JSON document.
 use Rattle.std.specs.Prelude.{ℕ, Bool, true, false, List, codes}
 use Rattle.net_model.specs.Network.{Plan}
 use Rattle.command_engine.specs.Alternatives.{either_reader}

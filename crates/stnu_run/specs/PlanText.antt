@@ -1,4 +1,4 @@
--- A plan text as a text that is read line by line, which says the network that it declares. This project's own choice.
+-- A plan text as a text that is read line by line, which says the network that it declares.
 use Rattle.std.specs.Prelude.{ℕ, ◌-◌, List, Result, Ok, Err, unwrap_or, slice_get}
 use Rattle.std.specs.Option.{option_and_then}
 use Rattle.texts.specs.Words.{words}

@@ -1,5 +1,5 @@
 -- What the program does, as data: a command that it serves, with what the command promises, or an answer that it puts without an
--- input. This project's own choice.
+-- input.
 use Rattle.std.specs.Prelude.{◌≡◌, ◌⊎◌, ℕ, List, [], ◌++◌}
 use Rattle.plan_port.specs.Talk.{Seen, raised}
 use Rattle.plan_port.specs.Writing.{Writes}

@@ -1,4 +1,4 @@
--- What the words ask of a command, and the program of it. This project's own choice.
+-- What the words ask of a command, and the program of it.
 use Rattle.std.specs.Prelude.{◌≡◌, ℕ, List, [], ◌∷◌, codes, Option, Some, None}
 use Rattle.std.specs.Option.{option_and_then}
 use Rattle.texts.specs.Printing.{printed_line}

@@ -1,4 +1,4 @@
--- What `run` promises of what it puts for an input. This project's own choice.
+-- What `run` promises of what it puts for an input.
 use Rattle.std.specs.Prelude.{◌≡◌, ◌⊎◌, ℕ, List, [], ◌++◌, Option}
 use Rattle.texts.specs.Lines.{input_lines}
 use Rattle.net_model.specs.Network.{Plan}

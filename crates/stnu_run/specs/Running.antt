@@ -1,4 +1,4 @@
--- The command `run`: a plan, and after it lines of events, over which its network is executed. This project's own choice.
+-- The command `run`: a plan, and after it lines of events, over which its network is executed.
 use Rattle.std.specs.Prelude.{◌≡◌, ℕ, List, [], ◌∷◌, ◌++◌, Option}
 use Rattle.std.specs.Option.{option_map}
 use Rattle.net_model.specs.Network.{Plan}

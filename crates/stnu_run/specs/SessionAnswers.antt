@@ -1,4 +1,4 @@
--- The lines that the command `session` puts. This project's own choice.
+-- The lines that the command `session` puts.
 use Rattle.std.specs.Prelude.{ℕ, ℤ, unsigned_abs, List, [], ◌∷◌, ◌++◌, codes, Option, Some, None}
 use Rattle.std.specs.Fmt.{decimal}
 use Rattle.std.specs.List.{flat_map}

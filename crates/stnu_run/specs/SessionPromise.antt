@@ -1,4 +1,4 @@
--- What `session` promises of what it puts for an input. This project's own choice.
+-- What `session` promises of what it puts for an input.
 use Rattle.std.specs.Prelude.{◌≡◌, ◌⊎◌, ℕ, ◌+◌, List, [], ◌∷◌, ◌++◌, length, Result, Ok, Err}
 use Rattle.texts.specs.Lines.{InputLine, input_lines}
 use Rattle.texts.specs.Words.{words}

@@ -1,4 +1,4 @@
--- The command `session`: a plan, then edits of its network and questions about it, and after `go` lines of events. This project's own choice.
+-- The command `session`: a plan, then edits of its network and questions about it, and after `go` lines of events.
 use Rattle.std.specs.Prelude.{◌≡◌, ◌⊎◌, ℕ, List, [], ◌∷◌, Option, Some, None, Result, Ok, Err}
 use Rattle.texts.specs.Words.{words}
 use Rattle.std.specs.Option.{option_map}

@@ -1,4 +1,4 @@
--- The command `show`: a plan, and then the same plan, as a plan text or as a JSON document. This project's own choice.
+-- The command `show`: a plan, and then the same plan, as a plan text or as a JSON document.
 use Rattle.std.specs.Prelude.{◌≡◌, ℕ, List, [], ◌∷◌, ◌++◌, codes, Option, Some}
 use Rattle.texts.specs.Lines.{lines}
 use Rattle.texts.specs.Printing.{printed_line}

@@ -1,4 +1,4 @@
--- How a session stands while its network is edited. This project's own choice.
+-- How a session stands while its network is edited.
 use Rattle.std.specs.Prelude.{Option}
 use Rattle.plan_session.specs.Sessions.{State}
 use Rattle.plan_session.specs.declared.answers.Report.{Report}

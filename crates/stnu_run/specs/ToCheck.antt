@@ -1,4 +1,4 @@
--- The input of `check`, by the grammar: a plan. This project's own choice.
+-- The input of `check`, by the grammar: a plan.
 use Rattle.std.specs.Prelude.{◌≡◌, ◌⊎◌, ℕ, ◌+◌, List, ◌∷◌, ◌++◌, length}
 use Rattle.net_model.specs.Network.{Plan}
 use Rattle.net_model.specs.declared.fault.BuildFault.{BuildFault}

@@ -1,4 +1,4 @@
--- The input of `judge`, by the grammars: a plan, and after it a certificate. This project's own choice.
+-- The input of `judge`, by the grammars: a plan, and after it a certificate.
 use Rattle.std.specs.Prelude.{◌≡◌, ℕ, List}
 use Rattle.net_model.specs.Network.{Plan}
 use Rattle.net_model.specs.declared.format.FormatKind.{FormatKind}

@@ -1,4 +1,4 @@
--- How texts are refused by their format, and lines of a fixed length that come. This project's own choice.
+-- How texts are refused by their format, and lines of a fixed length that come.
 use Rattle.std.specs.Prelude.{◌≡◌, ℕ, ◌+◌, ◌-◌, List, [], ◌∷◌, ◌++◌, length}
 use Rattle.texts.specs.Lines.{InputLine, line_size}
 use Rattle.net_model.specs.declared.format.FormatKind.{FormatKind}

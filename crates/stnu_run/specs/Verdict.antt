@@ -1,4 +1,4 @@
--- The verdict of a network, by what it is decided, and what is put of it. This project's own choice.
+-- The verdict of a network, by what it is decided, and what is put of it.
 use Rattle.std.specs.Prelude.{◌≡◌, ◌⊎◌, ℕ, List, [], ◌∷◌, ◌++◌, codes}
 use Rattle.texts.specs.Printing.{printed_line}
 use Rattle.net_model.specs.Network.{Plan}

@@ -1,4 +1,4 @@
--- What the laws of words speak of. This project's own choice.
+-- What the laws of words speak of.
 use Rattle.std.specs.Prelude.{◌≡◌, ◌↔◌, ℕ, List, [], ◌∷◌, codes}
 use Rattle.command_words.specs.Arguments.{is_given}
 use Rattle.command_words.specs.Spelling.{Use, Says}

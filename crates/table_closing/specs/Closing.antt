@@ -1,4 +1,4 @@
--- A table on its way to the closure: it is lowered by derivable edges until every edge that follows is met. This project's own choice.
+-- A table on its way to the closure: it is lowered by derivable edges until every edge that follows is met.
 use Rattle.std.specs.Prelude.{◌≡◌, ◌<◌, ◌+◌, ◌%◌, ℕ, length, IfSome, MatchOption, List, Option, None, Some, false}
 use Rattle.net_model.specs.Network.{Plan, IsPlan}
 use Rattle.net_model.specs.Rules.{no_case, upper_case, lower_case, cross_case, removal}

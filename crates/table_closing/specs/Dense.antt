@@ -1,5 +1,4 @@
--- How a table is stored: a row of words for each point in which ordinary edges end, and one for each label. This project's own
--- choice.
+-- How a table is stored: a row of words for each point in which ordinary edges end, and one for each label.
 use Rattle.std.specs.Prelude.{◌≡◌, ℕ, ℤ, List, [], length, Option, Some, None}
 use Rattle.std.specs.FinMap as map_of
 use Rattle.std.specs.List.{All, slice_index_or, filter_map}

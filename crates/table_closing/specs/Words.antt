@@ -1,4 +1,4 @@
--- The words of a dense row. This project's own choice.
+-- The words of a dense row.
 use Rattle.std.specs.Prelude.{ℤ, pos, ◌+ℤ◌, ◌≤ℤ◌, ◌≤◌, unsigned_abs, Option, Some, None, IsSomeAnd, if◌then◌else◌}
 use Rattle.std.specs.Int.{int_max}
 use Rattle.std.specs.Ordering.{int_eq}

@@ -1,5 +1,5 @@
 -- The history of one round, node by node: each new node comes by its own rule, from the edges of its own premises, which the worker of its row
--- read. This project's own choice.
+-- read.
 use Rattle.std.specs.Prelude.{◌≡◌, ℕ, List, [], ◌∷◌, ◌++◌, Some}
 use Rattle.std.specs.List.{Contains}
 use Rattle.net_model.specs.Network.{Plan, IsPlan}

@@ -1,4 +1,4 @@
--- The histories of a table that several workers share: steps of any workers, in any order. This project's own choice.
+-- The histories of a table that several workers share: steps of any workers, in any order.
 use Rattle.std.specs.Prelude.{◌≡◌, ◌==◌, ◌⊎◌, ℕ, ◌<ℤ◌, List, [], ◌∷◌, ◌++◌, map, filter}
 use Rattle.std.specs.List.{All}
 use Rattle.net_model.specs.Network.{Plan, IsPlan}

@@ -1,5 +1,4 @@
--- The table proof of a network: the edges of its closure as entries, and the points in an order, with the names of the network. This
--- project's own choice.
+-- The table proof of a network: the edges of its closure as entries, and the points in an order, with the names of the network.
 use Rattle.std.specs.Prelude.{ℤ, List, Option, Some, None, map, refl}
 use Rattle.net_model.specs.Network.{Plan}
 use Rattle.net_model.specs.declared.ids.PointId.{PointId}

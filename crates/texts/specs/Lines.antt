@@ -1,4 +1,4 @@
--- The lines of a text or an input, and how many bytes they take. This project's own choice.
+-- The lines of a text or an input, and how many bytes they take.
 use Rattle.std.specs.Prelude.{ℕ, ◌+◌, ◌-◌, ◌==◌, Bool, true, false, List, [], ◌∷◌, ◌++◌, length, map, if◌then◌else◌}
 use Rattle.texts.specs.Words.{if_filled}
 

@@ -1,4 +1,4 @@
--- Printed lines. This project's own choice.
+-- Printed lines.
 use Rattle.std.specs.Prelude.{ℕ, List, [], ◌∷◌, ◌++◌}
 use Rattle.std.specs.List.{flat_map}
 

@@ -1,4 +1,4 @@
--- The words of a line. This project's own choice.
+-- The words of a line.
 use Rattle.std.specs.Prelude.{ℕ, ◌==◌, ◌||◌, Bool, true, false, List, [], ◌∷◌, ◌++◌, if◌then◌else◌}
 
 -- a blank: byte 32, 9 or 13

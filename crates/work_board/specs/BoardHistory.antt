@@ -1,4 +1,4 @@
--- The histories of a board: steps of any seats, in any order. This project's own choice.
+-- The histories of a board: steps of any seats, in any order.
 use Rattle.std.specs.Prelude.{◌≡◌, ◌≢◌, ℕ, ◌+◌, ◌<◌, List, [], ◌∷◌, ◌++◌, set}
 use mathlib.Core.Option.{some}
 use lib.ListN.{get_elem?}

@@ -1,4 +1,4 @@
--- The rule of a board: what holds after every history of steps. This project's own choice.
+-- The rule of a board: what holds after every history of steps.
 use Rattle.std.specs.Prelude.{◌≡◌, ◌≢◌, ◌==◌, ℕ, ◌+◌, ◌<◌, ◌≤◌, min, List, [], ◌∷◌, length, nat_lt, count_by, if◌then◌else◌}
 use Rattle.std.specs.List.{All}
 use Rattle.work_board.specs.BoardHistory.{BoardHistory}

@@ -1,4 +1,4 @@
--- A board and a seat at it, as callers see them, and what a draw and the end say. This project's own choice.
+-- A board and a seat at it, as callers see them, and what a draw and the end say.
 use Rattle.std.specs.Prelude.{◌≡◌, ℕ, ◌<◌, List, Option, Some, None, nat_lt, if◌then◌else◌}
 use Rattle.std.specs.List.{All}
 use Rattle.atomic_table.specs.Seated.{TableId}

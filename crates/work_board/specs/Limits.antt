@@ -1,4 +1,4 @@
--- How many seats a board may have. This project's own choice.
+-- How many seats a board may have.
 use Rattle.std.specs.Prelude.{ℕ}
 
 -- the most seats of a board, and so the most workers of a round

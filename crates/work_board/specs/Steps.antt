@@ -1,4 +1,4 @@
--- The table of a board under its rule, and what a draw tells its seat. This project's own choice.
+-- The table of a board under its rule, and what a draw tells its seat.
 use Rattle.std.specs.Prelude.{◌≡◌, ℕ, ◌<◌, ◌≤◌, ◌^◌, [], ◌∷◌}
 use Rattle.std.specs.List.{All}
 use Rattle.atomic_table.specs.Table.{State, Me, Step}

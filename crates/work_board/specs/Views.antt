@@ -1,4 +1,4 @@
--- What the steps of a board make of what its seats know. This project's own choice.
+-- What the steps of a board make of what its seats know.
 use Rattle.std.specs.Prelude.{ℕ, ◌+◌, ◌-◌, [], ◌∷◌, ◌++◌, if◌then◌else◌, nat_lt}
 use Rattle.work_board.specs.declared.view.Size.{Size}
 use Rattle.work_board.specs.declared.view.View.{View}
