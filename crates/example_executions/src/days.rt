@@ -72,9 +72,10 @@ fn push_points(alloc: Global, day: &mut Day, task: u64) -> Result<(), Fail> {
 
 fn push_start(alloc: Global, day: &mut Day, task: u64, draws: &mut Draws) -> Result<(), Fail> {
     let gap = draws.draw(4);
+    let sign = if gap == 0 { "" } else { "-" };
     let bound = match task.checked_sub(draws.draw(3).saturating_add(1)) {
-        None => format!(in alloc; "|bound after{task} begin{task} morning -{gap}")?,
-        Some(last) => format!(in alloc; "|bound after{task} begin{task} done{last} -{gap}")?,
+        None => format!(in alloc; "|bound after{task} begin{task} morning {sign}{gap}")?,
+        Some(last) => format!(in alloc; "|bound after{task} begin{task} done{last} {sign}{gap}")?,
     };
     day.bounds.push_str(bound.as_str())?;
     Ok(())
