@@ -7,5 +7,7 @@ pub mod PlaceLemmas
 pub mod EndLemmas
 pub mod SlimLists
 pub mod StayLemmas
+pub mod DownLemmas
+pub mod OthersLemmas
 pub mod RankLemmas
 pub mod ExecutedLemmas

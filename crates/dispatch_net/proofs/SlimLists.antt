@@ -55,7 +55,7 @@ there_kept {X} p (y ∷ ys) x among passes = by (there_kept p ys x) (p y) refl (
 pub same_point : (p q : PointId) → p.0 == q.0 ≡ true → p ≡ q
 same_point p q same = ap (λ (k : ℕ). record { 0 = k }) (eqb-true p.0 q.0 same)
 
-at_least : (a b : ℤ) → int_le a b ≡ true → a ≤ℤ b
+pub at_least : (a b : ℤ) → int_le a b ≡ true → a ≤ℤ b
 at_least a b holds = grind (arith, ints)
 
 -- ---- numbers

@@ -12,7 +12,7 @@ use Rattle.closure_model.proofs.Lists.{Contains-none, Contains-head, Contains-ta
 use Rattle.dispatch_net.specs.declared.dispatch.Conditions.{Conditions}
 use Rattle.dispatch_net.specs.Dispatchable.{conditions_at, no_conditions}
 use Rattle.dispatch_net.specs.Held.{IsSlimOrWhole}
-use Rattle.dispatch_net.specs.Slim.{over_point, over_link, is_bound_implied, over_end, over_wait, is_wait_implied, thinned, slim_conditions, slimmed}
+use Rattle.dispatch_net.specs.Slim.{over_point, over_link, is_bound_implied, over_end, over_wait, is_wait_implied, slim_conditions, slimmed}
 use Rattle.dispatch_net.specs.Laws.{SlimStaysSlim}
 use Rattle.dispatch_net.proofs.SlimLists.{any_is, kept_there, slim_at}
 
@@ -109,37 +109,7 @@ module _ (links : List Link) (made : List Conditions) (c : Conditions) where
 pub slim_stays_slim : SlimStaysSlim
 slim_stays_slim links made = map_map (slim_conditions links (slimmed links made)) (slim_conditions links made) made (conditions_stay links made)
 
--- ---- what is thinned by the tests of what was made
-filter_again : {X : Type 0} (p : X → Bool) (xs : List X) → filter p (filter p xs) ≡ filter p xs
-filter_again p xs = all_kept p (filter p xs) (kept_passes p xs)
-
-thinned_again : (links : List Link) (made : List Conditions) (c : Conditions) → thinned links made c (slim_conditions links made c) ≡ slim_conditions links made c
-thinned_again links made c =
-    λ i. record {
-      lower_bounds = filter_again (λ bound. not (is_bound_implied links made c bound)) c.lower_bounds i;
-      waits = filter_again (λ wait. not (is_wait_implied links made c wait)) c.waits i;
-    }
-
--- whatever of it was kept before, what others imply is left out
-module _ (links : List Link) (made old new : List Conditions) (count : length new ≡ length old)
-    (each : (point : PointId) → point.0 < length made → conditions_at new point ≡ thinned links made (conditions_at made point) (conditions_at old point)) where
-  slim_by : length old ≡ length made → ((point : PointId) → thinned links made (conditions_at made point) (conditions_at old point) ≡ slim_conditions links made (conditions_at made point))
-      → new ≡ slimmed links made
-  slim_by long same =
-      same_lists new (slimmed links made) (count ∙ (long ∙ sym (length-map made (slim_conditions links made)))) (λ k d inside.
-      let point : PointId = record { 0 = k } in
-      get_or_default new k d no_conditions inside ∙ (each point (omega (arith, inside, count, long)) ∙ (same point ∙ (sym (slim_at links made point)
-      ∙ get_or_default (slimmed links made) k no_conditions d (let whole = length-map made (slim_conditions links made) in omega (arith, inside, count, long, whole))))))
-
-  pub made_slim : IsSlimOrWhole links made old → new ≡ slimmed links made
-  made_slim (inl whole) =
-      slim_by (ap (λ (cs : List Conditions). length cs) whole)
-      (λ point. ap (λ (cs : List Conditions). thinned links made (conditions_at made point) (conditions_at cs point)) whole)
-  made_slim (inr slim) =
-      slim_by (ap (λ (cs : List Conditions). length cs) slim ∙ length-map made (slim_conditions links made))
-      (λ point. ap (λ (cs : List Conditions). thinned links made (conditions_at made point) (conditions_at cs point)) slim
-      ∙ (ap (thinned links made (conditions_at made point)) (slim_at links made point) ∙ thinned_again links made (conditions_at made point)))
-
-  pub made_slim_again : IsSlimOrWhole links made old → new ≡ slimmed links old
-  made_slim_again (inl whole) = made_slim (inl whole) ∙ ap (slimmed links) (sym whole)
-  made_slim_again (inr slim) = made_slim (inr slim) ∙ (sym (slim_stays_slim links made) ∙ ap (slimmed links) (sym slim))
+-- whichever of it was kept before, what others imply is left out
+pub slim_again : (links : List Link) (made old : List Conditions) → IsSlimOrWhole links made old → slimmed links old ≡ slimmed links made
+slim_again links made old (inl whole) = ap (slimmed links) whole
+slim_again links made old (inr slim) = ap (slimmed links) slim ∙ slim_stays_slim links made

@@ -1,11 +1,12 @@
 -- What holds of a dispatchable network as it is held.
-use Rattle.std.specs.Prelude.{◌≡◌, ◌⊎◌, ℕ, ℤ, ◌<◌, ◌==◌, ◌&&◌, Bool, false, List, length, find, Option, None}
-use Rattle.std.specs.List.{All, AllPairs, list_any, slice_index_or}
+use Rattle.std.specs.Prelude.{◌≡◌, ◌≢◌, ◌⊎◌, ℕ, ℤ, ◌<◌, ◌≤◌, ◌==◌, ◌&&◌, Bool, false, List, length, find, Option, None}
+use Rattle.std.specs.List.{All, AllPairs, Contains, list_any, slice_index_or}
 use Rattle.std.specs.Option.{option_map_or}
 use Rattle.net_model.specs.declared.ids.PointId.{PointId}
 use Rattle.net_model.specs.declared.ids.LinkId.{LinkId}
 use Rattle.net_model.specs.declared.part.Link.{Link}
 use Rattle.dispatch_net.specs.declared.dispatch.Conditions.{Conditions}
+use Rattle.dispatch_net.specs.Dispatchable.{conditions_at}
 use Rattle.dispatch_net.specs.Slim.{slimmed}
 
 -- numbered items stand in order of number
@@ -31,17 +32,39 @@ abbrev pub AreAllEnds : List Link → List (Option Link) → Type 0
 AreAllEnds links ends =
     (test : Link → Bool) (point : ℕ) → list_any (λ (link : Link). link.to.0 == point && test link) links ≡ option_map_or test (slice_index_or ends point None) false
 
--- what was made of a table: the links of its network, and by what each point is executed
-pub record MadeLists : Type 0 where
+-- the links of a network, and by what each point is executed
+pub record HeldLists : Type 0 where
   pub links : List Link
   pub lists : List Conditions
 
--- as it is held: in order, and with the link that ends in each point
-pub record IsMade (links : List Link) (ends : List (Option Link)) (lists : List Conditions) : Type 0 where
+-- as they are held: in order, and with the link that ends in each point
+pub record AreHeld (links : List Link) (ends : List (Option Link)) (lists : List Conditions) : Type 0 where
   pub in_order : All AreInOrder lists
   pub ends_are : AreEnds links (length lists) ends
   pub all_ends : AreAllEnds links ends
 
+-- two lists have the same items, in whatever order
+abbrev pub HaveSame : {X : Type 0} → (xs ys : List X) → Type 0
+HaveSame {X} xs ys = (test : X → Bool) → list_any test xs ≡ list_any test ys
+
+-- lower bounds of a point are on other points of an order
+abbrev pub AreOnOthers : List PointId → PointId → List (PointId × ℤ) → Type 0
+AreOnOthers order point bounds = (bound : PointId × ℤ) → Contains bounds bound → (bound.0.0 ≢ point.0) × Contains order bound.0
+
+-- an order has each point once, and the lower bounds of a point are on points before it
+pub record GoDown (order : List PointId) (lists : List Conditions) : Type 0 where
+  pub whole : (point : PointId) → point.0 < length lists → Contains order point
+  pub once : AllPairs (λ p q. p.0 ≢ q.0) order
+  pub points : All (λ point. point.0 < length lists) order
+  pub falls : (i : ℕ) (d : PointId) (bound : PointId × ℤ) → i < length order → Contains (conditions_at lists (slice_index_or order i d)).lower_bounds bound
+      → (k : ℕ) × (k < i) × (slice_index_or order k d ≡ bound.0)
+
 -- of what was made the whole is kept, or what no others imply
 abbrev pub IsSlimOrWhole : List Link → (made kept : List Conditions) → Type 0
 IsSlimOrWhole links made kept = (kept ≡ made) ⊎ (kept ≡ slimmed links made)
+
+-- what is kept, with an order of the points and room for as many lower bounds
+pub record IsKeptInOrder (links : List Link) (made kept : List Conditions) (order : List PointId) (capacity : ℕ) : Type 0 where
+  pub slim_or_whole : IsSlimOrWhole links made kept
+  pub down : GoDown order kept
+  pub room : length order ≤ capacity

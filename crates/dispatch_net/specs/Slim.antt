@@ -33,16 +33,12 @@ abbrev pub is_wait_implied : List Link → List Conditions → Conditions → Li
 is_wait_implied links made conditions wait =
     list_any (λ other. option_map_or (over_end wait.1 other) (slice_get links wait.0.0) false || over_wait made wait other) conditions.lower_bounds
 
--- of some lower bounds and waits those that are not asked for by others of a point, tested against what was made
-abbrev pub thinned : List Link → List Conditions → (all some : Conditions) → Conditions
-thinned links made all some = record {
-  lower_bounds = filter (λ bound. not (is_bound_implied links made all bound)) some.lower_bounds;
-  waits = filter (λ wait. not (is_wait_implied links made all wait)) some.waits;
-}
-
--- what is kept of the lower bounds and waits of a point: those that no others imply
+-- what is kept of the lower bounds and waits of a point: those that no others imply, tested against what was made
 abbrev pub slim_conditions : List Link → List Conditions → Conditions → Conditions
-slim_conditions links made conditions = thinned links made conditions conditions
+slim_conditions links made conditions = record {
+  lower_bounds = filter (λ bound. not (is_bound_implied links made conditions bound)) conditions.lower_bounds;
+  waits = filter (λ wait. not (is_wait_implied links made conditions wait)) conditions.waits;
+}
 
 abbrev pub slimmed : List Link → List Conditions → List Conditions
 slimmed links made = map (slim_conditions links made) made

@@ -9,11 +9,12 @@ ghost use Rattle.dispatch_net.specs.Execution.{ExecutionSatisfies};
 ghost use Rattle.dispatch_net.specs.Held.{IsSlimOrWhole, link_ending};
 ghost use Rattle.dispatch_net.specs.Slim.{slimmed};
 
-use crate::made::Made;
+use crate::held::{Held, no_conditions};
 use labelled_graph::Table;
 use net_model::{Items, Link, LinkId, Network, PointId, Weight};
 use std::alloc::{AllocError, Global};
 use std::marker::Model;
+use std::snapshot::Snapshot;
 
 /// By what a point is executed.
 #[derive(Debug, Drop)]
@@ -26,28 +27,32 @@ pub struct Conditions {
 
 /// The dispatchable network of a closed table (Morris, Muscettola and Vidal 2001, in this project's form): the lower bounds and
 /// waits by which each executable point is executed, and the links of its network. Contracts see it as the links, the lists that were made
-/// of the table, one for each point, and those that are kept: the whole of them, or those that no others imply.
-#[derive(Debug, Drop)]
+/// of the table, one for each point, and those that are kept: the whole of them, or those that no others imply. Only what is kept is held.
+#[derive(Drop)]
+#[derive_where(Debug)]
 pub struct Dispatch {
-    made: Made,
-    kept: Vec<Conditions>,
+    held: Held,
+    order: Vec<PointId>,
+    others: Vec<(PointId, Weight)>,
+    #[derive_where(skip)]
+    made: Snapshot<Vec<Conditions>>,
 }
 
 impl Model for Dispatch {
+    ghost use Rattle.std.specs.Prelude.{vec_capacity};
     ghost use Rattle.dispatch_net.specs.Dispatchable.{DispatchLists};
-    ghost use Rattle.dispatch_net.specs.Held.{IsSlimOrWhole};
+    ghost use Rattle.dispatch_net.specs.Held.{IsKeptInOrder};
 
     ghost Value = { DispatchLists };
 
-    ghost view = { λ dispatch. record { links = dispatch.made.links; made = dispatch.made.lists; kept = dispatch.kept.items } };
+    ghost view = { λ dispatch. record { links = dispatch.held.links; made = dispatch.made.value.items; kept = dispatch.held.lists } };
 
-    ghost invariant = { λ dispatch. IsSlimOrWhole dispatch.made.links dispatch.made.lists dispatch.kept.items };
+    ghost invariant = { λ dispatch. IsKeptInOrder dispatch.held.links dispatch.made.value.items dispatch.held.lists dispatch.order.items (vec_capacity dispatch.others) };
 }
 
 impl Dispatch {
     /// The dispatchable network of a closed table that has an order: by its lower bounds and waits the network is executed in every
-    /// situation, and each execution satisfies it. The order only shows that there is one, and isn't read. `AllocError` comes only for
-    /// want of memory.
+    /// situation, and each execution satisfies it. `slim` goes along the order. `AllocError` comes only for want of memory.
     pub fn of(
         alloc: Global,
         net: &Network,
@@ -60,9 +65,16 @@ impl Dispatch {
         ensures executed { IfOk result (λ dispatch. IsInstant net.now → IsGraph table.now → ExecutionSatisfies net.now dispatch.made) }
     {
         let lists = conditions_by(alloc, net, table)?;
-        let made = Made::new(alloc, net, lists)?;
-        let kept = conditions_by(alloc, net, table)?;
-        Ok(Dispatch { made, kept })
+        let made = Snapshot::of(&lists);
+        let held = Held::new(alloc, net, lists)?;
+        let others = Vec::with_capacity(alloc, order.len())?;
+        let order = Vec::from_slice(alloc, order)?;
+        Ok(Dispatch {
+            held,
+            order,
+            others,
+            made,
+        })
     }
 
     /// The same without the lower bounds and waits that others of their point imply, each tested against what is kept before the call. By
@@ -72,9 +84,19 @@ impl Dispatch {
         ensures made { result.made ≡ self.made }
         ensures kept { result.kept ≡ slimmed self.links self.kept }
     {
-        let Dispatch { made, mut kept } = self;
-        made.thin_all(&mut kept);
-        Dispatch { made, kept }
+        let Dispatch {
+            mut held,
+            order,
+            mut others,
+            made,
+        } = self;
+        held.slim(order.as_slice(), &mut others);
+        Dispatch {
+            held,
+            order,
+            others,
+            made,
+        }
     }
 
     /// The links of the network, in order of number.
@@ -82,7 +104,7 @@ impl Dispatch {
         ensures links { result.now ≡ self.now.links }
         ensures kept { IsSlimOrWhole self.now.links self.now.made self.now.kept }
     {
-        self.made.links()
+        self.held.links()
     }
 
     /// The link that ends in a point, if there is one.
@@ -90,7 +112,7 @@ impl Dispatch {
         requires { point.0 < length self.now.made }
         ensures { result ≡ link_ending self.now.links point }
     {
-        self.made.link_to(point)
+        self.held.link_to(point)
     }
 
     /// The lower bounds that are kept of a point, in order of number: a point and n above 0, for n moments after that point. A contingent
@@ -99,7 +121,7 @@ impl Dispatch {
         requires { point.0 < length self.now.kept }
         ensures { result.now ≡ (conditions_at self.now.kept point).lower_bounds }
     {
-        self.kept[point.0 as usize].lower_bounds.as_slice()
+        self.held.conditions(point).lower_bounds.as_slice()
     }
 
     /// The waits that are kept of a point, in order of number: a link and n above 0, for the contingent point of the link or n moments
@@ -108,7 +130,7 @@ impl Dispatch {
         requires { point.0 < length self.now.kept }
         ensures { result.now ≡ (conditions_at self.now.kept point).waits }
     {
-        self.kept[point.0 as usize].waits.as_slice()
+        self.held.conditions(point).waits.as_slice()
     }
 }
 
@@ -137,10 +159,7 @@ fn conditions_of(
     ensures { IfOk result (λ conditions. conditions ≡ conditions_in net.now table.now point) }
 {
     if net.is_contingent(point) {
-        return Ok(Conditions {
-            lower_bounds: Items::new(Vec::new(alloc)),
-            waits: Items::new(Vec::new(alloc)),
-        });
+        return Ok(no_conditions(alloc));
     }
     let lower_bounds = lower_bounds_of(alloc, net, table, point)?;
     let waits = waits_of(alloc, net, table, point)?;

@@ -2,8 +2,8 @@
 #![tactic(auto)]
 
 mod dispatch;
+mod held;
 pub mod laws;
-mod made;
 mod slim;
 
 pub use dispatch::{Conditions, Dispatch};

@@ -1,19 +1,18 @@
-//! Which lower bounds and waits others imply. Each is tested against what was made, whatever of it is kept.
+//! Which lower bounds and waits others imply, and what is left without them. The points are gone through from the last in order to the
+//! first, so that each is tested against the whole lists of those before it.
 
-ghost use Rattle.std.specs.Prelude.{◌≡◌, ◌==◌, ◌&&◌, ◌||◌, ◌+ℤ◌, ◌<◌, ℤ, Bool, int_le, filter, not, false, length, slice_get, None};
-ghost use Rattle.std.specs.List.{list_any, slice_index_or};
+ghost use Rattle.std.specs.Prelude.{◌≡◌, ◌==◌, ◌&&◌, ◌||◌, ◌+ℤ◌, ◌<◌, ◌≤◌, ℤ, Bool, int_le, false, length, slice_get, slice_set, None, vec_capacity};
+ghost use Rattle.std.specs.List.{Contains, list_any, slice_index_or};
 ghost use Rattle.std.specs.Option.{option_map_or};
 ghost use Rattle.net_model.specs.declared.ids.PointId.{PointId};
 ghost use Rattle.net_model.specs.declared.ids.LinkId.{LinkId};
 ghost use Rattle.dispatch_net.specs.Dispatchable.{conditions_at};
-ghost use Rattle.dispatch_net.specs.Held.{Rise, AreInOrder};
-ghost use Rattle.dispatch_net.specs.Slim.{over_point, over_link, is_bound_implied, over_end, over_wait, is_wait_implied, thinned};
+ghost use Rattle.dispatch_net.specs.Held.{Rise, AreInOrder, AreOnOthers, GoDown, HaveSame};
+ghost use Rattle.dispatch_net.specs.Slim.{over_point, over_link, over_end, over_wait, slim_conditions, slimmed};
 
 use crate::dispatch::Conditions;
-use crate::made::Made;
+use crate::held::Held;
 use net_model::{Items, Link, LinkId, PointId, Weight};
-use std::alloc::Global;
-use std::mem;
 
 /// Whether two numbers together are at least a third.
 fn reaches(n: Weight, first: Weight, second: Weight) -> bool
@@ -106,7 +105,7 @@ fn is_over_end(n: Weight, other: (PointId, Weight), link: &Link) -> bool
     other.0.0 == link.to.0
 }
 
-impl Made {
+impl Held {
     /// Whether a lower bound is asked for by another over a lower bound of its point.
     fn is_over_point(&self, bound: (PointId, Weight), other: (PointId, Weight)) -> bool
         ensures { result ≡ over_point self.now.lists bound other }
@@ -138,11 +137,10 @@ impl Made {
         self.is_over_link(bound, other)
     }
 
-    /// Whether a lower bound is asked for by others of a list, which are tried from the last one back.
-    fn is_bound_implied(&self, lists: &Conditions, bound: (PointId, Weight)) -> bool
-        ensures { result ≡ is_bound_implied self.now.links self.now.lists lists.now bound }
+    /// Whether a lower bound is asked for by others, which are tried from the last one back.
+    fn is_bound_implied(&self, others: &[(PointId, Weight)], bound: (PointId, Weight)) -> bool
+        ensures { result ≡ list_any (λ other. over_point self.now.lists bound other || over_link self.now.links bound other) others.now }
     {
-        let others = lists.lower_bounds.as_slice();
         let mut left = others.len();
         while left > 0 {
             left -= 1;
@@ -184,11 +182,10 @@ impl Made {
         self.is_over_wait(wait, other)
     }
 
-    /// Whether a wait is asked for by lower bounds of a list, which are tried from the last one back.
-    fn is_wait_implied(&self, lists: &Conditions, wait: (LinkId, Weight)) -> bool
-        ensures { result ≡ is_wait_implied self.now.links self.now.lists lists.now wait }
+    /// Whether a wait is asked for by lower bounds, which are tried from the last one back.
+    fn is_wait_implied(&self, others: &[(PointId, Weight)], wait: (LinkId, Weight)) -> bool
+        ensures { result ≡ list_any (λ other. option_map_or (over_end wait.1 other) (slice_get self.now.links wait.0.0) false || over_wait self.now.lists wait other) others.now }
     {
-        let others = lists.lower_bounds.as_slice();
         let mut left = others.len();
         while left > 0 {
             left -= 1;
@@ -199,30 +196,73 @@ impl Made {
         false
     }
 
-    /// Leaves of some lower bounds and waits those that no others of a list imply. It takes no memory.
-    fn thin(&self, alloc: Global, lists: &Conditions, kept: &mut Conditions)
-        ensures { kept.new ≡ thinned self.now.links self.now.lists lists.now kept.old }
+    /// What is left of the lower bounds and waits of a point without those that others imply. The others are all its lower bounds, in
+    /// the order of the points.
+    fn thinned(&self, others: &[(PointId, Weight)], all: Conditions) -> Conditions
+        requires { HaveSame others.now all.lower_bounds }
+        ensures { result ≡ slim_conditions self.now.links self.now.lists all }
     {
-        let mut bounds = mem::replace(
-            &mut kept.lower_bounds,
-            Items::new(Vec::new(alloc)),
-        ).into_vec();
-        bounds.retain(|bound| !self.is_bound_implied(lists, *bound));
-        kept.lower_bounds = Items::new(bounds);
-        let mut waits = mem::replace(&mut kept.waits, Items::new(Vec::new(alloc))).into_vec();
-        waits.retain(|wait| !self.is_wait_implied(lists, *wait));
-        kept.waits = Items::new(waits);
+        let Conditions {
+            lower_bounds,
+            waits,
+        } = all;
+        let mut bounds = lower_bounds.into_vec();
+        bounds.retain(|bound| !self.is_bound_implied(others, *bound));
+        let mut waits = waits.into_vec();
+        waits.retain(|wait| !self.is_wait_implied(others, *wait));
+        Conditions {
+            lower_bounds: Items::new(bounds),
+            waits: Items::new(waits),
+        }
     }
 
-    /// The same for each point: leaves of its lower bounds and waits those that no others of what was made for it imply.
-    pub(crate) fn thin_all(&self, kept: &mut [Conditions])
-        requires { length kept.old ≡ length self.now.lists }
-        ensures count { length kept.new ≡ length kept.old }
-        ensures each { (point : PointId) → point.0 < length self.now.lists → conditions_at kept.new point ≡ thinned self.now.links self.now.lists (conditions_at self.now.lists point) (conditions_at kept.old point) }
+    /// Leaves of the lower bounds and waits of a point those that no others imply.
+    fn thin(&mut self, point: PointId, order: &[PointId], others: &mut Vec<(PointId, Weight)>)
+        requires within { point.0 < length self.old.lists }
+        requires on_others { AreOnOthers order.now point (conditions_at self.old.lists point).lower_bounds }
+        requires room { length order.now ≤ vec_capacity others.old }
+        ensures links { self.new.links ≡ self.old.links }
+        ensures lists { self.new.lists ≡ slice_set self.old.lists point.0 (slim_conditions self.old.links self.old.lists (conditions_at self.old.lists point)) }
+        ensures room { vec_capacity others.new ≡ vec_capacity others.old }
     {
-        let alloc = *self.lists.allocator();
-        for point in 0..self.lists.len() {
-            self.thin(alloc, &self.lists[point], &mut kept[point]);
+        let all = self.take(point);
+        put_in_order(all.lower_bounds.as_slice(), order, others);
+        let left = self.thinned(others.as_slice(), all);
+        self.put(point, left);
+    }
+
+    /// Leaves of the lower bounds and waits of each point those that no others imply. It takes no memory.
+    pub(crate) fn slim(&mut self, order: &[PointId], others: &mut Vec<(PointId, Weight)>)
+        requires down { GoDown order.now self.old.lists }
+        requires room { length order.now ≤ vec_capacity others.old }
+        ensures links { self.new.links ≡ self.old.links }
+        ensures lists { self.new.lists ≡ slimmed self.old.links self.old.lists }
+        ensures room { vec_capacity others.new ≡ vec_capacity others.old }
+    {
+        let mut left = order.len();
+        while left > 0 {
+            left -= 1;
+            self.thin(order[left], order, others);
+        }
+    }
+}
+
+/// Puts the lower bounds of a point in the order of the points.
+fn put_in_order(
+    bounds: &[(PointId, Weight)],
+    order: &[PointId],
+    ordered: &mut Vec<(PointId, Weight)>,
+)
+    requires rise { Rise (λ (bound : PointId × ℤ). bound.0.0) bounds.now }
+    requires among { (bound : PointId × ℤ) → Contains bounds.now bound → Contains order.now bound.0 }
+    requires room { length order.now ≤ vec_capacity ordered.old }
+    ensures same { HaveSame ordered.new.items bounds.now }
+    ensures room { vec_capacity ordered.new ≡ vec_capacity ordered.old }
+{
+    ordered.clear();
+    for point in order {
+        if let Some(moments) = bound_on(bounds, *point) {
+            ordered.push_reserved((*point, moments));
         }
     }
 }

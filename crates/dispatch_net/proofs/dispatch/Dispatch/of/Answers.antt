@@ -1,7 +1,10 @@
-use Rattle.std.proofs.Common.{◌∙◌, ap, sym, subst}
+use Rattle.std.proofs.Common.{◌≡◌, ◌∙◌, ℕ, List, Vec, Global, arith, length, ap, sym, subst, inl}
 use Rattle.std.specs.List.{All}
+use Rattle.net_model.specs.declared.ids.PointId.{PointId}
+use Rattle.dispatch_net.specs.declared.dispatch.Conditions.{Conditions}
 use Rattle.dispatch_net.specs.Execution.{ExecutionSatisfies}
-use Rattle.dispatch_net.specs.Held.{MadeLists, AreInOrder}
+use Rattle.dispatch_net.specs.Held.{HeldLists, AreInOrder, GoDown}
+use Rattle.dispatch_net.proofs.DownLemmas.{made_go_down}
 use Rattle.dispatch_net.proofs.ExactLemmas.{in_order}
 use Rattle.dispatch_net.proofs.ExecutionLemmas.{executions_satisfy}
 use Rattle.dispatch_net.proofs.dispatch.Dispatch.of.Goals as goal
@@ -9,8 +12,21 @@ use Rattle.dispatch_net.proofs.dispatch.Dispatch.of.Goals as goal
 pub new-requires-clause-in_order : goal.new-requires-clause-in_order
 new-requires-clause-in_order c = subst (All AreInOrder) (sym c.in_ok-lists.ensures.made) (in_order c.args.net.now c.args.table.now)
 
+pub invariant_of-result : goal.invariant_of-result
+invariant_of-result c =
+    let lists = c.in_ok-lists.lists in
+    let kept : c.in_ok-held.held.lists ≡ lists.items = ap (λ (held : HeldLists). held.lists) c.in_ok-held.ensures in
+    let made : c.of-made.result.value.items ≡ lists.items = ap (λ (all : Vec Conditions Global). all.items) c.of-made.ensures in
+    record {
+      slim_or_whole = inl (kept ∙ sym made);
+      down = subst (λ (order : List PointId). GoDown order c.in_ok-held.held.lists) (sym c.in_ok-order.ensures.items)
+          (subst (GoDown c.args.order.now) (sym (kept ∙ c.in_ok-lists.ensures.made)) (made_go_down c.args.net.now c.args.table.now c.args.order.now c.requires.for_network c.requires.ordered));
+      room = let same = ap (λ (order : List PointId). length order) c.in_ok-order.ensures.items in omega (arith, c.in_ok-others.ensures.capacity, same);
+    }
+
 pub returns-clause-executed : goal.returns-clause-executed
 returns-clause-executed c =
     λ instant sound.
-    subst (ExecutionSatisfies c.args.net.now) (sym (ap (λ (made : MadeLists). made.lists) c.in_ok-made.ensures ∙ c.in_ok-lists.ensures.made))
+    let made : c.of-made.result.value.items ≡ c.in_ok-lists.lists.items = ap (λ (all : Vec Conditions Global). all.items) c.of-made.ensures in
+    subst (ExecutionSatisfies c.args.net.now) (sym (made ∙ c.in_ok-lists.ensures.made))
     (executions_satisfy c.args.net.now c.args.table.now c.args.order.now instant c.requires.for_network sound c.requires.closed c.requires.ordered)

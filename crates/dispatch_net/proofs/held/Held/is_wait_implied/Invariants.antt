@@ -3,7 +3,7 @@ use Rattle.std.specs.Prelude.{◌||◌, slice_get}
 use Rattle.std.specs.List.{list_any}
 use Rattle.std.specs.Option.{option_map_or}
 use Rattle.dispatch_net.specs.Slim.{over_end, over_wait}
-use Rattle.dispatch_net.proofs.made.Made.is_wait_implied.Given as goal
+use Rattle.dispatch_net.proofs.held.Held.is_wait_implied.Given as goal
 
 abbrev pub invariant-loop-left : goal.invariant-loop-left
 invariant-loop-left l = record {

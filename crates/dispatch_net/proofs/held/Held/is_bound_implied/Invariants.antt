@@ -2,7 +2,7 @@ use Rattle.std.proofs.Common.{◌≡◌, ◌≤◌, false, drop, length}
 use Rattle.std.specs.Prelude.{◌||◌}
 use Rattle.std.specs.List.{list_any}
 use Rattle.dispatch_net.specs.Slim.{over_point, over_link}
-use Rattle.dispatch_net.proofs.made.Made.is_bound_implied.Given as goal
+use Rattle.dispatch_net.proofs.held.Held.is_bound_implied.Given as goal
 
 abbrev pub invariant-loop-left : goal.invariant-loop-left
 invariant-loop-left l = record {
