@@ -1,5 +1,6 @@
 -- Sessions: a network under edits, with what decides whether it is controllable.
 use Rattle.std.specs.Prelude.{◌≡◌, ◌≢◌, ℕ, suc, ◌≤◌, List, ◌++◌, length, Option, Some, None, IsSome, Result, Ok, Err}
+use Rattle.std.specs.declared.alloc.AllocError.{AllocError}
 use Rattle.net_model.specs.Network.{Plan, IsPlan, HasPlanNumbers}
 use Rattle.net_model.specs.Editing.{edited}
 use Rattle.net_model.specs.declared.edit.Edit.{Edit}
@@ -106,6 +107,12 @@ AnswersEdit before edit (Ok report) after = Accepts before edit report after
 AnswersEdit before edit (Err (fault.Edit cause)) after = IsOpen before × (edited before.net edit ≡ Err cause) × (cause ≢ edit_fault.OutOfMemory) × (after ≡ before)
 AnswersEdit before edit (Err fault.OutOfMemory) after = IsOpen before × (after ≡ record { net = before.net; opened = None })
 AnswersEdit before edit (Err fault.Broken) after = IsBroken before × (after ≡ before)
+
+-- What `reopen` answers, and what the session is then: as one that is opened on its network; after want of memory it keeps the network and is
+-- broken.
+abbrev pub AnswersReopening : State → Result (Unit {0}) AllocError → State → Type 0
+AnswersReopening before (Ok done) after = IsOpenedOn before.net after
+AnswersReopening before (Err error) after = after ≡ record { net = before.net; opened = None }
 
 -- ---- what a session is asked
 -- the verdict: some strategy controls the network as it stands, or none does; or the session is broken

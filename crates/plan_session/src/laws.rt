@@ -1,6 +1,6 @@
 //! Laws about sessions, each the contract of a function without parameters.
 
-ghost use Rattle.plan_session.specs.Laws.{SessionsOpenInOneWay, EditsAreFollowedInOneWay};
+ghost use Rattle.plan_session.specs.Laws.{SessionsOpenInOneWay, EditsAreFollowedInOneWay, BrokenSessionsSaySo};
 
 use closure_model::round_laws::rounds_end_in_one_way;
 
@@ -17,3 +17,8 @@ pub fn edits_are_followed_in_one_way()
 {
     rounds_end_in_one_way();
 }
+
+/// A broken session answers every edit by `Broken` and stays as it is, and so it answers whoever asks for its verdict or its certificate.
+pub fn broken_sessions_say_so()
+    ensures { BrokenSessionsSaySo }
+{}

@@ -6,7 +6,7 @@ ghost use Rattle.cert_format.specs.declared.certificate.Certificate.{Certificate
 ghost use Rattle.refutations.specs.Refuting.{Refutes};
 ghost use Rattle.table_proofs.specs.Certified.{Certifies, Proves};
 ghost use Rattle.work_board.specs.Limits.{most_seats};
-ghost use Rattle.plan_session.specs.Sessions.{IsOpen, IsOpenedOn, AnswersEdit, IsVerdictOf, AnswersProof, IsDispatchOfClosure, Lends};
+ghost use Rattle.plan_session.specs.Sessions.{IsOpen, IsOpenedOn, AnswersEdit, AnswersReopening, IsVerdictOf, AnswersProof, IsDispatchOfClosure, Lends};
 
 use crate::answers::{AskFault, Report, SessionFault, Verdict};
 use crate::propagated::Propagated;
@@ -124,6 +124,23 @@ impl Session {
                 Err(SessionFault::OutOfMemory)
             }
         }
+    }
+
+    /// Makes the session anew from its network: rounds are made from the base, as `open` makes them, and whatever was opened is dropped
+    /// first. A broken session is whole again. `AllocError` comes only for want of memory; then the session keeps its network and is broken.
+    pub fn reopen<R: Threads + Sync, G: Gate>(
+        &mut self,
+        rt: &R,
+        alloc: Global,
+        gate: &G,
+    ) -> Result<(), AllocError>
+        ensures { AnswersReopening self.old result self.new }
+    {
+        self.opened = None;
+        let opened = Propagated::of(rt, alloc, &self.net, self.workers, gate)?;
+        self.opened = Some(opened);
+        self.fresh = true;
+        Ok(())
     }
 
     /// Whether the network as it stands is controllable. `Broken` exactly where the session is broken.
