@@ -18,3 +18,4 @@ mod walk;
 
 pub use checking::judge;
 pub use judgement::{CertFault, Claim, Judgement};
+pub use scan::first_refused;

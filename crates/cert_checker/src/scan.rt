@@ -9,7 +9,7 @@ use std::thread::Threads;
 
 /// The place of the first item at which the test answers `true`, whatever threads look for it. Fewer than 2,048 items are looked
 /// at in one thread.
-pub(crate) fn first_refused<T: Sync, F: Fn(&T) -> bool + Sync>(
+pub fn first_refused<T: Sync, F: Fn(&T) -> bool + Sync>(
     rt: &(impl Threads + Sync),
     items: &[T],
     is_refused: &F,

@@ -6,6 +6,8 @@ mod refutations;
 #[cfg(test)]
 mod rows;
 #[cfg(test)]
+mod scans;
+#[cfg(test)]
 mod tables;
 #[cfg(test)]
 mod wide;

@@ -10,6 +10,9 @@ use std::thread::Threads;
 /// How many points there are; there is an entry from each to each.
 const POINTS: u32 = 46;
 
+/// How many entries there are.
+pub(crate) const MOST: u32 = POINTS * POINTS;
+
 fn push_name(alloc: Global, text: &mut String, word: &str, number: u32) -> Result<(), AllocError> {
     text.push_str(word)?;
     text.push_str(number.to_string(alloc)?.as_str())
@@ -25,7 +28,7 @@ fn push_order(alloc: Global, text: &mut String) -> Result<(), AllocError> {
 
 /// The entries, of weight 0, but for those at two places, which are negative.
 fn push_entries(alloc: Global, text: &mut String, lower: (u32, u32)) -> Result<(), AllocError> {
-    for place in 0..POINTS * POINTS {
+    for place in 0..MOST {
         push_name(alloc, text, "edge p", place / POINTS)?;
         push_name(alloc, text, " p", place % POINTS)?;
         let is_lower = place == lower.0 || place == lower.1;
@@ -34,7 +37,7 @@ fn push_entries(alloc: Global, text: &mut String, lower: (u32, u32)) -> Result<(
     Ok(())
 }
 
-fn table(alloc: Global, lower: (u32, u32)) -> Result<String, AllocError> {
+pub(crate) fn table(alloc: Global, lower: (u32, u32)) -> Result<String, AllocError> {
     let mut text = String::from_str(alloc, "certificate 1\ntable\n")?;
     push_order(alloc, &mut text)?;
     push_entries(alloc, &mut text, lower)?;
@@ -77,9 +80,8 @@ fn try_lower<R: Abort + Threads + Sync>(
 fn over_many_points(rt: HostRuntime) -> Result<(), Fail> {
     let alloc = rt.alloc();
     let net = network(alloc)?;
-    let most = POINTS * POINTS;
-    try_lower(&rt, alloc, &net, (most, most), "accepted controllable")?;
-    try_lower(&rt, alloc, &net, (2000, most), "refused 2047 not-closed")?;
+    try_lower(&rt, alloc, &net, (MOST, MOST), "accepted controllable")?;
+    try_lower(&rt, alloc, &net, (2000, MOST), "refused 2047 not-closed")?;
     try_lower(&rt, alloc, &net, (1500, 2000), "refused 1547 not-closed")?;
     try_lower(&rt, alloc, &net, (1500, 232), "refused 279 not-closed")?;
     Ok(try_lower(&rt, alloc, &net, (1500, 40), "refused 87 order-broken")?)
