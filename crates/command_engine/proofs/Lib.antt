@@ -8,6 +8,7 @@ pub mod TakenLemmas
 pub mod TurnLemmas
 pub mod EndLemmas
 pub mod FrontLemmas
+pub mod BytesLemmas
 pub mod WrapLemmas
 pub mod LeadLemmas
 pub mod PathLemmas

@@ -8,6 +8,7 @@ pub mod Prompt
 pub mod Calls
 pub mod Serves
 pub mod Single
+pub mod Bytes
 pub mod Reading
 pub mod Grammars
 pub mod Inputs

@@ -10,8 +10,11 @@ ghost use Rattle.command_engine.specs.Inputs.{AnswersText};
 ghost use Rattle.command_engine.specs.Pairs.{then_reader, then_reading};
 ghost use Rattle.command_engine.specs.Phases.{WantsNone, text_then_phase_machine, FollowsOutcome};
 ghost use Rattle.command_engine.specs.Breaks.{WithinReply, WantsMemory, BreaksForMemory};
-ghost use Rattle.plan_port.specs.Talk.{Piece};
+ghost use Rattle.command_engine.specs.Bytes.{BytesAreExact};
+ghost use Rattle.command_engine.specs.Serves.{Serves};
+ghost use Rattle.plan_port.specs.Talk.{Piece, Seen};
 ghost use Rattle.command_engine.specs.declared.endings.End.{End};
+ghost use Rattle.command_engine.specs.declared.endings.Status.{Status};
 
 use crate::asking::Question;
 use crate::machines::Command;
@@ -32,6 +35,14 @@ pub fn broken_runs_are_fronts<C: Command>()
         → Runs C.machine start input whole end → WithinReply C.machine start input put → IsFront put whole }
     ensures memory { IsSingle C.machine → (start : C) (input put whole : List ℕ) (pieces : List Piece) (end : End)
         → Runs C.machine start input whole end → WantsMemory C.machine start input put pieces → IsFront put whole }
+{}
+
+/// Where a command has at most one reply, exactly this was put by a run of it over a port that tells its bytes: what a run over the input puts, where
+/// the command ended it; the answers to the whole lines taken and `error read`, where a take failed; a front of these, where a put failed; and a front
+/// of the first, where there was no memory.
+pub fn bytes_are_exact<C: Command>()
+    ensures { IsSingle C.machine → (start : C) (status : Status) (before after : Seen)
+        → Serves C.machine start status before after → BytesAreExact C.machine start status before after }
 {}
 
 /// A command that asks has at most one reply where its question has at most one answer.

@@ -20,8 +20,9 @@ pub use answers::Answer;
 pub use asking::{Asked, Question, refuse};
 pub use endings::{End, Status};
 pub use laws::{
-    asked_answers, asked_is_single, asked_runs, asked_wants, broken_runs_are_fronts, pair_reads,
-    single_runs, text_then_phase_is_single, text_then_phase_runs, text_then_phase_wants,
+    asked_answers, asked_is_single, asked_runs, asked_wants, broken_runs_are_fronts,
+    bytes_are_exact, pair_reads, single_runs, text_then_phase_is_single, text_then_phase_runs,
+    text_then_phase_wants,
 };
 pub use limits::{LEAST_ROOM, MOST_INPUT, limits_are_defined};
 pub use machines::{Command, Onward, Stop};
