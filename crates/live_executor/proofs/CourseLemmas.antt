@@ -1,121 +1,309 @@
--- The acts of a moment, point after point, are those of the definition.
-use Rattle.std.proofs.Common.{◌≡◌, ◌≢◌, ℕ, zero, suc, ◌+◌, ◌<◌, Bool, true, false, cond, List, [], ◌∷◌, ◌++◌, length, map, get_or, set, Option, Some, None, refl, ap, sym, ◌∙◌, arith, inl, inr, append_assoc, subst, add-one}
-use Rattle.std.specs.Prelude.{filter, is_none, ◌&&◌}
-use Rattle.std.specs.List.{range_with_len}
-use Rattle.std.proofs.lemmas.Bool.{cases_lt}
-use Rattle.std.proofs.lemmas.List.{map-append, length-set, get_or-set_same, get_or-set_other}
-use Rattle.std.proofs.lemmas.Simd.{map-map}
-use Rattle.std.proofs.lemmas.List.FromFn.{filter_of_map_range_with_len_more, fill_by_all}
-use Rattle.std.proofs.lemmas.List.Folds.{list_any_at}
+-- What is due first, and what the acts of a moment leave.
+use Rattle.std.proofs.Common.{◌≡◌, ℕ, ◌+◌, ◌-◌, ◌<◌, ◌≤◌, Bool, true, false, cond, List, [], ◌∷◌, ◌++◌, length, Option, Some, None, refl, ap, sym, subst, ◌∙◌, arith, inl, inr, append_assoc, append-nil}
+use Rattle.std.specs.Prelude.{IfSome, nat_le, is_none, if◌then◌else◌}
+use Rattle.std.specs.List.{slice_index_or}
+use Rattle.std.proofs.lemmas.Bool.{cases_lt, le-leb, leb-true, true≢false}
+use Rattle.std.proofs.lemmas.Bool.Decides.{nat_tests}
+use Rattle.std.proofs.lemmas.List.Elements.{All-set}
+use Rattle.std.proofs.lemmas.List.Sums.{sum_by-set}
+use Rattle.std.proofs.lemmas.Option.{none-some, same_Some}
 use Rattle.net_model.specs.declared.ids.PointId.{PointId}
-use Rattle.execution_model.specs.Execution.{Moments, Setting, moment_of, is_due, link_to, acts_at, acted}
+use Rattle.execution_model.specs.Execution.{Moments, Setting, moment_of, is_due, acts_at, acted, time_runs, acts_while}
+use Rattle.execution_model.specs.Feeding.{completed_at}
+use Rattle.execution_model.specs.Paced.{ArePaced, IsMadeOneByOne, done, next}
 use Rattle.execution_model.specs.declared.feeding.Act.{Act}
-use Rattle.live_executor.specs.Course.{first_points, is_due_in, acts_among, AreActed, AreOpen}
-use Rattle.live_executor.specs.Due.{has_begun, AreDue, is_any_due}
+use Rattle.execution_model.proofs.AtOnceLemmas.{one_by_one_is_at_once}
+use Rattle.execution_model.proofs.MomentLemmas.{come_not_due, due_parts, length-completed_at}
+use Rattle.execution_model.proofs.OneByOneLemmas.{acts_come_one_by_one}
+use Rattle.live_executor.specs.Course.{is_due_in, NoneDueBefore, IsLowestDue, IsFirstMoment, IsFirstBefore, IsCourseOf, AreSomeMade, HasRun, left_of}
+use Rattle.live_executor.specs.Due.{has_begun, due_in, IsFirstAmong, IsFirstDue, sooner}
+use Rattle.live_executor.specs.Limits.{end_of_time}
+use Rattle.live_executor.specs.Sound.{KeptNetwork, made_setting, ExecutesTheSame}
+use Rattle.live_executor.specs.Waking.{IsAwake}
+use Rattle.live_executor.proofs.SameLemmas.{due_same}
+use Rattle.live_executor.proofs.SettleLemmas.{left_acted}
+use Rattle.live_executor.proofs.TimeLemmas.{IsIdle, leaps, rests}
 
-map_chosen : (f : PointId → Act) (point : PointId) (b : Bool) → map f (cond b (point ∷ []) []) ≡ cond b (f point ∷ []) []
-map_chosen f point true = refl
-map_chosen f point false = refl
+-- ---- what is due first
+module _ (due : List (Option ℕ)) (n : ℕ) where
+  abbrev last : PointId
+  last = record { 0 = n }
 
--- the acts with one point more
-pub acts_among_more : (due : List (Option ℕ)) (t i : ℕ)
-    → acts_among due t (i + 1) ≡ acts_among due t i ++ cond (is_due_in due t (record { 0 = i })) (record { moment = t; point = record { 0 = i } } ∷ []) []
-acts_among_more due t i =
-    let act : PointId → Act = λ point. record { moment = t; point = point } in
-    let number : ℕ → PointId = λ k. record { 0 = k } in
-    ap (map act) (filter_of_map_range_with_len_more (is_due_in due t) number 0 i i (omega arith))
-    ∙ map-append act (filter (is_due_in due t) (first_points i)) (cond (is_due_in due t (number i)) (number i ∷ []) [])
-    ∙ ap (λ acts. acts_among due t i ++ acts) (map_chosen act (number i) (is_due_in due t (number i)))
+  at_last : (point : PointId) → point.0 < n + 1 → n ≤ point.0 → due_in due last ≡ due_in due point
+  at_last point below above = (let same : n ≡ point.0 = omega (arith, below, above) in ap (λ (k : ℕ). slice_index_or due k None) same)
 
--- the moments with one point more
-acted_here : (b : Bool) (mid : Moments) (i t : ℕ) (point : PointId) → i < length mid → point.0 ≡ i → get_or (cond b (set mid i (Some t)) mid) point.0 None ≡ cond b (Some t) (get_or mid point.0 None)
-acted_here true mid i t point inside same = rw same (get_or-set_same mid i (Some t) None inside)
-acted_here false mid i t point inside same = refl
+  pub sooner_more : (first : Option (ℕ × PointId)) → IsFirstAmong due n first → IsFirstAmong due (n + 1) (sooner first (due_in due last) last)
+  sooner_more first before = by first before (due_in due last) refl
+    where
+      by_order : (one : ℕ × PointId) → IsFirstAmong due n (Some one) → (m : ℕ) → due_in due last ≡ Some m → (b : Bool) → nat_le one.0 m ≡ b
+          → IsFirstAmong due (n + 1) (if b then Some one else Some (m, last))
+      by_order one kept m is true no_later =
+          let less : one.0 ≤ m = leb-true one.0 m no_later in
+          let below_n : one.1.0 < n = kept.0 in (
+            omega (arith, below_n),
+            kept.1,
+            λ point moment below its. elim (cases_lt point.0 n) [
+              | inl less_n ↦ kept.2 point moment less_n its
+              | inr past ↦
+                  (let same : m ≡ moment = same_Some m moment (sym is ∙ (at_last point below past ∙ its)) in
+                  elim (cases_lt one.0 moment) [
+                    | inl sooner_one ↦ inl sooner_one
+                    | inr not ↦ inr ((let equal : one.0 ≡ moment = omega (arith, less, same, not) in equal), (let no_more : one.1.0 ≤ point.0 = omega (arith, below_n, past) in no_more))
+                  ])
+            ],
+          )
+      by_order one kept m is false later =
+          let less : m < one.0 = grind (arith, nat_tests) in (
+            omega arith,
+            is,
+            λ point moment below its. elim (cases_lt point.0 n) [
+              | inl less_n ↦ (let not = kept.2 point moment less_n its in elim not [ inl more ↦ inl (omega (arith, less, more)) | inr same ↦ inl (let equal = same.0 in omega (arith, less, equal)) ])
+              | inr past ↦ (let same : m ≡ moment = same_Some m moment (sym is ∙ (at_last point below past ∙ its)) in inr (same, past))
+            ],
+          )
 
-acted_there : (b : Bool) (mid : Moments) (i t : ℕ) (point : PointId) → point.0 ≢ i → get_or (cond b (set mid i (Some t)) mid) point.0 None ≡ get_or mid point.0 None
-acted_there true mid i t point other = get_or-set_other mid i point.0 (Some t) None other
-acted_there false mid i t point other = refl
+      by : (first : Option (ℕ × PointId)) → IsFirstAmong due n first → (o : Option ℕ) → due_in due last ≡ o → IsFirstAmong due (n + 1) (sooner first o last)
+      by None none None is = λ point below. elim (cases_lt point.0 n) [ inl less ↦ none point less | inr past ↦ sym (at_last point below past) ∙ is ]
+      by None none (Some m) is = (
+        omega arith,
+        is,
+        λ point moment below its. elim (cases_lt point.0 n) [
+          | inl less ↦ absurd (none-some moment (sym (none point less) ∙ its))
+          | inr past ↦ (let same : m ≡ moment = same_Some m moment (sym is ∙ (at_last point below past ∙ its)) in inr (same, past))
+        ],
+      )
+      by (Some one) kept None is = (
+        (let low = kept.0 in omega (arith, low)),
+        kept.1,
+        λ point moment below its. elim (cases_lt point.0 n) [
+          | inl less ↦ kept.2 point moment less its
+          | inr past ↦ absurd (none-some moment (sym is ∙ (at_last point below past ∙ its)))
+        ],
+      )
+      by (Some one) kept (Some m) is = by_order one kept m is (nat_le one.0 m) refl
 
-acted_length : (b : Bool) (mid : Moments) (i t : ℕ) → length (cond b (set mid i (Some t)) mid) ≡ length mid
-acted_length true mid i t = length-set mid i (Some t)
-acted_length false mid i t = refl
+module _ (due : List (Option ℕ)) where
+  -- what is due later has not begun
+  pub not_begun : (t : ℕ) (o : Option ℕ) → ((m : ℕ) → o ≡ Some m → t < m) → has_begun o t ≡ false
+  not_begun t None later = refl
+  not_begun t (Some m) later = (let more = later m refl in let no : nat_le m t ≡ false = grind (arith, nat_tests) in no)
 
-pub acted_more : (due : List (Option ℕ)) (t i : ℕ) (old mid new : Moments) → i < length old → AreActed due t i old mid
-    → new ≡ cond (is_due_in due t (record { 0 = i })) (set mid i (Some t)) mid → AreActed due t (i + 1) old new
-acted_more due t i old mid new inside before is = rw is (record {
-  whole = acted_length (is_due_in due t (record { 0 = i })) mid i t ∙ before.whole;
-  each = λ point below. elim (cases_lt point.0 i) [
-    | inl less ↦ (let other : point.0 ≢ i = omega (arith, less) in acted_there (is_due_in due t (record { 0 = i })) mid i t point other ∙ before.each point less)
-    | inr not_less ↦
-        (let same : point.0 ≡ i = omega (arith, below, not_less) in
-        acted_here (is_due_in due t (record { 0 = i })) mid i t point (omega (arith, inside, before.whole)) same
-        ∙ ap (cond (is_due_in due t (record { 0 = i })) (Some t)) (before.others point not_less)
-        ∙ ap (λ (k : ℕ). cond (is_due_in due t (record { 0 = k })) (Some t) (moment_of old point)) (sym same))
-  ];
-  others = λ point above. (let other : point.0 ≢ i = omega (arith, above) in acted_there (is_due_in due t (record { 0 = i })) mid i t point other ∙ before.others point (omega (arith, above)));
-})
+  pub lowest_is : (t moment : ℕ) (point : PointId) → IsFirstDue due (Some (moment, point)) → moment ≤ t → IsLowestDue due t (Some point)
+  lowest_is t moment point first begun = (
+    first.0,
+    ap (λ (o : Option ℕ). has_begun o t) first.1 ∙ le-leb moment t begun,
+    λ none other less. not_begun t (due_in due other) (λ m is.
+        let inside : other.0 < length due = (let low = first.0 in omega (arith, low, less)) in
+        let from : t ≤ moment = none point moment first.0 first.1 in
+        elim (first.2 other m inside is) [ inl sooner_one ↦ omega (arith, from, sooner_one) | inr same ↦ absurd (let no_more = same.1 in omega (arith, no_more, less)) ]),
+  )
 
--- where only open points are due, the next one is open
-pub open_next : (due now : List (Option ℕ)) (t i : ℕ) (old mid : Moments) → i < length old → AreOpen due old → AreActed due t i old mid → now ≡ due
-    → is_due_in now t (record { 0 = i }) ≡ true → moment_of mid (record { 0 = i }) ≡ None
-open_next due now t i old mid inside opened before same is_due =
-    before.others (record { 0 = i }) (omega arith) ∙ opened (record { 0 = i }) t inside (rw same at is_due)
+  pub none_lowest_after : (t moment : ℕ) (point : PointId) → IsFirstDue due (Some (moment, point)) → t < moment → IsLowestDue due t None
+  none_lowest_after t moment point first later = λ other inside.
+      not_begun t (due_in due other) (λ m is. elim (first.2 other m inside is) [ inl sooner_one ↦ omega (arith, later, sooner_one) | inr same ↦ (let equal = same.0 in omega (arith, later, equal)) ])
 
--- the acts so far with those of the next point
-pub acts_pushed : (due now : List (Option ℕ)) (t i : ℕ) (old mid new : List Act) → mid ≡ old ++ acts_among due t i
-    → new ≡ mid ++ cond (is_due_in now t (record { 0 = i })) (record { moment = t; point = record { 0 = i } } ∷ []) [] → now ≡ due → new ≡ old ++ acts_among due t (i + 1)
-acts_pushed due now t i old mid new before is same =
-    let chosen : List (Option ℕ) → List Act = λ list. cond (is_due_in list t (record { 0 = i })) (record { moment = t; point = record { 0 = i } } ∷ []) [] in
-    is ∙ ap (λ acts. acts ++ chosen now) before ∙ append_assoc old (acts_among due t i) (chosen now)
-    ∙ ap (λ (list : List (Option ℕ)). old ++ (acts_among due t i ++ chosen list)) same ∙ ap (λ acts. old ++ acts) (sym (acts_among_more due t i))
+  pub none_lowest : (t : ℕ) → IsFirstDue due None → IsLowestDue due t None
+  none_lowest t none = λ other inside. not_begun t (due_in due other) (λ m is. absurd (none-some m (sym (none other inside) ∙ is)))
 
-not_come : (a : Bool) (moment : Option ℕ) (b : Bool) → (a && is_none moment && b) ≡ true → moment ≡ None
-not_come true None b is = refl
-not_come true (Some m) b is = cc
-not_come false moment b is = cc
+  pub first_moment : (moment : ℕ) (point : PointId) → IsFirstDue due (Some (moment, point)) → IsFirstMoment due (Some moment)
+  first_moment moment point first =
+      ((λ other m inside is. elim (first.2 other m inside is) [ inl sooner_one ↦ omega (arith, sooner_one) | inr same ↦ (let equal = same.0 in omega (arith, equal)) ]), (point, first.0, first.1))
 
-none_at : (due : List (Option ℕ)) (k t : ℕ) → is_any_due due t ≡ false → k < length due → has_begun (get_or due k None) t ≡ false
-none_at due k t none inside = by (has_begun (get_or due k None) t) refl
+-- ---- how many are left
+pub left_completed : (moments : Moments) (t : ℕ) (point : PointId) → point.0 < length moments → moment_of moments point ≡ None → left_of (completed_at moments t point) + 1 ≡ left_of moments
+left_completed moments t point inside new =
+    let one : Option ℕ → ℕ = λ (m : Option ℕ). cond (is_none m) 1 0 in
+    let set : left_of (completed_at moments t point) + one (moment_of moments point) ≡ left_of moments + one (Some t) = sum_by-set one moments point.0 (Some t) None inside in
+    let before : one (moment_of moments point) ≡ 1 = ap one new in
+    omega (arith, set, before)
+
+-- ---- when none is due before a later moment
+module _ (setting : Setting) (now later : ℕ) (moments : Moments) (counts : List ℕ) (due : List (Option ℕ)) (awake : IsAwake setting now moments counts due) where
+  pub awake_later : now ≤ later → NoneDueBefore due later → IsAwake setting later moments counts due
+  awake_later from none = record {
+    moments_count = awake.moments_count;
+    counts_count = awake.counts_count;
+    due_count = awake.due_count;
+    counted = awake.counted;
+    known = λ point inside. ((λ t above. (awake.known point inside).0 t (omega (arith, from, above))), by (due_in due point) (λ m is. none point m (omega (arith, inside, awake.due_count)) is));
+  }
+    where
+      by : (o : Option ℕ) → ((m : ℕ) → o ≡ Some m → later ≤ m) → IfSome o (λ moment. later ≤ moment)
+      by None each = tt
+      by (Some m) each = each m refl
+
+  pub known_none_before : NoneDueBefore due now
+  known_none_before point moment inside is = subst (λ (o : Option ℕ). IfSome o (λ m. now ≤ m)) is (awake.known point (omega (arith, inside, awake.due_count))).1
+
+  -- no point is due before the first moment
+  idle_before : (t : ℕ) → now ≤ t → t < later → NoneDueBefore due later → (point : PointId) → point.0 < length setting.dispatch → is_due setting moments t point ≡ false
+  idle_before t from below none point inside =
+      (awake.known point inside).0 t from ∙ not_begun due t (due_in due point) (λ m is. let more = none point m (omega (arith, inside, awake.due_count)) is in omega (arith, below, more))
+
+-- where all have come it stays so
+pub awake_at_end : (setting : Setting) (now any : ℕ) (moments : Moments) (counts : List ℕ) (due : List (Option ℕ)) → IsAwake setting now moments counts due
+    → ((point : PointId) → point.0 < length moments → (m : ℕ) × (moment_of moments point ≡ Some m)) → IsAwake setting any moments counts due
+awake_at_end setting now any moments counts due awake come = record {
+  moments_count = awake.moments_count;
+  counts_count = awake.counts_count;
+  due_count = awake.due_count;
+  counted = awake.counted;
+  known = λ point inside. ((λ t from. never point inside t ∙ sym (ap (λ (o : Option ℕ). has_begun o t) (none point inside))), subst (λ (o : Option ℕ). IfSome o (λ m. any ≤ m)) (sym (none point inside)) tt);
+}
   where
-    by : (b : Bool) → has_begun (get_or due k None) t ≡ b → b ≡ false
-    by false is = refl
-    by true is = (let some = list_any_at (λ first. has_begun first t) due k None inside is in cc)
+    never : (point : PointId) → point.0 < length setting.dispatch → (t : ℕ) → is_due setting moments t point ≡ false
+    never point inside t = (let (m, is) = come point (omega (arith, inside, awake.moments_count)) in come_not_due setting moments t point m is)
 
--- ---- the acts of a moment, by what is due
-same_numbered : (p q : PointId → Bool) (n : ℕ) → ((point : PointId) → point.0 < n → p point ≡ q point) → filter p (first_points n) ≡ filter q (first_points n)
-same_numbered p q zero same = refl
-same_numbered p q (suc n) same =
-    let number : ℕ → PointId = λ k. record { 0 = k } in
-    let front = same_numbered p q n (λ point below. same point (omega arith)) in
-    let here : p (number n) ≡ q (number n) = same (number n) (omega arith) in
-    let first = filter_of_map_range_with_len_more p number 0 n n (omega arith) in
-    let second = filter_of_map_range_with_len_more q number 0 n n (omega arith) in
-    subst (λ m. filter p (first_points m) ≡ filter q (first_points m)) (add-one n)
-    (first ∙ ap (λ points. points ++ cond (p (number n)) (number n ∷ []) []) front
-    ∙ ap (λ b. filter q (first_points n) ++ cond b (number n ∷ []) []) here ∙ sym second)
+    none : (point : PointId) → point.0 < length setting.dispatch → due_in due point ≡ None
+    none point inside = by (due_in due point) refl
+      where
+        by : (o : Option ℕ) → due_in due point ≡ o → o ≡ None
+        by None is = refl
+        by (Some d) is =
+            let begins : has_begun (due_in due point) (now + d) ≡ true = ap (λ (o : Option ℕ). has_begun o (now + d)) is ∙ le-leb d (now + d) (omega arith) in
+            absurd (true≢false (sym begins ∙ (sym ((awake.known point inside).0 (now + d) (omega arith)) ∙ never point inside (now + d))))
 
--- what is due by the list is due by the definition
-pub acts_are : (setting : Setting) (moments : Moments) (due : List (Option ℕ)) (t : ℕ) → AreDue setting moments due → acts_among due t (length setting.dispatch) ≡ acts_at setting moments t
-acts_are setting moments due t are =
-    let act : PointId → Act = λ point. record { moment = t; point = point } in
-    ap (map act) (same_numbered (is_due_in due t) (is_due setting moments t) (length setting.dispatch) (λ point inside. sym (are point inside t)))
+-- ---- the acts of a moment
+module _ (network : KeptNetwork) (same : ExecutesTheSame network) (t : ℕ) (moments : Moments) (counts : List ℕ) (due : List (Option ℕ)) (course : IsCourseOf network t moments counts due) where
+  abbrev made : Setting
+  made = made_setting network
 
-pub acted_are : (setting : Setting) (moments new : Moments) (due : List (Option ℕ)) (t : ℕ) → length moments ≡ length setting.dispatch → AreDue setting moments due
-    → AreActed due t (length moments) moments new → new ≡ acted setting moments t
-acted_are setting moments new due t whole are is =
-    let after : PointId → Option ℕ = λ point. cond (is_due setting moments t point) (Some t) (moment_of moments point) in
-    let number : ℕ → PointId = λ k. record { 0 = k } in
-    fill_by_all (λ k. after (number k)) new (length setting.dispatch) None (is.whole ∙ whole) (λ k below.
-    is.each (number k) (omega (arith, whole, below)) ∙ ap (λ b. cond b (Some t) (moment_of moments (number k))) (sym (are (number k) below t)))
-    ∙ sym (map-map after number (range_with_len 0 (length setting.dispatch)))
+  known_due : (point : PointId) → point.0 < length moments → is_due made moments t point ≡ is_due_in due t point
+  known_due point inside = sym (due_same network same moments course.paced t point) ∙ (course.awake.known point (omega (arith, inside, course.awake.moments_count))).0 t (omega arith)
 
--- only points that have not come are due
-pub due_are_open : (setting : Setting) (moments : Moments) (due : List (Option ℕ)) → length moments ≡ length setting.dispatch → AreDue setting moments due → AreOpen due moments
-due_are_open setting moments due whole are point t inside is_due =
-    not_come (is_none (link_to setting point)) (moment_of moments point) _ (are point (omega (arith, inside, whole)) t ∙ is_due)
+  module _ (point : PointId) (lowest : IsLowestDue due t (Some point)) where
+    pub lowest_inside : point.0 < length moments
+    lowest_inside = (let low = lowest.0 in omega (arith, low, course.awake.due_count, course.awake.moments_count))
 
--- a list in which no point is due at t
-pub none_due : (setting : Setting) (moments : Moments) (due : List (Option ℕ)) (t : ℕ) → length due ≡ length setting.dispatch → AreDue setting moments due
-    → is_any_due due t ≡ false → (point : PointId) → point.0 < length setting.dispatch → is_due setting moments t point ≡ false
-none_due setting moments due t whole are none point inside =
-    are point inside t ∙ none_at due point.0 t none (omega (arith, whole, inside))
+    lowest_due : is_due made moments t point ≡ true
+    lowest_due = known_due point lowest_inside ∙ lowest.1
+
+    pub lowest_new : moment_of moments point ≡ None
+    lowest_new = (due_parts made moments t point lowest_due).1
+
+    pub one_act_more : (old : Moments) (old_acts acts now_acts : List Act) → AreSomeMade network t old moments old_acts acts
+        → now_acts ≡ acts ++ record { moment = t; point = point } ∷ [] → AreSomeMade network t old (completed_at moments t point) old_acts now_acts
+    one_act_more old old_acts acts now_acts so_far pushed = record {
+      made = so_far.made ++ act ∷ [];
+      acts = pushed ∙ (ap (λ (before : List Act). before ++ act ∷ []) so_far.acts ∙ append_assoc old_acts so_far.made (act ∷ []));
+      leads = λ rest after goes. subst (λ (all : List Act). IsMadeOneByOne made t old all after) (sym (append_assoc so_far.made (act ∷ []) rest))
+          (so_far.leads (act ∷ rest) after (next moments after point rest (omega (arith, lowest_inside, course.count)) lowest_due lower goes));
+    }
+      where
+        act : Act
+        act = record { moment = t; point = point }
+
+        lower : (other : PointId) → other.0 < point.0 → is_due made moments t other ≡ false
+        lower other less = known_due other (omega (arith, less, lowest_inside)) ∙ lowest.2 (known_none_before network.setting t t moments counts due course.awake) other less
+
+    pub course_more : (counts_after : List ℕ) (due_after : List (Option ℕ)) → t < end_of_time → IsAwake network.setting t (completed_at moments t point) counts_after due_after
+        → IsCourseOf network t (completed_at moments t point) counts_after due_after
+    course_more counts_after due_after below awake = record {
+      awake = awake;
+      count = length-completed_at moments t point ∙ course.count;
+      early = All-set (λ (m : Option ℕ). IfSome m (λ a. a < end_of_time)) moments point.0 (Some t) below course.early;
+      few = (let long = length-completed_at moments t point in omega (arith, long, course.few));
+      paced = (acts_come_one_by_one made same.rank moments same.ranked course.paced course.count t point (omega (arith, lowest_inside, course.count)) lowest_due).1;
+    }
+
+  module _ (none : IsLowestDue due t None) where
+    all_made : (point : PointId) → point.0 < length network.made → is_due made moments t point ≡ false
+    all_made point inside = known_due point (omega (arith, inside, course.count)) ∙ none point (omega (arith, inside, course.count, course.awake.due_count, course.awake.moments_count))
+
+    pub course_next : IsCourseOf network (t + 1) moments counts due
+    course_next = record {
+      awake = awake_later network.setting t (t + 1) moments counts due course.awake (omega arith) (λ point moment inside is.
+          let from : t ≤ moment = known_none_before network.setting t t moments counts due course.awake point moment inside is in
+          let not_yet : nat_le moment t ≡ false = sym (ap (λ (o : Option ℕ). has_begun o t) is) ∙ none point inside in
+          let after : t < moment = grind (arith, nat_tests) in
+          omega (arith, after));
+      count = course.count;
+      early = course.early;
+      few = course.few;
+      paced = course.paced;
+    }
+
+    pub acts_made : (old : Moments) (old_acts acts : List Act) → ArePaced made old → length old ≡ length network.made → AreSomeMade network t old moments old_acts acts
+        → (moments ≡ acted made old t) × (acts ≡ old_acts ++ acts_at made old t)
+    acts_made old old_acts acts paced long so_far =
+        let whole : IsMadeOneByOne made t old so_far.made moments = subst (λ (all : List Act). IsMadeOneByOne made t old all moments) (append-nil so_far.made) (so_far.leads [] moments (done moments all_made)) in
+        let all = one_by_one_is_at_once made same.rank old moments t so_far.made same.ranked paced long whole in
+        (all.0, so_far.acts ∙ ap (λ (later : List Act). old_acts ++ later) all.1)
+
+pub none_made : (network : KeptNetwork) (t : ℕ) (old : Moments) (old_acts : List Act) → AreSomeMade network t old old old_acts old_acts
+none_made network t old old_acts = record { made = []; acts = sym (append-nil old_acts); leads = λ rest after goes. goes }
+
+-- ---- time
+module _ (network : KeptNetwork) (same : ExecutesTheSame network) (from until : ℕ) (old : Moments) (old_acts : List Act) where
+  pub not_run : (counts : List ℕ) (due : List (Option ℕ)) → from ≤ until → IsCourseOf network from old counts due → HasRun network from until old old counts due old_acts old_acts
+  not_run counts due range course =
+      let zero_time : from - from ≡ 0 = omega arith in
+      record {
+        next = from;
+        later = omega arith;
+        earlier = range;
+        moments = sym (ap (time_runs (made_setting network) old from) zero_time);
+        acts = sym (ap (λ n. old_acts ++ acts_while (made_setting network) old from n) zero_time ∙ append-nil old_acts);
+        course = course;
+      }
+
+  module _ (moments : Moments) (counts : List ℕ) (due : List (Option ℕ)) (acts : List Act) (run : HasRun network from until old moments counts due old_acts acts) where
+    idle : (later : ℕ) → NoneDueBefore due later → (u : ℕ) → run.next ≤ u → u < later → IsIdle (made_setting network) moments u
+    idle later none u above below point inside =
+        sym (due_same network same moments run.course.paced u point)
+        ∙ idle_before network.setting run.next later moments counts due run.course.awake u above below none point (omega (arith, inside, run.course.count, run.course.awake.moments_count))
+
+    module _ (moment : ℕ) (first : IsFirstBefore due until (Some moment)) where
+      abbrev its_first : IsFirstMoment due (Some moment)
+      its_first = first.1
+
+      next_no_later : run.next ≤ moment
+      next_no_later = (let (point, inside, is) = its_first.1 in known_none_before network.setting run.next run.next moments counts due run.course.awake point moment inside is)
+
+      pub course_at : IsCourseOf network moment moments counts due
+      course_at = record {
+        awake = awake_later network.setting run.next moment moments counts due run.course.awake next_no_later its_first.0;
+        count = run.course.count;
+        early = run.course.early;
+        few = run.course.few;
+        paced = run.course.paced;
+      }
+
+      pub fewer_left : left_of (acted (made_setting network) moments moment) < left_of moments
+      fewer_left =
+          let (point, inside, is) = its_first.1 in
+          let within : point.0 < length moments = omega (arith, inside, run.course.awake.due_count, run.course.awake.moments_count) in
+          let begins : is_due_in due moment point ≡ true = ap (λ (o : Option ℕ). has_begun o moment) is ∙ le-leb moment moment (omega arith) in
+          left_acted (made_setting network) moments moment point run.course.count (omega (arith, within, run.course.count))
+          (known_due network same moment moments counts due course_at point within ∙ begins)
+
+      pub run_on : (now : Moments) (now_acts : List Act) (counts_after : List ℕ) (due_after : List (Option ℕ)) → now ≡ acted (made_setting network) moments moment
+          → now_acts ≡ acts ++ acts_at (made_setting network) moments moment → IsCourseOf network (moment + 1) now counts_after due_after
+          → HasRun network from until old now counts_after due_after old_acts now_acts
+      run_on now now_acts counts_after due_after is acts_are course =
+          let setting = made_setting network in
+          let leap = leaps setting old from run.next moment moments run.later next_no_later run.course.count run.moments (idle moment its_first.0) in
+          record {
+            next = moment + 1;
+            later = (let low = run.later in omega (arith, low, next_no_later));
+            earlier = (let before = first.0 in omega (arith, before));
+            moments = is ∙ leap.0;
+            acts = acts_are ∙ (ap (λ (before : List Act). before ++ acts_at setting moments moment) run.acts
+                ∙ (append_assoc old_acts (acts_while setting old from (run.next - from)) (acts_at setting moments moment) ∙ ap (λ (later : List Act). old_acts ++ later) leap.1));
+            course = course;
+          }
+
+    pub run_ends : IsFirstBefore due until None → (moments ≡ time_runs (made_setting network) old from (until - from))
+        × (acts ≡ old_acts ++ acts_while (made_setting network) old from (until - from)) × IsCourseOf network until moments counts due
+    run_ends none =
+        let rest = rests (made_setting network) old from run.next until moments run.later run.earlier run.course.count run.moments (idle until none) in (
+          rest.0,
+          run.acts ∙ ap (λ (later : List Act). old_acts ++ later) rest.1,
+          record {
+            awake = awake_later network.setting run.next until moments counts due run.course.awake run.earlier none;
+            count = run.course.count;
+            early = run.course.early;
+            few = run.course.few;
+            paced = run.course.paced;
+          },
+        )

@@ -25,16 +25,17 @@ use Rattle.execution_model.proofs.PlaceLemmas.{gone_by, from_gone_by}
 use Rattle.execution_model.proofs.MomentLemmas.{Contains-point, due_parts, due_from, time_runs_contingent, no_acts_none_due, none_due_no_acts}
 use Rattle.live_executor.specs.Limits.{AreBefore}
 use Rattle.live_executor.specs.Sound.{IsLowerBound, IsWait, IsSound, IsKept, ComesToItsEnd, kept_network, made_setting}
+use Rattle.live_executor.specs.Wakes.{WakeLists}
 use Rattle.live_executor.proofs.SameLemmas.{made_of}
 use Rattle.live_executor.proofs.MomentLemmas.{moment_before}
 
 -- ---- of which network it is
-made_comes_to_its_end : NoActsLeftIsWhole → (lists : DispatchLists) (points : ℕ) → IsKept lists points → ComesToItsEnd (made_setting (kept_network lists))
-made_comes_to_its_end law lists points kept moments whole contingent idle =
+made_comes_to_its_end : NoActsLeftIsWhole → (lists : DispatchLists) (points : ℕ) (wakes : WakeLists) → IsKept lists points → ComesToItsEnd (made_setting (kept_network lists wakes))
+made_comes_to_its_end law lists points wakes kept moments whole contingent idle =
     let of = kept.dispatched in
-    let setting = made_setting (kept_network lists) in
+    let setting = made_setting (kept_network lists wakes) in
     let count : length lists.made ≡ length kept.net.points = ap length of.made ∙ dispatchable_length kept.net of.table of.may.for_network in
-    let same : setting ≡ setting_of kept.net of.table = made_of kept.net lists of in
+    let same : setting ≡ setting_of kept.net of.table = made_of kept.net lists wakes of in
     law kept.net of.table of.order moments 0 of.instant of.graph of.may (whole ∙ count)
     (λ point is.
     let (link, found) = contingent_has_link kept.net setting of.links of.instant.sound point is in
@@ -68,15 +69,15 @@ slim_comes_to_its_end setting comes moments whole contingent idle =
     by t point none false is = refl
     by t point none true is = absurd (true≢false (sym (slim_due setting moments t point is) ∙ none))
 
-pub comes_to_its_end : NoActsLeftIsWhole → (lists : DispatchLists) (points : ℕ) → IsKept lists points → ComesToItsEnd (kept_network lists).setting
-comes_to_its_end law lists points kept = by kept.slim_or_whole
+pub comes_to_its_end : NoActsLeftIsWhole → (lists : DispatchLists) (points : ℕ) (wakes : WakeLists) → IsKept lists points → ComesToItsEnd (kept_network lists wakes).setting
+comes_to_its_end law lists points wakes kept = by kept.slim_or_whole
   where
-    made : ComesToItsEnd (made_setting (kept_network lists))
-    made = made_comes_to_its_end law lists points kept
+    made : ComesToItsEnd (made_setting (kept_network lists wakes))
+    made = made_comes_to_its_end law lists points wakes kept
 
     by : IsSlimOrWhole lists.links lists.made lists.kept → ComesToItsEnd (record { links = lists.links; dispatch = lists.kept })
     by (inl whole) = subst (λ (cs : List Conditions). ComesToItsEnd (record { links = lists.links; dispatch = cs })) (sym whole) made
-    by (inr slim) = subst (λ (cs : List Conditions). ComesToItsEnd (record { links = lists.links; dispatch = cs })) (sym slim) (slim_comes_to_its_end (made_setting (kept_network lists)) made)
+    by (inr slim) = subst (λ (cs : List Conditions). ComesToItsEnd (record { links = lists.links; dispatch = cs })) (sym slim) (slim_comes_to_its_end (made_setting (kept_network lists wakes)) made)
 
 -- ---- closed points
 shut : (come link : Bool) → cond come false link ≡ false → link ≡ true → come ≡ true

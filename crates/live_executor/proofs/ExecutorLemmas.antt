@@ -1,18 +1,20 @@
 -- What is answered is what the definitions say.
-use Rattle.std.proofs.Common.{◌≡◌, ℕ, false, List, [], length, map, Option, Some, None, ap, sym, ◌∙◌, arith, replicate}
+use Rattle.std.proofs.Common.{◌≡◌, ℕ, ◌<◌, ◌≤◌, true, false, List, [], length, map, Option, Some, None, ap, sym, ◌∙◌, arith, replicate}
 use Rattle.std.specs.List.{range_with_len}
-use Rattle.std.proofs.lemmas.List.{get_or-replicate, length-replicate, get_or_default}
+use Rattle.std.proofs.lemmas.Bool.{le-leb, true≢false}
+use Rattle.std.proofs.lemmas.List.{get_or-replicate, length-replicate}
 use Rattle.std.proofs.lemmas.List.FromFn.{fill_by_all}
-use Rattle.std.proofs.lemmas.List.Folds.{list_any_none}
 use Rattle.std.proofs.lemmas.Simd.{map-map}
 use Rattle.net_model.specs.declared.ids.PointId.{PointId}
-use Rattle.execution_model.specs.Execution.{Moments, Setting, points_of, acts_at}
+use Rattle.execution_model.specs.Execution.{Moments, Setting, points_of, is_due, acts_at}
 use Rattle.execution_model.specs.Feeding.{Execution, started, next_moment, IsNextDue, IsDueAnswer}
 use Rattle.execution_model.specs.declared.feeding.Act.{Act}
-use Rattle.live_executor.specs.Course.{IsCourseOf}
-use Rattle.live_executor.specs.Due.{has_begun, AreDue, is_any_due, IsFirstFrom}
-use Rattle.live_executor.proofs.CourseLemmas.{none_due}
 use Rattle.execution_model.proofs.MomentLemmas.{no_acts_none_due, none_due_no_acts}
+use Rattle.live_executor.specs.Course.{IsCourseOf, IsFirstMoment}
+use Rattle.live_executor.specs.Due.{has_begun, due_in}
+use Rattle.live_executor.specs.Sound.{KeptNetwork, made_setting, ExecutesTheSame}
+use Rattle.live_executor.proofs.CourseLemmas.{not_begun, known_none_before}
+use Rattle.live_executor.proofs.SameLemmas.{due_same}
 
 -- ---- the start
 abbrev none_at : PointId → Option ℕ
@@ -33,24 +35,36 @@ starts setting wanted moments acts same none no_acts =
     ap (λ (m : Moments). made m acts) (none ∙ none_come setting) ∙ ap (made (map none_at (points_of setting))) no_acts ∙ ap started same
 
 -- ---- the next due moment
-module _ (setting : Setting) (moments : Moments) (due : List (Option ℕ)) (whole : length due ≡ length setting.dispatch) (known : AreDue setting moments due) where
-  pub acts_due : (t : ℕ) → acts_at setting moments t ≡ [] → is_any_due due t ≡ false
-  acts_due t none =
-      let number : ℕ → PointId = λ k. record { 0 = k } in
-      let idle = no_acts_none_due setting moments t none in
-      list_any_none (λ first. has_begun first t) due (λ k d inside.
-      ap (λ first. has_begun first t) (get_or_default due k d None inside)
-      ∙ sym (known (number k) (omega (arith, inside, whole)) t) ∙ idle (number k) (omega (arith, inside, whole)))
+module _ (network : KeptNetwork) (same : ExecutesTheSame network) (execution : Execution) (counts : List ℕ) (due : List (Option ℕ)) (is_made : execution.setting ≡ made_setting network)
+    (course : IsCourseOf network (next_moment execution) execution.moments counts due) where
+  known_at : (t : ℕ) → next_moment execution ≤ t → (point : PointId) → point.0 < length execution.setting.dispatch → is_due execution.setting execution.moments t point ≡ has_begun (due_in due point) t
+  known_at t from point inside =
+      let whole : length execution.setting.dispatch ≡ length network.made = ap (λ (s : Setting). length s.dispatch) is_made in
+      ap (λ (s : Setting). is_due s execution.moments t point) is_made
+      ∙ (sym (due_same network same execution.moments course.paced t point)
+      ∙ (course.awake.known point (omega (arith, inside, whole, course.count, course.awake.moments_count))).0 t from)
 
-pub next_due_is : (execution : Execution) (due : List (Option ℕ)) (answer : Option ℕ) → length due ≡ length execution.moments → IsCourseOf execution.setting execution.moments due
-    → IsFirstFrom due (next_moment execution) answer → IsNextDue execution answer
-next_due_is execution due None whole course first =
-    λ t above. none_due_no_acts execution.setting execution.moments t (none_due execution.setting execution.moments due t (whole ∙ course.count) course.known (first t above))
-next_due_is execution due (Some moment) whole course first = (
-  first.0,
-  λ t above below. none_due_no_acts execution.setting execution.moments t (none_due execution.setting execution.moments due t (whole ∙ course.count) course.known (first.1 t above below)),
-  λ none. (let no = acts_due execution.setting execution.moments due (whole ∙ course.count) course.known moment none in let some = first.2 in cc),
-)
+  no_act : (t : ℕ) → next_moment execution ≤ t → ((point : PointId) → point.0 < length due → has_begun (due_in due point) t ≡ false) → acts_at execution.setting execution.moments t ≡ []
+  no_act t from none =
+      let whole : length execution.setting.dispatch ≡ length network.made = ap (λ (s : Setting). length s.dispatch) is_made in
+      none_due_no_acts execution.setting execution.moments t (λ point inside.
+      known_at t from point inside ∙ none point (omega (arith, inside, whole, course.count, course.awake.moments_count, course.awake.due_count)))
+
+  pub next_due_is : (answer : Option ℕ) → IsFirstMoment due answer → IsNextDue execution answer
+  next_due_is None none = λ t from. no_act t from (λ point inside. ap (λ (o : Option ℕ). has_begun o t) (none point inside))
+  next_due_is (Some first) is =
+      let whole : length execution.setting.dispatch ≡ length network.made = ap (λ (s : Setting). length s.dispatch) is_made in
+      let (point, inside, at) = is.1 in
+      let within : point.0 < length execution.setting.dispatch = omega (arith, inside, whole, course.count, course.awake.moments_count, course.awake.due_count) in
+      let from : next_moment execution ≤ first =
+      known_none_before network.setting (next_moment execution) first execution.moments counts due course.awake point first inside at in (
+        from,
+        (λ t above below. no_act t above (λ other other_inside. not_begun due t (due_in due other) (λ m its. let later = is.0 other m other_inside its in omega (arith, below, later)))),
+        λ none.
+            let no : is_due execution.setting execution.moments first point ≡ false = no_acts_none_due execution.setting execution.moments first none point within in
+            let yes : has_begun (due_in due point) first ≡ true = ap (λ (o : Option ℕ). has_begun o first) at ∙ le-leb first first (omega arith) in
+            true≢false (sym yes ∙ (sym (known_at first from point within) ∙ no)),
+      )
 
 pub due_answer : (execution : Execution) (answer : Option ℕ) → execution.refused ≡ None → IsNextDue execution answer → IsDueAnswer execution answer
 due_answer execution answer none is = rw none is

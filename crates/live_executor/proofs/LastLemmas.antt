@@ -5,15 +5,15 @@ use Rattle.std.specs.List.{All}
 use Rattle.std.proofs.lemmas.List.Elements.{All-head, All-tail, All-weaker}
 use Rattle.std.proofs.lemmas.List.Sums.{fold-append}
 use Rattle.net_model.specs.declared.ids.PointId.{PointId}
-use Rattle.execution_model.specs.Execution.{Moments, Setting, is_due, points_of, acts_at, acted, time_runs, acts_while}
+use Rattle.execution_model.specs.Execution.{Moments, Setting, moment_of, is_due, points_of, acts_at, acted, time_runs, acts_while}
 use Rattle.execution_model.specs.Feeding.{last_of}
 use Rattle.execution_model.specs.declared.feeding.Act.{Act}
-use Rattle.execution_model.proofs.MomentLemmas.{no_acts_same, length-acted, length-time_runs}
+use Rattle.execution_model.proofs.MomentLemmas.{no_acts_same, length-acted}
 use Rattle.live_executor.specs.Course.{left_of, IsCourseOf}
 use Rattle.live_executor.specs.Kept.{IsKeptExecution, moment_after}
 use Rattle.live_executor.specs.Limits.{AreBefore, end_of_time}
 use Rattle.live_executor.specs.Sound.{KeptNetwork, made_setting}
-use Rattle.execution_model.specs.Paced.{ArePaced}
+use Rattle.live_executor.proofs.CourseLemmas.{awake_at_end}
 use Rattle.live_executor.proofs.MomentLemmas.{acted_before}
 use Rattle.live_executor.proofs.SettleLemmas.{left_cons}
 
@@ -77,18 +77,26 @@ module _ (setting : Setting) where
             within = (let low = next.within in omega (arith, low, last_is));
           })
 
+some_of : (o : Option ℕ) → IsSome o → (m : ℕ) × (o ≡ Some m)
+some_of None is = absurd cc
+some_of (Some m) is = (m, refl)
+
 -- what an executor keeps at the end
-pub kept_at_end : (network : KeptNetwork) (old : Moments) (last : Option ℕ) (from : ℕ) (now trial : Moments) (due : List (Option ℕ)) (acts : List Act) → length old ≡ length network.made
+pub kept_at_end : (network : KeptNetwork) (old : Moments) (last : Option ℕ) (from : ℕ) (now trial : Moments) (counts : List ℕ) (due : List (Option ℕ)) (acts : List Act) → length old ≡ length network.made
     → AreBefore (moment_after last) old → from ≡ moment_after last → from ≤ end_of_time → now ≡ time_runs (made_setting network) old from (end_of_time - from)
-    → acts ≡ acts_while (made_setting network) old from (end_of_time - from) → IsCourseOf network.setting now due → length trial ≡ length now → All IsSome now → ArePaced (made_setting network) now
-    → IsKeptExecution network now due trial (last_of last acts)
-kept_at_end network old last from now trial due acts whole before first soon is acts_are course room come paced =
+    → acts ≡ acts_while (made_setting network) old from (end_of_time - from) → IsCourseOf network end_of_time now counts due → length trial ≡ length now → All IsSome now
+    → IsKeptExecution network now counts due trial (last_of last acts)
+kept_at_end network old last from now trial counts due acts whole before first soon is acts_are course room come =
     let end = ends_at (made_setting network) last old from (end_of_time - from) whole (omega (arith, first)) before in
     record {
-      course = course;
-      count = ap (λ (m : Moments). length m) is ∙ length-time_runs (made_setting network) old from (end_of_time - from) whole;
+      course = record {
+        awake = awake_at_end network.setting end_of_time (moment_after (last_of last acts)) now counts due course.awake (λ point inside. some_of (moment_of now point) (come point.0 None inside));
+        count = course.count;
+        early = course.early;
+        few = course.few;
+        paced = course.paced;
+      };
       room = room;
       early = rw (is, acts_are) end.early;
       time_left = (let none = none_left_of now come in let low = end.within in let same = ap (λ (all : List Act). moment_after (last_of last all)) acts_are in omega (arith, none, low, same, soon));
-      paced = paced;
     }

@@ -9,3 +9,6 @@ pub mod EndLemmas
 pub mod SettleLemmas
 pub mod LastLemmas
 pub mod SameLemmas
+pub mod WakeLemmas
+pub mod WakesLemmas
+pub mod ListLemmas

@@ -15,8 +15,7 @@ use Rattle.execution_model.specs.declared.feeding.Why.TheVariants as why
 use Rattle.live_executor.specs.Course.{IsCourseOf}
 use Rattle.live_executor.specs.Kept.{IsKeptExecution, moment_after}
 use Rattle.live_executor.specs.Limits.{AreBefore}
-use Rattle.live_executor.specs.Sound.{KeptNetwork, made_setting}
-use Rattle.execution_model.specs.Paced.{ArePaced}
+use Rattle.live_executor.specs.Sound.{KeptNetwork}
 use Rattle.live_executor.specs.Taking.{completed, IsTried}
 
 pub moment_before : (b : ℕ) (moments : Moments) → AreBefore b moments → (point : PointId) → IfSome (moment_of moments point) (λ a. a < b)
@@ -103,15 +102,13 @@ module _ (setting : Setting) (first : Moments) (from moment : ℕ) (listed : Lis
   tried_before is = by_result (completed setting (time_runs setting first from (moment - from)) moment listed) taken_before is
 
   -- what an executor keeps after it
-  pub kept_after : (network : KeptNetwork) (due : List (Option ℕ)) (trial : Moments) → moment ≤ most_moment → IsTried setting first from moment listed (Ok tt) moments acts
-      → IsCourseOf network.setting moments due → length trial ≡ length moments → length moments ≡ length network.made → ArePaced (made_setting network) moments → IsKeptExecution network moments due trial (Some moment)
-  kept_after network due trial within is course room whole paced = record {
+  pub kept_after : (network : KeptNetwork) (counts : List ℕ) (due : List (Option ℕ)) (trial : Moments) → moment ≤ most_moment → IsTried setting first from moment listed (Ok tt) moments acts
+      → IsCourseOf network (moment + 1) moments counts due → length trial ≡ length moments → IsKeptExecution network moments counts due trial (Some moment)
+  kept_after network counts due trial within is course room = record {
     course = course;
-    count = whole;
     room = room;
     early = tried_before is;
-    time_left = (let left = count_by-le-length is_none moments in let few = course.few in let count = course.count in omega (arith, within, left, few, count));
-    paced = paced;
+    time_left = (let left = count_by-le-length is_none moments in let few = course.few in omega (arith, within, left, few));
   }
 
 -- a moment that is not refused

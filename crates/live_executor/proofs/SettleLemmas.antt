@@ -75,7 +75,7 @@ module _ (setting : Setting) where
       fewer moments (time_runs setting moments t count) (whole ∙ sym (length-time_runs setting moments t count whole))
       (λ k m is. some_is_not_none (get_or (time_runs setting moments t count) k None) m (time_runs_keeps setting moments t count whole (record { 0 = k }) m is))
 
-  left_acted : (moments : Moments) (t : ℕ) (point : PointId) → length moments ≡ length setting.dispatch → point.0 < length setting.dispatch → is_due setting moments t point ≡ true
+  pub left_acted : (moments : Moments) (t : ℕ) (point : PointId) → length moments ≡ length setting.dispatch → point.0 < length setting.dispatch → is_due setting moments t point ≡ true
       → left_of (acted setting moments t) < left_of moments
   left_acted moments t point whole inside is =
       let due = due_parts setting moments t point is in

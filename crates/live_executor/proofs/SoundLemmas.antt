@@ -24,7 +24,8 @@ use Rattle.dispatch_net.proofs.ExactLemmas.{lists_are_exact}
 use Rattle.dispatch_net.specs.Held.{IsSlimOrWhole}
 use Rattle.dispatch_net.specs.Slim.{is_bound_implied, is_wait_implied, slim_conditions, slimmed}
 use Rattle.execution_model.specs.Execution.{Setting, link_to}
-use Rattle.live_executor.specs.Sound.{IsLowerBound, IsWait, IsLinkOf, IsSound, IsDispatchOf, IsKept}
+use Rattle.live_executor.specs.Sound.{IsLowerBound, IsWait, IsLinkOf, IsSound, IsDispatchOf, IsKeptWith}
+use Rattle.live_executor.specs.Wakes.{WakeLists, AreWakesOf}
 
 each_contained : {X : Type 0} (P : X → Type 0) (xs : List X) → ((x : X) → Contains xs x → P x) → All P xs
 each_contained P xs each = All-weaker (Contains xs) P each xs (All-contains_itself xs)
@@ -114,21 +115,25 @@ pub kept_length : (lists : DispatchLists) → IsSlimOrWhole lists.links lists.ma
 kept_length lists (inl whole) = ap (λ (cs : List Conditions). length cs) whole
 kept_length lists (inr slim) = ap (λ (cs : List Conditions). length cs) slim ∙ length-map lists.made (slim_conditions lists.links lists.made)
 
-pub kept : (net : Plan) (lists : DispatchLists) → IsDispatchOf net lists → (points : ℕ) → points ≡ length net.points → IsSlimOrWhole lists.links lists.made lists.kept → IsKept lists points
-kept net lists of points same_points slim_or_whole = record {
-  net = net;
-  dispatched = of;
-  sound = by slim_or_whole;
-  count = same_points ∙ (sym (count net lists of) ∙ sym (kept_length lists slim_or_whole));
-  slim_or_whole = slim_or_whole;
-}
-  where
-    made_sound : IsSound (record { links = lists.links; dispatch = lists.made })
-    made_sound = subst (λ (links : List Link). IsSound (record { links = links; dispatch = lists.made })) (sym of.links) (dispatch_sound net lists of)
+module _ (net : Plan) (lists : DispatchLists) (of : IsDispatchOf net lists) (slim_or_whole : IsSlimOrWhole lists.links lists.made lists.kept) where
+  pub kept_sound : IsSound (record { links = lists.links; dispatch = lists.kept })
+  kept_sound = by slim_or_whole
+    where
+      made_sound : IsSound (record { links = lists.links; dispatch = lists.made })
+      made_sound = subst (λ (links : List Link). IsSound (record { links = links; dispatch = lists.made })) (sym of.links) (dispatch_sound net lists of)
 
-    by : IsSlimOrWhole lists.links lists.made lists.kept → IsSound (record { links = lists.links; dispatch = lists.kept })
-    by (inl whole) = subst (λ (cs : List Conditions). IsSound (record { links = lists.links; dispatch = cs })) (sym whole) made_sound
-    by (inr slim) = subst (λ (cs : List Conditions). IsSound (record { links = lists.links; dispatch = cs })) (sym slim) (slim_sound lists.links lists.made made_sound)
+      by : IsSlimOrWhole lists.links lists.made lists.kept → IsSound (record { links = lists.links; dispatch = lists.kept })
+      by (inl whole) = subst (λ (cs : List Conditions). IsSound (record { links = lists.links; dispatch = cs })) (sym whole) made_sound
+      by (inr slim) = subst (λ (cs : List Conditions). IsSound (record { links = lists.links; dispatch = cs })) (sym slim) (slim_sound lists.links lists.made made_sound)
+
+  pub kept_count : (points : ℕ) → points ≡ length net.points → points ≡ length lists.kept
+  kept_count points same_points = same_points ∙ (sym (count net lists of) ∙ sym (kept_length lists slim_or_whole))
+
+  pub kept : (points : ℕ) (wakes : WakeLists) → points ≡ length net.points → AreWakesOf (record { links = lists.links; dispatch = lists.kept }) points wakes → IsKeptWith lists points wakes
+  kept points wakes same_points are = record {
+    kept = record { net = net; dispatched = of; sound = kept_sound; count = kept_count points same_points; slim_or_whole = slim_or_whole };
+    wakes_are = are;
+  }
 
 -- what holds of each item holds of the first that passes a test
 pub found_has : {X : Type 0} (P : X → Type 0) (p : X → Bool) (xs : List X) → All P xs → IfSome (find p xs) P

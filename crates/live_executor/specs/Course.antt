@@ -1,42 +1,65 @@
 -- The moments so far as they are kept, and how they change.
-use Rattle.std.specs.Prelude.{◌≡◌, ℕ, ◌<◌, ◌≤◌, Bool, true, List, length, map, filter, Option, Some, None, is_none, if◌then◌else◌}
-use Rattle.std.specs.List.{range_with_len, count_by}
+use Rattle.std.specs.Prelude.{◌≡◌, ℕ, ◌-◌, ◌<◌, ◌≤◌, Bool, true, false, List, ◌++◌, length, Option, Some, None, is_none}
+use Rattle.std.specs.List.{count_by}
 use Rattle.net_model.specs.Limits.{most_points}
 use Rattle.net_model.specs.declared.ids.PointId.{PointId}
-use Rattle.execution_model.specs.Execution.{Moments, Setting, moment_of}
+use Rattle.execution_model.specs.Execution.{Moments, time_runs, acts_while}
+use Rattle.execution_model.specs.Paced.{ArePaced, IsMadeOneByOne}
 use Rattle.execution_model.specs.declared.feeding.Act.{Act}
-use Rattle.live_executor.specs.Due.{has_begun, due_in, AreDue}
+use Rattle.live_executor.specs.Due.{has_begun, due_in}
 use Rattle.live_executor.specs.Limits.{AreBefore, end_of_time}
+use Rattle.live_executor.specs.Sound.{KeptNetwork, made_setting}
+use Rattle.live_executor.specs.Waking.{IsAwake}
 
 -- how many points have not come
 abbrev pub left_of : Moments → ℕ
 left_of moments = count_by is_none moments
 
--- the first points, in order of number
-abbrev pub first_points : (count : ℕ) → List PointId
-first_points count = map (λ k. record { 0 = k }) (range_with_len 0 count)
-
 -- a point is due at t
 abbrev pub is_due_in : List (Option ℕ) → (t : ℕ) → PointId → Bool
 is_due_in due t point = has_begun (due_in due point) t
 
--- only points that have not come are due some time
-abbrev pub AreOpen : List (Option ℕ) → Moments → Type 0
-AreOpen due moments = (point : PointId) (t : ℕ) → point.0 < length moments → is_due_in due t point ≡ true → moment_of moments point ≡ None
+-- no point is due before a moment
+abbrev pub NoneDueBefore : List (Option ℕ) → (t : ℕ) → Type 0
+NoneDueBefore due t = (point : PointId) (moment : ℕ) → point.0 < length due → due_in due point ≡ Some moment → t ≤ moment
 
--- the acts of t of the first points
-abbrev pub acts_among : List (Option ℕ) → (t : ℕ) → (count : ℕ) → List Act
-acts_among due t count = map (λ point. record { moment = t; point = point }) (filter (is_due_in due t) (first_points count))
+-- the lowest point that is due at t, where none is due before; or none is due at t
+abbrev pub IsLowestDue : List (Option ℕ) → (t : ℕ) → Option PointId → Type 0
+IsLowestDue due t None = (point : PointId) → point.0 < length due → is_due_in due t point ≡ false
+IsLowestDue due t (Some lowest) =
+    (lowest.0 < length due) × (is_due_in due t lowest ≡ true)
+    × (NoneDueBefore due t → (point : PointId) → point.0 < lowest.0 → is_due_in due t point ≡ false)
 
--- the moments after the acts of t of the first points
-pub record AreActed (due : List (Option ℕ)) (t : ℕ) (count : ℕ) (old new : Moments) : Type 0 where
-  pub whole : length new ≡ length old
-  pub each : (point : PointId) → point.0 < count → moment_of new point ≡ (if is_due_in due t point then Some t else moment_of old point)
-  pub others : (point : PointId) → count ≤ point.0 → moment_of new point ≡ moment_of old point
+-- the first moment at which a point is due, or that there is none
+abbrev pub IsFirstMoment : List (Option ℕ) → Option ℕ → Type 0
+IsFirstMoment due None = (point : PointId) → point.0 < length due → due_in due point ≡ None
+IsFirstMoment due (Some first) = NoneDueBefore due first × ((point : PointId) × (point.0 < length due) × (due_in due point ≡ Some first))
 
--- what is kept of the moments so far: one for each point, none too late, and from when on each point is due with them
-pub record IsCourseOf (setting : Setting) (moments : Moments) (due : List (Option ℕ)) : Type 0 where
-  pub count : length moments ≡ length setting.dispatch
+-- the same before another moment
+abbrev pub IsFirstBefore : List (Option ℕ) → (until : ℕ) → Option ℕ → Type 0
+IsFirstBefore due until None = NoneDueBefore due until
+IsFirstBefore due until (Some first) = (first < until) × IsFirstMoment due (Some first)
+
+-- what is kept of the moments so far, when a moment comes: of the points that wait, by what is kept of the network; the moments are none
+-- too late, and keep to what was made
+pub record IsCourseOf (network : KeptNetwork) (now : ℕ) (moments : Moments) (counts : List ℕ) (due : List (Option ℕ)) : Type 0 where
+  pub awake : IsAwake network.setting now moments counts due
+  pub count : length moments ≡ length network.made
   pub early : AreBefore end_of_time moments
-  pub known : AreDue setting moments due
-  pub few : length setting.dispatch ≤ most_points
+  pub few : length moments ≤ most_points
+  pub paced : ArePaced (made_setting network) moments
+
+-- some acts of t were made, the lowest point first
+pub record AreSomeMade (network : KeptNetwork) (t : ℕ) (old now : Moments) (old_acts now_acts : List Act) : Type 0 where
+  pub made : List Act
+  pub acts : now_acts ≡ old_acts ++ made
+  pub leads : (rest : List Act) (after : Moments) → IsMadeOneByOne (made_setting network) t now rest after → IsMadeOneByOne (made_setting network) t old (made ++ rest) after
+
+-- time has run from a moment on to some later one
+pub record HasRun (network : KeptNetwork) (from until : ℕ) (old now : Moments) (counts : List ℕ) (due : List (Option ℕ)) (old_acts now_acts : List Act) : Type 0 where
+  pub next : ℕ
+  pub later : from ≤ next
+  pub earlier : next ≤ until
+  pub moments : now ≡ time_runs (made_setting network) old from (next - from)
+  pub acts : now_acts ≡ old_acts ++ acts_while (made_setting network) old from (next - from)
+  pub course : IsCourseOf network next now counts due

@@ -1,9 +1,8 @@
 -- From when on a point is due.
-use Rattle.std.specs.Prelude.{◌≡◌, ℕ, ◌<◌, ◌≤◌, nat_le, Bool, true, false, List, length, Option, Some, None}
-use Rattle.std.specs.List.{slice_index_or, list_any}
+use Rattle.std.specs.Prelude.{◌≡◌, ◌⊎◌, ℕ, ◌<◌, ◌≤◌, nat_le, Bool, false, List, length, Option, Some, None, if◌then◌else◌}
+use Rattle.std.specs.List.{slice_index_or}
 use Rattle.std.specs.Option.{option_map_or}
 use Rattle.net_model.specs.declared.ids.PointId.{PointId}
-use Rattle.execution_model.specs.Execution.{Moments, Setting, is_due}
 
 -- a moment is no earlier than one from which on something holds
 abbrev pub has_begun : Option ℕ → (t : ℕ) → Bool
@@ -17,22 +16,21 @@ PassesFrom test first = (t : ℕ) → test t ≡ has_begun first t
 abbrev pub due_in : List (Option ℕ) → PointId → Option ℕ
 due_in due point = slice_index_or due point.0 None
 
--- for each point the moment from which on it is due, with the moments so far
-abbrev pub AreDue : Setting → Moments → List (Option ℕ) → Type 0
-AreDue setting moments due = (point : PointId) → point.0 < length setting.dispatch → PassesFrom (λ t. is_due setting moments t point) (due_in due point)
+-- what is due sooner comes first, and at one moment the lower point
+abbrev pub IsNotAfter : ℕ × PointId → ℕ × PointId → Type 0
+IsNotAfter one other = (one.0 < other.0) ⊎ ((one.0 ≡ other.0) × (one.1.0 ≤ other.1.0))
 
--- some point is due at t
-abbrev pub is_any_due : List (Option ℕ) → (t : ℕ) → Bool
-is_any_due due t = list_any (λ first. has_begun first t) due
+-- among so many first points the one that is due first, and from when on, or that none is due some time
+abbrev pub IsFirstAmong : List (Option ℕ) → (count : ℕ) → Option (ℕ × PointId) → Type 0
+IsFirstAmong due count None = (point : PointId) → point.0 < count → due_in due point ≡ None
+IsFirstAmong due count (Some one) =
+    (one.1.0 < count) × (due_in due one.1 ≡ Some one.0) × ((point : PointId) (moment : ℕ) → point.0 < count → due_in due point ≡ Some moment → IsNotAfter one (moment, point))
 
--- the first moment from one on at which a point is due, or none
-abbrev pub IsFirstFrom : List (Option ℕ) → (from : ℕ) → Option ℕ → Type 0
-IsFirstFrom due from None = (t : ℕ) → from ≤ t → is_any_due due t ≡ false
-IsFirstFrom due from (Some first) =
-    (from ≤ first) × ((t : ℕ) → from ≤ t → t < first → is_any_due due t ≡ false) × (is_any_due due first ≡ true)
+abbrev pub IsFirstDue : List (Option ℕ) → Option (ℕ × PointId) → Type 0
+IsFirstDue due first = IsFirstAmong due (length due) first
 
--- the same before a moment
-abbrev pub IsFirstBefore : List (Option ℕ) → (from until : ℕ) → Option ℕ → Type 0
-IsFirstBefore due from until None = (t : ℕ) → from ≤ t → t < until → is_any_due due t ≡ false
-IsFirstBefore due from until (Some first) =
-    (from ≤ first) × (first < until) × ((t : ℕ) → from ≤ t → t < first → is_any_due due t ≡ false)
+-- the first of what is due first so far and a point that is due from some moment on
+abbrev pub sooner : Option (ℕ × PointId) → Option ℕ → PointId → Option (ℕ × PointId)
+sooner first None point = first
+sooner None (Some moment) point = Some (moment, point)
+sooner (Some one) (Some moment) point = if nat_le one.0 moment then Some one else Some (moment, point)

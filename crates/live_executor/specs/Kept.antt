@@ -3,27 +3,24 @@ use Rattle.std.specs.Prelude.{◌≡◌, ℕ, ◌≤◌, ◌+◌, ◌*◌, lengt
 use Rattle.std.specs.Option.{option_map_or}
 use Rattle.net_model.specs.Limits.{most_size}
 use Rattle.net_model.specs.declared.ids.PointId.{PointId}
-use Rattle.execution_model.specs.Execution.{Moments, Setting}
+use Rattle.execution_model.specs.Execution.{Moments}
 use Rattle.execution_model.specs.Feeding.{Execution, taken, after_feed}
-use Rattle.execution_model.specs.Paced.{ArePaced}
 use Rattle.execution_model.specs.declared.feeding.Why.{Why}
 use Rattle.live_executor.specs.Course.{IsCourseOf, left_of}
 use Rattle.live_executor.specs.Limits.{AreBefore, end_of_time}
-use Rattle.live_executor.specs.Sound.{KeptNetwork, made_setting}
+use Rattle.live_executor.specs.Sound.{KeptNetwork}
 
 -- the moment after the last one
 abbrev pub moment_after : Option ℕ → ℕ
 moment_after last = option_map_or (λ l. l + 1) last 0
 
--- what an executor keeps: the moments so far and what is due with them, as many moments to try a feed on, and the last moment fed; no
--- moment so far is after that one, the time that the points left may take is before the end of time, and the moments keep to what was made
-pub record IsKeptExecution (network : KeptNetwork) (moments : Moments) (due : List (Option ℕ)) (trial : Moments) (last : Option ℕ) : Type 0 where
-  pub course : IsCourseOf network.setting moments due
-  pub count : length moments ≡ length network.made
+-- what an executor keeps: the moments so far with what is kept of the points that wait, as many moments to try a feed on, and the last
+-- moment fed; no moment so far is after that one, and the time that the points left may take is before the end of time
+pub record IsKeptExecution (network : KeptNetwork) (moments : Moments) (counts : List ℕ) (due : List (Option ℕ)) (trial : Moments) (last : Option ℕ) : Type 0 where
+  pub course : IsCourseOf network (moment_after last) moments counts due
   pub room : length trial ≡ length moments
   pub early : AreBefore (moment_after last) moments
   pub time_left : moment_after last + most_size * left_of moments ≤ end_of_time
-  pub paced : ArePaced (made_setting network) moments
 
 -- a feed of an execution that is not over: taken, or refused
 abbrev pub IsTaken : Execution → (moment : ℕ) → List PointId → Result (Unit {0}) Why → Execution → Type 0

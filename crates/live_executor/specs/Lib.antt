@@ -1,5 +1,7 @@
 pub mod Limits
 pub mod Due
+pub mod Waking
+pub mod Wakes
 pub mod Sound
 pub mod Course
 pub mod Taking

@@ -1,6 +1,6 @@
 -- By what a network is executed, as an executor keeps it.
-use Rattle.std.specs.Prelude.{◌≡◌, ◌==◌, ℕ, ℤ, ◌<◌, ◌≤◌, List, length, find, unsigned_abs, Option, None, IsSome, is_some, true, []}
-use Rattle.std.specs.List.{All, slice_index_or}
+use Rattle.std.specs.Prelude.{◌≡◌, ℕ, ℤ, ◌<◌, ◌≤◌, List, length, unsigned_abs, IsSome, is_some, true, []}
+use Rattle.std.specs.List.{All}
 use Rattle.net_model.specs.Network.{Plan}
 use Rattle.closure_model.specs.Tables.{Graph, IsGraph}
 use Rattle.strategy_model.specs.Plays.{IsInstant}
@@ -13,6 +13,7 @@ use Rattle.net_model.specs.declared.part.Link.{Link}
 use Rattle.dispatch_net.specs.declared.dispatch.Conditions.{Conditions}
 use Rattle.execution_model.specs.Execution.{Moments, Setting, moment_of, link_to, acts_at}
 use Rattle.execution_model.specs.Paced.{IsRankedNetwork}
+use Rattle.live_executor.specs.Wakes.{WakeLists, AreWakesOf}
 
 -- a lower bound is after one of so many points, by a number that a network may have
 pub record IsLowerBound (points : ℕ) (bound : PointId × ℤ) : Type 0 where
@@ -49,13 +50,14 @@ pub record IsDispatchOf (net : Plan) (lists : DispatchLists) : Type 0 where
   pub links : lists.links ≡ net.links
   pub made : lists.made ≡ dispatchable net table
 
--- by what a network is executed: by what is kept; and what was made
+-- by what a network is executed: by what is kept; what was made; and whom each point wakes
 pub record KeptNetwork : Type 0 where
   pub setting : Setting
   pub made : List Conditions
+  pub wakes : WakeLists
 
-abbrev pub kept_network : DispatchLists → KeptNetwork
-kept_network lists = record { setting = record { links = lists.links; dispatch = lists.kept }; made = lists.made }
+abbrev pub kept_network : DispatchLists → WakeLists → KeptNetwork
+kept_network lists wakes = record { setting = record { links = lists.links; dispatch = lists.kept }; made = lists.made; wakes = wakes }
 
 -- the same by what was made
 abbrev pub made_setting : KeptNetwork → Setting
@@ -65,9 +67,14 @@ made_setting network = record { links = network.setting.links; dispatch = networ
 pub record IsKept (lists : DispatchLists) (points : ℕ) : Type 0 where
   pub net : Plan
   pub dispatched : IsDispatchOf net lists
-  pub sound : IsSound (kept_network lists).setting
+  pub sound : IsSound (record { links = lists.links; dispatch = lists.kept })
   pub count : points ≡ length lists.kept
   pub slim_or_whole : IsSlimOrWhole lists.links lists.made lists.kept
+
+-- with whom each point wakes
+pub record IsKeptWith (lists : DispatchLists) (points : ℕ) (wakes : WakeLists) : Type 0 where
+  pub kept : IsKept lists points
+  pub wakes_are : AreWakesOf (kept_network lists wakes).setting points wakes
 
 -- where each contingent point has come, and no moment brings an act, every point has come
 abbrev pub ComesToItsEnd : Setting → Type 0

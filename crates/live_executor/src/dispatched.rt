@@ -1,45 +1,62 @@
 //! A network as it is dispatched.
 
-ghost use Rattle.std.specs.Prelude.{◌≡◌, ◌<◌, length, IfSome};
+ghost use Rattle.std.specs.Prelude.{◌≡◌, ◌<◌, length, IfSome, IfOk};
+ghost use Rattle.std.specs.List.{All};
+ghost use Rattle.net_model.specs.declared.ids.PointId.{PointId};
+ghost use Rattle.dispatch_net.specs.Dispatchable.{conditions_at};
+ghost use Rattle.live_executor.specs.Waking.{condition_count, AreFixedBy, AreEndedBy};
+ghost use Rattle.live_executor.specs.Wakes.{list_at};
 ghost use Rattle.execution_model.specs.Execution.{is_due, link_to};
 ghost use Rattle.live_executor.specs.Due.{PassesFrom};
 ghost use Rattle.live_executor.specs.Limits.{AreBefore, end_of_time};
 ghost use Rattle.live_executor.specs.Sound.{IsDispatchOf, IsLinkOf, IsSound, ComesToItsEnd, ExecutesTheSame, made_setting};
 
 use crate::met::{bounds_met, waits_met};
+use crate::wakes::Wakes;
 use dispatch_net::Dispatch;
 use execution_model::laws::no_acts_left_is_whole;
 use net_model::{Link, Network, PointId};
+use std::alloc::{AllocError, Global};
 use std::marker::Model;
 
-/// By what a network is executed: its links, and the lower bounds and waits that are kept of its points. Contracts see it as these, and as
-/// what was made.
+/// By what a network is executed: its links, the lower bounds and waits that are kept of its points, and whom each point wakes when it gets
+/// its moment. Contracts see it as these, and as what was made.
 #[derive(Drop)]
 pub(crate) struct Dispatched {
     dispatch: Dispatch,
     points: u32,
+    wakes: Wakes,
 }
 
 impl Model for Dispatched {
-    ghost use Rattle.live_executor.specs.Sound.{KeptNetwork, kept_network, IsKept};
+    ghost use Rattle.live_executor.specs.Sound.{KeptNetwork, kept_network, IsKeptWith};
 
     ghost Value = { KeptNetwork };
 
-    ghost view = { λ kept. kept_network kept.dispatch };
+    ghost view = { λ kept. kept_network kept.dispatch kept.wakes };
 
-    ghost invariant = { λ kept. IsKept kept.dispatch kept.points };
+    ghost invariant = { λ kept. IsKeptWith kept.dispatch kept.points kept.wakes };
 }
 
 impl Dispatched {
-    /// A network and its dispatchable network.
-    pub(crate) fn new(net: &Network, dispatch: Dispatch) -> Dispatched
+    /// A network and its dispatchable network. `AllocError` comes only for want of memory.
+    pub(crate) fn new(
+        alloc: Global,
+        net: &Network,
+        dispatch: Dispatch,
+    ) -> Result<Dispatched, AllocError>
         requires { IsDispatchOf net.now dispatch }
-        ensures { made_setting result ≡ record { links = net.now.links; dispatch = dispatch.made } }
+        ensures { IfOk result (λ dispatched. made_setting dispatched ≡ record { links = net.now.links; dispatch = dispatch.made }) }
     {
         // The proof reads here that of what was made the whole is kept, or what no others imply.
         let _ = dispatch.links();
         let points = net.points().len() as u32;
-        Dispatched { dispatch, points }
+        let wakes = Wakes::of(alloc, &dispatch, points)?;
+        Ok(Dispatched {
+            dispatch,
+            points,
+            wakes,
+        })
     }
 
     /// How many points there are.
@@ -75,6 +92,34 @@ impl Dispatched {
         ensures sound { IfSome result (IsLinkOf (length self.now.setting.dispatch)) }
     {
         self.dispatch.link_to(point)
+    }
+
+    /// How many lower bounds and waits a point has.
+    pub(crate) fn condition_count(&self, point: PointId) -> usize
+        requires { point.0 < length self.now.setting.dispatch }
+        ensures { result ≡ condition_count (conditions_at self.now.setting.dispatch point) }
+    {
+        self.dispatch.lower_bounds(point).len() + self.dispatch.waits(point).len()
+    }
+
+    /// The points whose lower bounds and waits a point fixes, each as often as it does.
+    pub(crate) fn fixes(&self, point: PointId) -> &[PointId]
+        requires { point.0 < length self.now.setting.dispatch }
+        ensures list { result.now ≡ list_at self.now.wakes.fixes point }
+        ensures fixed { AreFixedBy self.now.setting point result.now }
+        ensures inside { All (λ (other : PointId). other.0 < length self.now.setting.dispatch) result.now }
+    {
+        self.wakes.fixes(point)
+    }
+
+    /// The points with a wait for the link that ends in a point.
+    pub(crate) fn ends(&self, point: PointId) -> &[PointId]
+        requires { point.0 < length self.now.setting.dispatch }
+        ensures list { result.now ≡ list_at self.now.wakes.ends point }
+        ensures ended { AreEndedBy self.now.setting point result.now }
+        ensures inside { All (λ (other : PointId). other.0 < length self.now.setting.dispatch) result.now }
+    {
+        self.wakes.ends(point)
     }
 
     /// The moment from which on a point is due, or `None` where it has come or is contingent, or where that moment isn't fixed yet.

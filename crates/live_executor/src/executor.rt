@@ -45,7 +45,7 @@ impl Model for Executor {
       refused = kept.refused;
     } };
 
-    ghost invariant = { λ kept. IsKeptExecution kept.dispatched kept.course.moments.items kept.course.due.items kept.trial.moments.items kept.last };
+    ghost invariant = { λ kept. IsKeptExecution kept.dispatched kept.course.moments.items kept.course.waiting.counts.items kept.course.waiting.due.items kept.trial.moments.items kept.last };
 }
 
 impl Executor {
@@ -55,7 +55,7 @@ impl Executor {
         requires { IsDispatchOf net.now dispatch }
         ensures { IfOk result (λ executor. executor ≡ started (record { links = net.now.links; dispatch = dispatch.made })) }
     {
-        let dispatched = Dispatched::new(net, dispatch);
+        let dispatched = Dispatched::new(alloc, net, dispatch)?;
         let course = Course::fresh(alloc, &dispatched)?;
         let trial = Course::fresh(alloc, &dispatched)?;
         Ok(Executor {
@@ -94,7 +94,7 @@ impl Executor {
             Some(_) => None,
             None => {
                 self.dispatched.executes_the_same();
-                self.course.next_due(self.next_moment())
+                self.course.next_due()
             }
         }
     }

@@ -6,7 +6,10 @@ mod dispatched;
 mod executor;
 mod feed;
 mod met;
+mod point_lists;
 mod taking;
+mod waiting;
+mod wakes;
 
 pub use execution_model::{Act, Fed, Finished, MOST_MOMENT, Why};
 pub use executor::Executor;

@@ -6,7 +6,7 @@ ghost use Rattle.std.specs.Prelude.{unsigned_abs};
 ghost use Rattle.net_model.specs.Limits.{most_size};
 ghost use Rattle.execution_model.specs.Execution.{points_of};
 ghost use Rattle.execution_model.specs.Feeding.{refusal_of_duration, refusal_of_completion, refusal_of, activated_before, completions_taken, latest_of, first_overdue, none_overdue, is_open, most_moment};
-ghost use Rattle.live_executor.specs.Course.{IsCourseOf};
+ghost use Rattle.live_executor.specs.Waking.{IsAwake};
 ghost use Rattle.live_executor.specs.Limits.{AreBefore, end_of_time};
 ghost use Rattle.live_executor.specs.Sound.{IsLinkOf, IsSound, made_setting};
 ghost use Rattle.live_executor.specs.Taking.{given_or};
@@ -64,7 +64,7 @@ impl Course {
         requires point { point.0 < length dispatched.now.setting.dispatch }
         requires count { length self.now.moments.items ≡ length dispatched.now.setting.dispatch }
         requires early { AreBefore end_of_time self.now.moments.items }
-        ensures { result ≡ refusal_of dispatched.now.setting self.now.moments.items moment point }
+        ensures { result ≡ refusal_of (made_setting dispatched.now) self.now.moments.items moment point }
     {
         match dispatched.link_to(point) {
             Some(link) => self.refusal_over(moment, point, &link),
@@ -72,7 +72,7 @@ impl Course {
         }
     }
 
-    /// Completes the listed points, or gives the first refusal.
+    /// Completes the listed points, each of which wakes those that wait for it, or gives the first refusal.
     pub(crate) fn complete(
         &mut self,
         dispatched: &Dispatched,
@@ -80,19 +80,20 @@ impl Course {
         listed: &[PointId],
     ) -> Result<(), Why>
         requires listed { All (λ point. point.0 < length dispatched.now.setting.dispatch) listed.now }
-        requires count { length self.old.moments.items ≡ length dispatched.now.setting.dispatch }
+        requires awake { IsAwake dispatched.now.setting moment self.old.moments.items self.old.waiting.counts.items self.old.waiting.due.items }
         requires early { AreBefore end_of_time self.old.moments.items }
         requires moment { moment < end_of_time }
-        ensures taken { completions_taken dispatched.now.setting self.old.moments.items moment listed.now ≡ given_or self.new.moments.items result }
-        ensures count { length self.new.moments.items ≡ length self.old.moments.items }
+        ensures taken { completions_taken (made_setting dispatched.now) self.old.moments.items moment listed.now ≡ given_or self.new.moments.items result }
+        ensures awake { IsAwake dispatched.now.setting moment self.new.moments.items self.new.waiting.counts.items self.new.waiting.due.items }
         ensures early { AreBefore end_of_time self.new.moments.items }
+        ensures count { length self.new.moments.items ≡ length self.old.moments.items }
         ensures acts { self.new.acts.items ≡ self.old.acts.items }
     {
         for point in listed {
             if let Some(why) = self.refusal_of(dispatched, moment, *point) {
                 return Err(why);
             }
-            self.moments[point.0 as usize] = Some(moment);
+            self.come(dispatched, *point, moment);
         }
         Ok(())
     }
@@ -116,7 +117,7 @@ impl Course {
     pub(crate) fn first_overdue(&self, dispatched: &Dispatched, moment: u64) -> Option<Why>
         requires count { length self.now.moments.items ≡ length dispatched.now.setting.dispatch }
         requires early { AreBefore end_of_time self.now.moments.items }
-        ensures { result ≡ first_overdue dispatched.now.setting self.now.moments.items moment }
+        ensures { result ≡ first_overdue (made_setting dispatched.now) self.now.moments.items moment }
     {
         for number in 0..dispatched.points() {
             let point = PointId(number);

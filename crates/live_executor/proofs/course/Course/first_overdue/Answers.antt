@@ -1,10 +1,11 @@
 use Rattle.std.proofs.Common.{sym, arith}
+use Rattle.live_executor.specs.Sound.{made_setting}
 use Rattle.live_executor.proofs.TakingLemmas.{overdue_at, overdue_nowhere}
 use Rattle.live_executor.proofs.course.Course.first_overdue.Goals as goal
 
 pub returns-then-latest-moment : goal.returns-then-latest-moment
 returns-then-latest-moment c =
-    sym (overdue_at c.args.dispatched.now.setting c.args.self.now.moments.items c.args.moment c.loop-number.number c.in-Some.latest (omega arith) (sym c.in-Some.ensures) c.if-latest-moment.true c.loop-number.invariant)
+    sym (overdue_at (made_setting c.args.dispatched.now) c.args.self.now.moments.items c.args.moment c.loop-number.number c.in-Some.latest (omega arith) (sym c.in-Some.ensures) c.if-latest-moment.true c.loop-number.invariant)
 
 pub returns : goal.returns
-returns c = sym (overdue_nowhere c.args.dispatched.now.setting c.args.self.now.moments.items c.args.moment (λ j less. c.loop-number.invariant j (omega arith)))
+returns c = sym (overdue_nowhere (made_setting c.args.dispatched.now) c.args.self.now.moments.items c.args.moment (λ j less. c.loop-number.invariant j (omega arith)))

@@ -6,4 +6,4 @@ use Rattle.live_executor.proofs.dispatched.Dispatched.executes_the_same.Goals as
 pub returns : goal.returns
 returns c =
     let kept = c.self.inside in
-    subst ExecutesTheSame c.self.view_is (executes_the_same kept.dispatch kept.points c.self.invariant)
+    subst ExecutesTheSame c.self.view_is (executes_the_same kept.dispatch kept.points kept.wakes c.self.invariant.kept)

@@ -1,6 +1,13 @@
 use Rattle.std.proofs.Common.{ap, length}
-use Rattle.live_executor.proofs.SoundLemmas.{kept}
+use Rattle.live_executor.proofs.SoundLemmas.{kept_sound, kept_count, kept}
 use Rattle.live_executor.proofs.dispatched.Dispatched.new.Goals as goal
 
+pub of-requires-clause-sound : goal.of-requires-clause-sound
+of-requires-clause-sound c = kept_sound c.args.net.now c.args.dispatch c.requires c.links.ensures.kept
+
+pub of-requires-clause-count : goal.of-requires-clause-count
+of-requires-clause-count c = kept_count c.args.net.now c.args.dispatch c.requires c.links.ensures.kept (length c.points.result.now) (ap length c.points.ensures.points)
+
 pub invariant_of-result : goal.invariant_of-result
-invariant_of-result c = kept c.args.net.now c.args.dispatch c.requires (length c.points.result.now) (ap length c.points.ensures.points) c.links.ensures.kept
+invariant_of-result c =
+    kept c.args.net.now c.args.dispatch c.requires c.links.ensures.kept (length c.points.result.now) c.in_ok-wakes.wakes (ap length c.points.ensures.points) c.in_ok-wakes.ensures

@@ -14,5 +14,5 @@ invariant_of-self c =
     let soon : from.result ≤ end_of_time = (let low = c.self.invariant.time_left in omega (arith, low, first)) in
     let room : length kept.trial.moments.items ≡ length after.moments.items = c.self.invariant.room ∙ c.self.invariant.course.count ∙ sym c.run_out.ensures.course.count in
     rw c.last_act-self-inside.ensures
-    (kept_at_end kept.dispatched kept.course.moments.items kept.last from.result after.moments.items kept.trial.moments.items after.due.items after.acts.items
-    c.run_out.ensures.count c.self.invariant.early first soon c.run_out.ensures.moments c.run_out.ensures.acts c.run_out.ensures.course room c.run_out.ensures.come c.run_out.ensures.paced)
+    (kept_at_end kept.dispatched kept.course.moments.items kept.last from.result after.moments.items kept.trial.moments.items after.waiting.counts.items after.waiting.due.items after.acts.items
+    c.self.invariant.course.count c.self.invariant.early first soon c.run_out.ensures.moments c.run_out.ensures.acts c.run_out.ensures.course room c.run_out.ensures.come)

@@ -18,4 +18,4 @@ invariant_of-self-in-Ok c =
     let early = subst (λ n. AreBefore n first) (sym from_is) (subst (AreBefore (moment_after kept.last)) (sym c.follow.ensures.moments) c.self.invariant.early) in
     rw (c.swap.ensures.x_after, c.swap.ensures.y_after)
     (kept_after (made_setting kept.dispatched) first from.result c.args.moment c.args.completions.now after.moments.items after.acts.items range early
-    kept.dispatched after.due.items kept.course.moments.items may.1 c.in-Ok.ensures.tried c.in-Ok.ensures.course (sym (c.in-Ok.ensures.count ∙ ap length c.follow.ensures.moments)) (c.in-Ok.ensures.count ∙ (ap length c.follow.ensures.moments ∙ c.self.invariant.count)) c.in-Ok.ensures.paced)
+    kept.dispatched after.waiting.counts.items after.waiting.due.items kept.course.moments.items may.1 c.in-Ok.ensures.tried c.in-Ok.ensures.course (sym (c.in-Ok.ensures.count ∙ ap length c.follow.ensures.moments)))

@@ -1,0 +1,36 @@
+use Rattle.std.proofs.Common.{◌≡◌, ◌∙◌, ap, length, List, Option, ℕ, sym, subst, None}
+use Rattle.std.specs.Prelude.{slice_set}
+use Rattle.net_model.specs.declared.ids.PointId.{PointId}
+use Rattle.execution_model.specs.Feeding.{completed_at}
+use Rattle.live_executor.specs.Waking.{AreWoken, IsAwake, IsFoundOrKept}
+use Rattle.live_executor.proofs.WakeLemmas.{enough_counted, awake_after}
+use Rattle.live_executor.proofs.waiting.Waiting.come.Goals as goal
+
+pub lower-requires-clause-enough : goal.lower-requires-clause-enough
+lower-requires-clause-enough c =
+    enough_counted c.args.dispatched.now.setting c.args.moments.now c.args.self.now.counts.items c.args.self.now.due.items c.args.point c.fixes-fixes.result.now c.ends-ends.result.now c.args.moment c.requires.awake
+    (record { fixed = c.fixes-fixes.ensures.fixed; ended = c.ends-ends.ensures.ended }) c.requires.new c.requires.point
+
+pub returns-clause-awake : goal.returns-clause-awake
+returns-clause-awake c =
+    let setting = c.args.dispatched.now.setting in
+    let now = c.args.moment in
+    let point = c.args.point in
+    let old = c.args.self.now in
+    let fixes = c.fixes-fixes.result.now in
+    let ends = c.ends-ends.result.now in
+    let after = completed_at c.args.moments.now now point in
+    let lowered = c.lower.new.self in
+    let woken = c.wake_all.new.self in
+    let last = c.wake_all-2.new.self in
+    let wakes : AreWoken setting point fixes ends = record { fixed = c.fixes-fixes.ensures.fixed; ended = c.ends-ends.ensures.ended } in
+    let first : (other : PointId) → IsFoundOrKept now setting after lowered.counts.items fixes (slice_set old.due.items point.0 None) woken.due.items other =
+    λ other. subst (λ (due : List (Option ℕ)). IsFoundOrKept now setting after lowered.counts.items fixes due woken.due.items other) c.lower.ensures.due (c.wake_all.ensures.each other) in
+    let second : (other : PointId) → IsFoundOrKept now setting after lowered.counts.items ends woken.due.items last.due.items other =
+    λ other. subst (λ (counts : List ℕ). IsFoundOrKept now setting after counts ends woken.due.items last.due.items other) c.wake_all.ensures.counts (c.wake_all-2.ensures.each other) in
+    let same_counts : last.counts.items ≡ lowered.counts.items = c.wake_all-2.ensures.counts ∙ c.wake_all.ensures.counts in
+    let long : length last.due.items ≡ length old.due.items =
+    last.whole ∙ (ap (λ (counts : List ℕ). length counts) same_counts ∙ (c.lower.ensures.count ∙ sym old.whole)) in
+    subst (λ (counts : List ℕ). IsAwake setting now after counts last.due.items) (sym same_counts)
+    (awake_after setting c.args.moments.now old.counts.items lowered.counts.items old.due.items woken.due.items last.due.items fixes ends point now
+    c.requires.awake wakes c.requires.new c.requires.point c.lower.ensures.each c.lower.ensures.count first second long)
