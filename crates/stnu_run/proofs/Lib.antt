@@ -13,6 +13,7 @@ pub mod PlanAskingLemmas
 pub mod ShowLemmas
 pub mod ProgramLemmas
 pub mod KeptLemmas
+pub mod ExactLemmas
 pub mod RefutationLemmas
 pub mod RunOnceLemmas
 pub mod BeginLemmas

@@ -25,6 +25,7 @@ single_defines_one machine start promise single = record {
       let same = runs_same machine single start input a b one.0 other.0 one.2 other.2 in
       let number : End → Status = λ end. record { 0 = end_number end } in
       (same.0, one.1 ∙ (ap number same.1 ∙ sym other.1));
+  single = single;
 }
 
 -- a command that asks defines one where its question has at most one answer
@@ -46,6 +47,7 @@ told_defines_one answers single = record {
       let same = single a b one.0 other.0 one.2 other.2 in
       let number : TellingEnd → Status = λ end. record { 0 = told_number end } in
       (same.0, one.1 ∙ (ap number same.1 ∙ sym other.1));
+  single = tt;
 }
 
 pub refused_defines_one : DefinesOne refuses_words

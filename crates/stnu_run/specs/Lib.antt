@@ -1,5 +1,6 @@
 pub mod Faults
 pub mod Programs
+pub mod ExactBytes
 pub mod PlanText
 pub mod CertificateTexts
 pub mod Judging

@@ -9,6 +9,7 @@ use Rattle.command_engine.specs.Endings.{end_number, status_number}
 use Rattle.command_engine.specs.Machine.{Machine}
 use Rattle.command_engine.specs.Runs.{Runs}
 use Rattle.command_engine.specs.Serves.{Serves, WhereBothTold}
+use Rattle.command_engine.specs.Single.{IsSingle}
 use Rattle.command_engine.specs.declared.endings.End.{End}
 use Rattle.command_engine.specs.declared.endings.Status.{Status as Ending}
 use Rattle.stnu_run.specs.declared.status.Status.{Status}
@@ -41,9 +42,15 @@ abbrev pub Defines : Program → (input put : List ℕ) → Status → Type 0
 Defines (serves machine start promise) input put status = (end : End) × (status ≡ record { 0 = end_number end }) × Runs machine start input put end
 Defines (tells answers) input put status = (end : TellingEnd) × (status ≡ record { 0 = told_number end }) × answers put end
 
--- for an input a program defines at most one pair of bytes and exit status
+-- to each line, and where none comes, the command of the program has at most one reply
+abbrev pub HasOneReply : Program → Type 0
+HasOneReply (serves machine start promise) = IsSingle machine
+HasOneReply (tells answers) = Unit {0}
+
+-- for an input a program defines at most one pair of bytes and exit status: there is at most one reply to each line
 pub record DefinesOne (program : Program) : Type 0 where
   pub one : (input a b : List ℕ) (x y : Status) → Defines program input a x → Defines program input b y → (a ≡ b) × (x ≡ y)
+  pub single : HasOneReply program
 
 -- whatever is asked, the program of it defines at most one pair for an input
 pub record EachDefinesOne {A : Type 0} (program : A → Program) : Type 0 where

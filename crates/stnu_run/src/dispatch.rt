@@ -2,10 +2,12 @@
 
 ghost use Rattle.std.specs.Prelude.{◌≡◌, map, None, Some, string_bytes, MatchOption};
 ghost use Rattle.stnu_run.specs.DefinedRuns.{command_of, program_of, program_named};
+ghost use Rattle.stnu_run.specs.ExactBytes.{BytesAreExact};
 ghost use Rattle.stnu_run.specs.Programs.{ServesProgram, KeepsPromise, HasCauses, KeepsWithoutMemory};
 
 use crate::checking::Checking;
 use crate::judging::Judging;
+use crate::laws::words_define_one;
 use crate::promising::serve_asked;
 use crate::running::Running;
 use crate::session::SessionCommand;
@@ -40,6 +42,24 @@ pub fn run<R: Threads + Sync, P: Port>(
     // Each status has its cause, over every port.
     ensures causes { HasCauses (program_of (map string_bytes words.now.items)) result (P.seen port.old) (P.seen port.new) }
     // Where it ends for want of memory nothing was put, or what the command of the words promises for that.
+    ensures memory { KeepsWithoutMemory (program_of (map string_bytes words.now.items)) result (P.seen port.old) (P.seen port.new) }
+    // Exactly these bytes were put: those of the defined run, or, after a failed call or for want of memory, what is told of that.
+    ensures bytes { BytesAreExact (program_of (map string_bytes words.now.items)) result (P.seen port.old) (P.seen port.new) }
+{
+    words_define_one();
+    run_words(rt, alloc, words, port)
+}
+
+/// Runs the command that the words name, or refuses the words.
+fn run_words<R: Threads + Sync, P: Port>(
+    rt: &R,
+    alloc: Global,
+    words: &Vec<String>,
+    port: &mut P,
+) -> Status
+    ensures served { ServesProgram (program_of (map string_bytes words.now.items)) result (P.seen port.old) (P.seen port.new) }
+    ensures kept { KeepsPromise (program_of (map string_bytes words.now.items)) result (P.seen port.old) (P.seen port.new) }
+    ensures causes { HasCauses (program_of (map string_bytes words.now.items)) result (P.seen port.old) (P.seen port.new) }
     ensures memory { KeepsWithoutMemory (program_of (map string_bytes words.now.items)) result (P.seen port.old) (P.seen port.new) }
 {
     match command_of(words.as_slice()) {

@@ -2,7 +2,7 @@
 
 ghost use Rattle.std.specs.Prelude.{◌≡◌, ◌↔◌, ℕ, List, [], ◌∷◌, ◌++◌, Some};
 ghost use Rattle.stnu_run.specs.Checking.{check_asked, check_syntax};
-ghost use Rattle.stnu_run.specs.DefinedRuns.{DefinedRun, program_named};
+ghost use Rattle.stnu_run.specs.DefinedRuns.{DefinedRun, program_named, program_of};
 ghost use Rattle.stnu_run.specs.Judging.{judge_asked, judge_syntax};
 ghost use Rattle.stnu_run.specs.Programs.{DefinesOne, EachDefinesOne, serves};
 ghost use Rattle.stnu_run.specs.Requests.{asked_by};
@@ -29,6 +29,13 @@ use crate::showing::Showing;
 pub fn defined_run_is_one()
     ensures { (words : List (List ℕ)) (input a b : List ℕ) (x y : Status)
         → DefinedRun words input a x → DefinedRun words input b y → (a ≡ b) × (x ≡ y) }
+{
+    words_define_one();
+}
+
+/// Whatever the words are, their program defines at most one pair for an input, and its command has at most one reply to each line.
+pub(crate) fn words_define_one()
+    ensures { (words : List (List ℕ)) → DefinesOne (program_of words) }
 {
     each_is_lawful();
 }

@@ -1,0 +1,9 @@
+use Rattle.std.proofs.Common.{map, string_bytes}
+use Rattle.stnu_run.specs.DefinedRuns.{program_of}
+use Rattle.stnu_run.proofs.ExactLemmas.{program_exact}
+use Rattle.stnu_run.proofs.dispatch.run.Goals as goal
+
+pub returns-clause-bytes : goal.returns-clause-bytes
+returns-clause-bytes g c =
+    let words = map string_bytes c.args.words.now.items in
+    program_exact (program_of words) c.run_words.result (g.P.Port.seen c.args.port.now) (g.P.Port.seen c.run_words.new.port) (c.words_define_one.ensures words) c.run_words.ensures.served
