@@ -1,0 +1,9 @@
+pub mod NumberedLemmas
+pub mod LateLemmas
+pub mod CompletionLemmas
+pub mod DayLemmas
+pub mod UnderwayLemmas
+pub mod TaskLemmas
+pub mod NameLemmas
+pub mod PartLemmas
+pub mod ForgeLemmas

@@ -1,0 +1,13 @@
+use Rattle.std.proofs.Common.{◌≡◌, ◌-◌, suc}
+use Rattle.execution_model.specs.Feeding.{next_moment, most_moment}
+use Rattle.situation_player.specs.Playing.{IsUnderway, lastings_of}
+use Rattle.situation_player.proofs.playing.play_out.Given as goal
+
+abbrev pub invariant-loop-moment : goal.invariant-loop-moment
+invariant-loop-moment l = record {
+  underway : IsUnderway l.net l.situation.items l.executor;
+  lastings : l.lastings.items ≡ lastings_of l.net.links l.situation.items;
+}
+
+abbrev pub decreases-loop-moment : goal.decreases-loop-moment
+decreases-loop-moment l = suc most_moment - next_moment l.executor
