@@ -10,7 +10,7 @@ use Rattle.execution_model.specs.Feeding.{last_of}
 use Rattle.execution_model.specs.declared.feeding.Act.{Act}
 use Rattle.execution_model.proofs.MomentLemmas.{no_acts_same, length-acted}
 use Rattle.live_executor.specs.Course.{left_of, IsCourseOf}
-use Rattle.live_executor.specs.Kept.{IsKeptExecution, moment_after}
+use Rattle.live_executor.specs.Kept.{GoesOn, moment_after}
 use Rattle.live_executor.specs.Limits.{AreBefore, end_of_time}
 use Rattle.live_executor.specs.Sound.{KeptNetwork, made_setting}
 use Rattle.live_executor.proofs.CourseLemmas.{awake_at_end}
@@ -81,12 +81,12 @@ some_of : (o : Option ℕ) → IsSome o → (m : ℕ) × (o ≡ Some m)
 some_of None is = absurd cc
 some_of (Some m) is = (m, refl)
 
--- what an executor keeps at the end
-pub kept_at_end : (network : KeptNetwork) (old : Moments) (last : Option ℕ) (from : ℕ) (now trial : Moments) (counts : List ℕ) (due : List (Option ℕ)) (acts : List Act) → length old ≡ length network.made
+-- at the end the execution goes on
+pub goes_at_end : (network : KeptNetwork) (old : Moments) (last : Option ℕ) (from : ℕ) (now : Moments) (counts : List ℕ) (due : List (Option ℕ)) (acts : List Act) → length old ≡ length network.made
     → AreBefore (moment_after last) old → from ≡ moment_after last → from ≤ end_of_time → now ≡ time_runs (made_setting network) old from (end_of_time - from)
-    → acts ≡ acts_while (made_setting network) old from (end_of_time - from) → IsCourseOf network end_of_time now counts due → length trial ≡ length now → All IsSome now
-    → IsKeptExecution network now counts due trial (last_of last acts)
-kept_at_end network old last from now trial counts due acts whole before first soon is acts_are course room come =
+    → acts ≡ acts_while (made_setting network) old from (end_of_time - from) → IsCourseOf network end_of_time now counts due → All IsSome now
+    → GoesOn network now counts due (last_of last acts)
+goes_at_end network old last from now counts due acts whole before first soon is acts_are course come =
     let end = ends_at (made_setting network) last old from (end_of_time - from) whole (omega (arith, first)) before in
     record {
       course = record {
@@ -96,7 +96,6 @@ kept_at_end network old last from now trial counts due acts whole before first s
         few = course.few;
         paced = course.paced;
       };
-      room = room;
       early = rw (is, acts_are) end.early;
       time_left = (let none = none_left_of now come in let low = end.within in let same = ap (λ (all : List Act). moment_after (last_of last all)) acts_are in omega (arith, none, low, same, soon));
     }

@@ -12,3 +12,4 @@ pub mod SameLemmas
 pub mod WakeLemmas
 pub mod WakesLemmas
 pub mod ListLemmas
+pub mod UndoLemmas

@@ -13,7 +13,7 @@ use Rattle.execution_model.specs.declared.feeding.Act.{Act}
 use Rattle.execution_model.specs.declared.feeding.Why.{Why}
 use Rattle.execution_model.specs.declared.feeding.Why.TheVariants as why
 use Rattle.live_executor.specs.Course.{IsCourseOf}
-use Rattle.live_executor.specs.Kept.{IsKeptExecution, moment_after}
+use Rattle.live_executor.specs.Kept.{GoesOn, moment_after}
 use Rattle.live_executor.specs.Limits.{AreBefore}
 use Rattle.live_executor.specs.Sound.{KeptNetwork}
 use Rattle.live_executor.specs.Taking.{completed, IsTried}
@@ -101,12 +101,11 @@ module _ (setting : Setting) (first : Moments) (from moment : ℕ) (listed : Lis
   pub tried_before : IsTried setting first from moment listed (Ok tt) moments acts → AreBefore (moment + 1) moments
   tried_before is = by_result (completed setting (time_runs setting first from (moment - from)) moment listed) taken_before is
 
-  -- what an executor keeps after it
-  pub kept_after : (network : KeptNetwork) (counts : List ℕ) (due : List (Option ℕ)) (trial : Moments) → moment ≤ most_moment → IsTried setting first from moment listed (Ok tt) moments acts
-      → IsCourseOf network (moment + 1) moments counts due → length trial ≡ length moments → IsKeptExecution network moments counts due trial (Some moment)
-  kept_after network counts due trial within is course room = record {
+  -- after it the execution goes on
+  pub goes_after : (network : KeptNetwork) (counts : List ℕ) (due : List (Option ℕ)) → moment ≤ most_moment → IsTried setting first from moment listed (Ok tt) moments acts
+      → IsCourseOf network (moment + 1) moments counts due → GoesOn network moments counts due (Some moment)
+  goes_after network counts due within is course = record {
     course = course;
-    room = room;
     early = tried_before is;
     time_left = (let left = count_by-le-length is_none moments in let few = course.few in omega (arith, within, left, few));
   }

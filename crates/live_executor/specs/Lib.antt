@@ -4,5 +4,6 @@ pub mod Waking
 pub mod Wakes
 pub mod Sound
 pub mod Course
+pub mod Trace
 pub mod Taking
 pub mod Kept

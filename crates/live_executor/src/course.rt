@@ -1,35 +1,44 @@
 //! How far an execution has come.
 
 ghost use Rattle.std.specs.Prelude.{◌≡◌, ◌+◌, ◌-◌, ◌*◌, ◌<◌, ◌≤◌, ◌++◌, ◌∷◌, [], None, Some, length, replicate, find, IsSome, IfOk};
+ghost use Rattle.net_model.specs.declared.ids.PointId.{PointId};
 ghost use Rattle.net_model.specs.Limits.{most_points, most_size};
 ghost use Rattle.std.specs.List.{All};
 ghost use Rattle.std.specs.Vec.{vec_capacity};
-ghost use Rattle.execution_model.specs.Execution.{moment_of, points_of, acts_at, acted, time_runs, acts_while};
+ghost use Rattle.execution_model.specs.Execution.{Moments, moment_of, points_of, acts_at, acted, time_runs, acts_while};
 ghost use Rattle.execution_model.specs.Feeding.{completed_at, is_open, last_of};
 ghost use Rattle.live_executor.specs.Course.{left_of, IsCourseOf, IsLowestDue, IsFirstMoment, IsFirstBefore};
 ghost use Rattle.live_executor.specs.Limits.{AreBefore, end_of_time};
 ghost use Rattle.live_executor.specs.Sound.{made_setting};
+ghost use Rattle.live_executor.specs.Trace.{HaveComeSince, KeepsTrace};
 ghost use Rattle.live_executor.specs.Waking.{IsAwake};
 
 use crate::dispatched::Dispatched;
+use crate::undo::take_back;
 use crate::waiting::Waiting;
 use execution_model::Act;
 use net_model::PointId;
 use std::alloc::{AllocError, Global};
+use std::mem;
 
 /// A moment that no execution reaches: above the greatest that may be fed, with room for the greatest number of a network for each
 /// point.
 const END_OF_TIME: u64 = 10_000_000_000_000;
 
-/// The moments so far, what is kept of the points that wait, and the acts that were made. There is room for an act of each point.
+/// The moments so far, what is kept of the points that wait, and since some moment the acts that were made and the points that came. There
+/// is room for an act of each point.
 #[derive(Drop)]
 pub(crate) struct Course {
     pub(crate) moments: Vec<Option<u64>>,
     pub(crate) waiting: Waiting,
     pub(crate) acts: Vec<Act>,
+    pub(crate) came: Vec<PointId>,
     ghost whole: { length waiting.counts.items ≡ length moments.items },
     ghost room: { length acts.items + left_of moments.items ≤ length moments.items },
     ghost reserved: { length moments.items ≤ vec_capacity acts },
+    ghost came_room: { length came.items + left_of moments.items ≤ length moments.items },
+    ghost came_reserved: { length moments.items ≤ vec_capacity came },
+    ghost came_inside: { All (λ (point : PointId). point.0 < length moments.items) came.items },
 }
 
 impl Course {
@@ -43,25 +52,47 @@ impl Course {
         let moments = vec![in alloc; None; points]?;
         let waiting = Waiting::fresh(alloc, dispatched, moments.as_slice())?;
         let acts = Vec::with_capacity(alloc, points)?;
+        let came = Vec::with_capacity(alloc, points)?;
         dispatched.executes_the_same();
         Ok(Course {
             moments,
             waiting,
             acts,
+            came,
         })
     }
 
-    /// Takes over the moments and what is kept of the points that wait of another, without its acts.
-    pub(crate) fn follow(&mut self, other: &Course)
-        requires { length self.old.moments.items ≡ length other.now.moments.items }
-        ensures moments { self.new.moments.items ≡ other.now.moments.items }
-        ensures counts { self.new.waiting.counts.items ≡ other.now.waiting.counts.items }
-        ensures due { self.new.waiting.due.items ≡ other.now.waiting.due.items }
+    /// Begins anew to keep which points come and which acts are made.
+    pub(crate) fn begin(&mut self)
+        ensures moments { self.new.moments.items ≡ self.old.moments.items }
+        ensures waiting { self.new.waiting ≡ self.old.waiting }
         ensures acts { self.new.acts.items ≡ [] }
+        ensures came { self.new.came.items ≡ [] }
     {
         self.acts.clear();
-        self.moments.copy_from_slice(other.moments.as_slice());
-        self.waiting.follow(&other.waiting);
+        self.came.clear();
+    }
+
+    /// Takes back what was done since the last beginning: the moments are what they were then.
+    pub(crate) fn take_back(&mut self)
+        ensures { (before : Moments) → HaveComeSince before self.old.came.items self.old.moments.items → self.new.moments.items ≡ before }
+    {
+        take_back(self.moments.as_mut_slice(), self.came.as_slice());
+        self.acts.clear();
+        self.came.clear();
+    }
+
+    /// Hands the acts over, for a list with as much room.
+    pub(crate) fn hand_over(&mut self, acts: &mut Vec<Act>)
+        requires { length self.old.moments.items ≤ vec_capacity acts.old }
+        ensures acts { acts.new.items ≡ self.old.acts.items }
+        ensures few { length acts.new.items ≤ length self.new.moments.items }
+        ensures reserved { length self.new.moments.items ≤ vec_capacity acts.new }
+        ensures moments { self.new.moments.items ≡ self.old.moments.items }
+        ensures waiting { self.new.waiting ≡ self.old.waiting }
+    {
+        acts.clear();
+        mem::swap(&mut self.acts, acts);
     }
 
     /// A point gets its moment, and wakes those that wait for it.
@@ -75,9 +106,11 @@ impl Course {
         ensures awake { IsAwake dispatched.now.setting moment self.new.moments.items self.new.waiting.counts.items self.new.waiting.due.items }
         ensures left { left_of self.new.moments.items + 1 ≡ left_of self.old.moments.items }
         ensures acts { self.new.acts.items ≡ self.old.acts.items }
+        ensures trace { KeepsTrace self.old.came.items self.old.moments.items self.new.came.items self.new.moments.items }
     {
         self.waiting
             .come(dispatched, self.moments.as_mut_slice(), point, moment);
+        self.came.push_reserved(point);
     }
 
     /// Executes a point at t, and wakes those that wait for it.
@@ -91,6 +124,7 @@ impl Course {
         ensures awake { IsAwake dispatched.now.setting t self.new.moments.items self.new.waiting.counts.items self.new.waiting.due.items }
         ensures left { left_of self.new.moments.items + 1 ≡ left_of self.old.moments.items }
         ensures acts { self.new.acts.items ≡ self.old.acts.items ++ record { moment = t; point = point } ∷ [] }
+        ensures trace { KeepsTrace self.old.came.items self.old.moments.items self.new.came.items self.new.moments.items }
     {
         self.come(dispatched, point, t);
         self.acts.push_reserved(Act { moment: t, point });
@@ -114,6 +148,7 @@ impl Course {
         ensures moments { self.new.moments.items ≡ acted (made_setting dispatched.now) self.old.moments.items t }
         ensures acts { self.new.acts.items ≡ self.old.acts.items ++ acts_at (made_setting dispatched.now) self.old.moments.items t }
         ensures course { IsCourseOf dispatched.now (t + 1) self.new.moments.items self.new.waiting.counts.items self.new.waiting.due.items }
+        ensures trace { KeepsTrace self.old.came.items self.old.moments.items self.new.came.items self.new.moments.items }
     {
         dispatched.executes_the_same();
         while let Some(point) = self.due_at(t) {
@@ -146,6 +181,7 @@ impl Course {
         ensures moments { self.new.moments.items ≡ time_runs (made_setting dispatched.now) self.old.moments.items from (until - from) }
         ensures acts { self.new.acts.items ≡ self.old.acts.items ++ acts_while (made_setting dispatched.now) self.old.moments.items from (until - from) }
         ensures course { IsCourseOf dispatched.now until self.new.moments.items self.new.waiting.counts.items self.new.waiting.due.items }
+        ensures trace { KeepsTrace self.old.came.items self.old.moments.items self.new.came.items self.new.moments.items }
     {
         dispatched.executes_the_same();
         while let Some(moment) = self.next_before(until) {
@@ -168,7 +204,7 @@ impl Course {
         let _ = dispatched.points();
         dispatched.executes_the_same();
         dispatched.comes_to_its_end();
-        self.acts.clear();
+        self.begin();
         self.run(dispatched, from, END_OF_TIME);
     }
 

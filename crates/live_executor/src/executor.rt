@@ -17,7 +17,6 @@ use execution_model::{Act, Fed, Finished, MOST_MOMENT, Why};
 use net_model::{Network, PointId};
 use std::alloc::{AllocError, Global};
 use std::marker::Model;
-use std::mem;
 
 /// An execution of a dispatchable network, fed with completions moment by moment. Contracts see it as an execution: by what the
 /// network is executed, the moments so far, the last moment fed, the last acts, and why a feed was refused.
@@ -25,13 +24,14 @@ use std::mem;
 pub struct Executor {
     dispatched: Dispatched,
     course: Course,
-    trial: Course,
+    acts: Vec<Act>,
     last: Option<u64>,
     refused: Option<Why>,
 }
 
 impl Model for Executor {
     ghost use Rattle.execution_model.specs.Feeding.{Execution};
+    ghost use Rattle.std.specs.Vec.{vec_capacity};
     ghost use Rattle.live_executor.specs.Kept.{IsKeptExecution};
     ghost use Rattle.live_executor.specs.Sound.{made_setting};
 
@@ -41,11 +41,11 @@ impl Model for Executor {
       setting = made_setting kept.dispatched;
       moments = kept.course.moments.items;
       last = kept.last;
-      acts = kept.course.acts.items;
+      acts = kept.acts.items;
       refused = kept.refused;
     } };
 
-    ghost invariant = { λ kept. IsKeptExecution kept.dispatched kept.course.moments.items kept.course.waiting.counts.items kept.course.waiting.due.items kept.trial.moments.items kept.last };
+    ghost invariant = { λ kept. IsKeptExecution kept.dispatched kept.course.moments.items kept.course.waiting.counts.items kept.course.waiting.due.items kept.acts.items (vec_capacity kept.acts) kept.last kept.refused };
 }
 
 impl Executor {
@@ -57,11 +57,11 @@ impl Executor {
     {
         let dispatched = Dispatched::new(alloc, net, dispatch)?;
         let course = Course::fresh(alloc, &dispatched)?;
-        let trial = Course::fresh(alloc, &dispatched)?;
+        let acts = Vec::with_capacity(alloc, dispatched.points() as usize)?;
         Ok(Executor {
             dispatched,
             course,
-            trial,
+            acts,
             last: None,
             refused: None,
         })
@@ -74,7 +74,7 @@ impl Executor {
         ensures few { length self.now.acts ≤ length self.now.moments }
         ensures count { length self.now.moments ≡ length self.now.setting.dispatch }
     {
-        self.course.acts.as_slice()
+        self.acts.as_slice()
     }
 
     /// The moment at which a point was executed or has completed, or `None` where it has not.
@@ -154,17 +154,20 @@ impl Executor {
 
     /// Makes all acts that are left, where no contingent point is open.
     fn run_out(&mut self)
-        requires { first_open self.old ≡ None }
+        requires going { self.old.refused ≡ None }
+        requires closed { first_open self.old ≡ None }
         ensures { IsWhole self.old self.new }
     {
         let from = self.next_moment();
         self.course.run_out(&self.dispatched, from);
         self.last = self.course.last_act(self.last);
+        self.course.hand_over(&mut self.acts);
     }
 
     /// Takes a feed, or keeps why it is refused.
     fn take(&mut self, moment: u64, completions: &[PointId]) -> Result<(), Why>
-        requires { All (λ point. point.0 < length self.old.setting.dispatch) completions.now }
+        requires going { self.old.refused ≡ None }
+        requires listed { All (λ point. point.0 < length self.old.setting.dispatch) completions.now }
         ensures { IsTaken self.old moment completions.now result self.new }
     {
         if let Some(why) = self.refusal_of_moment(moment) {
@@ -172,13 +175,12 @@ impl Executor {
             return Err(why);
         }
         let from = self.next_moment();
-        self.trial.follow(&self.course);
         let tried = self
-            .trial
+            .course
             .try_feed(&self.dispatched, from, moment, completions);
         match tried {
             Ok(()) => {
-                mem::swap(&mut self.course, &mut self.trial);
+                self.course.hand_over(&mut self.acts);
                 self.last = Some(moment);
             }
             Err(why) => self.refused = Some(why),

@@ -1,12 +1,13 @@
-//! A feed, tried on a course that may be thrown away.
+//! A feed, which is taken back if it is refused.
 
-ghost use Rattle.std.specs.Prelude.{◌≡◌, ◌+◌, ◌<◌, ◌≤◌, [], length, OnOk};
+ghost use Rattle.std.specs.Prelude.{◌≡◌, ◌+◌, ◌<◌, ◌≤◌, [], length, OnOk, OnErr};
 ghost use Rattle.std.specs.List.{All};
 ghost use Rattle.execution_model.specs.Feeding.{most_moment};
 ghost use Rattle.live_executor.specs.Course.{IsCourseOf};
 ghost use Rattle.live_executor.specs.Limits.{end_of_time};
 ghost use Rattle.live_executor.specs.Sound.{made_setting};
 ghost use Rattle.live_executor.specs.Taking.{given_or, completed, IsTried};
+ghost use Rattle.live_executor.specs.Trace.{KeepsTrace};
 
 use crate::course::Course;
 use crate::dispatched::Dispatched;
@@ -28,6 +29,7 @@ impl Course {
         ensures count { length self.new.moments.items ≡ length self.old.moments.items }
         ensures acts { self.new.acts.items ≡ self.old.acts.items }
         ensures course { OnOk result (IsCourseOf dispatched.now moment self.new.moments.items self.new.waiting.counts.items self.new.waiting.due.items) }
+        ensures trace { KeepsTrace self.old.came.items self.old.moments.items self.new.came.items self.new.moments.items }
     {
         dispatched.executes_the_same();
         self.complete(dispatched, moment, listed)?;
@@ -38,8 +40,33 @@ impl Course {
     }
 
     /// Tries a feed: lets time run to the moment before, takes the completions of the moment, and makes its acts; or gives the first
-    /// refusal, after which what is kept here stands for nothing.
+    /// refusal, and the moments are what they were.
     pub(crate) fn try_feed(
+        &mut self,
+        dispatched: &Dispatched,
+        from: u64,
+        moment: u64,
+        listed: &[PointId],
+    ) -> Result<(), Why>
+        requires listed { All (λ point. point.0 < length dispatched.now.made) listed.now }
+        requires course { IsCourseOf dispatched.now from self.old.moments.items self.old.waiting.counts.items self.old.waiting.due.items }
+        requires range { from ≤ moment }
+        requires within { moment ≤ most_moment }
+        ensures tried { IsTried (made_setting dispatched.now) self.old.moments.items from moment listed.now result self.new.moments.items self.new.acts.items }
+        ensures count { length self.new.moments.items ≡ length self.old.moments.items }
+        ensures back { OnErr result (self.new.moments.items ≡ self.old.moments.items) }
+        ensures course { OnOk result (IsCourseOf dispatched.now (moment + 1) self.new.moments.items self.new.waiting.counts.items self.new.waiting.due.items) }
+    {
+        self.begin();
+        if let Err(why) = self.advance(dispatched, from, moment, listed) {
+            self.take_back();
+            return Err(why);
+        }
+        Ok(())
+    }
+
+    /// The same, where what was done isn't taken back.
+    fn advance(
         &mut self,
         dispatched: &Dispatched,
         from: u64,
@@ -54,6 +81,7 @@ impl Course {
         ensures tried { IsTried (made_setting dispatched.now) self.old.moments.items from moment listed.now result self.new.moments.items self.new.acts.items }
         ensures count { length self.new.moments.items ≡ length self.old.moments.items }
         ensures course { OnOk result (IsCourseOf dispatched.now (moment + 1) self.new.moments.items self.new.waiting.counts.items self.new.waiting.due.items) }
+        ensures trace { KeepsTrace self.old.came.items self.old.moments.items self.new.came.items self.new.moments.items }
     {
         self.run(dispatched, from, moment);
         self.settle(dispatched, moment, listed)?;

@@ -8,6 +8,7 @@ mod feed;
 mod met;
 mod point_lists;
 mod taking;
+mod undo;
 mod waiting;
 mod wakes;
 

@@ -10,6 +10,7 @@ ghost use Rattle.live_executor.specs.Waking.{IsAwake};
 ghost use Rattle.live_executor.specs.Limits.{AreBefore, end_of_time};
 ghost use Rattle.live_executor.specs.Sound.{IsLinkOf, IsSound, made_setting};
 ghost use Rattle.live_executor.specs.Taking.{given_or};
+ghost use Rattle.live_executor.specs.Trace.{KeepsTrace};
 
 use crate::course::Course;
 use crate::dispatched::Dispatched;
@@ -88,6 +89,7 @@ impl Course {
         ensures early { AreBefore end_of_time self.new.moments.items }
         ensures count { length self.new.moments.items ≡ length self.old.moments.items }
         ensures acts { self.new.acts.items ≡ self.old.acts.items }
+        ensures trace { KeepsTrace self.old.came.items self.old.moments.items self.new.came.items self.new.moments.items }
     {
         for point in listed {
             if let Some(why) = self.refusal_of(dispatched, moment, *point) {

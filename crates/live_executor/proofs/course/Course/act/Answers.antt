@@ -6,7 +6,7 @@ use Rattle.live_executor.proofs.CourseLemmas.{none_made, lowest_inside, lowest_n
 use Rattle.live_executor.proofs.course.Course.act.Goals as goal
 
 pub loop-point-init : goal.loop-point-init
-loop-point-init c = record { made = none_made c.args.dispatched.now c.args.t c.args.self.now.moments.items c.args.self.now.acts.items; course = c.requires.course }
+loop-point-init c = record { made = none_made c.args.dispatched.now c.args.t c.args.self.now.moments.items c.args.self.now.acts.items; course = c.requires.course; trace = λ before since. since }
 
 pub execute-requires-clause-new : goal.execute-requires-clause-new
 execute-requires-clause-new c =
@@ -36,6 +36,7 @@ loop-point-preserved c =
       course = subst (λ (moments : Moments). IsCourseOf network c.args.t moments after.waiting.counts.items after.waiting.due.items) (sym e.moments)
           (course_more network c.executes_the_same.ensures c.args.t now.moments.items now.waiting.counts.items now.waiting.due.items course point c.in-Some.ensures after.waiting.counts.items after.waiting.due.items
           c.requires.early (subst (λ (moments : Moments). IsAwake network.setting c.args.t moments after.waiting.counts.items after.waiting.due.items) e.moments e.awake));
+      trace = λ before since. e.trace before (c.loop-point.invariant.trace before since);
     }
 
 pub returns-clause-moments : goal.returns-clause-moments

@@ -2,6 +2,7 @@ use Rattle.std.proofs.Common.{◌≡◌, length, drop}
 use Rattle.execution_model.specs.Feeding.{completions_taken}
 use Rattle.live_executor.specs.Limits.{AreBefore, end_of_time}
 use Rattle.live_executor.specs.Sound.{made_setting}
+use Rattle.live_executor.specs.Trace.{KeepsTrace}
 use Rattle.live_executor.specs.Waking.{IsAwake}
 use Rattle.live_executor.proofs.course.Course.complete.Given as goal
 
@@ -13,4 +14,5 @@ invariant-loop-point l = record {
   count : length l.self.moments.items ≡ length l.initial.self.moments.items;
   early : AreBefore end_of_time l.self.moments.items;
   acts : l.self.acts.items ≡ l.initial.self.acts.items;
+  trace : KeepsTrace l.initial.self.came.items l.initial.self.moments.items l.self.came.items l.self.moments.items;
 }

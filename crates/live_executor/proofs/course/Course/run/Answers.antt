@@ -7,14 +7,14 @@ use Rattle.live_executor.proofs.course.Course.run.Goals as goal
 pub loop-moment-init : goal.loop-moment-init
 loop-moment-init c =
     let old = c.args.self.now in
-    not_run c.args.dispatched.now c.executes_the_same.ensures c.args.from c.args.until old.moments.items old.acts.items old.waiting.counts.items old.waiting.due.items c.requires.range c.requires.course
+    record { run = not_run c.args.dispatched.now c.executes_the_same.ensures c.args.from c.args.until old.moments.items old.acts.items old.waiting.counts.items old.waiting.due.items c.requires.range c.requires.course; trace = λ before since. since }
 
 pub act-requires-clause-course : goal.act-requires-clause-course
 act-requires-clause-course c =
     let old = c.args.self.now in
     let now = c.loop-moment.self in
     course_at c.args.dispatched.now c.executes_the_same.ensures c.args.from c.args.until old.moments.items old.acts.items now.moments.items now.waiting.counts.items now.waiting.due.items now.acts.items
-    c.loop-moment.invariant c.in-Some.moment c.in-Some.ensures
+    c.loop-moment.invariant.run c.in-Some.moment c.in-Some.ensures
 
 pub loop-moment-smaller : goal.loop-moment-smaller
 loop-moment-smaller c =
@@ -22,15 +22,18 @@ loop-moment-smaller c =
     let now = c.loop-moment.self in
     subst (λ (moments : Moments). left_of moments < left_of now.moments.items) (sym c.act.ensures.moments)
     (fewer_left c.args.dispatched.now c.executes_the_same.ensures c.args.from c.args.until old.moments.items old.acts.items now.moments.items now.waiting.counts.items now.waiting.due.items now.acts.items
-    c.loop-moment.invariant c.in-Some.moment c.in-Some.ensures)
+    c.loop-moment.invariant.run c.in-Some.moment c.in-Some.ensures)
 
 pub loop-moment-preserved : goal.loop-moment-preserved
 loop-moment-preserved c =
     let old = c.args.self.now in
     let now = c.loop-moment.self in
     let after = c.act.new.self in
-    run_on c.args.dispatched.now c.executes_the_same.ensures c.args.from c.args.until old.moments.items old.acts.items now.moments.items now.waiting.counts.items now.waiting.due.items now.acts.items
-    c.loop-moment.invariant c.in-Some.moment c.in-Some.ensures after.moments.items after.acts.items after.waiting.counts.items after.waiting.due.items c.act.ensures.moments c.act.ensures.acts c.act.ensures.course
+    record {
+      run = run_on c.args.dispatched.now c.executes_the_same.ensures c.args.from c.args.until old.moments.items old.acts.items now.moments.items now.waiting.counts.items now.waiting.due.items now.acts.items
+          c.loop-moment.invariant.run c.in-Some.moment c.in-Some.ensures after.moments.items after.acts.items after.waiting.counts.items after.waiting.due.items c.act.ensures.moments c.act.ensures.acts c.act.ensures.course;
+      trace = λ before since. c.act.ensures.trace before (c.loop-moment.invariant.trace before since);
+    }
 
 pub returns : goal.returns
 returns c =
@@ -38,5 +41,5 @@ returns c =
     let now = c.loop-moment.self in
     let ends =
     run_ends c.args.dispatched.now c.executes_the_same.ensures c.args.from c.args.until old.moments.items old.acts.items now.moments.items now.waiting.counts.items now.waiting.due.items now.acts.items
-    c.loop-moment.invariant c.in_default.ensures in
-    record { moments = ends.0; acts = ends.1; course = ends.2 }
+    c.loop-moment.invariant.run c.in_default.ensures in
+    record { moments = ends.0; acts = ends.1; course = ends.2; trace = c.loop-moment.invariant.trace }

@@ -2,7 +2,7 @@ use Rattle.std.proofs.Common.{◌-◌, ◌∙◌, ap, sym, subst, arith}
 use Rattle.std.specs.Prelude.{IsSome, find}
 use Rattle.std.specs.List.{All}
 use Rattle.net_model.specs.Limits.{most_size}
-use Rattle.execution_model.specs.Execution.{time_runs}
+use Rattle.execution_model.specs.Execution.{Moments, time_runs}
 use Rattle.execution_model.specs.Feeding.{is_open}
 use Rattle.execution_model.proofs.MomentLemmas.{length-time_runs}
 use Rattle.live_executor.specs.Course.{left_of}
@@ -23,7 +23,7 @@ returns-clause-come c =
     let count = end_of_time - from in
     let whole = c.requires.course.awake.moments_count in
     let closed = sym (ap (find (is_open (made_setting network) old)) (points_same network same)) in
-    subst (All IsSome) (sym (c.run.ensures.moments ∙ sym (time_same network same old c.requires.course.paced from count c.requires.course.count)))
+    subst (All IsSome) (sym (c.run.ensures.moments ∙ (ap (λ (moments : Moments). time_runs (made_setting network) moments from count) c.begin.ensures.moments ∙ sym (time_same network same old c.requires.course.paced from count c.requires.course.count))))
     (c.comes_to_its_end.ensures (time_runs setting old from count) (length-time_runs setting old from count whole)
     (closed_have_come setting old from count whole (sym closed ∙ c.requires.closed))
     (settled setting c.points.ensures.sound most_size (omega arith) (omega arith) (left_of old) old from count whole c.requires.early (omega arith) (omega (arith, c.requires.time_left))))
