@@ -10,6 +10,8 @@ pub mod RefusalLemmas
 pub mod ListLemmas
 pub mod TableLaw
 pub mod RowLemmas
+pub mod FewLemmas
+pub mod FallsLemmas
 pub mod LeastLemmas
 pub mod OrderLemmas
 pub mod OpenLemmas

@@ -5,6 +5,7 @@ pub mod Truth
 pub mod Tables
 pub mod Sound
 pub mod Least
+pub mod Few
 pub mod Orders
 pub mod Reading
 pub mod JudgementText

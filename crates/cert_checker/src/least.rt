@@ -1,4 +1,4 @@
-ghost use Rattle.std.specs.Prelude.{◌≡◌, ◌<◌, ◌≤◌, ◌<ℤ◌, pos, length, IfOk, replicate, unsigned_abs};
+ghost use Rattle.std.specs.Prelude.{◌≡◌, ◌<◌, ◌≤◌, ◌<ℤ◌, pos, length, IfOk, OnOk, replicate, unsigned_abs};
 ghost use Rattle.net_model.specs.Limits.{most_weight};
 ghost use Rattle.net_model.specs.Edges.{IsEdge};
 ghost use Rattle.cert_checker.specs.Least.{IsFor, IsPlaced, IsPlacedBefore, absent, has_at_most, least_of, no_weights, opens_before, row_of, with_entry};
@@ -37,7 +37,7 @@ impl LeastWeights {
     {
         let mut least = LeastWeights::without_entries(alloc, net)?;
         for edge in edges {
-            least.lower(edge);
+            least.lower(alloc, edge)?;
         }
         Ok(least)
     }
@@ -47,24 +47,24 @@ impl LeastWeights {
     {
         let points = net.points().len();
         Ok(LeastWeights {
-            ordinary: absent_rows(alloc, points, points)?,
-            labelled: absent_rows(alloc, net.links().len(), points)?,
+            ordinary: absent_rows(alloc, points, points as u32)?,
+            labelled: absent_rows(alloc, net.links().len(), points as u32)?,
         })
     }
 
     /// Lowers the key of an edge to its weight.
-    fn lower(&mut self, edge: &Edge)
+    fn lower(&mut self, alloc: Global, edge: &Edge) -> Result<(), AllocError>
         requires { IsPlaced self.old edge.now }
-        ensures { self.new ≡ with_entry self.old edge.now }
+        ensures { OnOk result (self.new ≡ with_entry self.old edge.now) }
     {
         match edge.label {
             None => {
                 let row = &mut self.ordinary[edge.to.0 as usize];
-                row.lower(edge);
+                row.lower(alloc, edge)
             }
             Some(label) => {
                 let row = &mut self.labelled[label.0 as usize];
-                row.lower(edge);
+                row.lower(alloc, edge)
             }
         }
     }
@@ -102,12 +102,12 @@ impl LeastWeights {
 }
 
 /// Rows without weights.
-fn absent_rows(alloc: Global, count: usize, points: usize) -> Result<Vec<Row>, AllocError>
+fn absent_rows(alloc: Global, count: usize, points: u32) -> Result<Vec<Row>, AllocError>
     ensures { IfOk result (λ rows. rows.items ≡ replicate count (replicate points absent)) }
 {
     let mut rows = Vec::new(alloc);
     for _row in 0..count {
-        rows.push(Row::absent(alloc, points)?)?;
+        rows.push(Row::absent(alloc, points))?;
     }
     Ok(rows)
 }

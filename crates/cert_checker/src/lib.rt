@@ -5,6 +5,7 @@ mod base;
 mod checking;
 mod closure;
 mod entries;
+mod few;
 mod judgement;
 pub mod laws;
 mod least;

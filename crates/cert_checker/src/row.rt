@@ -1,38 +1,42 @@
-ghost use Rattle.std.specs.Prelude.{◌≡◌, ◌<◌, ◌≤◌, ◌<ℤ◌, pos, length, IfOk, replicate, unsigned_abs};
+ghost use Rattle.std.specs.Prelude.{◌≡◌, ◌<◌, ◌≤◌, ◌<ℤ◌, pos, length, IfOk, OnOk, replicate, unsigned_abs};
 ghost use Rattle.std.specs.List.{slice_index_or};
 ghost use Rattle.net_model.specs.Limits.{most_weight};
 ghost use Rattle.cert_checker.specs.Least.{absent, falls, falls_in, lowered_row};
 
+use crate::few::{ABSENT, Few};
 use net_model::{Edge, PointId, Weight};
 use std::alloc::{AllocError, Global};
 use std::marker::Model;
 
-/// The word of a point from which no entry goes.
-const ABSENT: i64 = i64::MAX;
-
-/// The least weight of the entries of a target, or of a label, for each point in which they begin. Contracts see it as the list
-/// of its words.
+/// The least weight of the entries of a target, or of a label, for each point in which they begin. While they are few, `few` holds them and
+/// `words` nothing; then `words` holds a word for each point and `few` nothing. So the room of a row grows with its entries. Contracts see
+/// it as the list of its words.
 #[derive(Debug, Drop)]
 pub(crate) struct Row {
-    words: Vec<i64>,
+    few: Few,
+    words: Vec<Weight>,
 }
 
 impl Model for Row {
-    ghost use Rattle.std.specs.Prelude.{List, ℤ};
+    ghost use Rattle.std.specs.Prelude.{◌≡◌, ◌⊎◌, List, ℤ, [], length};
+    ghost use Rattle.cert_checker.specs.Few.{words_or};
 
     ghost Value = { List ℤ };
 
-    ghost view = { λ row. row.words.items };
+    ghost view = { λ row. words_or row.words.items row.few };
+
+    ghost invariant = { λ row. (row.words.items ≡ []) ⊎ (length row.words.items ≡ length row.few) };
 }
 
 impl Row {
-    /// A row without weights.
-    pub(crate) fn absent(alloc: Global, points: usize) -> Result<Row, AllocError>
-        ensures { IfOk result (λ row. row ≡ replicate points absent) }
+    /// A row without weights. It takes no memory.
+    pub(crate) fn absent(alloc: Global, points: u32) -> Row
+        ensures { result ≡ replicate points absent }
     {
-        Ok(Row {
-            words: vec![in alloc; ABSENT; points]?,
-        })
+        Row {
+            few: Few::none(alloc, points),
+            words: Vec::new(alloc),
+        }
     }
 
     /// The word of a point.
@@ -40,16 +44,35 @@ impl Row {
         requires { from.0 < length self.now }
         ensures { result ≡ slice_index_or self.now from.0 absent }
     {
+        if self.words.is_empty() {
+            return self.few.get(from.0);
+        }
         self.words[from.0 as usize]
     }
 
-    /// Lowers the word of the point in which an edge begins to its weight.
-    pub(crate) fn lower(&mut self, edge: &Edge)
+    /// Lowers the word of the point in which an edge begins to its weight. `AllocError` comes only for want of memory.
+    pub(crate) fn lower(&mut self, alloc: Global, edge: &Edge) -> Result<(), AllocError>
         requires { edge.now.from.0 < length self.old }
-        ensures { self.new ≡ lowered_row self.old edge.now.from.0 edge.now.weight }
+        ensures { OnOk result (self.new ≡ lowered_row self.old edge.now.from.0 edge.now.weight) }
     {
+        if self.words.is_empty() {
+            self.few.lower(edge.from.0, edge.weight)?;
+            return self.spread(alloc);
+        }
         let from = edge.from.0 as usize;
         self.words[from] = self.words[from].min(edge.weight);
+        Ok(())
+    }
+
+    /// Gives each point a word where there are no longer few.
+    fn spread(&mut self, alloc: Global) -> Result<(), AllocError>
+        ensures { OnOk result (self.new ≡ self.old) }
+    {
+        if self.words.is_empty() && self.few.are_many() {
+            self.words = self.few.words(alloc)?;
+            self.few.clear(alloc);
+        }
+        Ok(())
     }
 
     /// Whether at some point the word of this row, counted as 0 where it is below, and the negative weight of an edge after it
@@ -60,11 +83,48 @@ impl Row {
         requires weight { unsigned_abs second.now.weight ≤ most_weight }
         ensures { result ≡ falls_in self.now there.now second.now.weight }
     {
+        if self.words.is_empty() {
+            return few_fall_in(&self.few, there, second);
+        }
+        if there.words.is_empty() {
+            return words_fall_in(self.words.as_slice(), &there.few, second);
+        }
         falls_in(self.words.as_slice(), there.words.as_slice(), second)
     }
 }
 
-fn falls_in(firsts: &[i64], there: &[i64], second: &Edge) -> bool
+/// The same where the first row holds few.
+fn few_fall_in(firsts: &Few, there: &Row, second: &Edge) -> bool
+    requires lengths { length firsts.now ≡ length there.now }
+    requires negative { second.now.weight <ℤ pos 0 }
+    requires weight { unsigned_abs second.now.weight ≤ most_weight }
+    ensures { result ≡ falls_in firsts.now there.now second.now.weight }
+{
+    for start in firsts.starts() {
+        if falls(start.word, there.get(PointId(start.from)), second.weight) {
+            return true;
+        }
+    }
+    false
+}
+
+/// The same where the second row alone does.
+fn words_fall_in(firsts: &[Weight], there: &Few, second: &Edge) -> bool
+    requires lengths { length firsts.now ≡ length there.now }
+    requires negative { second.now.weight <ℤ pos 0 }
+    requires weight { unsigned_abs second.now.weight ≤ most_weight }
+    ensures { result ≡ falls_in firsts.now there.now second.now.weight }
+{
+    for from in 0..there.len() {
+        if falls(firsts[from as usize], there.get(from), second.weight) {
+            return true;
+        }
+    }
+    false
+}
+
+/// The same of two rows that hold a word for each point.
+fn falls_in(firsts: &[Weight], there: &[Weight], second: &Edge) -> bool
     requires lengths { length firsts.now ≡ length there.now }
     requires negative { second.now.weight <ℤ pos 0 }
     requires weight { unsigned_abs second.now.weight ≤ most_weight }
@@ -77,7 +137,7 @@ fn falls_in(firsts: &[i64], there: &[i64], second: &Edge) -> bool
     falls_in
 }
 
-fn falls(first: i64, there: i64, weight: i64) -> bool
+fn falls(first: Weight, there: Weight, weight: Weight) -> bool
     requires negative { weight <ℤ pos 0 }
     requires weight { unsigned_abs weight ≤ most_weight }
     ensures { result ≡ falls first there weight }

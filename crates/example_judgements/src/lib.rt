@@ -8,6 +8,8 @@ mod rows;
 #[cfg(test)]
 mod scans;
 #[cfg(test)]
+mod sparse;
+#[cfg(test)]
 mod tables;
 #[cfg(test)]
 mod wide;

@@ -8,12 +8,17 @@ use std::test::Fail;
 use std::thread::Threads;
 
 /// How many points there are; there is an entry from each to each.
-const POINTS: u32 = 46;
+pub(crate) const POINTS: u32 = 46;
 
 /// How many entries there are.
 pub(crate) const MOST: u32 = POINTS * POINTS;
 
-fn push_name(alloc: Global, text: &mut String, word: &str, number: u32) -> Result<(), AllocError> {
+pub(crate) fn push_name(
+    alloc: Global,
+    text: &mut String,
+    word: &str,
+    number: u32,
+) -> Result<(), AllocError> {
     text.push_str(word)?;
     text.push_str(number.to_string(alloc)?.as_str())
 }
@@ -54,7 +59,7 @@ fn push_points(alloc: Global, parts: &mut Vec<Part>) -> Result<(), Fail> {
     Ok(())
 }
 
-fn network(alloc: Global) -> Result<Network, Fail> {
+pub(crate) fn network(alloc: Global) -> Result<Network, Fail> {
     let mut parts = Vec::new(alloc);
     push_points(alloc, &mut parts)?;
     if parts.len() > u32::MAX as usize {

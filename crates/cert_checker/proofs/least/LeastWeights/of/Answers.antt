@@ -23,6 +23,6 @@ loop-edge-preserved c =
     let start : Weights = no_weights (length c.args.net.now.points) (length c.args.net.now.links) in
     let sound = c.requires index none c.loop-edge-test.true in
     record {
-      least = c.lower.ensures ∙ ap (λ (t : Weights). with_entry t edge) c.loop-edge.invariant.least ∙ sym (fold_more with_entry start c.args.edges.now index none c.loop-edge-test.true);
-      shape = subst (λ (t : Weights). IsFor (length c.args.net.now.points) (length c.args.net.now.links) t) (sym c.lower.ensures) (for_entry (length c.args.net.now.points) (length c.args.net.now.links) c.loop-edge.least edge c.loop-edge.invariant.shape (placed c.args.net.now c.loop-edge.least edge c.loop-edge.invariant.shape sound.is_edge));
+      least = c.in_ok-lower.ensures ∙ ap (λ (t : Weights). with_entry t edge) c.loop-edge.invariant.least ∙ sym (fold_more with_entry start c.args.edges.now index none c.loop-edge-test.true);
+      shape = subst (λ (t : Weights). IsFor (length c.args.net.now.points) (length c.args.net.now.links) t) (sym c.in_ok-lower.ensures) (for_entry (length c.args.net.now.points) (length c.args.net.now.links) c.loop-edge.least edge c.loop-edge.invariant.shape (placed c.args.net.now c.loop-edge.least edge c.loop-edge.invariant.shape sound.is_edge));
     }
