@@ -16,8 +16,9 @@ use std::thread::Threads;
 
 /// A plan, the lines of a session, and the answers. First a loop that no single situation shows, dropped and added again; a bound whose key
 /// falls back to an older one; entries that follow from each other and go together with what both rest on; a wait that follows its link; a
-/// bound that is tightened until it breaks; and two bounds of which one is dropped and added again.
-const SESSIONS: [(&str, &str, &str); 6] = [
+/// bound that is tightened until it breaks; two bounds of which one is dropped and added again; and the first plan, whose session is reopened as it
+/// was opened and as it was edited.
+const SESSIONS: [(&str, &str, &str); 7] = [
     (
         "point A|point C|point D|bound b1 D C 1|bound b2 C D -1|link A 3 8 C",
         "verdict|drop bound b2|verdict|add bound b2 C D -1|proof|drop bound zz|proof",
@@ -47,6 +48,11 @@ const SESSIONS: [(&str, &str, &str); 6] = [
         "point A|point B|bound b1 A B 5|bound b2 B A -2",
         "proof|drop bound b2|proof|add bound b2 B A -2|proof",
         "certificate 1|table|order A|order B|edge A A 3|edge B A -2|edge A B 5|end|ok 1 2 1|certificate 1|table|order A|order B|edge A B 5|end|ok 1 0 2|certificate 1|table|order A|order B|edge A A 3|edge B A -2|edge A B 5|end|",
+    ),
+    (
+        "point A|point C|point D|bound b1 D C 1|bound b2 C D -1|link A 3 8 C",
+        "verdict|reopen|verdict|proof|drop bound b2|verdict|reopen|verdict|add bound b2 C D -1|reopen|proof|drop bound b2",
+        "not controllable|reopened|not controllable|certificate 1|refutation|bound b1 D C 1|bound b2 C D -1|link C C A -8|up 1 3 D A C -7|low C 2 A D 2|up 5 4 A A C -5|drop 6 A A -3|walk 7|end|ok 6 5 1|controllable|reopened|controllable|ok 6 0 2|reopened|certificate 1|refutation|bound b1 D C 1|bound b2 C D -1|link C C A -8|up 1 3 D A C -7|low C 2 A D 2|up 5 4 A A C -5|drop 6 A A -3|walk 7|end|ok 6 5 1|",
     ),
 ];
 
@@ -117,6 +123,10 @@ fn answer<R: Threads + Sync>(
     line: &str,
     text: &mut String,
 ) -> Result<(), Fail> {
+    if line == "reopen" {
+        session.reopen(rt, alloc, &NoGate)?;
+        return push_line(text, "reopened");
+    }
     match read_step(line.as_bytes())? {
         Step::Edit(edit) => push_edit(rt, alloc, session, &edit, text),
         Step::Verdict => push_line(text, verdict_word(session.verdict())),
