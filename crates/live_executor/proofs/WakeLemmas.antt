@@ -183,11 +183,20 @@ is_among_times (p ∷ ps) point absent = by (is_among_times ps point) (p.0 == po
 due_set : (due : List (Option ℕ)) (point : PointId) (value : Option ℕ) (other : PointId) → other.0 ≢ point.0 → due_in (slice_set due point.0 value) other ≡ due_in due other
 due_set due point value other differs = get_or-set_other due point.0 other.0 value None differs
 
+-- a point gets its moment: it had none, and whom it wakes is known; the counts were lowered, and then those found anew that it wakes
+pub record HasWoken (setting : Setting) (moments : Moments) (counts lowered : List ℕ) (due woken last : List (Option ℕ)) (fixes ends : List PointId) (point : PointId) (moment : ℕ) : Type 0 where
+  pub awake : IsAwake setting moment moments counts due
+  pub wakes : AreWoken setting point fixes ends
+  pub new : moment_of moments point ≡ None
+  pub inside : point.0 < length setting.dispatch
+  pub lower : (other : PointId) → slice_index lowered other.0 + times fixes other ≡ slice_index counts other.0
+  pub lowered_count : length lowered ≡ length counts
+  pub first : (other : PointId) → IsFoundOrKept moment setting (completed_at moments moment point) lowered fixes (slice_set due point.0 None) woken other
+  pub second : (other : PointId) → IsFoundOrKept moment setting (completed_at moments moment point) lowered ends woken last other
+  pub last_count : length last ≡ length due
+
 module _ (setting : Setting) (moments : Moments) (counts lowered : List ℕ) (due woken last : List (Option ℕ)) (fixes ends : List PointId) (point : PointId) (moment : ℕ)
-    (awake : IsAwake setting moment moments counts due) (wakes : AreWoken setting point fixes ends) (new : moment_of moments point ≡ None) (inside : point.0 < length setting.dispatch)
-    (lower : (other : PointId) → slice_index lowered other.0 + times fixes other ≡ slice_index counts other.0) (lowered_count : length lowered ≡ length counts)
-    (first : (other : PointId) → IsFoundOrKept moment setting (completed_at moments moment point) lowered fixes (slice_set due point.0 None) woken other)
-    (second : (other : PointId) → IsFoundOrKept moment setting (completed_at moments moment point) lowered ends woken last other) (last_count : length last ≡ length due) where
+    (has : HasWoken setting moments counts lowered due woken last fixes ends point moment) where
   abbrev come : Moments
   come = completed_at moments moment point
 
@@ -195,20 +204,20 @@ module _ (setting : Setting) (moments : Moments) (counts lowered : List ℕ) (du
   lists other = conditions_at setting.dispatch other
 
   in_moments : point.0 < length moments
-  in_moments = omega (arith, inside, awake.moments_count)
+  in_moments = omega (arith, has.inside, has.awake.moments_count)
 
   counted : (other : PointId) → other.0 < length setting.dispatch → slice_index lowered other.0 ≡ open_count setting come (lists other)
   counted other within =
-      let falls = count_falls setting moments moment point new in_moments (lists other) in
-      let fell = lower other in
-      let before = awake.counted other within in
-      let fixed = wakes.fixed other in
+      let falls = count_falls setting moments moment point has.new in_moments (lists other) in
+      let fell = has.lower other in
+      let before = has.awake.counted other within in
+      let fixed = has.wakes.fixed other in
       omega (arith, falls, fell, before, fixed)
 
   -- the point itself is no longer due
   point_known : (other : PointId) → other ≡ point → due_in last other ≡ due_in (slice_set due point.0 None) other → PassesSince moment (λ t. is_due setting come t other) (due_in last other)
   point_known other same kept =
-      let none : due_in (slice_set due point.0 None) other ≡ None = ap (due_in (slice_set due point.0 None)) same ∙ get_or-set_same due point.0 None None (omega (arith, inside, awake.due_count)) in (
+      let none : due_in (slice_set due point.0 None) other ≡ None = ap (due_in (slice_set due point.0 None)) same ∙ get_or-set_same due point.0 None None (omega (arith, has.inside, has.awake.due_count)) in (
         (λ t from. come_not_due setting come t other moment (ap (moment_of come) same ∙ moment_completed moments moment point in_moments)
             ∙ sym (ap (λ (o : Option ℕ). has_begun o t) (kept ∙ none))),
         subst (λ (o : Option ℕ). IfSome o (λ k. moment ≤ k)) (sym (kept ∙ none)) tt,
@@ -219,21 +228,21 @@ module _ (setting : Setting) (moments : Moments) (counts lowered : List ℕ) (du
       → (slice_index lowered other.0 ≡ 0 → is_among fixes other ≡ false) → (slice_index lowered other.0 ≡ 0 → is_among ends other ≡ false)
       → (t : ℕ) → moment ≤ t → is_due setting come t other ≡ has_begun (due_in last other) t
   other_test other within differs kept no_fix no_end t from =
-      let as_before : due_in last other ≡ due_in due other = kept ∙ due_set due point None other (apart setting moments moment point new in_moments other point differs) in
-      by (cases_order (slice_index lowered other.0) 0) ∙ ((awake.known other within).0 t from ∙ sym (ap (λ (o : Option ℕ). has_begun o t) as_before))
+      let as_before : due_in last other ≡ due_in due other = kept ∙ due_set due point None other (apart setting moments moment point has.new in_moments other point differs) in
+      by (cases_order (slice_index lowered other.0) 0) ∙ ((has.awake.known other within).0 t from ∙ sym (ap (λ (o : Option ℕ). has_begun o t) as_before))
     where
       some_open : 0 < slice_index lowered other.0 → is_due setting come t other ≡ is_due setting moments t other
       some_open above =
           let now = counted other within in
-          let before = awake.counted other within in
-          let fell = lower other in
+          let before = has.awake.counted other within in
+          let fell = has.lower other in
           open_not_due setting come t other (λ none. omega (arith, none, now, above)) ∙ sym (open_not_due setting moments t other (λ none. omega (arith, none, before, fell, above)))
 
       none_open : slice_index lowered other.0 ≡ 0 → is_due setting come t other ≡ is_due setting moments t other
       none_open none =
-          let fixed : fixed_by setting point (lists other) ≡ 0 = sym (wakes.fixed other) ∙ is_among_times fixes other (no_fix none) in
-          let met = meets_same setting moments moment point new in_moments t (lists other) fixed (ends_differ none) in
-          let its = other_moment setting moments moment point new in_moments other differs in
+          let fixed : fixed_by setting point (lists other) ≡ 0 = sym (has.wakes.fixed other) ∙ is_among_times fixes other (no_fix none) in
+          let met = meets_same setting moments moment point has.new in_moments t (lists other) fixed (ends_differ none) in
+          let its = other_moment setting moments moment point has.new in_moments other differs in
           λ i. is_none (link_to setting other) && is_none (its i) && met i
         where
           ends_differ : slice_index lowered other.0 ≡ 0 → (wait : LinkId × ℤ) (link : Link) → Contains (lists other).waits wait → slice_get setting.links wait.0.0 ≡ Some link → link.to.0 == point.0 ≡ false
@@ -241,7 +250,7 @@ module _ (setting : Setting) (moments : Moments) (counts lowered : List ℕ) (du
             where
               by : (b : Bool) → link.to.0 == point.0 ≡ b → b ≡ false
               by false differs = refl
-              by true same = absurd (true≢false (sym (wakes.ended other wait link among declared (eqb-true link.to.0 point.0 same)) ∙ no_end none))
+              by true same = absurd (true≢false (sym (has.wakes.ended other wait link among declared (eqb-true link.to.0 point.0 same)) ∙ no_end none))
 
       by : (slice_index lowered other.0 ≡ 0) ⊎ ((slice_index lowered other.0 < 0) ⊎ (0 < slice_index lowered other.0)) → is_due setting come t other ≡ is_due setting moments t other
       by (inl none) = none_open none
@@ -252,17 +261,17 @@ module _ (setting : Setting) (moments : Moments) (counts lowered : List ℕ) (du
       → (slice_index lowered other.0 ≡ 0 → is_among fixes other ≡ false) → (slice_index lowered other.0 ≡ 0 → is_among ends other ≡ false)
       → PassesSince moment (λ t. is_due setting come t other) (due_in last other)
   other_known other within differs kept no_fix no_end =
-      let as_before : due_in last other ≡ due_in due other = kept ∙ due_set due point None other (apart setting moments moment point new in_moments other point differs) in
-      (other_test other within differs kept no_fix no_end, subst (λ (o : Option ℕ). IfSome o (λ k. moment ≤ k)) (sym as_before) (awake.known other within).1)
+      let as_before : due_in last other ≡ due_in due other = kept ∙ due_set due point None other (apart setting moments moment point has.new in_moments other point differs) in
+      (other_test other within differs kept no_fix no_end, subst (λ (o : Option ℕ). IfSome o (λ k. moment ≤ k)) (sym as_before) (has.awake.known other within).1)
 
   known : AreDueSince moment setting come last
   known other within =
-      elim (second other) [
+      elim (has.second other) [
         | inl found ↦ found
-        | inr (same, no_end) ↦ elim (first other) [
+        | inr (same, no_end) ↦ elim (has.first other) [
           | inl found ↦ ((λ t from. found.0 t from ∙ sym (ap (λ (o : Option ℕ). has_begun o t) same)), subst (λ (o : Option ℕ). IfSome o (λ k. moment ≤ k)) (sym same) found.1)
           | inr (kept, no_fix) ↦ elim (cases_Bool (other.0 == point.0)) [
-            | inl is ↦ point_known other (same_number setting moments moment point new in_moments other point is) (same ∙ kept)
+            | inl is ↦ point_known other (same_number setting moments moment point has.new in_moments other point is) (same ∙ kept)
             | inr differs ↦ other_known other within differs (same ∙ kept) no_fix no_end
           ]
         ]
@@ -270,9 +279,9 @@ module _ (setting : Setting) (moments : Moments) (counts lowered : List ℕ) (du
 
   pub awake_after : IsAwake setting moment come lowered last
   awake_after = record {
-    moments_count = length-completed_at moments moment point ∙ awake.moments_count;
-    counts_count = lowered_count ∙ awake.counts_count;
-    due_count = last_count ∙ awake.due_count;
+    moments_count = length-completed_at moments moment point ∙ has.awake.moments_count;
+    counts_count = has.lowered_count ∙ has.awake.counts_count;
+    due_count = has.last_count ∙ has.awake.due_count;
     counted = counted;
     known = known;
   }

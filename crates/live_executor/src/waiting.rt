@@ -64,16 +64,6 @@ impl Waiting {
         self.due[point.0 as usize] = dispatched.due_from(moments, point);
     }
 
-    /// Takes over what another has of as many points.
-    pub(crate) fn follow(&mut self, other: &Waiting)
-        requires { length self.old.counts.items ≡ length other.now.counts.items }
-        ensures counts { self.new.counts.items ≡ other.now.counts.items }
-        ensures due { self.new.due.items ≡ other.now.due.items }
-    {
-        self.counts.copy_from_slice(other.counts.as_slice());
-        self.due.copy_from_slice(other.due.as_slice());
-    }
-
     /// Counts one condition less for each time that a point stands in the list.
     fn lower(&mut self, waiters: &[PointId])
         requires inside { All (λ (point : PointId). point.0 < length self.old.counts.items) waiters.now }

@@ -33,4 +33,14 @@ returns-clause-awake c =
     last.whole ∙ (ap (λ (counts : List ℕ). length counts) same_counts ∙ (c.lower.ensures.count ∙ sym old.whole)) in
     subst (λ (counts : List ℕ). IsAwake setting now after counts last.due.items) (sym same_counts)
     (awake_after setting c.args.moments.now old.counts.items lowered.counts.items old.due.items woken.due.items last.due.items fixes ends point now
-    c.requires.awake wakes c.requires.new c.requires.point c.lower.ensures.each c.lower.ensures.count first second long)
+    (record {
+      awake = c.requires.awake;
+      wakes = wakes;
+      new = c.requires.new;
+      inside = c.requires.point;
+      lower = c.lower.ensures.each;
+      lowered_count = c.lower.ensures.count;
+      first = first;
+      second = second;
+      last_count = long;
+    }))
