@@ -3,7 +3,7 @@
 use crate::live::{Live, slow};
 use crate::plans::network;
 use crate::slow::SlowExecutor;
-use execution_model::Fed;
+use execution_model::{Fed, MOST_MOMENT, Why};
 use net_model::{Link, Network, PointId};
 use std::alloc::Global;
 use std::process::Abort;
@@ -30,6 +30,24 @@ struct Completion {
     moment: u64,
     point: PointId,
 }
+
+/// The completions of an execution of a network, in order of moment.
+#[derive(Clone, Copy)]
+struct Stream<'a> {
+    net: &'a Network,
+    completions: &'a [Completion],
+}
+
+/// What both executors are fed, or their end.
+#[derive(Drop)]
+struct Feed {
+    moment: u64,
+    listed: Vec<PointId>,
+    ends: bool,
+}
+
+/// Up to which moment each contingent point has completed.
+const MOMENTS: u64 = 250;
 
 /// Networks, and how many streams are tried on each.
 const NETWORKS: [(&str, u32); 9] = [
@@ -82,43 +100,51 @@ fn try_network(
     draws: &mut Draws,
 ) -> Result<(), Fail> {
     let net = network(alloc, parts)?;
-    try_streams(rt, alloc, &net, count, draws)
-}
-
-/// How many feeds of a hundred have a fault: a third of the streams is faithful.
-fn faults_of(number: u32) -> u64 {
-    match number % 3 {
-        0 => 0,
-        1 => 12,
-        _ => 40,
-    }
-}
-
-/// As many streams.
-pub(crate) fn try_streams(
-    rt: &(impl Abort + Threads + Sync),
-    alloc: Global,
-    net: &Network,
-    count: u32,
-    draws: &mut Draws,
-) -> Result<(), Fail> {
     for number in 0..count {
-        try_stream(rt, alloc, net, faults_of(number), draws)?;
+        try_stream(rt, alloc, &net, Departures::of(number), draws)?;
     }
     Ok(())
 }
 
-/// One stream, with some faults in a hundred.
-fn try_stream(
+/// How streams depart from what the executions of a network are fed.
+#[derive(Clone, Copy)]
+pub(crate) struct Departures {
+    /// How many feeds of a hundred have a fault.
+    faults: u64,
+    /// Whether the end comes before the last completion.
+    cut_short: bool,
+}
+
+impl Departures {
+    /// Those of a stream by its number: of four streams one is faithful, and one cut short.
+    pub(crate) fn of(number: u32) -> Departures {
+        let faults = match number % 4 {
+            1 => 12,
+            2 => 40,
+            _ => 0,
+        };
+        Departures {
+            faults,
+            cut_short: number % 4 == 3,
+        }
+    }
+}
+
+/// One stream with such departures. Gives why it was refused.
+pub(crate) fn try_stream(
     rt: &(impl Abort + Threads + Sync),
     alloc: Global,
     net: &Network,
-    faults: u64,
+    departures: Departures,
     draws: &mut Draws,
-) -> Result<(), Fail> {
+) -> Result<Option<Why>, Fail> {
     let durations = durations(alloc, net, draws)?;
     let completions = completions(rt, alloc, net, durations.as_slice())?;
-    feed_both(rt, alloc, net, completions.as_slice(), faults, draws)
+    let stream = Stream {
+        net,
+        completions: completions.as_slice(),
+    };
+    feed_both(rt, alloc, &stream, departures, draws)
 }
 
 /// A duration of each link.
@@ -145,7 +171,10 @@ fn completions(
 ) -> Result<Vec<Completion>, Fail> {
     let mut executor = slow(rt, alloc, net)?;
     let mut all = Vec::new(alloc);
-    for moment in 0..250 {
+    for moment in 0..MOMENTS {
+        if all.len() == durations.len() {
+            break;
+        }
         let listed = completed(alloc, net, &executor, durations, moment)?;
         let answer = executor.feed(alloc, moment, listed.as_slice())?;
         assert_eq!(rt; answer, Fed::Acts);
@@ -188,17 +217,6 @@ fn completed(
     Ok(listed)
 }
 
-/// The points of a list of completions that complete at a moment.
-fn listed_at(alloc: Global, completions: &[Completion], moment: u64) -> Result<Vec<PointId>, Fail> {
-    let mut listed = Vec::new(alloc);
-    for completion in completions {
-        if completion.moment == moment {
-            listed.push(completion.point)?;
-        }
-    }
-    Ok(listed)
-}
-
 /// What is wrong with a feed.
 #[derive(Clone, Copy, PartialEq)]
 enum Fault {
@@ -213,6 +231,10 @@ enum Fault {
     Again,
     /// It comes at an earlier moment.
     Earlier,
+    /// It comes after the last moment that there is.
+    TooLate,
+    /// A point that has not completed is listed.
+    Sooner,
     /// The end comes before it.
     Ended,
 }
@@ -222,37 +244,109 @@ fn draw_fault(faults: u64, draws: &mut Draws) -> Fault {
     if draws.draw(100) >= faults {
         return Fault::Nothing;
     }
-    match draws.draw(6) {
+    match draws.draw(8) {
         0 => Fault::Skipped,
         1 => Fault::Unlisted,
         2 => Fault::Another,
         3 => Fault::Again,
         4 => Fault::Earlier,
+        5 => Fault::TooLate,
+        6 => Fault::Sooner,
         _ => Fault::Ended,
     }
 }
 
-/// Changes the listed points by a fault.
-fn change(
-    listed: &mut Vec<PointId>,
-    fault: Fault,
-    net: &Network,
-    draws: &mut Draws,
-) -> Result<(), Fail> {
+/// At which moment a feed comes by a fault.
+fn moment_by(moment: u64, fault: Fault, draws: &mut Draws) -> u64 {
     match fault {
-        Fault::Unlisted => listed.clear(),
-        Fault::Another => {
-            let number = draws.draw(net.points().len() as u64);
-            listed.push(PointId(u32::try_from(number).unwrap_or(0)))?;
-        }
-        Fault::Again => {
-            if let Some(first) = listed.first().copied() {
-                listed.push(first)?;
+        Fault::Earlier => moment.saturating_sub(draws.draw(4)),
+        Fault::TooLate => MOST_MOMENT.saturating_add(draws.draw(4)).saturating_add(1),
+        _ => moment,
+    }
+}
+
+impl Stream<'_> {
+    /// Up to which moment it is fed: some moments after the last completion, or to one before where it is cut short.
+    fn end(&self, cut_short: bool, draws: &mut Draws) -> u64 {
+        let whole = match self.completions.last() {
+            Some(last) => last.moment.saturating_add(10),
+            None => 8,
+        };
+        if cut_short { draws.draw(whole) } else { whole }
+    }
+
+    /// The points that complete at a moment.
+    fn listed_at(&self, alloc: Global, moment: u64) -> Result<Vec<PointId>, Fail> {
+        let mut listed = Vec::new(alloc);
+        for completion in self.completions {
+            if completion.moment == moment {
+                listed.push(completion.point)?;
             }
         }
-        _ => {}
+        Ok(listed)
     }
-    Ok(())
+
+    /// A point that completes after a moment.
+    fn next_after(&self, moment: u64) -> Option<PointId> {
+        for completion in self.completions {
+            if moment < completion.moment {
+                return Some(completion.point);
+            }
+        }
+        None
+    }
+
+    /// A point of the network.
+    fn some_point(&self, draws: &mut Draws) -> Option<PointId> {
+        let number = draws.draw(self.net.points().len() as u64);
+        u32::try_from(number).ok().map(PointId)
+    }
+
+    /// The points that are listed at a moment by a fault.
+    fn listed(
+        &self,
+        alloc: Global,
+        moment: u64,
+        fault: Fault,
+        draws: &mut Draws,
+    ) -> Result<Vec<PointId>, Fail> {
+        let mut listed = self.listed_at(alloc, moment)?;
+        let added = match fault {
+            Fault::Unlisted => {
+                listed.clear();
+                None
+            }
+            Fault::Another => self.some_point(draws),
+            Fault::Sooner => self.next_after(moment),
+            Fault::Again => listed.first().copied(),
+            _ => None,
+        };
+        if let Some(point) = added {
+            listed.push(point)?;
+        }
+        Ok(listed)
+    }
+
+    /// The feed of a moment, with a fault in so many of a hundred, or none where it is left out, as most are that list no point.
+    fn feed(
+        &self,
+        alloc: Global,
+        moment: u64,
+        faults: u64,
+        draws: &mut Draws,
+    ) -> Result<Option<Feed>, Fail> {
+        let fault = draw_fault(faults, draws);
+        let listed = self.listed(alloc, moment, fault, draws)?;
+        let is_quiet = fault == Fault::Nothing && listed.is_empty() && draws.draw(4) > 0;
+        if is_quiet || fault == Fault::Skipped {
+            return Ok(None);
+        }
+        Ok(Some(Feed {
+            moment: moment_by(moment, fault, draws),
+            listed,
+            ends: fault == Fault::Ended,
+        }))
+    }
 }
 
 /// Both executors of a network.
@@ -260,19 +354,27 @@ fn change(
 struct Both {
     live: Live,
     slow: SlowExecutor,
+    refused: Option<Why>,
 }
 
 impl Both {
     fn start(rt: &(impl Threads + Sync), alloc: Global, net: &Network) -> Result<Both, Fail> {
         let live = Live::start(rt, alloc, net)?;
         let slow = slow(rt, alloc, net)?;
-        Ok(Both { live, slow })
+        Ok(Both {
+            live,
+            slow,
+            refused: None,
+        })
     }
 
     /// Feeds both, and says whether they answer the same.
     fn feed(&mut self, alloc: Global, moment: u64, listed: &[PointId]) -> Result<bool, Fail> {
         let answer = self.live.feed(moment, listed)?;
         let wanted = self.slow.feed(alloc, moment, listed)?;
+        if let Fed::Refused(why) = wanted {
+            self.refused = Some(why);
+        }
         Ok(answer == wanted)
     }
 
@@ -281,6 +383,16 @@ impl Both {
         let answer = self.live.finish();
         let wanted = self.slow.finish(alloc)?;
         Ok(answer == wanted)
+    }
+
+    /// Feeds or ends both, and says whether they answer the same and are the same then.
+    fn step(&mut self, alloc: Global, net: &Network, feed: &Feed) -> Result<bool, Fail> {
+        let same = if feed.ends {
+            self.finish(alloc)?
+        } else {
+            self.feed(alloc, feed.moment, feed.listed.as_slice())?
+        };
+        Ok(same && self.are_same(alloc, net)?)
     }
 
     /// Whether the acts, the next due moment and the moments of all points are the same.
@@ -303,61 +415,23 @@ impl Both {
     }
 }
 
-/// Feeds both executors a stream, and compares them after each feed.
+/// Feeds both executors a stream, and compares them after each feed. Gives why it was refused.
 fn feed_both(
     rt: &(impl Abort + Threads + Sync),
     alloc: Global,
-    net: &Network,
-    completions: &[Completion],
-    faults: u64,
+    stream: &Stream<'_>,
+    departures: Departures,
     draws: &mut Draws,
-) -> Result<(), Fail> {
-    let mut both = Both::start(rt, alloc, net)?;
-    for moment in 0..end_of(completions) {
-        let mut listed = listed_at(alloc, completions, moment)?;
-        let fault = draw_fault(faults, draws);
-        change(&mut listed, fault, net, draws)?;
-        let same = step(
-            alloc,
-            net,
-            &mut both,
-            moment,
-            listed.as_slice(),
-            fault,
-            draws,
-        )?;
+) -> Result<Option<Why>, Fail> {
+    let mut both = Both::start(rt, alloc, stream.net)?;
+    for moment in 0..stream.end(departures.cut_short, draws) {
+        let Some(feed) = stream.feed(alloc, moment, departures.faults, draws)? else {
+            continue;
+        };
+        let same = both.step(alloc, stream.net, &feed)?;
         assert!(rt; same, "{moment}");
     }
-    let same = both.finish(alloc)? && both.are_same(alloc, net)?;
+    let same = both.finish(alloc)? && both.are_same(alloc, stream.net)?;
     assert!(rt; same);
-    Ok(())
-}
-
-/// Up to which moment a stream is fed: some moments after the last completion.
-fn end_of(completions: &[Completion]) -> u64 {
-    match completions.last() {
-        Some(last) => last.moment.saturating_add(10),
-        None => 8,
-    }
-}
-
-/// A feed or the end of both, or none; says whether they answer the same and are the same. Most feeds that list no point are left
-/// out.
-fn step(
-    alloc: Global,
-    net: &Network,
-    both: &mut Both,
-    moment: u64,
-    listed: &[PointId],
-    fault: Fault,
-    draws: &mut Draws,
-) -> Result<bool, Fail> {
-    let same = match fault {
-        Fault::Skipped => return Ok(true),
-        Fault::Ended => both.finish(alloc)?,
-        Fault::Earlier => both.feed(alloc, moment.saturating_sub(draws.draw(4)), listed)?,
-        _ if listed.is_empty() && draws.draw(4) > 0 => return Ok(true),
-        _ => both.feed(alloc, moment, listed)?,
-    };
-    Ok(same && both.are_same(alloc, net)?)
+    Ok(both.refused)
 }

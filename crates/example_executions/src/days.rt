@@ -1,7 +1,9 @@
 //! Drawn days: the executor, on slim lists, against the slow one on whole lists.
 
-use crate::compared::{Draws, try_streams};
+use crate::compared::{Departures, Draws, try_stream};
 use crate::plans::network;
+use crate::refusals::Refusals;
+use execution_model::Why;
 use std::alloc::Global;
 use std::process::Abort;
 use std::test::Fail;
@@ -18,25 +20,33 @@ struct Day {
     links: String,
 }
 
+/// Of how many days at least the stream is refused for each cause.
+const FEW: u32 = 3;
+
 #[test]
 fn days_are_as_slow(rt: HostRuntime) -> Result<(), Fail> {
     let mut draws = Draws { state: 11 };
-    for _ in 0..DAYS {
-        try_day(&rt, rt.alloc(), &mut draws)?;
+    let mut refusals = Refusals::default();
+    for number in 0..DAYS {
+        if let Some(why) = try_day(&rt, rt.alloc(), number, &mut draws)? {
+            refusals.count(why);
+        }
     }
+    assert!(rt; FEW <= refusals.fewest(), "{refusals:?}");
     Ok(())
 }
 
-/// One stream of a drawn day of 20 to 60 points.
+/// One stream of a drawn day of 20 to 60 points. Gives why it was refused.
 fn try_day(
     rt: &(impl Abort + Threads + Sync),
     alloc: Global,
+    number: u32,
     draws: &mut Draws,
-) -> Result<(), Fail> {
+) -> Result<Option<Why>, Fail> {
     let tasks = draws.draw(14).saturating_add(7);
     let lines = drawn(alloc, tasks, draws)?;
     let net = network(alloc, lines.as_str())?;
-    try_streams(rt, alloc, &net, 1, draws)
+    try_stream(rt, alloc, &net, Departures::of(number), draws)
 }
 
 /// The lines of a day of so many tasks.

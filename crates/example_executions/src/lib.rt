@@ -15,6 +15,8 @@ mod live;
 #[cfg(test)]
 mod plans;
 #[cfg(test)]
+mod refusals;
+#[cfg(test)]
 mod slow;
 #[cfg(test)]
 mod stepping;
