@@ -1,0 +1,32 @@
+-- What a session gives is a dispatchable network of the closure, and so is what no others imply of it.
+use Rattle.std.proofs.Common.{List, ◌∙◌, ap}
+use Rattle.dispatch_net.specs.declared.dispatch.Conditions.{Conditions}
+use Rattle.dispatch_net.proofs.EarliestLemmas.{closures_may_dispatch}
+use Rattle.execution_model.specs.Feeding.{started}
+use Rattle.execution_model.proofs.GraphLemmas.{closures_are_graphs}
+use Rattle.example_days.proofs.days.start.Goals as goal
+
+pub start-requires : goal.start-requires
+start-requires c =
+    let is = c.requires in
+    record {
+      instant = record { sound = c.points-points.ensures.sound };
+      table = is.table;
+      order = is.order;
+      graph = closures_are_graphs c.args.net.now is.table c.points-points.ensures.sound is.closure;
+      may = closures_may_dispatch c.args.net.now is.table is.order c.points-points.ensures.sound is.closure is.ordered;
+      links = c.slim.ensures.links ∙ is.by.links;
+      made = c.slim.ensures.made ∙ is.by.made;
+    }
+
+pub returns : goal.returns
+returns c =
+    let is = c.requires in
+    record {
+      table = is.table;
+      order = is.order;
+      by_closure = record { instant = record { sound = c.points-points.ensures.sound }; closure = is.closure; ordered = is.ordered };
+      fresh =
+          c.in_ok-start.ensures
+          ∙ ap (λ (made : List Conditions). started (record { links = c.args.net.now.links; dispatch = made })) (c.slim.ensures.made ∙ is.by.made);
+    }

@@ -1,0 +1,7 @@
+//! Days tried as tests: situations by number, days that are played out, and networks that are forged out of a number.
+#![tactic(auto)]
+
+#[cfg(test)]
+mod days;
+#[cfg(test)]
+mod forged;
