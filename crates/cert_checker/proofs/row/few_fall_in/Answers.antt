@@ -1,4 +1,4 @@
-use Rattle.std.proofs.Common.{rules, w64, to_z, of_z, ◌≡◌, ◌∙◌, ℤ, pos, true, false, Bool, List, get_or, sym, ap, arith}
+use Rattle.std.proofs.Common.{rules, w64, to_z, of_z, ◌≡◌, ◌∙◌, pos, true, false, List, get_or, sym, arith}
 use Rattle.cert_checker.specs.declared.few.Start.{Start}
 use Rattle.cert_checker.specs.Least.{absent, falls}
 use Rattle.cert_checker.proofs.FallsLemmas.{start_falls, starts_stay, none_more}

@@ -1,4 +1,4 @@
-use Rattle.std.proofs.Common.{rules, w64, to_z, of_z, pos, ◌≡◌, ◌∙◌, ℤ, true, false, get_or, sym, ap, arith}
+use Rattle.std.proofs.Common.{rules, w64, to_z, of_z, pos, ◌≡◌, ◌∙◌, ℤ, true, false, get_or, sym, arith}
 use Rattle.std.proofs.lemmas.List.{get_or_default}
 use Rattle.cert_checker.specs.Least.{absent, falls}
 use Rattle.cert_checker.proofs.RowLemmas.{falls_at}

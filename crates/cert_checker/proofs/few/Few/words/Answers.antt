@@ -1,4 +1,4 @@
-use Rattle.std.proofs.Common.{rules, ◌≡◌, w64, to_z, of_z, ◌∙◌, ◌++◌, ◌∷◌, [], sym, take, arith}
+use Rattle.std.proofs.Common.{rules, ◌≡◌, w64, to_z, of_z, ◌∙◌, ◌++◌, ◌∷◌, [], sym, arith}
 use Rattle.std.proofs.lemmas.List.{take_more, take_all}
 use Rattle.cert_checker.specs.Least.{absent}
 use Rattle.cert_checker.proofs.FewLemmas.{row_long}
