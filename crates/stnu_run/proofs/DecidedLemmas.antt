@@ -40,7 +40,7 @@ module _ (form : PlanForm) (Yes : Plan → List ℕ → End → Type 0)
   pub yes_by : (input put : List ℕ) (end : End) → Answers input put end → (more : List ℕ) → put ≡ controllable_line ++ more → (net : Plan) (rest : List (List ℕ)) → (plan_in form).declares (lines input) net rest
       → IsControllable net × Yes net put end
   yes_by input put end (inl (other, after, is, inl kept)) more same net rest network =
-      subst (λ (n : Plan). IsControllable n × Yes n put end) (input_one form (lines input) other net after rest is network) yes
+      subst (λ (n : Plan). IsControllable n × Yes n put end) (input_one form (lines input) other net after rest is network) kept
   yes_by input put end (inl (other, after, is, inr (never, (cert, accepted, puts)))) more same net rest network =
       absurd (apart more (printed_certificate cert) (sym same ∙ puts.0))
   yes_by input put end (inr (fault, first, puts)) more same net rest network = absurd (no_refusal_is_controllable fault more (sym puts.0 ∙ same))

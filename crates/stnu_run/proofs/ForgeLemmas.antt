@@ -50,10 +50,10 @@ told_controllable net cert last before after proves is_last puts =
 -- where the verdict of a network that is forged is put after what it has, that is told
 pub told_forged : (words : ForgeWords) (net same : Plan) (counted put : List ℕ) (end : TellingEnd) → built (forged_parts words.number words.tasks) ≡ Ok net → same ≡ net → counted ≡ counts_text net
     → Adds (λ more. TellsVerdict same more end) counted put → TellsForged words put end
-told_forged words net same counted put end forged is counts adds = record {
+told_forged words net same counted put end forged is counts puts = record {
   net = net;
   forged = forged;
-  verdict = subst (λ (n : Plan). Adds (λ more. TellsVerdict n more end) (counts_text net) put) is (subst (λ (text : List ℕ). Adds (λ more. TellsVerdict same more end) text put) counts adds);
+  verdict = subst (λ (n : Plan). Adds (λ more. TellsVerdict n more end) (counts_text net) put) is (subst (λ (text : List ℕ). Adds (λ more. TellsVerdict same more end) text put) counts puts);
 }
 
 -- ---- what is told is one

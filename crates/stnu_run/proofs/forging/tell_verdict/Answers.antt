@@ -15,5 +15,5 @@ returns-in-NotControllable g c =
     let before = c.args.answer.now.text in
     let after = c.tell_refuted.new.answer.text in
     IfOk-weaker c.tell_refuted.result (λ (end : TellingEnd). Adds (λ more. TellsRefuted net more end) before after) (λ (end : TellingEnd). Adds (λ more. TellsVerdict net more end) before after)
-    (λ end adds. (adds.0, adds.1, inr adds.2))
+    (λ end puts. (puts.0, puts.1, inr puts.2))
     (subst (λ (n : Plan). IfOk c.tell_refuted.result (λ (end : TellingEnd). Adds (λ more. TellsRefuted n more end) before after)) c.network.ensures c.tell_refuted.ensures)
