@@ -64,7 +64,7 @@ module _ {C : Type 0} (machine : Machine C) (start : C) (promise : Promise) wher
   }
 
 -- an answer without an input that was put whole ends with a number below these
-told_below : (end : TellingEnd) → told_number end < 3
+pub told_below : (end : TellingEnd) → told_number end < 3
 told_below Told = omega arith
 told_below other = omega arith
 
