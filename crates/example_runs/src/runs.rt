@@ -76,7 +76,16 @@ stnu run => stnu 1|point A|point C|point D|bound b1 D C 4|link A 3 8 C|end|at 0 
 stnu run => stnu 1|point A|point C|point D|bound b1 D C 4|link A 3 8 C|end|done| => controllable|due 0|error event 8 unfinished C| => 7
 stnu run => stnu 1|point A|point C|point D|bound b1 D C 4|link A 3 8 C|end|at 0 Q| => controllable|due 0|error format 8 unknown-name| => 3
 stnu run => stnu 1|point A|point C|point D|bound b1 D C 4|link A 3 8 C|end|at 4000000000001| => controllable|due 0|error limit 8 moment| => 4
-stnu run => stnu 1|point A|point C|point D|bound b1 D C 4|link A 3 8 C|end|at 0| => controllable|due 0|act 0 A|due 4|error format 9 no-end| => 3";
+stnu run => stnu 1|point A|point C|point D|bound b1 D C 4|link A 3 8 C|end|at 0| => controllable|due 0|act 0 A|due 4|error format 9 no-end| => 3
+stnu judge => stnu 1|point A|bound b A A -1|end|certificate 1|refutation|bound b A A -1|no 1 1 A A -2|no 2 2 A A -4|no 3 3 A A -8|no 4 4 A A -16|no 5 5 A A -32|no 6 6 A A -64|no 7 7 A A -128|no 8 8 A A -256|no 9 9 A A -512|no 10 10 A A -1024|no 11 11 A A -2048|no 12 12 A A -4096|no 13 13 A A -8192|no 14 14 A A -16384|no 15 15 A A -32768|no 16 16 A A -65536|no 17 17 A A -131072|no 18 18 A A -262144|no 19 19 A A -524288|no 20 20 A A -1048576|no 21 21 A A -2097152|no 22 22 A A -4194304|no 23 23 A A -8388608|no 24 24 A A -16777216|no 25 25 A A -33554432|no 26 26 A A -67108864|no 27 27 A A -134217728|no 28 28 A A -268435456|no 29 29 A A -536870912|no 30 30 A A -1073741824|no 31 31 A A -2147483648|no 32 32 A A -4294967296|no 33 33 A A -8589934592|no 34 34 A A -17179869184|no 35 35 A A -34359738368|no 36 36 A A -68719476736|no 37 37 A A -137438953472|no 38 38 A A -274877906944|no 39 39 A A -549755813888|no 40 40 A A -1099511627776|end| => refused 41 weight-range| => 1
+stnu judge => stnu 1|point A|bound b A A -1|end|certificate 1|refutation|bound b A A -1|no 1 1 A A -2|no 2 2 A A -4|no 3 3 A A -8|no 4 4 A A -16|no 5 5 A A -32|no 6 6 A A -64|no 7 7 A A -128|no 8 8 A A -256|no 9 9 A A -512|no 10 10 A A -1024|no 11 11 A A -2048|no 12 12 A A -4096|no 13 13 A A -8192|no 14 14 A A -16384|no 15 15 A A -32768|no 16 16 A A -65536|no 17 17 A A -131072|no 18 18 A A -262144|no 19 19 A A -524288|no 20 20 A A -1048576|no 21 21 A A -2097152|no 22 22 A A -4194304|no 23 23 A A -8388608|no 24 24 A A -16777216|no 25 25 A A -33554432|no 26 26 A A -67108864|no 27 27 A A -134217728|no 28 28 A A -268435456|no 29 29 A A -536870912|no 30 30 A A -1073741824|no 31 31 A A -2147483648|no 32 32 A A -4294967296|no 33 33 A A -8589934592|no 34 34 A A -17179869184|no 35 35 A A -34359738368|no 36 36 A A -68719476736|no 37 37 A A -137438953472|no 38 38 A A -274877906944|no 39 39 A A -549755813888|walk 40|end| => accepted not controllable| => 0
+stnu judge => stnu 1|point A|bound b A A -1|end|certificate 1|refutation|bound b A A -1000000000000000000|end| => error limit 7 number| => 4
+stnu judge => stnu 1|point A|bound b A A -1|end|certificate 1|refutation|no 18446744073709551616 1 A A -2|end| => error limit 7 number| => 4
+stnu judge => stnu 1|point A|bound b A A -1|end|certificate 1|refutation|no 0 1 A A -2|end| => refused 1 premise| => 1
+stnu judge => stnu 1|point A|bound b A A -1|end|certificate 1|refutation|no -1 1 A A -2|end| => error format 7 bad-number| => 3
+stnu judge => stnu 1|point A|bound b A A -1|end|certificate 1|refutation|end| => refused 1 walk-broken| => 1
+stnu run => stnu 1|point A|point C|point D|bound b1 D C 4|link A 3 8 C|end|at 01| => controllable|due 0|error format 8 bad-number| => 3
+stnu run => stnu 1|point A|point C|point D|bound b1 D C 4|link A 3 8 C|end|at 0 C!| => controllable|due 0|error format 8 bad-name| => 3";
 
 /// Rows: how many bytes a take gives at most, where that is above 0, which take and which put fails; and then as above.
 const FAILING_CALLS: &str = "0 2 0 => stnu judge => stnu 1|point A| => error read| => 5
@@ -88,7 +97,16 @@ const FAILING_CALLS: &str = "0 2 0 => stnu judge => stnu 1|point A| => error rea
 0 1 1 => stnu chek => stnu 1|end| =>  => 6
 1 4 0 => stnu run => stnu 1|point A|point B|bound b1 A B 5|bound b2 B A -2|end|at 0|at 2|done| => error read| => 5
 0 0 2 => stnu run => stnu 1|point A|point B|bound b1 A B 5|bound b2 B A -2|end|at 0|at 2|done| => controllable|due 0| => 6
-1 0 2 => stnu run => stnu 1|point A|point B|bound b1 A B 5|bound b2 B A -2|end|at 0|at 2|done| => controllable|due 0| => 6";
+1 0 2 => stnu run => stnu 1|point A|point B|bound b1 A B 5|bound b2 B A -2|end|at 0|at 2|done| => controllable|due 0| => 6
+0 1 0 => stnu session => stnu 1|point A|point C|point D|bound b1 D C 1|bound b2 C D -1|link A 3 8 C|end|verdict|drop bound b2|verdict|add bound b2 C D -1|proof|drop bound zz|end| => error read| => 5
+1 79 0 => stnu session => stnu 1|point A|point C|point D|bound b1 D C 1|bound b2 C D -1|link A 3 8 C|end|verdict|drop bound b2|verdict|add bound b2 C D -1|proof|drop bound zz|end| => error read| => 5
+1 80 0 => stnu session => stnu 1|point A|point C|point D|bound b1 D C 1|bound b2 C D -1|link A 3 8 C|end|verdict|drop bound b2|verdict|add bound b2 C D -1|proof|drop bound zz|end| => ready|error read| => 5
+0 0 1 => stnu session => stnu 1|point A|point C|point D|bound b1 D C 1|bound b2 C D -1|link A 3 8 C|end|verdict|drop bound b2|verdict|add bound b2 C D -1|proof|drop bound zz|end| =>  => 6
+0 0 3 => stnu session => stnu 1|point A|point C|point D|bound b1 D C 1|bound b2 C D -1|link A 3 8 C|end|verdict|drop bound b2|verdict|add bound b2 C D -1|proof|drop bound zz|end| => ready|not controllable| => 6
+0 0 1 => stnu run => stnu 1|point A|point C|point D|bound b1 D C 4|link A 3 8 C|end|at 0|at 2 C| =>  => 6
+0 0 2 => stnu run => stnu 1|point A|point C|point D|bound b1 D C 4|link A 3 8 C|end|at 0|at 2 C| => controllable|due 0| => 6
+0 0 3 => stnu run => stnu 1|point A|point C|point D|bound b1 D C 4|link A 3 8 C|end|at 0|at 2 C| => controllable|due 0|act 0 A|due 4| => 6
+0 0 4 => stnu run => stnu 1|point A|point C|point D|bound b1 D C 4|link A 3 8 C|end|at 0|at 2 C| => controllable|due 0|act 0 A|due 4|error event 9 too-soon C 3| => 7";
 
 /// Rows: the room of a port of fixed room, how much of it is left after the run, whether all bytes put are kept; and then as above.
 /// The room is ample, just enough, or too little: the status is the same.

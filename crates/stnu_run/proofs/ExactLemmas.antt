@@ -18,7 +18,7 @@ use Rattle.stnu_run.specs.ExactBytes.{IsFrontOfDefined, IsToPutAfterTake, PutsEx
 use Rattle.stnu_run.specs.Programs.{Program, Promise, serves, tells, told_number, written_number, Defines, DefinesOne, ServesProgram}
 use Rattle.stnu_run.specs.declared.status.Status.{Status}
 use Rattle.stnu_run.specs.declared.telling.TellingEnd.{TellingEnd}
-use Rattle.stnu_run.specs.declared.telling.TellingEnd.TheVariants.{Told}
+use Rattle.stnu_run.specs.declared.telling.TellingEnd.TheVariants.{Told, Refuted, WordsRefused}
 use Rattle.stnu_run.proofs.KeptLemmas.{ending_one}
 
 module _ {C : Type 0} (machine : Machine C) (start : C) (promise : Promise) where
@@ -64,9 +64,10 @@ module _ {C : Type 0} (machine : Machine C) (start : C) (promise : Promise) wher
   }
 
 -- an answer without an input that was put whole ends with a number below these
-told_below : (end : TellingEnd) → told_number end < 3
+pub told_below : (end : TellingEnd) → told_number end < 3
 told_below Told = omega arith
-told_below other = omega arith
+told_below Refuted = omega arith
+told_below WordsRefused = omega arith
 
 module _ (answers : List ℕ → TellingEnd → Type 0) (one : DefinesOne (tells answers)) where
   -- nothing was put

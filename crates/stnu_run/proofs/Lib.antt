@@ -15,6 +15,8 @@ pub mod ShowLemmas
 pub mod ProgramLemmas
 pub mod KeptLemmas
 pub mod ExactLemmas
+pub mod EndLemmas
+pub mod StatusLemmas
 pub mod RefutationLemmas
 pub mod RunOnceLemmas
 pub mod BeginLemmas

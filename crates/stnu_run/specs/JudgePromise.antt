@@ -11,6 +11,7 @@ use Rattle.command_engine.specs.declared.endings.End.{End}
 use Rattle.stnu_run.specs.Faults.{refusing}
 use Rattle.stnu_run.specs.Judging.{judgement_line, judgement_end, judge_machine, judge_start}
 use Rattle.stnu_run.specs.PlanInput.{plan_in}
+use Rattle.stnu_run.specs.Causes.{text_causes}
 use Rattle.stnu_run.specs.Programs.{Program, or_nothing, serves}
 use Rattle.stnu_run.specs.ToJudge.{judge_grammar}
 use Rattle.stnu_run.specs.declared.judging.Judge.{Judge}
@@ -30,4 +31,4 @@ pub record JudgePromise (form : PlanForm) (input put : List ℕ) (end : End) : T
 
 -- the program of `judge`
 abbrev pub judge_program : Judge → Program
-judge_program judge = serves judge_machine (judge_start judge) (or_nothing (JudgePromise judge.form))
+judge_program judge = serves judge_machine (judge_start judge) (or_nothing (text_causes (judge_grammar judge.form)) (JudgePromise judge.form))

@@ -1,6 +1,8 @@
 pub mod Faults
 pub mod Programs
 pub mod ExactBytes
+pub mod Causes
+pub mod Statuses
 pub mod PlanText
 pub mod CertificateTexts
 pub mod Judging

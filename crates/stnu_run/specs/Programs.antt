@@ -12,19 +12,22 @@ use Rattle.command_engine.specs.Serves.{Serves, WhereBothTold}
 use Rattle.command_engine.specs.Single.{IsSingle}
 use Rattle.command_engine.specs.declared.endings.End.{End}
 use Rattle.command_engine.specs.declared.endings.Status.{Status as Ending}
+use Rattle.stnu_run.specs.Causes.{Causes, EndsByCause}
 use Rattle.stnu_run.specs.declared.status.Status.{Status}
 use Rattle.stnu_run.specs.declared.telling.TellingEnd.{TellingEnd}
 use Rattle.stnu_run.specs.declared.telling.TellingEnd.TheVariants.{Told, Refuted, WordsRefused}
 
 -- What a command promises, in the subject's words. `ended`: of an input, the bytes put for it, and how the command ended the run.
--- `without_memory`: of an input and the bytes put for it, where some were and then the run ended for want of memory.
+-- `without_memory`: of an input and the bytes put for it, where some were and then the run ended for want of memory. `causes`: what in an input
+-- a run ends by.
 pub record Promise : Type 1 where
   pub ended : (input put : List ℕ) → End → Type 0
   pub without_memory : (input put : List ℕ) → Type 0
+  pub causes : Causes
 
--- this promise of runs that the command ends, and that nothing was put where a run ended for want of memory
-abbrev pub or_nothing : ((input put : List ℕ) → End → Type 0) → Promise
-or_nothing promised = record { ended = promised; without_memory = λ input put. ⊥ }
+-- by these causes this promise of runs that the command ends, and that nothing was put where a run ended for want of memory
+abbrev pub or_nothing : Causes → ((input put : List ℕ) → End → Type 0) → Promise
+or_nothing causes promised = record { ended = promised; without_memory = λ input put. ⊥; causes = causes }
 
 -- a command that is served from a state, and what it promises of what it puts for an input; or what is answered without an input, and how
 -- the run ends then
@@ -86,6 +89,11 @@ ServesProgram (tells answers) status before after = TellsAnswer answers status b
 abbrev pub PromiseHolds : Program → Type 0
 PromiseHolds (serves machine start promise) = (input put : List ℕ) (end : End) → Runs machine start input put end → promise.ended input put end
 PromiseHolds (tells answers) = Unit {0}
+
+-- each run of the program's command ends by the causes in its input
+abbrev pub RunsEndByCause : Program → Type 0
+RunsEndByCause (serves machine start promise) = (input put : List ℕ) (end : End) → Runs machine start input put end → EndsByCause promise.causes input put end
+RunsEndByCause (tells answers) = Unit {0}
 
 -- Over a port that tells its bytes, a run that its command ended keeps the command's promise.
 abbrev pub KeepsPromise : Program → Status → (before after : Seen) → Type 0

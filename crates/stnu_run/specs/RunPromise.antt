@@ -8,9 +8,10 @@ use Rattle.cert_checker.specs.Judgement.{judgement_of}
 use Rattle.cert_checker.specs.declared.judgement.Claim.TheVariants.{NotControllable}
 use Rattle.cert_checker.specs.declared.judgement.Judgement.TheVariants.{Accepted}
 use Rattle.execution_model.specs.Streams.{Listing}
-use Rattle.command_engine.specs.Inputs.{AnswersText, DeclaresBy, IsFirstRefusal}
+use Rattle.command_engine.specs.Inputs.{AnswersText, DeclaresBy, DeclaresWithinLimits, IsFirstRefusal}
 use Rattle.command_engine.specs.declared.endings.End.{End}
 use Rattle.command_engine.specs.declared.endings.End.TheVariants as ends
+use Rattle.stnu_run.specs.Causes.{Causes, IsTextRefused, IsDayRefused}
 use Rattle.stnu_run.specs.Day.{Opening, IsWholeDay, IsRefusedDay}
 use Rattle.stnu_run.specs.Due.{AnswersDue}
 use Rattle.stnu_run.specs.EventAnswers.{due_line}
@@ -47,6 +48,15 @@ pub record RunPromise (form : PlanForm) (input put : List ℕ) (end : End) : Typ
   pub faults : (end ≡ ends.Fault) ⊎ (end ≡ ends.Limit)
       → (fault : Fault) × (IsFirstRefusal (plan_in form) (input_lines input) fault ⊎ HasEventFault (plan_opens form) (input_lines input) fault)
 
+-- What in an input a run of `run` ends by: the first refusal of its plan, or that of its lines of events. It is whole where it declares a network
+-- within the limits and, if that is controllable, lists a faithful stream that is done.
+abbrev pub run_causes : PlanForm → Causes
+run_causes form = record {
+  refused = λ input end line. IsTextRefused (plan_in form) input end line ⊎ IsDayRefused (plan_opens form) input end line;
+  whole = λ input. (net : Plan) × DeclaresWithinLimits (plan_in form) (input_lines input) net
+      × (IsControllable net → (listings : List Listing) × IsWholeDay (plan_opens form) (input_lines input) net listings);
+}
+
 -- the program of `run`
 abbrev pub run_program : PlanForm → Program
-run_program form = serves run_machine (run_start form) (or_nothing (RunPromise form))
+run_program form = serves run_machine (run_start form) (or_nothing (run_causes form) (RunPromise form))

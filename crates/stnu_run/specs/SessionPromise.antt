@@ -18,6 +18,7 @@ use Rattle.command_engine.specs.Inputs.{AnswersText, DeclaresBy, IsFirstRefusal,
 use Rattle.command_engine.specs.Limits.{most_input}
 use Rattle.command_engine.specs.declared.endings.End.{End}
 use Rattle.command_engine.specs.declared.endings.End.TheVariants as ends
+use Rattle.stnu_run.specs.Causes.{Causes, IsTextRefused, IsDayRefused}
 use Rattle.stnu_run.specs.Day.{Opening, IsWholeDay, IsRefusedDay}
 use Rattle.stnu_run.specs.EventFaults.{HasEventFault}
 use Rattle.stnu_run.specs.ExecutionPromise.{PutsLast, ExecutionPromise}
@@ -170,9 +171,24 @@ module _ (form : PlanForm) where
     pub whole : edited_so.rest ≡ line ∷ others
     pub says : SaysAll first steps put
 
+-- the lines of a session have a fault after those that tell steps
+pub record IsStepRefused (form : PlanForm) (input : List ℕ) (end : End) (line : List ℕ) : Type 0 where
+  pub fault : Fault
+  pub has : HasStepFault form (input_lines input) fault
+  pub ends_so : end ≡ fault_end fault
+  pub told : line ≡ fault_line fault
+
+-- What in an input a run of `session` ends by: the first refusal of its plan, of its lines, or of its lines of events. It is whole where it is a session
+-- up to `end`, or lists a faithful stream that is done after a `go`.
+abbrev pub session_causes : PlanForm → Causes
+session_causes form = record {
+  refused = λ input end line. IsTextRefused (plan_in form) input end line ⊎ (IsStepRefused form input end line ⊎ IsDayRefused (session_opens form) input end line);
+  whole = λ input. IsWholeSession form (input_lines input) ⊎ ((net : Plan) × (listings : List Listing) × IsWholeDay (session_opens form) (input_lines input) net listings);
+}
+
 -- the plan is given in this form
 abbrev pub session_promise : PlanForm → Promise
-session_promise form = record { ended = SessionPromise form; without_memory = SaysWhole form }
+session_promise form = record { ended = SessionPromise form; without_memory = SaysWhole form; causes = session_causes form }
 
 -- the program of `session`
 abbrev pub session_program : PlanForm → Program

@@ -102,6 +102,8 @@ impl PlanQuestion for Check {
 
     fn answers_keep_it() {}
 
+    fn ends_by_an_answer() {}
+
     fn answers_once() {}
 }
 

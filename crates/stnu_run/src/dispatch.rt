@@ -4,11 +4,12 @@ ghost use Rattle.std.specs.Prelude.{◌≡◌, map, None, Some, string_bytes, Ma
 ghost use Rattle.stnu_run.specs.DefinedRuns.{command_of, program_of, program_named};
 ghost use Rattle.stnu_run.specs.ExactBytes.{BytesAreExact};
 ghost use Rattle.stnu_run.specs.Programs.{ServesProgram, KeepsPromise, HasCauses, KeepsWithoutMemory};
+ghost use Rattle.stnu_run.specs.Statuses.{StatusHasCause};
 
 use crate::checking::Checking;
 use crate::forging::Forge;
 use crate::judging::Judging;
-use crate::laws::words_define_one;
+use crate::laws::words_are_lawful;
 use crate::playing::Playing;
 use crate::promising::serve_asked;
 use crate::running::Running;
@@ -48,8 +49,10 @@ pub fn run<R: Threads + Sync, P: Port>(
     ensures memory { KeepsWithoutMemory (program_of (map string_bytes words.now.items)) result (P.seen port.old) (P.seen port.new) }
     // Exactly these bytes were put: those of the defined run, or, after a failed call or for want of memory, what is told of that.
     ensures bytes { BytesAreExact (program_of (map string_bytes words.now.items)) result (P.seen port.old) (P.seen port.new) }
+    // The status has its cause: a failed call, the words, or the first refusal of the input; for a whole input it is 0 or 1.
+    ensures status { StatusHasCause (program_of (map string_bytes words.now.items)) result (P.seen port.old) (P.seen port.new) }
 {
-    words_define_one();
+    words_are_lawful();
     run_words(rt, alloc, words, port)
 }
 

@@ -4,7 +4,9 @@ ghost use Rattle.std.specs.Prelude.{◌≡◌, OnOk, ◌++◌};
 ghost use Rattle.cert_checker.specs.Judgement.{judgement_of};
 ghost use Rattle.stnu_run.specs.JudgePromise.{JudgePromise};
 ghost use Rattle.stnu_run.specs.Judging.{judge_answers, judge_asked, judge_start, judge_syntax, judgement_line, judgement_end};
+ghost use Rattle.stnu_run.specs.Causes.{text_causes};
 ghost use Rattle.stnu_run.specs.Programs.{or_nothing};
+ghost use Rattle.stnu_run.specs.ToJudge.{judge_grammar};
 
 use crate::certificate_text::CertificateText;
 use crate::plan_input::{PlanForm, PlanInput};
@@ -71,7 +73,7 @@ impl Promising for Judging {
 
     ghost start = { judge_start };
 
-    ghost promise = { λ judge. or_nothing (JudgePromise judge.form) };
+    ghost promise = { λ judge. or_nothing (text_causes (judge_grammar judge.form)) (JudgePromise judge.form) };
 
     fn begun(alloc: Global, request: Judge) -> Judging {
         Asked {
@@ -84,6 +86,8 @@ impl Promising for Judging {
         accepted_excludes();
         accepted_controls();
     }
+
+    fn ends_by_its_causes() {}
 
     fn keeps_it_without_memory() {}
 

@@ -6,7 +6,7 @@ ghost use Rattle.stnu_run.specs.DefinedRuns.{DefinedRun, program_named, program_
 ghost use Rattle.stnu_run.specs.Forging.{forge_asked, forge_syntax};
 ghost use Rattle.stnu_run.specs.Judging.{judge_asked, judge_syntax};
 ghost use Rattle.stnu_run.specs.Playing.{play_asked, play_syntax};
-ghost use Rattle.stnu_run.specs.Programs.{DefinesOne, EachDefinesOne, serves, tells};
+ghost use Rattle.stnu_run.specs.Programs.{DefinesOne, EachDefinesOne, RunsEndByCause, serves, tells};
 ghost use Rattle.stnu_run.specs.Requests.{asked_by};
 ghost use Rattle.stnu_run.specs.Running.{run_asked, run_syntax};
 ghost use Rattle.stnu_run.specs.Sessions.{session_asked, session_syntax};
@@ -37,12 +37,14 @@ pub fn defined_run_is_one()
     ensures { (words : List (List ℕ)) (input a b : List ℕ) (x y : Status)
         → DefinedRun words input a x → DefinedRun words input b y → (a ≡ b) × (x ≡ y) }
 {
-    words_define_one();
+    words_are_lawful();
 }
 
-/// Whatever the words are, their program defines at most one pair for an input, and its command has at most one reply to each line.
-pub(crate) fn words_define_one()
-    ensures { (words : List (List ℕ)) → DefinesOne (program_of words) }
+/// Whatever the words are, their program defines at most one pair for an input, its command has at most one reply to each line, and each run of it
+/// ends by the causes in its input.
+pub(crate) fn words_are_lawful()
+    ensures one { (words : List (List ℕ)) → DefinesOne (program_of words) }
+    ensures causes { (words : List (List ℕ)) → RunsEndByCause (program_of words) }
 {
     each_is_lawful();
 }
@@ -101,10 +103,11 @@ pub fn workers_change_nothing()
     each_is_lawful();
 }
 
-/// Whatever the command is, for an input it defines at most one pair of bytes and status, and the number of workers changes nothing: one line
+/// Whatever the command is, for an input it defines at most one pair of bytes and status, each run ends by the causes in its input, and the number of workers changes nothing: one line
 /// for each command of the program.
 fn each_is_lawful()
     ensures one { (command : List ℕ) (words : List (List ℕ)) → DefinesOne (program_named command words) }
+    ensures causes { (command : List ℕ) (words : List (List ℕ)) → RunsEndByCause (program_named command words) }
     ensures other { (command : List ℕ) (front spelled others back : List (List ℕ)) (count number : ℕ)
         → SpellsWorkers count spelled → SpellsWorkers number others
         → DefineSame (program_named command (front ++ (spelled ++ back))) (program_named command (front ++ (others ++ back))) }
@@ -124,8 +127,11 @@ fn each_is_lawful()
 /// The laws that a command keeps whatever is asked of it.
 fn is_lawful<C: Promising>()
     ensures one { EachDefinesOne (λ asked. serves C.machine (C.start asked) (C.promise asked)) }
+    ensures causes { (asked : C.Request) → RunsEndByCause (serves C.machine (C.start asked) (C.promise asked)) }
     ensures workers { WorkersDecideNothing C.Request.syntax C.Request.asked }
 {
+    C::keeps_its_promise();
+    C::ends_by_its_causes();
     C::defines_one();
     C::Request::workers_decide_nothing();
 }
@@ -133,6 +139,7 @@ fn is_lawful<C: Promising>()
 /// The laws that a command without an input keeps whatever is asked of it.
 fn is_lawfully_told<T: Telling + Request>()
     ensures one { EachDefinesOne (λ asked. tells (T.told asked)) }
+    ensures causes { (asked : T) → RunsEndByCause (tells (T.told asked)) }
     ensures workers { WorkersDecideNothing T.syntax T.asked }
 {
     T::tells_one();

@@ -5,6 +5,7 @@ ghost use Rattle.net_model.specs.Network.{Plan, IsPlan};
 ghost use Rattle.command_engine.specs.Inputs.{AnswersText};
 ghost use Rattle.command_engine.specs.Single.{IsSingleAnswer};
 ghost use Rattle.command_engine.specs.declared.endings.End.{End};
+ghost use Rattle.stnu_run.specs.Causes.{IsAnswer, text_causes};
 ghost use Rattle.stnu_run.specs.Faults.{refusing};
 ghost use Rattle.stnu_run.specs.PlanAsking.{asking};
 ghost use Rattle.stnu_run.specs.PlanInput.{plan_in};
@@ -41,6 +42,10 @@ pub trait PlanQuestion: Question<Network> + Request {
     fn answers_keep_it()
         ensures { (question : Self) (input put : List ℕ) (end : End) → AnswersText (plan_in (form question)) refusing (puts question) input put end → promised question input put end };
 
+    /// The law that what is put for a network ends the run by an answer.
+    fn ends_by_an_answer()
+        ensures { (question : Self) (net : Plan) (put : List ℕ) (end : End) → puts question net put end → IsAnswer end };
+
     /// The law that a network has at most one answer.
     fn answers_once()
         ensures { IsSingleAnswer Self.answers };
@@ -51,7 +56,7 @@ impl<Q: PlanQuestion> Promising for Asked<Q, PlanInput> {
 
     ghost start = { λ question. asking Q.form question };
 
-    ghost promise = { λ question. or_nothing (Q.promised question) };
+    ghost promise = { λ question. or_nothing (text_causes (plan_in (Q.form question))) (Q.promised question) };
 
     fn begun(alloc: Global, request: Q) -> Asked<Q, PlanInput> {
         let text = request.plan_form().begun(alloc);
@@ -64,6 +69,11 @@ impl<Q: PlanQuestion> Promising for Asked<Q, PlanInput> {
     fn keeps_its_promise() {
         Q::puts_the_answer();
         Q::answers_keep_it();
+    }
+
+    fn ends_by_its_causes() {
+        Q::puts_the_answer();
+        Q::ends_by_an_answer();
     }
 
     fn keeps_it_without_memory() {}

@@ -111,6 +111,8 @@ impl PlanQuestion for Play {
 
     fn answers_keep_it() {}
 
+    fn ends_by_an_answer() {}
+
     fn answers_once() {
         at_most_one_earliest();
     }

@@ -4,7 +4,7 @@ ghost use Rattle.std.specs.Prelude.{◌≡◌, ◌⊎◌, ◌≤◌, ℕ, List, 
 ghost use Rattle.plan_port.specs.Talk.{Piece};
 ghost use Rattle.command_engine.specs.Breaks.{BreaksForMemory};
 ghost use Rattle.command_engine.specs.Limits.{least_room};
-ghost use Rattle.stnu_run.specs.Programs.{Promise, PromiseHolds, EachDefinesOne, ServesProgram, KeepsPromise, HasCauses, KeepsWithoutMemory, serves};
+ghost use Rattle.stnu_run.specs.Programs.{Promise, PromiseHolds, RunsEndByCause, EachDefinesOne, ServesProgram, KeepsPromise, HasCauses, KeepsWithoutMemory, serves};
 ghost use Rattle.stnu_run.specs.Requests.{program_by};
 
 use crate::requests::{Request, request_in};
@@ -35,6 +35,10 @@ pub trait Promising: Command {
     /// The law that each run keeps the promise.
     fn keeps_its_promise()
         ensures { (asked : Self.Request) → PromiseHolds (serves Self.machine (start asked) (promise asked)) };
+
+    /// The law that each run, which keeps the promise, ends by the causes in its input.
+    fn ends_by_its_causes()
+        ensures { (asked : Self.Request) → PromiseHolds (serves Self.machine (start asked) (promise asked)) → RunsEndByCause (serves Self.machine (start asked) (promise asked)) };
 
     /// The law that a run which breaks off for want of memory has put nothing, or what is promised for that.
     fn keeps_it_without_memory()

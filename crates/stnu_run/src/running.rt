@@ -7,7 +7,7 @@ ghost use Rattle.execution_model.specs.Laws.{IsDispatchedByClosure};
 ghost use Rattle.plan_session.specs.Sessions.{IsDispatchOfClosure};
 ghost use Rattle.stnu_run.specs.Executing.{executing_machine, answer_room};
 ghost use Rattle.stnu_run.specs.Programs.{or_nothing};
-ghost use Rattle.stnu_run.specs.RunPromise.{RunPromise};
+ghost use Rattle.stnu_run.specs.RunPromise.{RunPromise, run_causes};
 ghost use Rattle.stnu_run.specs.Running.{run_asked, run_begins, run_start, run_syntax, BeginsExecution, PutsBegun};
 
 use crate::event_answers::put_due;
@@ -97,7 +97,7 @@ impl Promising for Running {
 
     ghost start = { run_start };
 
-    ghost promise = { λ form. or_nothing (RunPromise form) };
+    ghost promise = { λ form. or_nothing (run_causes form) (RunPromise form) };
 
     fn begun(alloc: Global, request: Run) -> Running {
         let text = request.form.begun(alloc);
@@ -112,6 +112,8 @@ impl Promising for Running {
         execution_laws::acts_are_earliest();
         execution_laws::last_acts_are_earliest();
     }
+
+    fn ends_by_its_causes() {}
 
     fn keeps_it_without_memory() {}
 

@@ -166,6 +166,8 @@ impl Promising for SessionCommand {
         execution_laws::last_acts_are_earliest();
     }
 
+    fn ends_by_its_causes() {}
+
     fn keeps_it_without_memory() {}
 
     fn defines_one() {

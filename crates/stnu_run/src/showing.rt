@@ -90,6 +90,8 @@ impl PlanQuestion for Show {
 
     fn answers_keep_it() {}
 
+    fn ends_by_an_answer() {}
+
     fn answers_once() {}
 }
 

@@ -1,4 +1,4 @@
 use Rattle.stnu_run.proofs.laws.defined_run_is_one.Goals as goal
 
 pub returns : goal.returns
-returns c = λ words. (c.words_define_one.ensures words).one
+returns c = λ words. (c.words_are_lawful.ensures.one words).one
