@@ -4,8 +4,6 @@
 #[cfg(test)]
 mod checks;
 #[cfg(test)]
-mod days;
-#[cfg(test)]
 mod documents;
 #[cfg(test)]
 mod ports;

@@ -8,7 +8,7 @@ use Rattle.stnu_run.proofs.forging.push_refuted.Goals as goal
 pub returns : goal.returns
 returns c =
     let before = c.args.answer.now.text in
-    let middle = c.push_line.new.answer.text in
+    let middle = c.push_line.new.self.text in
     on_ok_weaker c.push_count.result
     (λ puts. puts_both before refuted_line (count_line (codes "lines") (size_of c.args.certificate.now)) middle c.push_count.new.answer.text c.in_ok-push_line.ensures.text
     (puts ∙ ap (λ (n : ℕ). middle ++ count_line (codes "lines") n) c.size_of.ensures))

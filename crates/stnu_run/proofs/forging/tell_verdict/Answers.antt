@@ -7,7 +7,7 @@ use Rattle.stnu_run.proofs.VerdictLemmas.{decides_yes}
 use Rattle.stnu_run.proofs.forging.tell_verdict.Goals as goal
 
 pub tell_controllable-requires-clause-proves : goal.tell_controllable-requires-clause-proves
-tell_controllable-requires-clause-proves g c = decides_yes c.args.session.now.net c.in_ok-certificate.certificate c.in-Controllable.ensures.1 c.in_ok-certificate.ensures
+tell_controllable-requires-clause-proves g c = λ lifetimes lives. decides_yes c.args.session.now.net c.in_ok-certificate.certificate c.in-Controllable.ensures.1 c.in_ok-certificate.ensures
 
 pub returns-in-NotControllable : goal.returns-in-NotControllable
 returns-in-NotControllable g c =
