@@ -37,7 +37,7 @@ class Draws:
 
 
 def forged(start, tasks, cut=None):
-    """A day of tasks, drawn from a start: each task is a link, a wait of which the end has a window, and a gap to the next one."""
+    """What `stnu forge START TASKS` forges, with its parts in the same order: each task is a link, a watch near its end, and a gap to the next one."""
     draws = Draws(start)
     drawn = []
     for _ in range(tasks):
@@ -45,10 +45,10 @@ def forged(start, tasks, cut=None):
         drawn.append((low, low + draws.below(20), draws.below(10), draws.below(20), draws.below(5)))
     cut = draws.below(2) if cut is None else cut
     lines = [f"point {kind}{i}" for i in range(1, tasks + 1) for kind in "sew"]
-    for i, (low, high, slack, early, late) in enumerate(drawn, 1):
+    for i, (low, high, _, early, late) in enumerate(drawn, 1):
         lines += [f"link s{i} {low} {high} e{i}", f"bound v{i} w{i} e{i} {early}", f"bound u{i} e{i} w{i} {late}"]
-        if i < tasks:
-            lines += [f"bound g{i} s{i + 1} e{i} 0", f"bound h{i} e{i} s{i + 1} {slack}"]
+    for i, (_, _, slack, _, _) in enumerate(drawn[:-1], 1):
+        lines += [f"bound g{i} s{i + 1} e{i} 0", f"bound h{i} e{i} s{i + 1} {slack}"]
     lines.append(f"bound dl s1 e{tasks} {sum(high for _, high, _, _, _ in drawn) - cut}")
     return lines
 

@@ -20,6 +20,10 @@ flag_at place arguments = unwrap_or (slice_get arguments.flags place) false
 abbrev pub option_at : ℕ → Arguments → Option Text
 option_at place arguments = option_and_then (λ text. text) (slice_get arguments.options place)
 
+-- the text of the operand at this place; there is none beyond the end
+abbrev pub operand_at : ℕ → Arguments → Option Text
+operand_at place arguments = slice_get arguments.operands place
+
 abbrev pub is_given : Text → List Use → Bool
 is_given name uses = list_any (λ u. bytes_eq (name_of u) name) uses
 

@@ -1,10 +1,10 @@
 ghost use Rattle.std.specs.Prelude.{◌≡◌, map, option_map};
-ghost use Rattle.command_words.specs.Arguments.{flag_at, option_at};
+ghost use Rattle.command_words.specs.Arguments.{flag_at, operand_at, option_at};
 
 use std::marker::Model;
 
-/// What words give to a command: which of its flags, the value of each of its options, and the texts of its operands. A flag and an option
-/// is asked for by its place in the `Syntax`, from 0.
+/// What words give to a command: which of its flags, the value of each of its options, and the texts of its operands. Each of them is asked
+/// for by its place in the `Syntax`, from 0.
 #[derive(Drop)]
 pub struct Arguments<'a> {
     pub(crate) flags: Vec<bool>,
@@ -34,6 +34,13 @@ impl<'a> Arguments<'a> {
         ensures { option_map (λ text. text.now) result ≡ option_at place self.now }
     {
         *self.options.get(place)?
+    }
+
+    /// The text of the operand at this place. Beyond the last operand there is none.
+    pub fn operand(&self, place: usize) -> Option<&'a str>
+        ensures { option_map (λ text. text.now) result ≡ operand_at place self.now }
+    {
+        self.operands.get(place).copied()
     }
 
     /// The texts of the operands, one for each that the command has.

@@ -1,9 +1,9 @@
 -- The beginning of an execution, by the closure of its network.
-use Rattle.std.proofs.Common.{◌≡◌, ℕ, List, [], ap, subst, ◌∙◌}
+use Rattle.std.proofs.Common.{◌≡◌, ℕ, List, [], length, Result, Ok, Err, IfOk, ap, subst, ◌∙◌}
 use Rattle.net_model.specs.Network.{Plan, IsPlan}
 use Rattle.net_model.specs.declared.ids.PointId.{PointId}
 use Rattle.closure_model.specs.Tables.{Graph}
-use Rattle.dispatch_net.specs.Dispatchable.{MayDispatch, DispatchLists, dispatchable}
+use Rattle.dispatch_net.specs.Dispatchable.{MayDispatch, DispatchLists, IsDispatchBy, dispatchable}
 use Rattle.dispatch_net.specs.declared.dispatch.Conditions.{Conditions}
 use Rattle.dispatch_net.proofs.EarliestLemmas.{closures_may_dispatch}
 use Rattle.execution_model.specs.Feeding.{started, IsDueAnswer}
@@ -22,6 +22,11 @@ by_closure net lists plan is = record { instant = record { sound = plan }; closu
 module _ (net : Plan) (table : Graph) (order : List PointId) (by : IsDispatchedByClosure net table order) where
   pub may_dispatch : MayDispatch net table order
   may_dispatch = closures_may_dispatch net table order by.instant.sound by.closure by.ordered
+
+  -- what is made by the closure is the dispatchable network of it
+  pub made_by : {E : Type 0} (answer : Result DispatchLists E) → IfOk answer (IsDispatchBy net table) → IfOk answer (λ lists. length lists.made ≡ length net.points) → IfOk answer (IsDispatchOfClosure net)
+  made_by (Ok lists) is whole = record { table = table; order = order; closure = by.closure; ordered = by.ordered; by = is; whole = whole }
+  made_by (Err error) is whole = tt
 
   module _ (lists : DispatchLists) (links : lists.links ≡ net.links) (made : lists.made ≡ dispatchable net table) where
     pub dispatch_of : IsDispatchOf net lists

@@ -8,6 +8,7 @@ pub mod JudgeLemmas
 pub mod VerdictLemmas
 pub mod CauseLemmas
 pub mod FeedingLemmas
+pub mod DecidedLemmas
 pub mod CheckLemmas
 pub mod PlanAskingLemmas
 pub mod ShowLemmas
@@ -23,9 +24,15 @@ pub mod DueLemmas
 pub mod DayLemmas
 pub mod ExecutionLemmas
 pub mod RunLemmas
+pub mod PlayLemmas
+pub mod ForgeLemmas
+pub mod CountLemmas
+pub mod OperandLemmas
 pub mod PlaceLemmas
 pub mod UseLemmas
 pub mod WorkersLemmas
+pub mod PlayWordLemmas
+pub mod ForgeWordLemmas
 pub mod SameLemmas
 pub mod NothingLemmas
 pub mod SessionOnceLemmas

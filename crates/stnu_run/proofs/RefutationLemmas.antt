@@ -20,12 +20,17 @@ decided_once net Yes No Same same_yes same_no one other (inr (cert, refutes, fir
 decided_once net Yes No Same same_yes same_no one other (inr (cert, refutes, first)) (inr (same, also, second)) =
     same_no one other cert first (subst (No other) (certificate_one net same cert also.of refutes.of) second)
 
+-- where a refutation is put of another, the answer is one where that to a controllable network is
+pub answers_once : (net : Plan) (Yes : List ℕ → End → Type 0) → ((a b : List ℕ) (x y : End) → Yes a x → Yes b y → (a ≡ b) × (x ≡ y))
+    → (a b : List ℕ) (x y : End) → Decides net (Yes a x) (λ cert. PutsRefuted cert a x) → Decides net (Yes b y) (λ cert. PutsRefuted cert b y) → (a ≡ b) × (x ≡ y)
+answers_once net Yes once a b x y =
+    decided_once {A = List ℕ × End} net (λ one. Yes one.0 one.1) (λ one cert. PutsRefuted cert one.0 one.1) (λ one other. (one.0 ≡ other.0) × (one.1 ≡ other.1))
+    (λ one other puts also. once one.0 other.0 one.1 other.1 puts also) (λ one other cert puts also. (puts.0 ∙ sym also.0, puts.1 ∙ sym also.1)) (a, x) (b, y)
+
 yes_once : (proof : Bool) (net : Plan) (a b : List ℕ) (x y : End) → PutsYes proof net a x → PutsYes proof net b y → (a ≡ b) × (x ≡ y)
 yes_once false net a b x y puts also = (puts.0 ∙ sym also.0, puts.1 ∙ sym also.1)
 yes_once true net a b x y (cert, proves, puts) (other, is, also) =
     (puts.0 ∙ (ap (λ (c : Certificate). controllable_line ++ printed_certificate c) (certificates_are_one net cert other (inl proves) (inl is)) ∙ sym also.0), puts.1 ∙ sym also.1)
 
 pub check_answers_once : (flags : CheckFlags) (net : Plan) (a b : List ℕ) (x y : End) → check_answers flags net a x → check_answers flags net b y → (a ≡ b) × (x ≡ y)
-check_answers_once flags net a b x y =
-    decided_once {A = List ℕ × End} net (λ one. PutsYes flags.proof net one.0 one.1) (λ one cert. PutsRefuted cert one.0 one.1) (λ one other. (one.0 ≡ other.0) × (one.1 ≡ other.1))
-    (λ one other puts also. yes_once flags.proof net one.0 other.0 one.1 other.1 puts also) (λ one other cert puts also. (puts.0 ∙ sym also.0, puts.1 ∙ sym also.1)) (a, x) (b, y)
+check_answers_once flags net a b x y = answers_once net (PutsYes flags.proof net) (yes_once flags.proof net) a b x y

@@ -16,10 +16,8 @@ use Rattle.refutations.specs.Refuting.{Refutes}
 use Rattle.table_proofs.specs.Certified.{Certifies, Proves}
 use Rattle.table_proofs.specs.Proving.{table_proof_of}
 use Rattle.command_engine.specs.declared.endings.End.{End}
-use Rattle.stnu_run.specs.Checking.{PutsYes, check_answers}
-use Rattle.stnu_run.specs.CheckPromise.{PutsVerdict}
-use Rattle.stnu_run.specs.Verdict.{IsVerdict, PutsProved}
-use Rattle.stnu_run.specs.declared.checking.CheckFlags.{CheckFlags}
+use Rattle.stnu_run.specs.Checking.{PutsYes}
+use Rattle.stnu_run.specs.Verdict.{Decides, IsVerdict, PutsDecided, PutsProved, PutsRefuted}
 use Rattle.stnu_run.specs.declared.verdict.Verdict.TheVariants.{Controllable}
 
 -- a closure with an order decides it
@@ -60,12 +58,17 @@ pub decides_in_print : (net : Plan) (cert : Certificate) → Certifies net cert 
 decides_in_print net cert (inl proves) = proves.weights
 decides_in_print net cert (inr refutes) = refutes.weights
 
+-- one that decides a controllable network proves it so
+pub decides_yes : (net : Plan) (cert : Certificate) → IsControllable net → Certifies net cert → Proves net cert
+decides_yes net cert controls (inl proves) = proves
+decides_yes net cert controls (inr refutes) = absurd (refutes.never controls)
+
 -- one that decides a network that is not controllable refutes it
 pub decides_no : (net : Plan) (cert : Certificate) → (¬ IsControllable net) → Certifies net cert → Refutes net cert
 decides_no net cert never (inl proves) = absurd (never proves.some)
 decides_no net cert never (inr refutes) = refutes
 
 -- the answer to a network is its verdict
-pub verdict_put : (flags : CheckFlags) (net : Plan) (answer : List ℕ) (end : End) → check_answers flags net answer end → PutsVerdict flags net answer end
-verdict_put flags net answer end (inl controllable) = inl controllable
-verdict_put flags net answer end (inr (cert, refutes, puts)) = inr (refutes.never, (cert, refutes.accepted, puts))
+pub verdict_put : (net : Plan) (Yes : Type 0) (put : List ℕ) (end : End) → Decides net Yes (λ cert. PutsRefuted cert put end) → PutsDecided net Yes put end
+verdict_put net Yes put end (inl controllable) = inl controllable
+verdict_put net Yes put end (inr (cert, refutes, puts)) = inr (refutes.never, (cert, refutes.accepted, puts))

@@ -5,54 +5,35 @@ use Rattle.std.specs.Option.{option_and_then, option_map}
 use Rattle.std.specs.Str.{bytes_eq}
 use Rattle.std.proofs.lemmas.Slice.Eq.{bytes_eq-Decides}
 use Rattle.std.proofs.lemmas.Bool.{eqb-true}
-use Rattle.std.proofs.lemmas.Bool.Decides.{nat_tests}
 use Rattle.net_model.specs.Numbers.{natural_of}
 use Rattle.net_model.specs.declared.format.FormatKind.{FormatKind}
-use Rattle.net_model.proofs.SpellingLemmas.{natural_spelled, spelled_natural}
+use Rattle.net_model.proofs.SpellingLemmas.{natural_spelled}
 use Rattle.command_words.specs.Arguments.{Arguments, arguments_by, flag_at, is_given, text_given, option_at}
 use Rattle.command_words.specs.Reading.{arguments_of}
 use Rattle.command_words.specs.Spelling.{Use, name_of, valued, flag, operand, is_plain, Spells, SpellsAll, AreOf, Says}
 use Rattle.command_words.specs.Syntax.{Syntax, Text, are_apart, is_in, is_sound}
 use Rattle.command_words.proofs.LawLemmas.{read_exactly}
+use Rattle.stnu_run.specs.Counts.{count_within}
 use Rattle.stnu_run.specs.Checking.{check_asked, check_syntax, proof_name}
 use Rattle.stnu_run.specs.Judging.{judge_asked, judge_syntax}
 use Rattle.stnu_run.specs.PlanInput.{form_by, json_name}
 use Rattle.stnu_run.specs.Requests.{asked_by}
 use Rattle.stnu_run.specs.Showing.{show_asked, show_syntax}
 use Rattle.stnu_run.specs.WordLaws.{SayCheckFlags, SayFormAndWorkers, SayForms, form_words}
-use Rattle.stnu_run.specs.Workers.{most_workers, workers_name, count_in, count_of, workers_of, has_workers, SpellsWorkers, SayWithWorkers, SaysCount, HasWorkers, DifferInWorkers, WorkersDecideNothing}
+use Rattle.stnu_run.specs.Workers.{most_workers, workers_name, workers_of, has_workers, SpellsWorkers, SayWithWorkers, SaysCount, HasWorkers, DifferInWorkers, WorkersDecideNothing}
 use Rattle.stnu_run.specs.declared.checking.CheckFlags.{CheckFlags}
 use Rattle.stnu_run.specs.declared.judging.Judge.{Judge}
 use Rattle.stnu_run.specs.declared.showing.Show.{Show}
 use Rattle.stnu_run.specs.declared.plan_input.PlanForm.{PlanForm}
 use Rattle.stnu_run.specs.declared.plan_input.PlanForm.TheVariants.{Text as TextForm, Json}
+use Rattle.stnu_run.proofs.CountLemmas.{count_is, count_read}
 use Rattle.stnu_run.proofs.PlaceLemmas.{Placed, placed}
 use Rattle.stnu_run.proofs.UseLemmas.{given_without, text_without, text_absent, text_there, operands_without, alone, says_without, says_other}
 
 -- ---- the number
 
-number_of : (number count : ℕ) → count_in (Ok number) ≡ Some count → (number ≡ count) × (1 ≤ count)
-number_of number count = by (number == 0) refl
-  where
-    by : (zero : Bool) → zero ≡ (number == 0) → (if zero then None else Some number) ≡ Some count → (number ≡ count) × (1 ≤ count)
-    by true same is = absurd cc
-    by false same is =
-        let one : number ≡ count = cc in
-        (one, grind (arith, nat_tests))
-
-count_is : (word : Text) (count : ℕ) (number : Result ℕ FormatKind) → natural_of most_workers word ≡ number → count_in number ≡ Some count → (word ≡ decimal count) × (1 ≤ count) × (count ≤ most_workers)
-count_is word count (Err kind) same is = absurd cc
-count_is word count (Ok number) same is =
-    let small : most_workers < 2 ^ 64 = search rules in
-    let one = number_of number count is in
-    let spelled = spelled_natural most_workers number word same small in
-    (spelled.0 ∙ ap decimal one.0, one.1, subst (λ (n : ℕ). n ≤ most_workers) one.0 spelled.1)
-
-count_read : (count : ℕ) → 1 ≤ count → count ≤ most_workers → count_of (decimal count) ≡ Some count
-count_read count least most =
-    let small : most_workers < 2 ^ 64 = search rules in
-    let one : count_in (Ok count) ≡ Some count = grind (arith, nat_tests) in
-    ap count_in (natural_spelled most_workers count most small) ∙ one
+few_workers : most_workers < 2 ^ 64
+few_workers = search rules
 
 -- that a number was found
 abbrev is_found : Option ℕ → Option (Unit {0})
@@ -60,15 +41,15 @@ is_found found = option_map (λ count. tt) found
 
 says_count : (value : Option Text) → has_workers value ≡ Some tt → SaysCount value
 says_count None is = tt
-says_count (Some word) is = by (count_of word) refl is
+says_count (Some word) is = by (count_within most_workers word) refl is
   where
-    by : (found : Option ℕ) → count_of word ≡ found → is_found found ≡ Some tt → SaysCount (Some word)
+    by : (found : Option ℕ) → count_within most_workers word ≡ found → is_found found ≡ Some tt → SaysCount (Some word)
     by None same i = absurd cc
-    by (Some count) same i = let all = count_is word count (natural_of most_workers word) refl same in (count, all.0, all.1, all.2)
+    by (Some count) same i = let all = count_is most_workers few_workers word count same in (count, all.0, all.1, all.2)
 
 count_said : (value : Option Text) → SaysCount value → has_workers value ≡ Some tt
 count_said None says = refl
-count_said (Some word) (count, is, least, most) = ap (λ (w : Text). has_workers (Some w)) is ∙ ap is_found (count_read count least most)
+count_said (Some word) (count, is, least, most) = ap (λ (w : Text). has_workers (Some w)) is ∙ ap is_found (count_read most_workers few_workers count least most)
 
 -- a number does not begin with a hyphen
 no_hyphen : (bytes : Text) (number : ℕ) → natural_of most_workers (45 ∷ bytes) ≡ Ok number → ⊥
@@ -86,15 +67,14 @@ plain_number number (b ∷ bytes) is = by (b == 45) refl
 -- the words spell the option with that value
 spelled_workers : (count : ℕ) (words : List Text) → SpellsWorkers count words → Spells (valued workers_name (decimal count)) words
 spelled_workers count words (least, most, inl is) =
-    let small : most_workers < 2 ^ 64 = search rules in
-    inl (is, plain_number count (decimal count) (natural_spelled most_workers count most small))
+    inl (is, plain_number count (decimal count) (natural_spelled most_workers count most few_workers))
 spelled_workers count words (least, most, inr is) = inr is
 
 -- ---- uses that differ in it
 
 module _ (before after : List Use) (none : is_given workers_name (before ++ after) ≡ false) where
   has_count : (count : ℕ) → 1 ≤ count → count ≤ most_workers → HasWorkers (before ++ valued workers_name (decimal count) ∷ after)
-  has_count count least most = (count, ap workers_of (text_there workers_name (decimal count) before after none) ∙ count_read count least most)
+  has_count count least most = (count, ap workers_of (text_there workers_name (decimal count) before after none) ∙ count_read most_workers few_workers count least most)
 
   differ_without : (count : ℕ) → 1 ≤ count → count ≤ most_workers → DifferInWorkers (before ++ valued workers_name (decimal count) ∷ after) (before ++ after)
   differ_without count least most = record {
@@ -164,41 +144,64 @@ module _ {A : Type 0} (command : Syntax) (asked : Arguments → Option A) (law :
       asks command law.sound asked (front ++ (others ++ back)) (place.before ++ valued workers_name (decimal number) ∷ place.after) says
       ∙ (sym (law.same _ _ (differ_other place.before place.after none count number spells.0 spells.1 spells_other.0 spells_other.1)) ∙ asked_placed)
 
+-- ---- a command that takes a number of workers, and asks what its other words say, where they say anything
+abbrev where_workers : {A : Type 0} → Option A → Option (Unit {0}) → Option A
+where_workers request workers = option_and_then (λ w. request) workers
+
+module _ {A : Type 0} (command : Syntax) (sound : is_sound command ≡ true) (asked : Arguments → Option A) (said : List Use → Option A)
+    (is_said : (uses : List Use) → asked (arguments_by command uses) ≡ where_workers (said uses) (has_workers (text_given workers_name uses))) where
+  said_where : (uses : List Use) → HasWorkers uses → asked (arguments_by command uses) ≡ said uses
+  said_where uses (count, is) = is_said uses ∙ ap (λ (found : Option ℕ). where_workers (said uses) (is_found found)) is
+
+  -- the number of workers decides nothing, where the other words decide what is said
+  pub decide_nothing_said : is_in workers_name command.flags ≡ false → ((uses others : List Use) → DifferInWorkers uses others → said uses ≡ said others) → WorkersDecideNothing command asked
+  decide_nothing_said no_flag kept = record {
+    sound = sound;
+    no_flag = no_flag;
+    same = λ uses others differ. said_where uses differ.one ∙ (kept uses others differ ∙ sym (said_where others differ.other));
+  }
+
+  -- what is asked is what uses say that say a number of workers or none
+  pub said_by_uses : (words : List Text) (request : A) → asked_by command asked words ≡ Some request ↔ ((say : SayWithWorkers command words) × (said say.uses ≡ Some request))
+  said_by_uses words request = (to, from)
+    where
+      by : (uses : List Use) → Says command words uses → (found : Option (Unit {0})) → has_workers (text_given workers_name uses) ≡ found → where_workers (said uses) found ≡ Some request
+          → (say : SayWithWorkers command words) × (said say.uses ≡ Some request)
+      by uses says None same is = absurd cc
+      by uses says (Some tt) same is = (record { uses = uses; says = says; workers = says_count (text_given workers_name uses) same }, is)
+
+      to : asked_by command asked words ≡ Some request → (say : SayWithWorkers command words) × (said say.uses ≡ Some request)
+      to is =
+          let means = meant command sound asked words request is in
+          by means.0 means.1 (has_workers (text_given workers_name means.0)) refl (sym (is_said means.0) ∙ means.2)
+
+      from : (say : SayWithWorkers command words) × (said say.uses ≡ Some request) → asked_by command asked words ≡ Some request
+      from (say, given) =
+          asks command sound asked words say.uses say.says
+          ∙ (is_said say.uses ∙ (ap (where_workers (said say.uses)) (count_said (text_given workers_name say.uses) say.workers) ∙ given))
+
 -- ---- a command that takes a number of workers, and asks what its flags say
 abbrev with_workers : {A : Type 0} → A → Option (Unit {0}) → Option A
 with_workers request workers = option_map (λ w. request) workers
 
+said_always : {A : Type 0} (request : A) (workers : Option (Unit {0})) → with_workers request workers ≡ where_workers (Some request) workers
+said_always request None = refl
+said_always request (Some w) = refl
+
 module _ {A : Type 0} (command : Syntax) (sound : is_sound command ≡ true) (asked : Arguments → Option A) (told : List Use → A)
     (is_told : (uses : List Use) → asked (arguments_by command uses) ≡ with_workers (told uses) (has_workers (text_given workers_name uses))) where
-  told_where : (uses : List Use) → HasWorkers uses → asked (arguments_by command uses) ≡ Some (told uses)
-  told_where uses (count, is) = is_told uses ∙ ap (λ (found : Option ℕ). with_workers (told uses) (is_found found)) is
+  is_said : (uses : List Use) → asked (arguments_by command uses) ≡ where_workers (Some (told uses)) (has_workers (text_given workers_name uses))
+  is_said uses = is_told uses ∙ said_always (told uses) (has_workers (text_given workers_name uses))
 
   -- the number of workers decides nothing, where the flags decide what is told
   decide_nothing : is_in workers_name command.flags ≡ false → ((uses others : List Use) → DifferInWorkers uses others → told uses ≡ told others) → WorkersDecideNothing command asked
-  decide_nothing no_flag kept = record {
-    sound = sound;
-    no_flag = no_flag;
-    same = λ uses others differ. told_where uses differ.one ∙ (ap Some (kept uses others differ) ∙ sym (told_where others differ.other));
-  }
+  decide_nothing no_flag kept = decide_nothing_said command sound asked (λ uses. Some (told uses)) is_said no_flag (λ uses others differ. ap Some (kept uses others differ))
 
   -- what is asked is what uses say that say a number of workers or none
   said_exactly : (words : List Text) (request : A) → asked_by command asked words ≡ Some request ↔ ((say : SayWithWorkers command words) × (told say.uses ≡ request))
-  said_exactly words request = (to, from)
-    where
-      by : (uses : List Use) → Says command words uses → (found : Option (Unit {0})) → has_workers (text_given workers_name uses) ≡ found → with_workers (told uses) found ≡ Some request
-          → (say : SayWithWorkers command words) × (told say.uses ≡ request)
-      by uses says None same is = absurd cc
-      by uses says (Some tt) same is = (record { uses = uses; says = says; workers = says_count (text_given workers_name uses) same }, (let one : told uses ≡ request = cc in one))
-
-      to : asked_by command asked words ≡ Some request → (say : SayWithWorkers command words) × (told say.uses ≡ request)
-      to is =
-          let means = meant command sound asked words request is in
-          by means.0 means.1 (has_workers (text_given workers_name means.0)) refl (sym (is_told means.0) ∙ means.2)
-
-      from : (say : SayWithWorkers command words) × (told say.uses ≡ request) → asked_by command asked words ≡ Some request
-      from (say, given) =
-          asks command sound asked words say.uses say.says
-          ∙ (is_told say.uses ∙ (ap (with_workers (told say.uses)) (count_said (text_given workers_name say.uses) say.workers) ∙ ap Some given))
+  said_exactly words request =
+      let exactly = said_by_uses command sound asked (λ uses. Some (told uses)) is_said words request in
+      (λ is. let said = exactly.0 is in (said.0, let some = said.1 in let one : told said.0.uses ≡ request = cc in one), λ say. exactly.1 (say.0, ap Some say.1))
 
 -- ---- a command that takes the form of the plan, and a number of workers
 abbrev pub plan_words : Syntax

@@ -1,13 +1,10 @@
 -- What `check` promises of what it puts for an input.
-use Rattle.std.specs.Prelude.{◌≡◌, ◌⊎◌, ℕ, true, List, ◌++◌}
+use Rattle.std.specs.Prelude.{◌≡◌, ℕ, true, List, ◌++◌}
 use Rattle.texts.specs.Lines.{lines}
 use Rattle.net_model.specs.Network.{Plan}
 use Rattle.strategy_model.specs.Control.{IsControllable}
 use Rattle.cert_format.specs.CertificateWords.{printed_certificate}
 use Rattle.cert_format.specs.declared.certificate.Certificate.{Certificate}
-use Rattle.cert_checker.specs.Judgement.{judgement_of}
-use Rattle.cert_checker.specs.declared.judgement.Claim.TheVariants.{NotControllable}
-use Rattle.cert_checker.specs.declared.judgement.Judgement.TheVariants.{Accepted}
 use Rattle.table_proofs.specs.Certified.{Proves}
 use Rattle.command_engine.specs.Inputs.{AnswersText}
 use Rattle.command_engine.specs.declared.endings.End.{End}
@@ -16,15 +13,12 @@ use Rattle.stnu_run.specs.Faults.{refusing}
 use Rattle.stnu_run.specs.PlanAsking.{plan_program}
 use Rattle.stnu_run.specs.PlanInput.{plan_in}
 use Rattle.stnu_run.specs.Programs.{Program}
-use Rattle.stnu_run.specs.Verdict.{controllable_line, refuted_line, PutsRefuted}
+use Rattle.stnu_run.specs.Verdict.{controllable_line, refuted_line, PutsDecided}
 use Rattle.stnu_run.specs.declared.checking.CheckFlags.{CheckFlags}
 
--- The verdict of a network is put: that it is controllable, and it is, and a certificate that proves it where that is wanted; or that it is not, and it is not, and a certificate that the
--- judge accepts.
+-- the verdict of a network is put, and where it is controllable a certificate that proves it where that is wanted
 abbrev pub PutsVerdict : CheckFlags → Plan → List ℕ → End → Type 0
-PutsVerdict flags net put end =
-    (IsControllable net × PutsYes flags.proof net put end)
-    ⊎ ((¬ IsControllable net) × ((cert : Certificate) × (judgement_of net cert ≡ Accepted NotControllable) × PutsRefuted cert put end))
+PutsVerdict flags net put end = PutsDecided net (PutsYes flags.proof net put end) put end
 
 -- What `check` promises, of a plan of the form that its flags say. `checks`: it puts the verdict of the network that the input declares, or the
 -- first refusal of the input. `controllable`: where it puts first that a network is controllable, the network that the input declares is.

@@ -3,8 +3,11 @@ use Rattle.std.specs.Prelude.{ℕ, List, ◌∷◌, codes, Bool, true, false, Op
 use Rattle.std.specs.Str.{bytes_eq}
 use Rattle.stnu_run.specs.CheckPromise.{check_program}
 use Rattle.stnu_run.specs.Checking.{check_asked, check_syntax}
+use Rattle.stnu_run.specs.Forging.{forge_asked, forge_program, forge_syntax}
 use Rattle.stnu_run.specs.JudgePromise.{judge_program}
 use Rattle.stnu_run.specs.Judging.{judge_asked, judge_syntax}
+use Rattle.stnu_run.specs.PlayPromise.{play_program}
+use Rattle.stnu_run.specs.Playing.{play_asked, play_syntax}
 use Rattle.stnu_run.specs.RunPromise.{run_program}
 use Rattle.stnu_run.specs.Running.{run_asked, run_syntax}
 use Rattle.stnu_run.specs.Showing.{show_asked, show_program, show_syntax}
@@ -28,6 +31,8 @@ program_named command words =
     else when bytes_eq command (codes "run") run program_by run_syntax run_asked run_program words
     else when bytes_eq command (codes "session") run program_by session_syntax session_asked session_program words
     else when bytes_eq command (codes "show") run program_by show_syntax show_asked show_program words
+    else when bytes_eq command (codes "play") run program_by play_syntax play_asked play_program words
+    else when bytes_eq command (codes "forge") run program_by forge_syntax forge_asked forge_program words
     else refuses_words
 
 -- the word of the command and the words after it: the first word is the program's name, the second that of the command

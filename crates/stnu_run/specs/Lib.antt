@@ -16,6 +16,11 @@ pub mod Checking
 pub mod CheckPromise
 pub mod PlanAsking
 pub mod Showing
+pub mod Counts
+pub mod Which
+pub mod Playing
+pub mod PlayPromise
+pub mod Forging
 pub mod Requests
 pub mod DefinedRuns
 pub mod Course

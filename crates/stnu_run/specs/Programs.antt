@@ -13,7 +13,7 @@ use Rattle.command_engine.specs.declared.endings.End.{End}
 use Rattle.command_engine.specs.declared.endings.Status.{Status as Ending}
 use Rattle.stnu_run.specs.declared.status.Status.{Status}
 use Rattle.stnu_run.specs.declared.telling.TellingEnd.{TellingEnd}
-use Rattle.stnu_run.specs.declared.telling.TellingEnd.TheVariants.{Told, WordsRefused}
+use Rattle.stnu_run.specs.declared.telling.TellingEnd.TheVariants.{Told, Refuted, WordsRefused}
 
 -- What a command promises, in the subject's words. `ended`: of an input, the bytes put for it, and how the command ended the run.
 -- `without_memory`: of an input and the bytes put for it, where some were and then the run ended for want of memory.
@@ -34,6 +34,7 @@ pub data Program : Type 1 where
 -- the exit status of a command without an input
 abbrev pub told_number : TellingEnd → ℕ
 told_number Told = 0
+told_number Refuted = 1
 told_number WordsRefused = 2
 
 -- the bytes and the exit status that a program defines for an input: those of a run of its command, or its answer and status

@@ -1,15 +1,21 @@
 -- What the laws of words speak of.
-use Rattle.std.specs.Prelude.{◌≡◌, ◌↔◌, ℕ, List, [], ◌∷◌, codes}
-use Rattle.command_words.specs.Arguments.{is_given}
+use Rattle.std.specs.Prelude.{◌≡◌, ◌↔◌, ◌≤◌, ℕ, List, [], ◌∷◌, codes}
+use Rattle.std.specs.Fmt.{decimal}
+use Rattle.situation_player.specs.ForgedParts.{most_tasks}
+use Rattle.command_words.specs.Arguments.{is_given, operand_texts}
 use Rattle.command_words.specs.Spelling.{Use, Says}
 use Rattle.command_words.specs.Syntax.{Syntax, Text}
 use Rattle.stnu_run.specs.DefinedRuns.{DefinedRun}
+use Rattle.stnu_run.specs.Forging.{most_number}
 use Rattle.stnu_run.specs.PlanInput.{form_by, json_name}
 use Rattle.stnu_run.specs.Programs.{Program, Defines}
 use Rattle.stnu_run.specs.declared.status.Status.{Status}
 use Rattle.stnu_run.specs.Workers.{SayWithWorkers}
 use Rattle.stnu_run.specs.Checking.{proof_name}
+use Rattle.stnu_run.specs.Which.{CanBeNamed, which_word}
 use Rattle.stnu_run.specs.declared.checking.CheckFlags.{CheckFlags}
+use Rattle.stnu_run.specs.declared.forging.ForgeWords.{ForgeWords}
+use Rattle.stnu_run.specs.declared.playing.PlayWords.{PlayWords}
 use Rattle.stnu_run.specs.declared.showing.Show.{Show}
 use Rattle.stnu_run.specs.declared.plan_input.PlanForm.{PlanForm}
 use Rattle.stnu_run.specs.declared.plan_input.PlanForm.TheVariants as form
@@ -35,6 +41,19 @@ pub record SayForms (command : Syntax) (show : Show) (words : List Text) : Type 
   pub says : Says command words uses
   pub read : form_by (is_given json_name uses) ≡ show.form
   pub put : form_by (is_given (codes "print-json") uses) ≡ show.print
+
+-- the words say uses of this command: the name of this situation, this form of the plan, and a number of workers or none
+pub record SayPlay (command : Syntax) (said : PlayWords) (words : List Text) : Type 0 where
+  pub say : SayFormAndWorkers command said.form words
+  pub operands : operand_texts say.say.uses ≡ which_word said.which ∷ []
+  pub named : CanBeNamed said.which
+
+-- the words say uses of this command: this number, this count of tasks, and a number of workers or none
+pub record SayForge (command : Syntax) (said : ForgeWords) (words : List Text) : Type 0 where
+  pub say : SayWithWorkers command words
+  pub operands : operand_texts say.uses ≡ decimal said.number ∷ decimal said.tasks ∷ []
+  pub number : said.number ≤ most_number
+  pub tasks : (1 ≤ said.tasks) × (said.tasks ≤ most_tasks)
 
 -- the words are not refused: no run of theirs ends with 2
 abbrev pub AreTaken : (words : List (List ℕ)) → Type 0

@@ -1,14 +1,13 @@
 -- The number of workers, as words say it: the option `--workers`.
-use Rattle.std.specs.Prelude.{◌≡◌, ◌⊎◌, ℕ, ◌≤◌, ◌==◌, Bool, true, false, List, [], ◌∷◌, ◌++◌, Option, Some, None, Result, Ok, Err, codes, if◌then◌else◌}
+use Rattle.std.specs.Prelude.{◌≡◌, ◌⊎◌, ℕ, ◌≤◌, Bool, true, false, List, [], ◌∷◌, ◌++◌, Option, Some, None, codes}
 use Rattle.std.specs.Fmt.{decimal}
 use Rattle.std.specs.Option.{option_map}
 use Rattle.std.specs.Str.{bytes_eq}
-use Rattle.net_model.specs.Numbers.{natural_of}
-use Rattle.net_model.specs.declared.format.FormatKind.{FormatKind}
 use Rattle.work_board.specs.Limits.{most_seats}
 use Rattle.command_words.specs.Arguments.{Arguments, arguments_by, is_given, text_given, operand_texts}
 use Rattle.command_words.specs.Spelling.{Use, Says}
 use Rattle.command_words.specs.Syntax.{Syntax, Text, is_in, is_sound}
+use Rattle.stnu_run.specs.Counts.{count_within}
 
 -- how many workers there may be: as many as a board may have seats
 abbrev pub most_workers : ℕ
@@ -18,19 +17,10 @@ most_workers = most_seats
 abbrev pub workers_name : Text
 workers_name = codes "workers"
 
--- the number of workers that a word is, from what it says as a number
-abbrev pub count_in : Result ℕ FormatKind → Option ℕ
-count_in (Ok count) = if count == 0 then None else Some count
-count_in (Err kind) = None
-
--- the number of workers that a word is
-abbrev pub count_of : Text → Option ℕ
-count_of word = count_in (natural_of most_workers word)
-
 -- the number of workers by the value of the option: 1 where it is not given
 abbrev pub workers_of : Option Text → Option ℕ
 workers_of None = Some 1
-workers_of (Some word) = count_of word
+workers_of (Some word) = count_within most_workers word
 
 -- that there are workers, by the value of the option; nothing is seen of how many
 abbrev pub has_workers : Option Text → Option (Unit {0})

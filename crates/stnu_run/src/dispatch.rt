@@ -5,22 +5,25 @@ ghost use Rattle.stnu_run.specs.DefinedRuns.{command_of, program_of, program_nam
 ghost use Rattle.stnu_run.specs.Programs.{ServesProgram, KeepsPromise, HasCauses, KeepsWithoutMemory};
 
 use crate::checking::Checking;
+use crate::forging::Forge;
 use crate::judging::Judging;
+use crate::playing::Playing;
 use crate::promising::serve_asked;
 use crate::running::Running;
 use crate::session::SessionCommand;
 use crate::showing::Showing;
 use crate::status::Status;
-use crate::telling::{RefusedWords, tell};
+use crate::telling::{RefusedWords, tell, tell_asked};
 use plan_port::Port;
 use std::alloc::Global;
 use std::thread::Threads;
 
 /// Does all that the program does: reads the input of the command that the words name over a port, and puts its answers.
 /// The first word is the program's name; the second is the word of a command. The words that it takes stand after it, in any order and each
-/// at most once: all five take `--json`, by which the plan is a JSON document, ended by a line `end`; `show` takes `--print-json`, by which it puts
-/// one; `check`, `run` and `session` take `--workers N`, or `--workers=N`, with N from 1 to 64. So many workers, by default 1, make the rows of each
-/// round; how many decides nothing of what is put. Each line is answered before more of the input is
+/// at most once: all but `forge` take `--json`, by which the plan is a JSON document, ended by a line `end`; `show` takes `--print-json`, by which it
+/// puts one; `play` takes which situation it plays, `forge` a number and a count of tasks; `check`, `play`, `run`, `session` and `forge` take
+/// `--workers N`, or `--workers=N`, with N from 1 to 64. So many workers, by default 1, make the rows of each round; how many decides nothing of what
+/// is put. Each line is answered before more of the input is
 /// taken, and nothing after the line that ends the command's input is looked at. What a command reads and puts is told beside it.
 ///
 /// The run ends at its first refusal, with one line and a status that say which: `error words` (2), `error format`,
@@ -78,6 +81,8 @@ fn run_command<R: Threads + Sync, P: Port>(
         "run" => serve_asked::<R, Running, P>(rt, alloc, words, port),
         "session" => serve_asked::<R, SessionCommand, P>(rt, alloc, words, port),
         "show" => serve_asked::<R, Showing, P>(rt, alloc, words, port),
+        "play" => serve_asked::<R, Playing, P>(rt, alloc, words, port),
+        "forge" => tell_asked::<R, Forge, P>(rt, alloc, words, port),
         _ => tell(rt, alloc, RefusedWords, port),
     }
 }

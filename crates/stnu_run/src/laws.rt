@@ -3,27 +3,34 @@
 ghost use Rattle.std.specs.Prelude.{◌≡◌, ◌↔◌, ℕ, List, [], ◌∷◌, ◌++◌, Some};
 ghost use Rattle.stnu_run.specs.Checking.{check_asked, check_syntax};
 ghost use Rattle.stnu_run.specs.DefinedRuns.{DefinedRun, program_named};
+ghost use Rattle.stnu_run.specs.Forging.{forge_asked, forge_syntax};
 ghost use Rattle.stnu_run.specs.Judging.{judge_asked, judge_syntax};
-ghost use Rattle.stnu_run.specs.Programs.{DefinesOne, EachDefinesOne, serves};
+ghost use Rattle.stnu_run.specs.Playing.{play_asked, play_syntax};
+ghost use Rattle.stnu_run.specs.Programs.{DefinesOne, EachDefinesOne, serves, tells};
 ghost use Rattle.stnu_run.specs.Requests.{asked_by};
 ghost use Rattle.stnu_run.specs.Running.{run_asked, run_syntax};
 ghost use Rattle.stnu_run.specs.Sessions.{session_asked, session_syntax};
 ghost use Rattle.stnu_run.specs.Showing.{show_asked, show_syntax};
-ghost use Rattle.stnu_run.specs.WordLaws.{AreTaken, DefineSame, DefineSameWhereTaken, SameRuns, SayCheckFlags, SayFormAndWorkers, SayForms, form_words};
+ghost use Rattle.stnu_run.specs.WordLaws.{AreTaken, DefineSame, DefineSameWhereTaken, SameRuns, SayCheckFlags, SayForge, SayFormAndWorkers, SayForms, SayPlay, form_words};
 ghost use Rattle.stnu_run.specs.Workers.{SpellsWorkers, WorkersDecideNothing};
 ghost use Rattle.stnu_run.specs.declared.checking.CheckFlags.{CheckFlags};
+ghost use Rattle.stnu_run.specs.declared.forging.ForgeWords.{ForgeWords};
 ghost use Rattle.stnu_run.specs.declared.judging.Judge.{Judge};
 ghost use Rattle.stnu_run.specs.declared.plan_input.PlanForm.{PlanForm};
+ghost use Rattle.stnu_run.specs.declared.playing.PlayWords.{PlayWords};
 ghost use Rattle.stnu_run.specs.declared.showing.Show.{Show};
 ghost use Rattle.stnu_run.specs.declared.status.Status.{Status};
 
 use crate::checking::Checking;
+use crate::forging::Forge;
 use crate::judging::Judging;
+use crate::playing::Playing;
 use crate::promising::Promising;
 use crate::requests::Request;
 use crate::running::Running;
 use crate::session::SessionCommand;
 use crate::showing::Showing;
+use crate::telling::Telling;
 
 /// For given words and a given input at most one pair of bytes and status stands in the defined run.
 pub fn defined_run_is_one()
@@ -62,6 +69,18 @@ pub fn show_is_read_exactly()
     ensures { (words : List (List ℕ)) (show : Show) → asked_by show_syntax show_asked words ≡ Some show ↔ SayForms show_syntax show words }
 {}
 
+/// The words after `play` are its own exactly where they spell its uses, and the operand names a situation: `longest`, `shortest`, or a number of at most
+/// 18446744073709551615; and the number of workers, where it is given, is one from 1 to 64. The plan is a document exactly where `--json` is given.
+pub fn play_is_read_exactly()
+    ensures { (words : List (List ℕ)) (said : PlayWords) → asked_by play_syntax play_asked words ≡ Some said ↔ SayPlay play_syntax said words }
+{}
+
+/// The words after `forge` are its own exactly where they spell its uses, and the operands are a number of at most 2147483647 and a count of tasks from
+/// 1 to 333; and the number of workers, where it is given, is one from 1 to 64.
+pub fn forge_is_read_exactly()
+    ensures { (words : List (List ℕ)) (said : ForgeWords) → asked_by forge_syntax forge_asked words ≡ Some said ↔ SayForge forge_syntax said words }
+{}
+
 /// The number of workers changes nothing, in either spelling, and wherever it stands after the word of a command: the defined run of words with
 /// it is that of the words with another number, and, where words with it are not refused, that of the words without it.
 pub fn workers_change_nothing()
@@ -91,6 +110,8 @@ fn each_is_lawful()
     is_lawful::<Running>();
     is_lawful::<SessionCommand>();
     is_lawful::<Showing>();
+    is_lawful::<Playing>();
+    is_lawfully_told::<Forge>();
 }
 
 /// The laws that a command keeps whatever is asked of it.
@@ -100,4 +121,13 @@ fn is_lawful<C: Promising>()
 {
     C::defines_one();
     C::Request::workers_decide_nothing();
+}
+
+/// The laws that a command without an input keeps whatever is asked of it.
+fn is_lawfully_told<T: Telling + Request>()
+    ensures one { EachDefinesOne (λ asked. tells (T.told asked)) }
+    ensures workers { WorkersDecideNothing T.syntax T.asked }
+{
+    T::tells_one();
+    T::workers_decide_nothing();
 }

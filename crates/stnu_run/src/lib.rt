@@ -3,17 +3,20 @@
 
 mod certificate_text;
 mod checking;
+mod counts;
 mod dispatch;
 mod editing;
 mod event_answers;
 mod executing;
 mod faults;
+mod forging;
 mod judging;
 mod laws;
 mod plan_asking;
 mod plan_document;
 mod plan_input;
 mod plan_text;
+mod playing;
 mod promising;
 mod requests;
 mod running;
@@ -23,12 +26,14 @@ mod showing;
 mod status;
 mod telling;
 mod verdict;
+mod which;
 mod workers;
 
 pub use dispatch::run;
 pub use executing::greatest_moments_are_one;
 pub use laws::{
-    check_is_read_exactly, defined_run_is_one, judge_is_read_exactly, run_is_read_exactly,
-    session_is_read_exactly, show_is_read_exactly, workers_change_nothing,
+    check_is_read_exactly, defined_run_is_one, forge_is_read_exactly, judge_is_read_exactly,
+    play_is_read_exactly, run_is_read_exactly, session_is_read_exactly, show_is_read_exactly,
+    workers_change_nothing,
 };
 pub use status::Status;

@@ -132,8 +132,20 @@ fn begin_execution(
     ensures begins { IfOk result (BeginsExecution net answer.new.text) }
     ensures room { IfOk result (λ onward. HasRoom executing_machine onward answer.new.capacity) }
 {
-    let dispatch = Dispatch::of(alloc, &net, &closed.table, closed.order.as_slice())?;
+    let dispatch = dispatch_by(alloc, &net, closed)?;
     begin_dispatched(alloc, answer, net, dispatch)
+}
+
+/// The dispatchable network of a controllable network by its closure. `AllocError` comes only for want of memory.
+pub(crate) fn dispatch_by(
+    alloc: Global,
+    net: &Network,
+    closed: &Closed,
+) -> Result<Dispatch, AllocError>
+    requires { IsDispatchedByClosure net.now closed.now.table closed.now.order }
+    ensures { IfOk result (IsDispatchOfClosure net.now) }
+{
+    Dispatch::of(alloc, net, &closed.table, closed.order.as_slice())
 }
 
 /// The same by the dispatchable network of its closure.

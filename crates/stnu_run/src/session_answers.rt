@@ -135,7 +135,7 @@ fn push_waits(
 }
 
 /// The name of a point.
-fn point_name(net: &Network, point: PointId) -> &[u8]
+pub(crate) fn point_name(net: &Network, point: PointId) -> &[u8]
     ensures { result.now ≡ point_name net.now point }
 {
     match net.points().get(point.0 as usize) {

@@ -1,13 +1,14 @@
 //! Commands without an input.
 
-ghost use Rattle.std.specs.Prelude.{◌≡◌, ℕ, List, [], IfOk};
+ghost use Rattle.std.specs.Prelude.{◌≡◌, ℕ, List, [], map, string_bytes, IfOk};
 ghost use Rattle.std.specs.Thread.{IsSync};
 ghost use Rattle.plan_port.specs.Writing.{Writes};
 ghost use Rattle.plan_port.specs.declared.writing.Written.{Written};
 ghost use Rattle.stnu_run.specs.Programs.{ServesProgram, KeepsPromise, HasCauses, KeepsWithoutMemory, EachDefinesOne, told_number, written_number, tells};
-ghost use Rattle.stnu_run.specs.Requests.{RefusesWords};
+ghost use Rattle.stnu_run.specs.Requests.{RefusesWords, program_by};
 ghost use Rattle.stnu_run.specs.declared.telling.TellingEnd.{TellingEnd};
 
+use crate::requests::{Request, request_in};
 use crate::status::Status;
 use command_engine::{Answer, Word};
 use plan_port::{Port, Written, write_all};
@@ -19,17 +20,20 @@ use std::thread::Threads;
 pub enum TellingEnd {
     /// It was told what was asked.
     Told,
+    /// It was told, and the network that was asked of is not controllable.
+    Refuted,
     /// The words are those of no command.
     WordsRefused,
 }
 
 impl TellingEnd {
-    /// The exit status: 0 or 2, in the order of the variants.
+    /// The exit status: 0, 1 or 2, in the order of the variants.
     fn number(self) -> u8
         ensures { result ≡ told_number self }
     {
         match self {
             TellingEnd::Told => 0,
+            TellingEnd::Refuted => 1,
             TellingEnd::WordsRefused => 2,
         }
     }
@@ -55,6 +59,25 @@ pub trait Telling: Drop {
         requires shared { IsSync R.row }
         requires fresh { answer.old.text ≡ [] }
         ensures { IfOk result (λ end. told self answer.new.text end) };
+}
+
+/// Tells what the words after that of a command ask, or refuses the words. Where there is no memory to read them, nothing is put.
+pub fn tell_asked<R: Threads + Sync, T: Telling + Request, P: Port>(
+    rt: &R,
+    alloc: Global,
+    words: &[String],
+    port: &mut P,
+) -> Status
+    ensures served { ServesProgram (program_by T.syntax T.asked (λ asked. tells (T.told asked)) (map string_bytes words.now)) result (P.seen port.old) (P.seen port.new) }
+    ensures kept { KeepsPromise (program_by T.syntax T.asked (λ asked. tells (T.told asked)) (map string_bytes words.now)) result (P.seen port.old) (P.seen port.new) }
+    ensures causes { HasCauses (program_by T.syntax T.asked (λ asked. tells (T.told asked)) (map string_bytes words.now)) result (P.seen port.old) (P.seen port.new) }
+    ensures memory { KeepsWithoutMemory (program_by T.syntax T.asked (λ asked. tells (T.told asked)) (map string_bytes words.now)) result (P.seen port.old) (P.seen port.new) }
+{
+    match request_in::<T>(alloc, words) {
+        Ok(Some(request)) => tell(rt, alloc, request, port),
+        Ok(None) => tell(rt, alloc, RefusedWords, port),
+        Err(AllocError) => Status(8),
+    }
 }
 
 /// Runs a command without an input: its answer is put by one writing.

@@ -1,12 +1,12 @@
 //! The workers that make the rows of a round, and test a closed table.
 
-ghost use Rattle.std.specs.Prelude.{◌≡◌, ◌≤◌, option_map, IfOk, IfSome};
+ghost use Rattle.std.specs.Prelude.{◌≡◌, option_map, IfOk};
 ghost use Rattle.plan_session.specs.Sessions.{IsOpenedOn};
 ghost use Rattle.table_closing.specs.Closing.{ClosesTo};
-ghost use Rattle.stnu_run.specs.Workers.{count_of, has_workers, most_workers};
+ghost use Rattle.stnu_run.specs.Workers.{has_workers};
 
+use crate::counts::count_within;
 use net_model::Network;
-use net_model::text::natural;
 use parallel_rounds::NoGate;
 use plan_session::Session;
 use std::alloc::{AllocError, Global};
@@ -15,7 +15,7 @@ use std::thread::Threads;
 use table_closing::{Closed, close};
 
 /// How many workers there may be.
-const MOST_WORKERS: u64 = 64;
+const MOST_WORKERS: u32 = 64;
 
 /// The workers that make the rows of a round and test a closed table, from 1 to 64. Contracts do not see how many they are: no answer
 /// depends on it.
@@ -44,7 +44,7 @@ impl Workers {
         match value {
             None => Some(Workers { count: 1 }),
             Some(word) => Some(Workers {
-                count: count_of(word.as_bytes())?,
+                count: count_within(word.as_bytes(), MOST_WORKERS)?,
             }),
         }
     }
@@ -72,17 +72,5 @@ impl Workers {
         ensures { IfOk result (ClosesTo net.now) }
     {
         close(rt, alloc, net, self.count)
-    }
-}
-
-/// The number of workers that a word is: from 1 to 64, with no sign and no zero in front.
-fn count_of(word: &[u8]) -> Option<u32>
-    ensures value { result ≡ count_of word.now }
-    ensures within { IfSome result (λ count. (1 ≤ count) × (count ≤ most_workers)) }
-{
-    match natural(word, MOST_WORKERS) {
-        Ok(0) => None,
-        Ok(count) => Some(count as u32),
-        Err(_) => None,
     }
 }

@@ -4,7 +4,7 @@ use Rattle.stnu_run.proofs.laws.each_is_lawful.Goals as goal
 
 pub returns : goal.returns
 returns c = record {
-  one = λ command words. search (chosen_defines_one, refused_defines_one, asked_program_defines_one) depth 8;
-  other = λ command front spelled others back count number spells other. search (chosen_same, same_self, other_same) depth 8;
-  without = λ command front spelled back count spells. search (chosen_taken, taken_self, without_same) depth 8;
+  one = λ command words. search (chosen_defines_one, refused_defines_one, asked_program_defines_one) depth 10;
+  other = λ command front spelled others back count number spells other. search (chosen_same, same_self, other_same) depth 10;
+  without = λ command front spelled back count spells. search (chosen_taken, taken_self, without_same) depth 10;
 }

@@ -1,5 +1,6 @@
+use Rattle.stnu_run.specs.Checking.{PutsYes}
 use Rattle.stnu_run.proofs.VerdictLemmas.{verdict_put}
 use Rattle.stnu_run.proofs.checking.CheckPlanQuestion.puts_the_answer.Goals as goal
 
 pub returns : goal.returns
-returns c = λ check net put end plan answered. verdict_put check net put end answered
+returns c = λ check net put end plan answered. verdict_put net (PutsYes check.proof net put end) put end answered
