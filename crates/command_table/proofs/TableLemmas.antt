@@ -1,0 +1,67 @@
+-- Words are refused exactly where they are not in the table of commands.
+use Rattle.std.proofs.Common.{◌≡◌, ◌↔◌, inl, inr, ℕ, List, [], ◌∷◌, Bool, true, false, Option, Some, None, codes, refl, ap, ◌∙◌, arith}
+use Rattle.texts.specs.Printing.{printed_line}
+use Rattle.command_engine.specs.Endings.{end_number}
+use Rattle.command_engine.specs.declared.endings.End.{End}
+use Rattle.command_engine.specs.declared.endings.End.TheVariants.{Done, Refused, Fault, Limit, EventRefused}
+use Rattle.stnu_run.specs.DefinedRuns.{program_named, program_of, when◌run◌else◌}
+use Rattle.stnu_run.specs.Forging.{TellsVerdict, forge_program}
+use Rattle.stnu_run.specs.Programs.{Program, serves, tells, told_number}
+use Rattle.stnu_run.specs.Requests.{program_asked, refuses_words}
+use Rattle.stnu_run.specs.Statuses.{IsRefusal}
+use Rattle.stnu_run.specs.declared.forging.ForgeWords.{ForgeWords}
+use Rattle.stnu_run.specs.declared.status.Status.{Status}
+use Rattle.stnu_run.specs.declared.telling.TellingEnd.TheVariants.{WordsRefused}
+use Rattle.command_table.specs.Table.{AreInTable, AreOfCommand, when◌these◌else◌}
+
+-- ---- what is no refusal
+never_two : (end : End) → ◌≡◌ {A = ℕ} 2 (end_number end) → ⊥
+never_two Done is = omega arith
+never_two Refused is = omega arith
+never_two Fault is = omega arith
+never_two Limit is = omega arith
+never_two EventRefused is = omega arith
+
+-- the program serves a command
+abbrev IsServed : Program → Type 0
+IsServed (serves machine start promise) = Unit {0}
+IsServed (tells answers) = ⊥
+
+pub served_is_none : (program : Program) → IsServed program → ¬ IsRefusal program
+served_is_none (serves machine start promise) served (input, put, (end, is, runs)) = never_two end (ap (λ (s : Status). s.0) is)
+served_is_none (tells answers) served refusal = absurd served
+
+pub forged_is_none : (words : ForgeWords) → ¬ IsRefusal (forge_program words)
+forged_is_none words (input, put, (end, is, told)) = by told.verdict.2
+  where
+    two : ◌≡◌ {A = ℕ} 2 (told_number end)
+    two = ap (λ (s : Status). s.0) is
+
+    by : {more : List ℕ} → TellsVerdict told.net more end → ⊥
+    by (inl kept) = let zero : ◌≡◌ {A = ℕ} 2 0 = two ∙ ap told_number kept.told in omega arith
+    by (inr refuted) = let one : ◌≡◌ {A = ℕ} 2 1 = two ∙ ap told_number refuted.told in omega arith
+
+-- ---- what is one
+pub refused : IsRefusal refuses_words
+refused = ([], printed_line (codes "error" ∷ codes "words" ∷ []), (WordsRefused, refl, (refl, refl)))
+
+none_is_some : {A : Type 0} (one : A) → None ≡ Some one → ⊥
+none_is_some one is = absurd (cc)
+
+-- ---- line by line of the table
+pub asked_exactly : {A : Type 0} (program : A → Program) (asked : Option A) (These : A → Type 0) → ((one : A) → ¬ IsRefusal (program one)) → ((one : A) → (asked ≡ Some one) ↔ These one)
+    → IsRefusal (program_asked program asked) ↔ ¬ ((one : A) × These one)
+asked_exactly program (Some one) These never means = (λ refusal held. never one refusal, λ not. absurd (not (one, (means one).0 refl)))
+asked_exactly program None These never means = (λ refusal held. none_is_some held.0 ((means held.0).1 held.1), λ not. refused)
+
+pub chosen_exactly : (so : Bool) (one other : Program) (These Others : Type 0) → IsRefusal one ↔ ¬ These → IsRefusal other ↔ ¬ Others → IsRefusal (when so run one else other) ↔ ¬ (when so these These else Others)
+chosen_exactly true one other These Others first second = first
+chosen_exactly false one other These Others first second = second
+
+pub refused_exactly : IsRefusal refuses_words ↔ ¬ ⊥
+refused_exactly = (λ refusal none. none, λ not. refused)
+
+pub words_exactly : ((command : List ℕ) (words : List (List ℕ)) → IsRefusal (program_named command words) ↔ ¬ AreOfCommand command words) → (words : List (List ℕ)) → IsRefusal (program_of words) ↔ ¬ AreInTable words
+words_exactly each [] = refused_exactly
+words_exactly each (program ∷ []) = refused_exactly
+words_exactly each (program ∷ command ∷ words) = each command words

@@ -1,0 +1,56 @@
+-- The table of the program's commands (this project's own choice), and what it means that words are refused.
+use Rattle.std.specs.Prelude.{◌≡◌, ◌⊎◌, ◌↔◌, ◌∷◌, codes, ℕ, List, Bool, true, false}
+use Rattle.std.specs.Str.{bytes_eq}
+use Rattle.plan_port.specs.Talk.{Seen}
+use Rattle.stnu_run.specs.Checking.{check_syntax}
+use Rattle.stnu_run.specs.DefinedRuns.{program_of}
+use Rattle.stnu_run.specs.Forging.{forge_syntax}
+use Rattle.stnu_run.specs.Playing.{play_syntax}
+use Rattle.stnu_run.specs.Running.{run_syntax}
+use Rattle.stnu_run.specs.Sessions.{session_syntax}
+use Rattle.stnu_run.specs.Showing.{show_syntax}
+use Rattle.stnu_run.specs.Statuses.{IsRefusal, StatusHasCause}
+use Rattle.stnu_run.specs.WordLaws.{SayCheckFlags, SayForge, SayFormAndWorkers, SayForms, SayPlay, form_words}
+use Rattle.stnu_run.specs.declared.checking.CheckFlags.{CheckFlags}
+use Rattle.stnu_run.specs.declared.forging.ForgeWords.{ForgeWords}
+use Rattle.stnu_run.specs.declared.judging.Judge.{Judge}
+use Rattle.stnu_run.specs.declared.plan_input.PlanForm.{PlanForm}
+use Rattle.stnu_run.specs.declared.playing.PlayWords.{PlayWords}
+use Rattle.stnu_run.specs.declared.showing.Show.{Show}
+use Rattle.stnu_run.specs.declared.status.Status.{Status}
+
+-- the one where this is so, else the other
+infixr 5 when◌these◌else◌
+abbrev pub when◌these◌else◌ : Bool → Type 0 → Type 0 → Type 0
+when true these one else other = one
+when false these one else other = other
+
+-- These are the words of a command after its own: of `judge` none, or `--json`; of each other command they spell its uses, as its line of the table
+-- says.
+abbrev pub AreOfCommand : (command : List ℕ) (words : List (List ℕ)) → Type 0
+AreOfCommand command words =
+    when bytes_eq command (codes "judge") these ((judge : Judge) × (words ≡ form_words judge.form))
+    else when bytes_eq command (codes "check") these ((flags : CheckFlags) × SayCheckFlags check_syntax flags words)
+    else when bytes_eq command (codes "run") these ((form : PlanForm) × SayFormAndWorkers run_syntax form words)
+    else when bytes_eq command (codes "session") these ((form : PlanForm) × SayFormAndWorkers session_syntax form words)
+    else when bytes_eq command (codes "show") these ((show : Show) × SayForms show_syntax show words)
+    else when bytes_eq command (codes "play") these ((said : PlayWords) × SayPlay play_syntax said words)
+    else when bytes_eq command (codes "forge") these ((said : ForgeWords) × SayForge forge_syntax said words)
+    else ⊥
+
+-- words are in the table: the first is the program's name, the second that of a command, and those after it are that command's
+abbrev pub AreInTable : List (List ℕ) → Type 0
+AreInTable (program ∷ command ∷ words) = AreOfCommand command words
+AreInTable others = ⊥
+
+abbrev pub WordsAreRefusedOutsideTheTable : Type 0
+WordsAreRefusedOutsideTheTable = (words : List (List ℕ)) → IsRefusal (program_of words) ↔ ¬ AreInTable words
+
+-- 2 comes only of words that are not in the table; and of these comes 2, or 6, or 8
+pub record RefusesOutside (words : List (List ℕ)) (status : Status) : Type 0 where
+  pub only : status.0 ≡ 2 → ¬ AreInTable words
+  pub there : ¬ AreInTable words → (status.0 ≡ 2) ⊎ ((status.0 ≡ 6) ⊎ (status.0 ≡ 8))
+
+abbrev pub RunsRefuseExactlyWordsOutsideTheTable : Type 0
+RunsRefuseExactlyWordsOutsideTheTable =
+    (words : List (List ℕ)) (status : Status) (before after : Seen) → StatusHasCause (program_of words) status before after → RefusesOutside words status
