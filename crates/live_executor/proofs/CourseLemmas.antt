@@ -16,7 +16,8 @@ use Rattle.execution_model.proofs.AtOnceLemmas.{one_by_one_is_at_once}
 use Rattle.execution_model.proofs.MomentLemmas.{come_not_due, due_parts, length-completed_at}
 use Rattle.execution_model.proofs.OneByOneLemmas.{acts_come_one_by_one}
 use Rattle.live_executor.specs.Course.{is_due_in, NoneDueBefore, IsLowestDue, IsFirstMoment, IsFirstBefore, IsCourseOf, AreSomeMade, HasRun, left_of}
-use Rattle.live_executor.specs.Due.{has_begun, due_in, IsFirstAmong, IsFirstDue, sooner}
+use Rattle.due_queue.specs.First.{due_in, IsFirstDue}
+use Rattle.live_executor.specs.Due.{has_begun}
 use Rattle.live_executor.specs.Limits.{end_of_time}
 use Rattle.live_executor.specs.Sound.{KeptNetwork, made_setting, ExecutesTheSame}
 use Rattle.live_executor.specs.Waking.{IsAwake}
@@ -25,63 +26,6 @@ use Rattle.live_executor.proofs.SettleLemmas.{left_acted}
 use Rattle.live_executor.proofs.TimeLemmas.{IsIdle, leaps, rests}
 
 -- ---- what is due first
-module _ (due : List (Option ℕ)) (n : ℕ) where
-  abbrev last : PointId
-  last = record { 0 = n }
-
-  at_last : (point : PointId) → point.0 < n + 1 → n ≤ point.0 → due_in due last ≡ due_in due point
-  at_last point below above = (let same : n ≡ point.0 = omega (arith, below, above) in ap (λ (k : ℕ). slice_index_or due k None) same)
-
-  pub sooner_more : (first : Option (ℕ × PointId)) → IsFirstAmong due n first → IsFirstAmong due (n + 1) (sooner first (due_in due last) last)
-  sooner_more first before = by first before (due_in due last) refl
-    where
-      by_order : (one : ℕ × PointId) → IsFirstAmong due n (Some one) → (m : ℕ) → due_in due last ≡ Some m → (b : Bool) → nat_le one.0 m ≡ b
-          → IsFirstAmong due (n + 1) (if b then Some one else Some (m, last))
-      by_order one kept m is true no_later =
-          let less : one.0 ≤ m = leb-true one.0 m no_later in
-          let below_n : one.1.0 < n = kept.0 in (
-            omega (arith, below_n),
-            kept.1,
-            λ point moment below its. elim (cases_lt point.0 n) [
-              | inl less_n ↦ kept.2 point moment less_n its
-              | inr past ↦
-                  (let same : m ≡ moment = same_Some m moment (sym is ∙ (at_last point below past ∙ its)) in
-                  elim (cases_lt one.0 moment) [
-                    | inl sooner_one ↦ inl sooner_one
-                    | inr not ↦ inr ((let equal : one.0 ≡ moment = omega (arith, less, same, not) in equal), (let no_more : one.1.0 ≤ point.0 = omega (arith, below_n, past) in no_more))
-                  ])
-            ],
-          )
-      by_order one kept m is false later =
-          let less : m < one.0 = grind (arith, nat_tests) in (
-            omega arith,
-            is,
-            λ point moment below its. elim (cases_lt point.0 n) [
-              | inl less_n ↦ (let not = kept.2 point moment less_n its in elim not [ inl more ↦ inl (omega (arith, less, more)) | inr same ↦ inl (let equal = same.0 in omega (arith, less, equal)) ])
-              | inr past ↦ (let same : m ≡ moment = same_Some m moment (sym is ∙ (at_last point below past ∙ its)) in inr (same, past))
-            ],
-          )
-
-      by : (first : Option (ℕ × PointId)) → IsFirstAmong due n first → (o : Option ℕ) → due_in due last ≡ o → IsFirstAmong due (n + 1) (sooner first o last)
-      by None none None is = λ point below. elim (cases_lt point.0 n) [ inl less ↦ none point less | inr past ↦ sym (at_last point below past) ∙ is ]
-      by None none (Some m) is = (
-        omega arith,
-        is,
-        λ point moment below its. elim (cases_lt point.0 n) [
-          | inl less ↦ absurd (none-some moment (sym (none point less) ∙ its))
-          | inr past ↦ (let same : m ≡ moment = same_Some m moment (sym is ∙ (at_last point below past ∙ its)) in inr (same, past))
-        ],
-      )
-      by (Some one) kept None is = (
-        (let low = kept.0 in omega (arith, low)),
-        kept.1,
-        λ point moment below its. elim (cases_lt point.0 n) [
-          | inl less ↦ kept.2 point moment less its
-          | inr past ↦ absurd (none-some moment (sym is ∙ (at_last point below past ∙ its)))
-        ],
-      )
-      by (Some one) kept (Some m) is = by_order one kept m is (nat_le one.0 m) refl
-
 module _ (due : List (Option ℕ)) where
   -- what is due later has not begun
   pub not_begun : (t : ℕ) (o : Option ℕ) → ((m : ℕ) → o ≡ Some m → t < m) → has_begun o t ≡ false

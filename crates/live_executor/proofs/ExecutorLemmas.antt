@@ -11,7 +11,8 @@ use Rattle.execution_model.specs.Feeding.{Execution, started, next_moment, IsNex
 use Rattle.execution_model.specs.declared.feeding.Act.{Act}
 use Rattle.execution_model.proofs.MomentLemmas.{no_acts_none_due, none_due_no_acts}
 use Rattle.live_executor.specs.Course.{IsCourseOf, IsFirstMoment}
-use Rattle.live_executor.specs.Due.{has_begun, due_in}
+use Rattle.due_queue.specs.First.{due_in}
+use Rattle.live_executor.specs.Due.{has_begun}
 use Rattle.live_executor.specs.Sound.{KeptNetwork, made_setting, ExecutesTheSame}
 use Rattle.live_executor.proofs.CourseLemmas.{not_begun, known_none_before}
 use Rattle.live_executor.proofs.SameLemmas.{due_same}

@@ -9,6 +9,7 @@ use Rattle.execution_model.specs.Execution.{Moments, Setting, moment_of, is_due,
 use Rattle.execution_model.specs.Feeding.{last_of}
 use Rattle.execution_model.specs.declared.feeding.Act.{Act}
 use Rattle.execution_model.proofs.MomentLemmas.{no_acts_same, length-acted}
+use Rattle.live_executor.specs.Awaited.{AreLatest}
 use Rattle.live_executor.specs.Course.{left_of, IsCourseOf}
 use Rattle.live_executor.specs.Kept.{GoesOn, moment_after}
 use Rattle.live_executor.specs.Limits.{AreBefore, end_of_time}
@@ -82,11 +83,11 @@ some_of None is = absurd cc
 some_of (Some m) is = (m, refl)
 
 -- at the end the execution goes on
-pub goes_at_end : (network : KeptNetwork) (old : Moments) (last : Option ℕ) (from : ℕ) (now : Moments) (counts : List ℕ) (due : List (Option ℕ)) (acts : List Act) → length old ≡ length network.made
+pub goes_at_end : (network : KeptNetwork) (old : Moments) (last : Option ℕ) (from : ℕ) (now : Moments) (counts : List ℕ) (due latest : List (Option ℕ)) (acts : List Act) → length old ≡ length network.made
     → AreBefore (moment_after last) old → from ≡ moment_after last → from ≤ end_of_time → now ≡ time_runs (made_setting network) old from (end_of_time - from)
-    → acts ≡ acts_while (made_setting network) old from (end_of_time - from) → IsCourseOf network end_of_time now counts due → All IsSome now
-    → GoesOn network now counts due (last_of last acts)
-goes_at_end network old last from now counts due acts whole before first soon is acts_are course come =
+    → acts ≡ acts_while (made_setting network) old from (end_of_time - from) → IsCourseOf network end_of_time now counts due → AreLatest network.setting now latest → All IsSome now
+    → GoesOn network now counts due latest (last_of last acts)
+goes_at_end network old last from now counts due latest acts whole before first soon is acts_are course awaited come =
     let end = ends_at (made_setting network) last old from (end_of_time - from) whole (omega (arith, first)) before in
     record {
       course = record {
@@ -96,6 +97,7 @@ goes_at_end network old last from now counts due acts whole before first soon is
         few = course.few;
         paced = course.paced;
       };
+      awaited = awaited;
       early = rw (is, acts_are) end.early;
       time_left = (let none = none_left_of now come in let low = end.within in let same = ap (λ (all : List Act). moment_after (last_of last all)) acts_are in omega (arith, none, low, same, soon));
     }

@@ -13,3 +13,4 @@ pub mod WakeLemmas
 pub mod WakesLemmas
 pub mod ListLemmas
 pub mod UndoLemmas
+pub mod AwaitedLemmas

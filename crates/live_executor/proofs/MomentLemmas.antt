@@ -12,6 +12,7 @@ use Rattle.execution_model.specs.Feeding.{Execution, most_moment, next_moment, r
 use Rattle.execution_model.specs.declared.feeding.Act.{Act}
 use Rattle.execution_model.specs.declared.feeding.Why.{Why}
 use Rattle.execution_model.specs.declared.feeding.Why.TheVariants as why
+use Rattle.live_executor.specs.Awaited.{AreLatest}
 use Rattle.live_executor.specs.Course.{IsCourseOf}
 use Rattle.live_executor.specs.Kept.{GoesOn, moment_after}
 use Rattle.live_executor.specs.Limits.{AreBefore}
@@ -102,10 +103,11 @@ module _ (setting : Setting) (first : Moments) (from moment : ℕ) (listed : Lis
   tried_before is = by_result (completed setting (time_runs setting first from (moment - from)) moment listed) taken_before is
 
   -- after it the execution goes on
-  pub goes_after : (network : KeptNetwork) (counts : List ℕ) (due : List (Option ℕ)) → moment ≤ most_moment → IsTried setting first from moment listed (Ok tt) moments acts
-      → IsCourseOf network (moment + 1) moments counts due → GoesOn network moments counts due (Some moment)
-  goes_after network counts due within is course = record {
+  pub goes_after : (network : KeptNetwork) (counts : List ℕ) (due latest : List (Option ℕ)) → moment ≤ most_moment → IsTried setting first from moment listed (Ok tt) moments acts
+      → IsCourseOf network (moment + 1) moments counts due → AreLatest network.setting moments latest → GoesOn network moments counts due latest (Some moment)
+  goes_after network counts due latest within is course awaited = record {
     course = course;
+    awaited = awaited;
     early = tried_before is;
     time_left = (let left = count_by-le-length is_none moments in let few = course.few in omega (arith, within, left, few));
   }

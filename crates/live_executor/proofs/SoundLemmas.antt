@@ -24,6 +24,7 @@ use Rattle.dispatch_net.proofs.ExactLemmas.{lists_are_exact}
 use Rattle.dispatch_net.specs.Held.{IsSlimOrWhole}
 use Rattle.dispatch_net.specs.Slim.{is_bound_implied, is_wait_implied, slim_conditions, slimmed}
 use Rattle.execution_model.specs.Execution.{Setting, link_to}
+use Rattle.live_executor.specs.Awaited.{AreActivated}
 use Rattle.live_executor.specs.Sound.{IsLowerBound, IsWait, IsLinkOf, IsSound, IsDispatchOf, IsKeptWith}
 use Rattle.live_executor.specs.Wakes.{WakeLists, AreWakesOf}
 
@@ -129,10 +130,12 @@ module _ (net : Plan) (lists : DispatchLists) (of : IsDispatchOf net lists) (sli
   pub kept_count : (points : ℕ) → points ≡ length net.points → points ≡ length lists.kept
   kept_count points same_points = same_points ∙ (sym (count net lists of) ∙ sym (kept_length lists slim_or_whole))
 
-  pub kept : (points : ℕ) (wakes : WakeLists) → points ≡ length net.points → AreWakesOf (record { links = lists.links; dispatch = lists.kept }) points wakes → IsKeptWith lists points wakes
-  kept points wakes same_points are = record {
+  pub kept : (points : ℕ) (wakes : WakeLists) (activated : List (List PointId)) → points ≡ length net.points → AreWakesOf (record { links = lists.links; dispatch = lists.kept }) points wakes
+      → AreActivated lists.links points activated → IsKeptWith lists points wakes activated
+  kept points wakes activated same_points are activates = record {
     kept = record { net = net; dispatched = of; sound = kept_sound; count = kept_count points same_points; slim_or_whole = slim_or_whole };
     wakes_are = are;
+    activated_are = activates;
   }
 
 -- what holds of each item holds of the first that passes a test

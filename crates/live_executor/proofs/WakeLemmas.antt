@@ -18,7 +18,8 @@ use Rattle.dispatch_net.specs.Dispatchable.{conditions_at, no_conditions}
 use Rattle.execution_model.specs.Execution.{Moments, Setting, moment_of, has_come, has_gone_by, link_to, meets_bound, meets_wait_for, meets_wait, meets, is_due}
 use Rattle.execution_model.specs.Feeding.{completed_at}
 use Rattle.execution_model.proofs.MomentLemmas.{length-completed_at, moment_completed, moment_of_other, come_not_due}
-use Rattle.live_executor.specs.Due.{has_begun, due_in, PassesFrom}
+use Rattle.due_queue.specs.First.{due_in}
+use Rattle.live_executor.specs.Due.{has_begun, PassesFrom}
 use Rattle.live_executor.specs.Waking.{is_open_bound, is_open_wait, open_count, condition_count, is_bound_after, is_wait_from, fixed_by, times, AreWoken, PassesSince, AreDueSince, IsAwake, IsFoundOrKept}
 
 -- ---- counts

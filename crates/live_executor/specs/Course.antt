@@ -6,7 +6,8 @@ use Rattle.net_model.specs.declared.ids.PointId.{PointId}
 use Rattle.execution_model.specs.Execution.{Moments, time_runs, acts_while}
 use Rattle.execution_model.specs.Paced.{ArePaced, IsMadeOneByOne}
 use Rattle.execution_model.specs.declared.feeding.Act.{Act}
-use Rattle.live_executor.specs.Due.{has_begun, due_in}
+use Rattle.due_queue.specs.First.{due_in}
+use Rattle.live_executor.specs.Due.{has_begun}
 use Rattle.live_executor.specs.Limits.{AreBefore, end_of_time}
 use Rattle.live_executor.specs.Sound.{KeptNetwork, made_setting}
 use Rattle.live_executor.specs.Waking.{IsAwake}

@@ -2,6 +2,7 @@ pub mod Limits
 pub mod Due
 pub mod Waking
 pub mod Wakes
+pub mod Awaited
 pub mod Sound
 pub mod Course
 pub mod Trace

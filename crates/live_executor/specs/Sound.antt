@@ -13,6 +13,7 @@ use Rattle.net_model.specs.declared.part.Link.{Link}
 use Rattle.dispatch_net.specs.declared.dispatch.Conditions.{Conditions}
 use Rattle.execution_model.specs.Execution.{Moments, Setting, moment_of, link_to, acts_at}
 use Rattle.execution_model.specs.Paced.{IsRankedNetwork}
+use Rattle.live_executor.specs.Awaited.{AreActivated}
 use Rattle.live_executor.specs.Wakes.{WakeLists, AreWakesOf}
 
 -- a lower bound is after one of so many points, by a number that a network may have
@@ -71,10 +72,11 @@ pub record IsKept (lists : DispatchLists) (points : ℕ) : Type 0 where
   pub count : points ≡ length lists.kept
   pub slim_or_whole : IsSlimOrWhole lists.links lists.made lists.kept
 
--- with whom each point wakes
-pub record IsKeptWith (lists : DispatchLists) (points : ℕ) (wakes : WakeLists) : Type 0 where
+-- with whom each point wakes, and which it activates
+pub record IsKeptWith (lists : DispatchLists) (points : ℕ) (wakes : WakeLists) (activated : List (List PointId)) : Type 0 where
   pub kept : IsKept lists points
   pub wakes_are : AreWakesOf (kept_network lists wakes).setting points wakes
+  pub activated_are : AreActivated lists.links points activated
 
 -- where each contingent point has come, and no moment brings an act, every point has come
 abbrev pub ComesToItsEnd : Setting → Type 0

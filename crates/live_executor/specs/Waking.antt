@@ -9,7 +9,8 @@ use Rattle.net_model.specs.declared.part.Link.{Link}
 use Rattle.dispatch_net.specs.declared.dispatch.Conditions.{Conditions}
 use Rattle.dispatch_net.specs.Dispatchable.{conditions_at}
 use Rattle.execution_model.specs.Execution.{Moments, Setting, moment_of, is_due}
-use Rattle.live_executor.specs.Due.{has_begun, due_in}
+use Rattle.due_queue.specs.First.{due_in}
+use Rattle.live_executor.specs.Due.{has_begun}
 
 -- a lower bound is open while its point has no moment, a wait while the activation point of its link has none
 abbrev pub is_open_bound : Moments → PointId × ℤ → Bool

@@ -7,11 +7,15 @@ ghost use Rattle.dispatch_net.specs.Dispatchable.{conditions_at};
 ghost use Rattle.live_executor.specs.Waking.{condition_count, AreFixedBy, AreEndedBy};
 ghost use Rattle.live_executor.specs.Wakes.{list_at};
 ghost use Rattle.execution_model.specs.Execution.{is_due, link_to};
+ghost use Rattle.execution_model.specs.Feeding.{latest_of};
+ghost use Rattle.live_executor.specs.Awaited.{AreActivatedBy};
 ghost use Rattle.live_executor.specs.Due.{PassesFrom};
 ghost use Rattle.live_executor.specs.Limits.{AreBefore, end_of_time};
 ghost use Rattle.live_executor.specs.Sound.{IsDispatchOf, IsLinkOf, IsSound, ComesToItsEnd, ExecutesTheSame, made_setting};
 
+use crate::activations::activations;
 use crate::met::{bounds_met, waits_met};
+use crate::point_lists::PointLists;
 use crate::wakes::Wakes;
 use dispatch_net::Dispatch;
 use execution_model::laws::no_acts_left_is_whole;
@@ -19,13 +23,14 @@ use net_model::{Link, Network, PointId};
 use std::alloc::{AllocError, Global};
 use std::marker::Model;
 
-/// By what a network is executed: its links, the lower bounds and waits that are kept of its points, and whom each point wakes when it gets
-/// its moment. Contracts see it as these, and as what was made.
+/// By what a network is executed: its links, the lower bounds and waits that are kept of its points, whom each point wakes when it gets
+/// its moment, and which contingent points it activates. Contracts see it as these, and as what was made.
 #[derive(Drop)]
 pub(crate) struct Dispatched {
     dispatch: Dispatch,
     points: u32,
     wakes: Wakes,
+    activated: PointLists,
 }
 
 impl Model for Dispatched {
@@ -35,7 +40,7 @@ impl Model for Dispatched {
 
     ghost view = { λ kept. kept_network kept.dispatch kept.wakes };
 
-    ghost invariant = { λ kept. IsKeptWith kept.dispatch kept.points kept.wakes };
+    ghost invariant = { λ kept. IsKeptWith kept.dispatch kept.points kept.wakes kept.activated };
 }
 
 impl Dispatched {
@@ -52,10 +57,12 @@ impl Dispatched {
         let _ = dispatch.links();
         let points = net.points().len() as u32;
         let wakes = Wakes::of(alloc, &dispatch, points)?;
+        let activated = activations(alloc, dispatch.links(), points)?;
         Ok(Dispatched {
             dispatch,
             points,
             wakes,
+            activated,
         })
     }
 
@@ -120,6 +127,30 @@ impl Dispatched {
         ensures inside { All (λ (other : PointId). other.0 < length self.now.setting.dispatch) result.now }
     {
         self.wakes.ends(point)
+    }
+
+    /// The contingent points of the links that begin in a point.
+    pub(crate) fn activated(&self, point: PointId) -> &[PointId]
+        requires { point.0 < length self.now.setting.dispatch }
+        ensures activated { AreActivatedBy self.now.setting.links point result.now }
+        ensures inside { All (λ (other : PointId). other.0 < length self.now.setting.dispatch) result.now }
+    {
+        self.activated.of(point)
+    }
+
+    /// The latest moment of a contingent point that has not completed, where its link is active.
+    pub(crate) fn latest_of(&self, moments: &[Option<u64>], point: PointId) -> Option<u64>
+        requires point { point.0 < length self.now.setting.dispatch }
+        requires count { length moments.now ≡ length self.now.setting.dispatch }
+        requires early { AreBefore end_of_time moments.now }
+        ensures { result ≡ latest_of self.now.setting moments.now point }
+    {
+        if moments[point.0 as usize].is_some() {
+            return None;
+        }
+        let link = self.link_to(point)?;
+        let activated = moments[link.from.0 as usize]?;
+        Some(activated + link.high.unsigned_abs())
     }
 
     /// The moment from which on a point is due, or `None` where it has come or is contingent, or where that moment isn't fixed yet.

@@ -45,7 +45,7 @@ impl Model for Executor {
       refused = kept.refused;
     } };
 
-    ghost invariant = { λ kept. IsKeptExecution kept.dispatched kept.course.moments.items kept.course.waiting.counts.items kept.course.waiting.due.items kept.acts.items (vec_capacity kept.acts) kept.last kept.refused };
+    ghost invariant = { λ kept. IsKeptExecution kept.dispatched kept.course.moments.items kept.course.waiting.counts.items kept.course.waiting.due kept.course.awaited.latest kept.acts.items (vec_capacity kept.acts) kept.last kept.refused };
 }
 
 impl Executor {

@@ -1,6 +1,8 @@
 //! Executes a dispatchable network over a stream of completions, moment by moment. After the start nothing takes memory.
 #![tactic(auto)]
 
+mod activations;
+mod awaited;
 mod course;
 mod dispatched;
 mod executor;

@@ -5,7 +5,8 @@ ghost use Rattle.std.specs.List.{All};
 ghost use Rattle.std.specs.Prelude.{unsigned_abs};
 ghost use Rattle.net_model.specs.Limits.{most_size};
 ghost use Rattle.execution_model.specs.Execution.{points_of};
-ghost use Rattle.execution_model.specs.Feeding.{refusal_of_duration, refusal_of_completion, refusal_of, activated_before, completions_taken, latest_of, first_overdue, none_overdue, is_open, most_moment};
+ghost use Rattle.execution_model.specs.Feeding.{refusal_of_duration, refusal_of_completion, refusal_of, activated_before, completions_taken, is_open};
+ghost use Rattle.live_executor.specs.Awaited.{AreLatest};
 ghost use Rattle.live_executor.specs.Waking.{IsAwake};
 ghost use Rattle.live_executor.specs.Limits.{AreBefore, end_of_time};
 ghost use Rattle.live_executor.specs.Sound.{IsLinkOf, IsSound, made_setting};
@@ -81,11 +82,13 @@ impl Course {
         listed: &[PointId],
     ) -> Result<(), Why>
         requires listed { All (λ point. point.0 < length dispatched.now.setting.dispatch) listed.now }
-        requires awake { IsAwake dispatched.now.setting moment self.old.moments.items self.old.waiting.counts.items self.old.waiting.due.items }
+        requires awake { IsAwake dispatched.now.setting moment self.old.moments.items self.old.waiting.counts.items self.old.waiting.due }
+        requires latest { AreLatest dispatched.now.setting self.old.moments.items self.old.awaited.latest }
         requires early { AreBefore end_of_time self.old.moments.items }
         requires moment { moment < end_of_time }
         ensures taken { completions_taken (made_setting dispatched.now) self.old.moments.items moment listed.now ≡ given_or self.new.moments.items result }
-        ensures awake { IsAwake dispatched.now.setting moment self.new.moments.items self.new.waiting.counts.items self.new.waiting.due.items }
+        ensures awake { IsAwake dispatched.now.setting moment self.new.moments.items self.new.waiting.counts.items self.new.waiting.due }
+        ensures latest { AreLatest dispatched.now.setting self.new.moments.items self.new.awaited.latest }
         ensures early { AreBefore end_of_time self.new.moments.items }
         ensures count { length self.new.moments.items ≡ length self.old.moments.items }
         ensures acts { self.new.acts.items ≡ self.old.acts.items }
@@ -98,38 +101,6 @@ impl Course {
             self.come(dispatched, *point, moment);
         }
         Ok(())
-    }
-
-    /// The latest moment of a contingent point that has not completed, where its link is active.
-    fn latest_of(&self, dispatched: &Dispatched, point: PointId) -> Option<u64>
-        requires point { point.0 < length dispatched.now.setting.dispatch }
-        requires count { length self.now.moments.items ≡ length dispatched.now.setting.dispatch }
-        requires early { AreBefore end_of_time self.now.moments.items }
-        ensures { result ≡ latest_of dispatched.now.setting self.now.moments.items point }
-    {
-        if self.moments[point.0 as usize].is_some() {
-            return None;
-        }
-        let link = dispatched.link_to(point)?;
-        let activated = self.moments[link.from.0 as usize]?;
-        Some(activated + link.high.unsigned_abs())
-    }
-
-    /// The lowest point that should have completed by a moment, if there is one, as a refusal.
-    pub(crate) fn first_overdue(&self, dispatched: &Dispatched, moment: u64) -> Option<Why>
-        requires count { length self.now.moments.items ≡ length dispatched.now.setting.dispatch }
-        requires early { AreBefore end_of_time self.now.moments.items }
-        ensures { result ≡ first_overdue (made_setting dispatched.now) self.now.moments.items moment }
-    {
-        for number in 0..dispatched.points() {
-            let point = PointId(number);
-            if let Some(latest) = self.latest_of(dispatched, point) {
-                if latest <= moment {
-                    return Some(Why::Overdue(point, latest));
-                }
-            }
-        }
-        None
     }
 
     /// The lowest contingent point that has not completed, if there is one.

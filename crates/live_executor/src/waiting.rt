@@ -2,34 +2,35 @@
 
 ghost use Rattle.std.specs.Prelude.{◌≡◌, ◌+◌, ◌<◌, ◌≤◌, ℕ, None, IfSome, IfOk, length, replicate, slice_index, slice_set};
 ghost use Rattle.std.specs.List.{All};
-ghost use Rattle.net_model.specs.Limits.{most_points};
 ghost use Rattle.dispatch_net.specs.Dispatchable.{conditions_at};
 ghost use Rattle.net_model.specs.declared.ids.PointId.{PointId};
 ghost use Rattle.execution_model.specs.Execution.{moment_of, is_due};
 ghost use Rattle.execution_model.specs.Feeding.{completed_at};
-ghost use Rattle.live_executor.specs.Due.{due_in, has_begun, PassesFrom, IsFirstDue, sooner};
+ghost use Rattle.due_queue.specs.First.{due_in};
+ghost use Rattle.live_executor.specs.Due.{has_begun, PassesFrom};
 ghost use Rattle.live_executor.specs.Limits.{AreBefore, end_of_time};
 ghost use Rattle.live_executor.specs.Waking.{times, condition_count, PassesSince, IsAwake, IsFoundOrKept};
 
 use crate::dispatched::Dispatched;
+use due_queue::DueQueue;
 use net_model::PointId;
 use std::alloc::{AllocError, Global};
 
-/// For each point how many of its lower bounds and waits are open, and the moment from which on it is due, where none is.
+/// For each point how many of its lower bounds and waits are open; and the points by the moments from which on they are due, where none is.
 #[derive(Drop)]
 pub(crate) struct Waiting {
     pub(crate) counts: Vec<usize>,
-    pub(crate) due: Vec<Option<u64>>,
-    ghost whole: { length due.items ≡ length counts.items },
+    pub(crate) due: DueQueue,
+    ghost whole: { length due ≡ length counts.items },
 }
 
 impl Waiting {
     /// That of so many points, of which nothing is known. `AllocError` comes only for want of memory.
-    fn new(alloc: Global, points: usize) -> Result<Waiting, AllocError>
+    fn new(alloc: Global, points: u32) -> Result<Waiting, AllocError>
         ensures { IfOk result (λ waiting. length waiting.counts.items ≡ points) }
     {
-        let counts = vec![in alloc; 0; points]?;
-        let due = vec![in alloc; None; points]?;
+        let counts = vec![in alloc; 0; points as usize]?;
+        let due = DueQueue::new(alloc, points)?;
         Ok(Waiting { counts, due })
     }
 
@@ -41,9 +42,9 @@ impl Waiting {
     ) -> Result<Waiting, AllocError>
         requires none { moments.now ≡ replicate (length dispatched.now.setting.dispatch) None }
         requires early { AreBefore end_of_time moments.now }
-        ensures { IfOk result (λ waiting. IsAwake dispatched.now.setting 0 moments.now waiting.counts.items waiting.due.items) }
+        ensures { IfOk result (λ waiting. IsAwake dispatched.now.setting 0 moments.now waiting.counts.items waiting.due) }
     {
-        let mut waiting = Waiting::new(alloc, moments.len())?;
+        let mut waiting = Waiting::new(alloc, dispatched.points())?;
         for point in 0..dispatched.points() {
             waiting.find(dispatched, moments, PointId(point));
         }
@@ -57,11 +58,11 @@ impl Waiting {
         requires count { length self.old.counts.items ≡ length dispatched.now.setting.dispatch }
         requires early { AreBefore end_of_time moments.now }
         ensures counts { self.new.counts.items ≡ slice_set self.old.counts.items point.0 (condition_count (conditions_at dispatched.now.setting.dispatch point)) }
-        ensures due { self.new.due.items ≡ slice_set self.old.due.items point.0 (due_in self.new.due.items point) }
-        ensures found { PassesFrom (λ t. is_due dispatched.now.setting moments.now t point) (due_in self.new.due.items point) }
+        ensures due { self.new.due ≡ slice_set self.old.due point.0 (due_in self.new.due point) }
+        ensures found { PassesFrom (λ t. is_due dispatched.now.setting moments.now t point) (due_in self.new.due point) }
     {
         self.counts[point.0 as usize] = dispatched.condition_count(point);
-        self.due[point.0 as usize] = dispatched.due_from(moments, point);
+        self.due.set(point, dispatched.due_from(moments, point));
     }
 
     /// Counts one condition less for each time that a point stands in the list.
@@ -70,7 +71,7 @@ impl Waiting {
         requires enough { (point : PointId) → times waiters.now point ≤ slice_index self.old.counts.items point.0 }
         ensures each { (point : PointId) → slice_index self.new.counts.items point.0 + times waiters.now point ≡ slice_index self.old.counts.items point.0 }
         ensures count { length self.new.counts.items ≡ length self.old.counts.items }
-        ensures due { self.new.due.items ≡ self.old.due.items }
+        ensures due { self.new.due ≡ self.old.due }
     {
         for waiter in waiters {
             self.counts[waiter.0 as usize] -= 1;
@@ -83,12 +84,12 @@ impl Waiting {
         requires moments { length moments.now ≡ length dispatched.now.setting.dispatch }
         requires due { length self.old.counts.items ≡ length dispatched.now.setting.dispatch }
         requires early { AreBefore end_of_time moments.now }
-        ensures due { self.new.due.items ≡ slice_set self.old.due.items point.0 (due_in self.new.due.items point) }
-        ensures found { PassesSince now (λ t. is_due dispatched.now.setting moments.now t point) (due_in self.new.due.items point) }
+        ensures due { self.new.due ≡ slice_set self.old.due point.0 (due_in self.new.due point) }
+        ensures found { PassesSince now (λ t. is_due dispatched.now.setting moments.now t point) (due_in self.new.due point) }
         ensures counts { self.new.counts.items ≡ self.old.counts.items }
     {
         let first = since(dispatched.due_from(moments, point), now);
-        self.due[point.0 as usize] = first;
+        self.due.set(point, first);
     }
 
     /// Wakes those points of a list that have no open condition.
@@ -103,7 +104,7 @@ impl Waiting {
         requires moments { length moments.now ≡ length dispatched.now.setting.dispatch }
         requires counts { length self.old.counts.items ≡ length dispatched.now.setting.dispatch }
         requires early { AreBefore end_of_time moments.now }
-        ensures each { (point : PointId) → IsFoundOrKept now dispatched.now.setting moments.now self.old.counts.items waiters.now self.old.due.items self.new.due.items point }
+        ensures each { (point : PointId) → IsFoundOrKept now dispatched.now.setting moments.now self.old.counts.items waiters.now self.old.due self.new.due point }
         ensures counts { self.new.counts.items ≡ self.old.counts.items }
     {
         for waiter in waiters {
@@ -121,48 +122,21 @@ impl Waiting {
         point: PointId,
         moment: u64,
     )
-        requires awake { IsAwake dispatched.now.setting moment moments.old self.old.counts.items self.old.due.items }
+        requires awake { IsAwake dispatched.now.setting moment moments.old self.old.counts.items self.old.due }
         requires new { moment_of moments.old point ≡ None }
         requires point { point.0 < length dispatched.now.setting.dispatch }
         requires early { AreBefore end_of_time moments.old }
         requires moment { moment < end_of_time }
         ensures moments { moments.new ≡ completed_at moments.old moment point }
-        ensures awake { IsAwake dispatched.now.setting moment moments.new self.new.counts.items self.new.due.items }
+        ensures awake { IsAwake dispatched.now.setting moment moments.new self.new.counts.items self.new.due }
     {
         moments[point.0 as usize] = Some(moment);
-        self.due[point.0 as usize] = None;
+        self.due.set(point, None);
         let fixes = dispatched.fixes(point);
         let ends = dispatched.ends(point);
         self.lower(fixes);
         self.wake_all(dispatched, moments, moment, fixes);
         self.wake_all(dispatched, moments, moment, ends);
-    }
-
-    /// The point that is due first, and from when on: the lowest of those that are due first.
-    pub(crate) fn first_due(&self) -> Option<(u64, PointId)>
-        requires { length self.now.due.items ≤ most_points }
-        ensures { IsFirstDue self.now.due.items result }
-    {
-        let mut first = None;
-        for number in 0..self.due.len() as u32 {
-            first = earlier(first, self.due[number as usize], PointId(number));
-        }
-        first
-    }
-}
-
-/// The first of two: what is due first so far, or a point of higher number, if it is due sooner.
-fn earlier(
-    first: Option<(u64, PointId)>,
-    due: Option<u64>,
-    point: PointId,
-) -> Option<(u64, PointId)>
-    ensures { result ≡ sooner first due point }
-{
-    let Some(moment) = due else { return first };
-    match first {
-        Some((least, _)) if least <= moment => first,
-        _ => Some((moment, point)),
     }
 }
 

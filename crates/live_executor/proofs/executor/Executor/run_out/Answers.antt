@@ -17,13 +17,13 @@ invariant_of-self c =
     let network = kept.dispatched in
     let first : from.result ≡ moment_after kept.last = from.ensures ∙ ap (λ (e : Execution). next_moment e) (sym c.self.view_is) in
     let soon : from.result ≤ end_of_time = (let low = goes.time_left in omega (arith, low, first)) in
-    let ends : GoesOn network after.moments.items after.waiting.counts.items after.waiting.due.items (last_of kept.last after.acts.items) = goes_at_end network kept.course.moments.items kept.last from.result after.moments.items after.waiting.counts.items after.waiting.due.items after.acts.items
-    goes.course.count goes.early first soon c.run_out.ensures.moments c.run_out.ensures.acts c.run_out.ensures.course c.run_out.ensures.come in
+    let ends : GoesOn network after.moments.items after.waiting.counts.items after.waiting.due after.awaited.latest (last_of kept.last after.acts.items) = goes_at_end network kept.course.moments.items kept.last from.result after.moments.items after.waiting.counts.items after.waiting.due after.awaited.latest after.acts.items
+    goes.course.count goes.early first soon c.run_out.ensures.moments c.run_out.ensures.acts c.run_out.ensures.course c.run_out.ensures.latest c.run_out.ensures.come in
     record {
       count = ap (λ (moments : Moments). length moments) c.hand_over.ensures.moments ∙ c.run_out.ensures.course.count;
       few = c.hand_over.ensures.few;
       reserved = c.hand_over.ensures.reserved;
       soon = rw c.last_act-self-inside.ensures (let left = ends.time_left in omega (arith, left));
       goes_on = λ still.
-          rw (c.hand_over.ensures.moments, c.hand_over.ensures.waiting, c.last_act-self-inside.ensures) ends;
+          rw (c.hand_over.ensures.moments, c.hand_over.ensures.waiting, c.hand_over.ensures.awaited, c.last_act-self-inside.ensures) ends;
     }

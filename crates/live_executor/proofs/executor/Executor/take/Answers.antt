@@ -21,11 +21,11 @@ invariant_of-self-in-Ok c =
     let range : from.result ≤ c.args.moment = (let low = may.0 in omega (arith, from.ensures, low)) in
     let early = subst (λ n. AreBefore n first) (sym from_is) goes.early in
     let fed = goes_after (made_setting network) first from.result c.args.moment c.args.completions.now after.moments.items after.acts.items range early
-    network after.waiting.counts.items after.waiting.due.items may.1 c.in-Ok.ensures.tried c.in-Ok.ensures.course in
+    network after.waiting.counts.items after.waiting.due after.awaited.latest may.1 c.in-Ok.ensures.tried c.in-Ok.ensures.course c.in-Ok.ensures.latest in
     record {
       count = ap (λ (moments : Moments). length moments) c.hand_over.ensures.moments ∙ (c.in-Ok.ensures.count ∙ c.self.invariant.count);
       few = c.hand_over.ensures.few;
       reserved = c.hand_over.ensures.reserved;
       soon = (let left = fed.time_left in omega (arith, left));
-      goes_on = λ still. rw (c.hand_over.ensures.moments, c.hand_over.ensures.waiting) fed;
+      goes_on = λ still. rw (c.hand_over.ensures.moments, c.hand_over.ensures.waiting, c.hand_over.ensures.awaited) fed;
     }

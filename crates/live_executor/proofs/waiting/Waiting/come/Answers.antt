@@ -8,7 +8,7 @@ use Rattle.live_executor.proofs.waiting.Waiting.come.Goals as goal
 
 pub lower-requires-clause-enough : goal.lower-requires-clause-enough
 lower-requires-clause-enough c =
-    enough_counted c.args.dispatched.now.setting c.args.moments.now c.args.self.now.counts.items c.args.self.now.due.items c.args.point c.fixes-fixes.result.now c.ends-ends.result.now c.args.moment c.requires.awake
+    enough_counted c.args.dispatched.now.setting c.args.moments.now c.args.self.now.counts.items c.args.self.now.due c.args.point c.fixes-fixes.result.now c.ends-ends.result.now c.args.moment c.requires.awake
     (record { fixed = c.fixes-fixes.ensures.fixed; ended = c.ends-ends.ensures.ended }) c.requires.new c.requires.point
 
 pub returns-clause-awake : goal.returns-clause-awake
@@ -24,15 +24,15 @@ returns-clause-awake c =
     let woken = c.wake_all.new.self in
     let last = c.wake_all-2.new.self in
     let wakes : AreWoken setting point fixes ends = record { fixed = c.fixes-fixes.ensures.fixed; ended = c.ends-ends.ensures.ended } in
-    let first : (other : PointId) → IsFoundOrKept now setting after lowered.counts.items fixes (slice_set old.due.items point.0 None) woken.due.items other =
-    λ other. subst (λ (due : List (Option ℕ)). IsFoundOrKept now setting after lowered.counts.items fixes due woken.due.items other) c.lower.ensures.due (c.wake_all.ensures.each other) in
-    let second : (other : PointId) → IsFoundOrKept now setting after lowered.counts.items ends woken.due.items last.due.items other =
-    λ other. subst (λ (counts : List ℕ). IsFoundOrKept now setting after counts ends woken.due.items last.due.items other) c.wake_all.ensures.counts (c.wake_all-2.ensures.each other) in
+    let first : (other : PointId) → IsFoundOrKept now setting after lowered.counts.items fixes (slice_set old.due point.0 None) woken.due other =
+    λ other. subst (λ (due : List (Option ℕ)). IsFoundOrKept now setting after lowered.counts.items fixes due woken.due other) (c.lower.ensures.due ∙ c.set.ensures) (c.wake_all.ensures.each other) in
+    let second : (other : PointId) → IsFoundOrKept now setting after lowered.counts.items ends woken.due last.due other =
+    λ other. subst (λ (counts : List ℕ). IsFoundOrKept now setting after counts ends woken.due last.due other) c.wake_all.ensures.counts (c.wake_all-2.ensures.each other) in
     let same_counts : last.counts.items ≡ lowered.counts.items = c.wake_all-2.ensures.counts ∙ c.wake_all.ensures.counts in
-    let long : length last.due.items ≡ length old.due.items =
+    let long : length last.due ≡ length old.due =
     last.whole ∙ (ap (λ (counts : List ℕ). length counts) same_counts ∙ (c.lower.ensures.count ∙ sym old.whole)) in
-    subst (λ (counts : List ℕ). IsAwake setting now after counts last.due.items) (sym same_counts)
-    (awake_after setting c.args.moments.now old.counts.items lowered.counts.items old.due.items woken.due.items last.due.items fixes ends point now
+    subst (λ (counts : List ℕ). IsAwake setting now after counts last.due) (sym same_counts)
+    (awake_after setting c.args.moments.now old.counts.items lowered.counts.items old.due woken.due last.due fixes ends point now
     (record {
       awake = c.requires.awake;
       wakes = wakes;

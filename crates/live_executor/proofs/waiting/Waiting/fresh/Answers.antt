@@ -21,12 +21,12 @@ loop-point-preserved c =
     record {
       count = ap (λ (xs : List ℕ). length xs) c.find.ensures.counts ∙ (length-set before.counts.items n (wanted (record { 0 = n })) ∙ i.count);
       counted = λ point below. ap (λ (xs : List ℕ). slice_index xs point.0) c.find.ensures.counts
-          ∙ found_counts before.counts.items before.due.items now.due.items n (wanted (record { 0 = n })) wanted passes (omega (arith, i.count)) refl i.counted point below;
-      found = found_due before.counts.items before.due.items now.due.items n (wanted (record { 0 = n })) wanted passes c.find.ensures.due c.find.ensures.found i.found;
+          ∙ found_counts before.counts.items before.due now.due n (wanted (record { 0 = n })) wanted passes (omega (arith, i.count)) refl i.counted point below;
+      found = found_due before.counts.items before.due now.due n (wanted (record { 0 = n })) wanted passes c.find.ensures.due c.find.ensures.found i.found;
     }
 
 pub returns : goal.returns
 returns c =
     let i = c.loop-point.invariant in
-    awake_first c.args.dispatched.now.setting c.args.moments.now c.requires.none c.loop-point.waiting.counts.items c.loop-point.waiting.due.items i.count c.loop-point.waiting.whole
+    awake_first c.args.dispatched.now.setting c.args.moments.now c.requires.none c.loop-point.waiting.counts.items c.loop-point.waiting.due i.count c.loop-point.waiting.whole
     (λ point inside. i.counted point (omega (arith, inside))) (λ point inside. i.found point (omega (arith, inside)))

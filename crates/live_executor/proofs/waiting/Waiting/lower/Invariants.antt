@@ -8,5 +8,5 @@ abbrev pub invariant-loop-waiter : goal.invariant-loop-waiter
 invariant-loop-waiter l = record {
   each : (point : PointId) → slice_index l.self.counts.items point.0 + times (take l.waiter-index l.waiters) point ≡ slice_index l.initial.self.counts.items point.0;
   count : length l.self.counts.items ≡ length l.initial.self.counts.items;
-  due : l.self.due.items ≡ l.initial.self.due.items;
+  due : l.self.due ≡ l.initial.self.due;
 }

@@ -2,7 +2,7 @@ use Rattle.std.proofs.Common.{◌≡◌, ◌≢◌, ◌<◌, ◌∙◌, sym, ap,
 use Rattle.std.specs.Prelude.{slice_index}
 use Rattle.std.proofs.lemmas.List.{get_or_default}
 use Rattle.net_model.specs.declared.ids.PointId.{PointId}
-use Rattle.live_executor.specs.Due.{due_in}
+use Rattle.due_queue.specs.First.{due_in}
 use Rattle.live_executor.specs.Waking.{IsFoundOrKept}
 use Rattle.live_executor.proofs.WakeLemmas.{left_more, found_more}
 use Rattle.live_executor.proofs.waiting.Waiting.wake_all.Goals as goal
@@ -13,7 +13,7 @@ loop-waiter-preserved c =
     let i = c.loop-waiter.invariant in
     let d : PointId = record { 0 = 0 } in
     let within = c.requires.inside c.loop-waiter.waiter-index d c.loop-waiter-test.true in
-    let old = c.args.self.now.due.items in
+    let old = c.args.self.now.due in
     let counts = c.args.self.now.counts.items in
     let setting = c.args.dispatched.now.setting in
     let before = c.loop-waiter.self in
@@ -25,13 +25,13 @@ loop-waiter-preserved c =
     elim c.if-index-eq0.branch [
       | then-index-eq0 w ↦ (
           let e = w.wake.ensures in
-          let due_long : length before.due.items ≡ length setting.dispatch = before.whole ∙ long in
+          let due_long : length before.due ≡ length setting.dispatch = before.whole ∙ long in
           record {
             each = λ point.
                 subst (λ (now : List (Option ℕ)). IsFoundOrKept c.args.now setting c.args.moments.now counts more old now point)
-                (sym (ap (λ s. s.due.items) w.self-is ∙ e.due))
-                (found_more c.args.now setting c.args.moments.now counts c.args.waiters.now old before.due.items c.loop-waiter.waiter-index c.loop-waiter-test.true d
-                (due_in w.wake.new.self.due.items (get_or c.args.waiters.now c.loop-waiter.waiter-index d)) (omega (arith, within, due_long)) e.found point (i.each point));
+                (sym (ap (λ s. s.due) w.self-is ∙ e.due))
+                (found_more c.args.now setting c.args.moments.now counts c.args.waiters.now old before.due c.loop-waiter.waiter-index c.loop-waiter-test.true d
+                (due_in w.wake.new.self.due (get_or c.args.waiters.now c.loop-waiter.waiter-index d)) (omega (arith, within, due_long)) e.found point (i.each point));
             counts = ap (λ s. s.counts.items) w.self-is ∙ (e.counts ∙ i.counts);
           })
       | else-index-eq0 w ↦ (
@@ -40,8 +40,8 @@ loop-waiter-preserved c =
           record {
             each = λ point.
                 subst (λ (now : List (Option ℕ)). IsFoundOrKept c.args.now setting c.args.moments.now counts more old now point)
-                (sym (ap (λ s. s.due.items) w.self-is))
-                (left_more c.args.now setting c.args.moments.now counts c.args.waiters.now old before.due.items c.loop-waiter.waiter-index c.loop-waiter-test.true d
+                (sym (ap (λ s. s.due) w.self-is))
+                (left_more c.args.now setting c.args.moments.now counts c.args.waiters.now old before.due c.loop-waiter.waiter-index c.loop-waiter-test.true d
                 some point (i.each point));
             counts = ap (λ s. s.counts.items) w.self-is ∙ i.counts;
           })

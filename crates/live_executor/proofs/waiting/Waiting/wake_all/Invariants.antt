@@ -5,6 +5,6 @@ use Rattle.live_executor.proofs.waiting.Waiting.wake_all.Given as goal
 
 abbrev pub invariant-loop-waiter : goal.invariant-loop-waiter
 invariant-loop-waiter l = record {
-  each : (point : PointId) → IsFoundOrKept l.now l.dispatched.setting l.moments l.initial.self.counts.items (take l.waiter-index l.waiters) l.initial.self.due.items l.self.due.items point;
+  each : (point : PointId) → IsFoundOrKept l.now l.dispatched.setting l.moments l.initial.self.counts.items (take l.waiter-index l.waiters) l.initial.self.due l.self.due point;
   counts : l.self.counts.items ≡ l.initial.self.counts.items;
 }

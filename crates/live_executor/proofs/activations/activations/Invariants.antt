@@ -1,0 +1,6 @@
+use Rattle.std.proofs.Common.{take}
+use Rattle.live_executor.specs.Awaited.{AreActivated}
+use Rattle.live_executor.proofs.activations.activations.Given as goal
+
+abbrev pub invariant-loop-link : goal.invariant-loop-link
+invariant-loop-link l = AreActivated (take l.link-index l.links) l.points l.lists

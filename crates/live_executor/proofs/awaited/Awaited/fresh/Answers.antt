@@ -1,0 +1,10 @@
+use Rattle.std.proofs.Common.{◌≡◌, List, Option, ℕ, None, replicate, length, ap, sym, subst, ◌∙◌}
+use Rattle.live_executor.specs.Awaited.{AreLatest}
+use Rattle.live_executor.proofs.AwaitedLemmas.{none_awaited}
+use Rattle.live_executor.proofs.awaited.Awaited.fresh.Goals as goal
+
+pub returns : goal.returns
+returns c =
+    let setting = c.args.dispatched.now.setting in
+    let none : c.in_ok-latest.latest ≡ replicate (length setting.dispatch) None = c.in_ok-latest.ensures ∙ ap (λ n. replicate n None) c.points.ensures.count in
+    subst (AreLatest setting (replicate (length setting.dispatch) None)) (sym none) (none_awaited setting)

@@ -1,0 +1,34 @@
+-- Until when contingent points must complete, and which points each point activates.
+use Rattle.std.specs.Prelude.{◌≡◌, ◌≢◌, ◌⊎◌, ℕ, ◌<◌, ◌≤◌, List, length, Option}
+use Rattle.std.specs.List.{All, Contains}
+use Rattle.net_model.specs.declared.ids.PointId.{PointId}
+use Rattle.net_model.specs.declared.part.Link.{Link}
+use Rattle.due_queue.specs.First.{due_in}
+use Rattle.execution_model.specs.Execution.{Moments, Setting}
+use Rattle.execution_model.specs.Feeding.{latest_of}
+use Rattle.live_executor.specs.Waking.{times}
+use Rattle.live_executor.specs.Wakes.{list_at}
+
+-- for each of so many points the contingent points of the links that begin in it
+pub record AreActivated (links : List Link) (points : ℕ) (lists : List (List PointId)) : Type 0 where
+  pub count : length lists ≡ points
+  pub activated : (link : Link) → Contains links link → 1 ≤ times (list_at lists link.from) link.to
+  pub inside : (point : PointId) → All (λ (other : PointId). other.0 < points) (list_at lists point)
+
+-- the contingent points of the links that begin in a point
+abbrev pub AreActivatedBy : List Link → PointId → List PointId → Type 0
+AreActivatedBy links point points = (link : Link) → Contains links link → link.from.0 ≡ point.0 → 1 ≤ times points link.to
+
+-- no link from the one point ends in the other
+abbrev pub IsNotActivatedBy : List Link → PointId → PointId → Type 0
+IsNotActivatedBy links point other = (link : Link) → Contains links link → link.from.0 ≡ point.0 → link.to.0 ≢ other.0
+
+-- the moment by which each contingent point must complete, where it is active and has not completed
+pub record AreLatest (setting : Setting) (moments : Moments) (latest : List (Option ℕ)) : Type 0 where
+  pub count : length latest ≡ length setting.dispatch
+  pub each : (point : PointId) → point.0 < length setting.dispatch → due_in latest point ≡ latest_of setting moments point
+
+-- after a point has come: it is that moment, or as it was and then of another point, which the one does not activate
+abbrev pub IsLatestOrKept : Setting → Moments → (come : PointId) → (old new : List (Option ℕ)) → PointId → Type 0
+IsLatestOrKept setting moments come old new other =
+    (due_in new other ≡ latest_of setting moments other) ⊎ ((due_in new other ≡ due_in old other) × (other.0 ≢ come.0) × IsNotActivatedBy setting.links come other)
