@@ -59,14 +59,14 @@ found_above firsts below place first some inside above others is other more with
     let even : at (slice_set firsts place first) (2 * other) ≡ at firsts (2 * other) = get_or-set_other firsts place (2 * other) first None not_even in
     let odd : at (slice_set firsts place first) (2 * other + 1) ≡ at firsts (2 * other + 1) = get_or-set_other firsts place (2 * other + 1) first None not_odd in
     rw (even, odd) (by_place (cases_eq other place))
-    where
-      by_place : (other ≡ place) ⊎ (other ≡ place → ⊥) → IsFirstOf (at firsts (2 * other)) (at firsts (2 * other + 1)) (at (slice_set firsts place first) other)
-      by_place (inl same) =
-          let its : at (slice_set firsts place first) other ≡ first = ap (at (slice_set firsts place first)) same ∙ get_or-set_same firsts place first None (omega (arith, inside, above)) in
-          rw (its, same) is
-      by_place (inr apart) =
-          rw (get_or-set_other firsts place other first None apart)
-          (others other more (let long : length (slice_set firsts place first) ≡ length firsts = length-set firsts place first in omega (arith, within, long)) (omega (arith, above, apart)) (omega (arith, above, apart)))
+  where
+    by_place : (other ≡ place) ⊎ (other ≡ place → ⊥) → IsFirstOf (at firsts (2 * other)) (at firsts (2 * other + 1)) (at (slice_set firsts place first) other)
+    by_place (inl same) =
+        let its : at (slice_set firsts place first) other ≡ first = ap (at (slice_set firsts place first)) same ∙ get_or-set_same firsts place first None (omega (arith, inside, above)) in
+        rw (its, same) is
+    by_place (inr apart) =
+        rw (get_or-set_other firsts place other first None apart)
+        (others other more (let long : length (slice_set firsts place first) ≡ length firsts = length-set firsts place first in omega (arith, within, long)) (omega (arith, above, apart)) (omega (arith, above, apart)))
 
 -- ---- the top
 
@@ -142,7 +142,7 @@ module _ (due : List (Option ℕ)) (firsts : List (Option (ℕ × PointId))) (tr
             due_one.1,
             λ point moment below its.
                 let found = before point moment below its in
-                subst (λ (o : ℕ × PointId). IsNotAfter o (moment, point)) (same_Some found.0 one (sym found.1 ∙ top)) found.2
+                subst (λ (o : ℕ × PointId). IsNotAfter o (moment, point)) (same_Some found.0 one (sym found.1 ∙ top)) found.2,
           )
 
 -- of no point nothing is due
@@ -191,22 +191,22 @@ module _ (due : List (Option ℕ)) (firsts : List (Option (ℕ × PointId))) (tr
     points = λ other below. by other (let long = length-set due point.0 moment in omega (arith, long, below)) (cases_eq other.0 point.0);
     first = first;
   }
-      where
-        by : (other : PointId) → other.0 < length due → (other.0 ≡ point.0) ⊎ (other.0 ≡ point.0 → ⊥)
-            → at now (length (slice_set due point.0 moment) + other.0) ≡ entry other (due_in (slice_set due point.0 moment) other)
-        by other below is =
-            let size = tree.size in
-            let long = length-set due point.0 moment in
-            let whole = length-set firsts leaf (entry point moment) in
-            let place : length (slice_set due point.0 moment) + other.0 ≡ length due + other.0 = omega (arith, long) in
-            let kept : at now (length due + other.0) ≡ at changed (length due + other.0) = leaves (length due + other.0) (omega (arith, size, whole)) in
-            ap (at now) place ∙ (kept ∙ its is)
-          where
-            its : (other.0 ≡ point.0) ⊎ (other.0 ≡ point.0 → ⊥) → at changed (length due + other.0) ≡ entry other (due_in (slice_set due point.0 moment) other)
-            its (inl same) =
-                let equal : other ≡ point = ap (λ k. record { 0 = k }) same in
-                let size = tree.size in
-                rw equal (get_or-set_same firsts leaf (entry point moment) None (omega (arith, size, inside)) ∙ sym (ap (entry point) (get_or-set_same due point.0 moment None inside)))
-            its (inr apart) =
-                get_or-set_other firsts leaf (length due + other.0) (entry point moment) None (omega (arith, apart))
-                ∙ (tree.points other below ∙ sym (ap (entry other) (get_or-set_other due point.0 other.0 moment None apart)))
+    where
+      by : (other : PointId) → other.0 < length due → (other.0 ≡ point.0) ⊎ (other.0 ≡ point.0 → ⊥)
+          → at now (length (slice_set due point.0 moment) + other.0) ≡ entry other (due_in (slice_set due point.0 moment) other)
+      by other below is =
+          let size = tree.size in
+          let long = length-set due point.0 moment in
+          let whole = length-set firsts leaf (entry point moment) in
+          let place : length (slice_set due point.0 moment) + other.0 ≡ length due + other.0 = omega (arith, long) in
+          let kept : at now (length due + other.0) ≡ at changed (length due + other.0) = leaves (length due + other.0) (omega (arith, size, whole)) in
+          ap (at now) place ∙ (kept ∙ its is)
+        where
+          its : (other.0 ≡ point.0) ⊎ (other.0 ≡ point.0 → ⊥) → at changed (length due + other.0) ≡ entry other (due_in (slice_set due point.0 moment) other)
+          its (inl same) =
+              let equal : other ≡ point = ap (λ k. record { 0 = k }) same in
+              let size = tree.size in
+              rw equal (get_or-set_same firsts leaf (entry point moment) None (omega (arith, size, inside)) ∙ sym (ap (entry point) (get_or-set_same due point.0 moment None inside)))
+          its (inr apart) =
+              get_or-set_other firsts leaf (length due + other.0) (entry point moment) None (omega (arith, apart))
+              ∙ (tree.points other below ∙ sym (ap (entry other) (get_or-set_other due point.0 other.0 moment None apart)))

@@ -6,10 +6,7 @@ ghost use Rattle.due_queue.specs.Tournament.{at, AreFirst, AreFirstBut, IsFirstO
 use net_model::PointId;
 
 /// What comes first of two.
-fn first_of(
-    one: Option<(u64, PointId)>,
-    other: Option<(u64, PointId)>,
-) -> Option<(u64, PointId)>
+fn first_of(one: Option<(u64, PointId)>, other: Option<(u64, PointId)>) -> Option<(u64, PointId)>
     ensures { IsFirstOf one other result }
 {
     match (one, other) {

@@ -179,9 +179,13 @@ module _ (setting : Setting) (moments : Moments) (come : PointId) (points : List
   pub all_noted : AreActivatedBy setting.links come points → (now : List (Option ℕ)) (other : PointId) → IsNoted (length points) now other → IsLatestOrKept setting moments come old now other
   all_noted activated now other noted = elim noted [
     | inl found ↦ inl found
-    | inr was ↦ inr (was.0, was.1, λ link among from is.
-        let some = activated link among from in
-        let none : times points other ≡ 0 = ap (λ (ps : List PointId). times ps other) (sym (take_all (length points) points (omega arith))) ∙ was.2 in
-        let same = ap (λ (k : ℕ). times points (record { 0 = k })) is in
-        omega (arith, some, none, same))
+    | inr was ↦ inr (
+      was.0,
+      was.1,
+      λ link among from is.
+          let some = activated link among from in
+          let none : times points other ≡ 0 = ap (λ (ps : List PointId). times ps other) (sym (take_all (length points) points (omega arith))) ∙ was.2 in
+          let same = ap (λ (k : ℕ). times points (record { 0 = k })) is in
+          omega (arith, some, none, same),
+    )
   ]

@@ -38,7 +38,8 @@ impl Course {
         self.complete(dispatched, moment, listed)?;
         match self
             .awaited
-            .first_overdue(dispatched, self.moments.as_slice(), moment) {
+            .first_overdue(dispatched, self.moments.as_slice(), moment)
+        {
             Some(why) => Err(why),
             None => Ok(()),
         }
