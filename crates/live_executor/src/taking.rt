@@ -5,7 +5,7 @@ ghost use Rattle.std.specs.List.{All};
 ghost use Rattle.std.specs.Prelude.{unsigned_abs};
 ghost use Rattle.net_model.specs.Limits.{most_size};
 ghost use Rattle.execution_model.specs.Execution.{points_of};
-ghost use Rattle.execution_model.specs.Feeding.{refusal_of_duration, refusal_of_completion, refusal_of, activated_before, completions_taken, latest_of, first_overdue, none_overdue, is_open, most_moment};
+ghost use Rattle.execution_model.specs.Feeding.{refusal_of_duration, refusal_of_completion, refusal_of, activated_before, completions_taken, latest_of, first_overdue, none_overdue, is_open};
 ghost use Rattle.live_executor.specs.Waking.{IsAwake};
 ghost use Rattle.live_executor.specs.Limits.{AreBefore, end_of_time};
 ghost use Rattle.live_executor.specs.Sound.{IsLinkOf, IsSound, made_setting};
