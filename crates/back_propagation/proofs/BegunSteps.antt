@@ -29,7 +29,8 @@ use Rattle.closure_model.specs.LeanRows.{IsThinned, BeginsWithAll, IsNextLive, I
 use Rattle.closure_model.proofs.ThinnedLemmas.{thinned_itself, thinned_all, thinned_on, given_is, heavy_all}
 use Rattle.closure_model.proofs.LeanRuns.{IsLean, lean_first, lean_step, lean_done, lean_derivable, lean_unfallen}
 use Rattle.closure_model.specs.FreshEdges.{fresh_at, AreOfTable, IsMetBut}
-use Rattle.back_propagation.specs.Begun.{joined, improves, begins_with, is_begun_with, begun, what_follows}
+use Rattle.reduction_rules.specs.Applies.{joined}
+use Rattle.back_propagation.specs.Begun.{improves, begins_with, is_begun_with, begun, what_follows}
 use Rattle.back_propagation.specs.Offering.{IsRowAgainst, IsOfRow, slot_key, HasColumn}
 use Rattle.back_propagation.specs.Queued.{IsQueued, IsFound}
 use Rattle.back_propagation.proofs.RowPlaces.{column_of_place}

@@ -17,9 +17,9 @@ use Rattle.closure_model.proofs.KeyOrder.{key_itself}
 use Rattle.closure_model.proofs.Listed.{row_listed}
 use Rattle.closure_model.proofs.Lists.{each-weaker}
 use Rattle.closure_model.proofs.Slots.{same_label_is, same_label_itself, both}
-use Rattle.labelled_graph.specs.Entries.{edge_into, wide_label}
+use Rattle.labelled_graph.specs.Entries.{edge_into, wide_label, key_with}
 use Rattle.labelled_graph.specs.declared.entry.Entry.{Entry}
-use Rattle.back_propagation.specs.Walking.{AreApart, IsListOf, first_of, key_with, left_after}
+use Rattle.back_propagation.specs.Walking.{AreApart, IsListOf, first_of, left_after}
 
 -- ---- one key
 -- an edge is of a key

@@ -3,7 +3,7 @@ use Rattle.std.specs.Prelude.{◌≡◌, ◌&&◌, ◌<◌, ℕ, ℤ, not, Bool,
 use Rattle.std.specs.List.{Contains, flat_map, list_any}
 use Rattle.std.specs.Option.{option_map_or}
 use Rattle.net_model.specs.Network.{Plan, IsPlan, IsPoint}
-use Rattle.net_model.specs.Rules.{is_negative, joined_weight}
+use Rattle.net_model.specs.Rules.{is_negative}
 use Rattle.net_model.specs.declared.ids.PointId.{PointId}
 use Rattle.net_model.specs.declared.part.Edge.{Edge}
 use Rattle.closure_model.specs.ReferenceRow.{from_first, consequences, edge_in, first_slots, HasWeightsWithin}
@@ -11,12 +11,9 @@ use Rattle.closure_model.specs.Tables.{Graph, IsFor, IsGraph, has_at_most}
 use Rattle.closure_model.specs.declared.rows.Made.{Made}
 use Rattle.closure_model.specs.declared.rows.Slot.{Slot}
 use Rattle.closure_model.specs.FreshEdges.{fresh_at, AreOfTable, IsMetBut}
+use Rattle.reduction_rules.specs.Applies.{joined}
 use Rattle.back_propagation.specs.Offering.{width_of}
 use Rattle.back_propagation.specs.Queued.{IsWaiting}
-
--- the way over two edges, with the label of the second
-abbrev pub joined : Edge → Edge → Edge
-joined first second = record { from = first.from; to = second.to; label = second.label; weight = joined_weight first second }
 
 -- the way over an edge and one of a row is less than what a table has
 abbrev pub improves : Graph → Edge → Edge → Bool

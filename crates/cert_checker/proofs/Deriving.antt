@@ -7,7 +7,7 @@ use Rattle.std.proofs.lemmas.Bool.{and_parts}
 use Rattle.std.proofs.lemmas.List.{append-nil, map-append, append_assoc}
 use Rattle.std.proofs.lemmas.List.Elements.{All-from_recursion, recursion_from_All, All-push}
 use Rattle.std.proofs.lemmas.Option.{same_Some}
-use Rattle.net_model.specs.Network.{Plan, IsPlan, point_named}
+use Rattle.net_model.specs.Network.{Plan, IsPlan, point_named, link_named as link_id}
 use Rattle.net_model.specs.Edges.{IsEdge}
 use Rattle.net_model.specs.LooseRules.{FollowsLoosely, IsLooseDerivation}
 use Rattle.net_model.specs.declared.part.Edge.{Edge}
@@ -19,7 +19,7 @@ use Rattle.cert_format.specs.declared.line.CertLine.{CertLine}
 use Rattle.cert_format.specs.declared.kind.LineKind.{LineKind}
 use Rattle.cert_format.specs.declared.kind.LineKind.TheVariants as kind
 use Rattle.cert_checker.specs.Lines.{Passes, line_passes, names_known, item_known, label_known, label_of, label_by, link_named}
-use Rattle.cert_checker.specs.Truth.{link_id, IsLabel, States, IsTrueOf, AreTrue}
+use Rattle.cert_checker.specs.Truth.{IsLabel, States, IsTrueOf, AreTrue}
 use Rattle.cert_checker.specs.Judgement.{at_number, lines_pass}
 use Rattle.cert_checker.proofs.Inversion.{bind_ok}
 use Rattle.cert_checker.proofs.Naming.{edge_of, point_of, point_of_known, some_is, link_known}

@@ -8,7 +8,7 @@ use Rattle.std.proofs.lemmas.Int.{ints, clamps}
 use Rattle.std.proofs.lemmas.Bool.{and_parts}
 use Rattle.std.proofs.lemmas.List.Elements.{All-from_recursion, All-contains}
 use Rattle.std.proofs.lemmas.Option.{same_Some}
-use Rattle.net_model.specs.Network.{Plan, point_named, bound_named}
+use Rattle.net_model.specs.Network.{Plan, point_named, bound_named, link_named as link_id}
 use Rattle.net_model.specs.Edges.{IsEdge, IsLabelled}
 use Rattle.net_model.specs.LooseRules.{FollowsLoosely, by_bound, by_link, by_no_case, by_upper_case, by_lower_case, by_cross_case, by_removal}
 use Rattle.net_model.specs.declared.ids.BoundId.{BoundId}
@@ -19,7 +19,6 @@ use Rattle.cert_format.specs.declared.line.CertLine.{CertLine}
 use Rattle.cert_format.specs.declared.kind.LineKind.{LineKind}
 use Rattle.cert_format.specs.declared.kind.LineKind.TheVariants as kind
 use Rattle.cert_checker.specs.Lines.{unless, there, line_at, link_named, bound_of, names_point, label_of, label_by, same_label, label_known, item_known, names_known, has_label_of, has_ends_of, are_ordinary, takes_label, is_negative, may_cross, goes, joins, reaches_back, bound_passes, link_passes, sum_passes, back_passes, no_passes, up_passes, low_passes, cross_passes, drop_passes, rule_passes, line_passes, in_range}
-use Rattle.cert_checker.specs.Truth.{link_id}
 use Rattle.cert_checker.specs.declared.judgement.CertFault.TheVariants.{UnknownItem, Premise, RuleCondition, Ends, Label, WeightRange}
 use Rattle.cert_checker.proofs.Inversion.{bind_ok, there_ok, unless_ok, at_least_ok, negative_ok, contains_line}
 use Rattle.cert_checker.proofs.Naming.{bytes_same, none_is, edge_of, point_of_named, point_of_same, link_known, one_name, ordinary, labelled, both_labelled, label_is_link, two_steps}

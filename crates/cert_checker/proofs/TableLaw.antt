@@ -10,7 +10,7 @@ use Rattle.std.proofs.lemmas.List.Elements.{All-from_recursion, Contains-append_
 use Rattle.std.proofs.lemmas.List.Folds.{list_any-append}
 use Rattle.std.proofs.lemmas.List.Quantifiers.{position-Some}
 use Rattle.std.proofs.lemmas.Option.{same_Some, slice_get-map, slice_get_within, slice_get-get_or}
-use Rattle.net_model.specs.Network.{Plan, IsPlan, IsPoint, IsLink, point_named}
+use Rattle.net_model.specs.Network.{Plan, IsPlan, IsPoint, IsLink, point_named, link_named as link_id}
 use Rattle.net_model.specs.Edges.{IsEdge, IsLinkOf}
 use Rattle.net_model.specs.Rules.{Follows, by_bound, by_link, by_no_case, by_upper_case, by_lower_case, by_cross_case, by_removal, bound_edge, link_edge, no_case, upper_case, lower_case, cross_case, removal, is_ordinary, is_negative}
 use Rattle.net_model.specs.declared.ids.PointId.{PointId}
@@ -26,7 +26,6 @@ use Rattle.cert_format.specs.declared.certificate.Certificate.{Certificate}
 use Rattle.cert_format.specs.declared.certificate.Certificate.TheVariants.{Refutation, TableProof}
 use Rattle.cert_format.specs.declared.entry.Entry.{Entry}
 use Rattle.cert_checker.specs.Lines.{unless, there, in_range}
-use Rattle.cert_checker.specs.Truth.{link_id}
 use Rattle.cert_checker.specs.Walk.{WalkPasses, refusal}
 use Rattle.cert_checker.specs.Tables.{ordinary_of, labelled_of, edge_by, edge_of_entry, point_passes, entry_passes, at_line, read_each, same_label_id, same_key, stands_among, refused_at, none_refused, base_of_bound, base_of_link, base_of, is_missing, none_missing, base_stands, stand_once, is_complete, place_in, comes_before, rises, order_passes, link_ids, is_open, table_passes}
 use Rattle.cert_checker.specs.Sound.{IsSoundEdge}

@@ -1,9 +1,10 @@
 -- When a table proof passes, or at which line and why it does not. It goes over the text of the certificate alone: what the rules
 -- give from its entries is looked for among them. The rules are those of Morris and Muscettola 2005, in this project's exact form.
 use Rattle.std.specs.Prelude.{ℕ, ◌+◌, ◌==◌, ◌&&◌, not, Bool, true, false, ℤ, List, [], ◌∷◌, ◌++◌, map, length, find, Option, Some, None, Result, Ok, Err, int_le, nat_lt, slice_get}
-use Rattle.std.specs.List.{position, list_any, list_all, filter_map, enumerate_from, slice_index_or}
+use Rattle.std.specs.List.{position, list_any, list_all, filter_map, enumerate_from}
 use Rattle.std.specs.Option.{option_and_then, option_map}
-use Rattle.net_model.specs.Network.{Plan, point_named}
+use Rattle.net_model.specs.Network.{Plan, point_named, link_named as link_id}
+use Rattle.net_model.specs.NetworkParts.{point_name}
 use Rattle.net_model.specs.Rules.{bound_edge, link_edge, is_ordinary, is_negative, no_case, upper_case, lower_case, cross_case, removal}
 use Rattle.net_model.specs.declared.ids.PointId.{PointId}
 use Rattle.net_model.specs.declared.ids.LinkId.{LinkId}
@@ -13,7 +14,6 @@ use Rattle.net_model.specs.declared.part.Link.{Link}
 use Rattle.strategy_model.specs.Plays.{same_point}
 use Rattle.cert_format.specs.declared.entry.Entry.{Entry}
 use Rattle.cert_checker.specs.Lines.{◌>>=◌, unless, there, in_range}
-use Rattle.cert_checker.specs.Truth.{link_id}
 use Rattle.cert_checker.specs.Walk.{WalkPasses, refusal}
 use Rattle.cert_checker.specs.declared.judgement.Refusal.{Refusal}
 use Rattle.cert_checker.specs.declared.judgement.CertFault.{CertFault}
@@ -100,7 +100,7 @@ base_of_bound bound = record { edge = bound_edge bound; missing = MissingBound b
 -- the edge of a link of a number, and the fault where it is missing, which has the name of its contingent point
 abbrev pub base_of_link : Plan → ℕ × Link → Base
 base_of_link net link =
-    record { edge = link_edge (record { 0 = link.0 }) link.1; missing = MissingLink (slice_index_or net.points link.1.to.0 []) }
+    record { edge = link_edge (record { 0 = link.0 }) link.1; missing = MissingLink (point_name net.points link.1.to) }
 
 -- those of bounds, in order, and then those of links
 abbrev pub base_of : Plan → List Base

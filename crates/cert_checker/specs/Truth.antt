@@ -1,8 +1,7 @@
 -- What the lines of a refutation state, and when it is true.
 use Rattle.std.specs.Prelude.{◌≡◌, ℕ, ◌-◌, List, [], Option, Some, None, take}
 use Rattle.std.specs.List.{All}
-use Rattle.std.specs.Option.{option_and_then}
-use Rattle.net_model.specs.Network.{Plan, point_named, activation}
+use Rattle.net_model.specs.Network.{Plan, point_named, link_named as link_id}
 use Rattle.net_model.specs.declared.ids.LinkId.{LinkId}
 use Rattle.net_model.specs.declared.part.Edge.{Edge}
 use Rattle.strategy_model.specs.Control.{Controls}
@@ -14,10 +13,6 @@ use Rattle.cert_format.specs.declared.line.CertLine.{CertLine}
 use Rattle.cert_checker.specs.Lines.{label_of}
 use Rattle.cert_checker.specs.declared.judgement.Judgement.{Judgement}
 use Rattle.cert_checker.specs.declared.judgement.Judgement.TheVariants.{Accepted, Refused}
-
--- the number of the link that ends in the point of a name
-abbrev pub link_id : Plan → List ℕ → Option LinkId
-link_id net name = option_and_then (activation net) (point_named net name)
 
 -- a label is no link where it is absent, else the link that ends in the point of its name
 abbrev pub IsLabel : Plan → Option (List ℕ) → Option LinkId → Type 0

@@ -4,7 +4,7 @@ ghost use Rattle.net_model.specs.Network.{IsLink};
 ghost use Rattle.cert_checker.specs.Tables.{base_of, base_of_bound, base_of_link};
 
 use crate::judgement::CertFault;
-use net_model::{Edge, Link, LinkId, Network};
+use net_model::{Edge, Link, LinkId, Network, bound_edge, link_edge};
 use std::alloc::{AllocError, Global};
 
 /// The edge of a bound or of a link, and what is refused where it is missing.
@@ -28,12 +28,7 @@ fn push_bounds(net: &Network, base: &mut Vec<Base>) -> Result<(), AllocError>
     ensures { OnOk result (base.new.items ≡ base.old.items ++ map base_of_bound net.now.bounds) }
 {
     for bound in net.bounds() {
-        let edge = Edge {
-            from: bound.from,
-            to: bound.to,
-            label: None,
-            weight: bound.most,
-        };
+        let edge = bound_edge(bound);
         let missing = CertFault::MissingBound(bound.name);
         base.push(Base { edge, missing })?;
     }
@@ -56,12 +51,7 @@ fn base_of_link(net: &Network, name: LinkId, link: &Link) -> Base
     requires { IsLink net.now link.now }
     ensures { result ≡ base_of_link net.now (name.0, link.now) }
 {
-    let edge = Edge {
-        from: link.to,
-        to: link.from,
-        label: Some(name),
-        weight: -link.high,
-    };
+    let edge = link_edge(name, link);
     let missing = CertFault::MissingLink(net.points()[link.to.0 as usize]);
     Base { edge, missing }
 }

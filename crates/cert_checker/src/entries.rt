@@ -1,7 +1,7 @@
 //! The lines of a table proof, each for itself: its names become numbers.
 
 ghost use Rattle.std.specs.Prelude.{◌≡◌, ◌+◌, ◌<◌, ◌^◌, IfOk, OnOk, Ok, [], length};
-ghost use Rattle.cert_checker.specs.Truth.{link_id};
+ghost use Rattle.net_model.specs.Network.{link_named as link_id};
 ghost use Rattle.cert_checker.specs.Tables.{edge_of_entry, entry_passes, labelled_of, ordinary_of, point_passes, read_each};
 ghost use Rattle.cert_checker.specs.Reading.{with_values};
 

@@ -9,10 +9,7 @@ use crate::lookup::{
     bound_of, label_of, line_at, link_named, names_known, names_point, same_label,
 };
 use cert_format::{CertLine, LineKind};
-use net_model::{Link, Name, Network, PointId, Weight};
-
-/// The greatest size of a weight that is judged, in whole moments.
-const MOST_WEIGHT: u64 = 1_000_000_000_000;
+use net_model::{Link, MOST_WEIGHT, Name, Network, PointId, Weight};
 
 /// A rule line, by the lines before it.
 #[tactic(auto, unfolding(crate::specs::Lines::line_passes))]

@@ -15,7 +15,7 @@ use Rattle.net_model.specs.declared.format.WordFault.TheVariants as word
 use Rattle.net_model.specs.declared.format.TextFault.{TextFault}
 use Rattle.net_model.specs.declared.format.TextFault.TheVariants as whole
 use Rattle.cert_format.specs.Limits.{most_line_number}
-use Rattle.cert_format.specs.CertificateWords.{header_words, refutation_words, end_words, IsSpelledLine, IsSpelledEntry, IsSpelled, IsWeight, IsEntryWeight, HasWeights}
+use Rattle.cert_format.specs.CertificateWords.{header_words, refutation_words, end_words, IsSpelledLine, IsSpelledEntry, IsSpelled, HasWrittenWeight, IsEntryWeight, HasWeights}
 use Rattle.cert_format.specs.CertificateGrammar.{Progress, DeclareCertificate, CanBecomeCertificate, IsFirstFault, IsFront, IsCertificateText, FaultIsFirst, admits, begun, certificate_of, missing}
 use Rattle.cert_format.specs.CertificateText.{Declared, Brings, SaysLine, SaysText, advanced, certificate_part, certificate_text, fault_after, line_in, said_from, read_from}
 use Rattle.cert_format.specs.declared.keyword.Keyword.TheVariants as keyword
@@ -214,7 +214,7 @@ answer_is_text bytes (Ok c) says = text_is_read bytes c says
 answer_is_text bytes (Err fault) says = tt
 
 spelled_weights : (c : Certificate) → IsSpelled c → HasWeights c
-spelled_weights (Refutation lines walk) spelled = All-weaker IsSpelledLine IsWeight (λ line is. is.weight) lines spelled.0
+spelled_weights (Refutation lines walk) spelled = All-weaker IsSpelledLine HasWrittenWeight (λ line is. is.weight) lines spelled.0
 spelled_weights (TableProof order entries) spelled = All-weaker IsSpelledEntry IsEntryWeight (λ entry is. is.weight) entries spelled.1
 
 -- the weights of an answer are within their limit

@@ -100,8 +100,8 @@ AreOperands (kind.Cross name j) = IsTrue (is_name name) × (j ≤ most_line_numb
 AreOperands (kind.Drop j) = j ≤ most_line_number
 
 -- a weight within its limit
-abbrev pub IsWeight : CertLine → Type 0
-IsWeight line = unsigned_abs line.weight ≤ most_written_weight
+abbrev pub HasWrittenWeight : CertLine → Type 0
+HasWrittenWeight line = unsigned_abs line.weight ≤ most_written_weight
 
 -- a rule line that can be spelled
 pub record IsSpelledLine (line : CertLine) : Type 0 where
@@ -109,7 +109,7 @@ pub record IsSpelledLine (line : CertLine) : Type 0 where
   pub from : IsTrue (is_name line.from)
   pub to : IsTrue (is_name line.to)
   pub label : IfSome line.label (λ label. IsTrue (is_name label))
-  pub weight : IsWeight line
+  pub weight : HasWrittenWeight line
 
 abbrev pub IsEntryWeight : Entry → Type 0
 IsEntryWeight entry = unsigned_abs entry.weight ≤ most_written_weight
@@ -123,7 +123,7 @@ pub record IsSpelledEntry (entry : Entry) : Type 0 where
 
 -- a certificate whose weights are within their limit
 abbrev pub HasWeights : Certificate → Type 0
-HasWeights (Refutation lines walk) = All IsWeight lines
+HasWeights (Refutation lines walk) = All HasWrittenWeight lines
 HasWeights (TableProof order entries) = All IsEntryWeight entries
 
 -- a certificate that can be spelled

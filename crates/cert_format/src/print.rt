@@ -7,7 +7,7 @@ ghost use Rattle.net_model.specs.Names.{is_name};
 ghost use Rattle.texts.specs.Printing.{after_blank, printed_line};
 ghost use Rattle.cert_format.specs.Limits.{most_line_number};
 ghost use Rattle.cert_format.specs.CertificateText.{certificate_text};
-ghost use Rattle.cert_format.specs.CertificateWords.{rule_word, operand_words, label_words, line_words, walk_words, entry_word, entry_words, order_words, printed_certificate, IsEntryWeight, IsSpelledEntry, AreOperands, IsWeight, IsSpelledLine, HasWeights};
+ghost use Rattle.cert_format.specs.CertificateWords.{rule_word, operand_words, label_words, line_words, walk_words, entry_word, entry_words, order_words, printed_certificate, IsEntryWeight, IsSpelledEntry, AreOperands, HasWrittenWeight, IsSpelledLine, HasWeights};
 
 use crate::certificate::Certificate;
 use crate::entry::Entry;
@@ -37,7 +37,7 @@ pub fn print_certificate(alloc: Global, certificate: &Certificate) -> Result<Vec
 }
 
 fn print_refutation(alloc: Global, lines: &[CertLine], walk: &[u64]) -> Result<Vec<u8>, AllocError>
-    requires { All IsWeight lines.now }
+    requires { All HasWrittenWeight lines.now }
     ensures text { IfOk result (λ text. text.items ≡ printed_certificate (Certificate.Refutation lines.now walk.now)) }
     ensures back { IfOk result (λ text. certificate_text text.items ≡ Ok (Certificate.Refutation lines.now walk.now)) }
 {
@@ -110,7 +110,7 @@ fn entry_word(label: &Option<Name>) -> Keyword
 }
 
 fn push_rules(alloc: Global, out: &mut Vec<u8>, lines: &[CertLine]) -> Result<(), AllocError>
-    requires { All IsWeight lines.now }
+    requires { All HasWrittenWeight lines.now }
     ensures text { OnOk result (out.new.items ≡ out.old.items ++ flat_map (λ line. printed_line (line_words line)) lines.now) }
     ensures spelled { OnOk result (All IsSpelledLine lines.now) }
 {
@@ -121,7 +121,7 @@ fn push_rules(alloc: Global, out: &mut Vec<u8>, lines: &[CertLine]) -> Result<()
 }
 
 fn push_rule(alloc: Global, out: &mut Vec<u8>, line: &CertLine) -> Result<(), AllocError>
-    requires { IsWeight line.now }
+    requires { HasWrittenWeight line.now }
     ensures text { OnOk result (out.new.items ≡ out.old.items ++ printed_line (line_words line.now)) }
     ensures spelled { OnOk result (IsSpelledLine line.now) }
 {

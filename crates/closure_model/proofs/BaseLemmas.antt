@@ -8,7 +8,7 @@ use Rattle.std.proofs.lemmas.Bool.Decides.{nat_tests}
 use Rattle.std.proofs.lemmas.Option.{slice_get-map, slice_get-get_or}
 use Rattle.std.proofs.lemmas.List.Elements.{All-contains, Contains-get_or, Contains-append_cases, Contains-append_right}
 use Rattle.std.proofs.Math.ListN.{length-map}
-use Rattle.net_model.specs.Limits.{most_points, most_links, most_size, most_weight, within_size}
+use Rattle.net_model.specs.Limits.{most_points, most_links, most_size, most_weight, within_size, IsWeight}
 use Rattle.net_model.specs.Network.{Plan, IsPlan, IsBound, IsLink}
 use Rattle.net_model.specs.Rules.{bound_edge, link_edge}
 use Rattle.net_model.specs.Rules as rules
@@ -17,7 +17,7 @@ use Rattle.net_model.specs.declared.part.Bound.{Bound}
 use Rattle.net_model.specs.declared.part.Edge.{Edge}
 use Rattle.net_model.specs.declared.part.Link.{Link}
 use Rattle.closure_model.specs.Keys.{key_of, Shape, shape_of, IsKey}
-use Rattle.closure_model.specs.Tables.{Graph, HasAtMost, no_edges, IsAtMost, IsWeight, IsGraph, HasBase, base_edges, base_table}
+use Rattle.closure_model.specs.Tables.{Graph, HasAtMost, no_edges, IsAtMost, IsGraph, HasBase, base_edges, base_table}
 use Rattle.closure_model.specs.TableLaws.{BaseTableIsWeakest, ClosedTablesHaveTheBase}
 use Rattle.closure_model.proofs.Lists.{Contains-tail, Contains-none, Contains-map, Contains-map_from}
 use Rattle.closure_model.proofs.TableLemmas.{table_of-given, table_of-has, all_lowered-shape}

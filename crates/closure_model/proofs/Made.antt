@@ -8,10 +8,9 @@ use Rattle.std.specs.List.{All, Contains}
 use Rattle.std.proofs.lemmas.List.Elements.{All-cons, All-nil, All-contains}
 use Rattle.net_model.proofs.RuleLemmas.{no_case_gives, upper_case_gives, lower_case_gives, cross_case_gives, removal_gives}
 use Rattle.net_model.specs.Network.{Plan, IsPlan}
-use Rattle.net_model.specs.Limits.{most_weight, within_size}
+use Rattle.net_model.specs.Limits.{most_weight, within_size, IsWeight}
 use Rattle.std.proofs.lemmas.Int.{ints}
 use Rattle.std.proofs.lemmas.Bool.Decides.{nat_tests}
-use Rattle.closure_model.specs.Tables.{IsWeight}
 use Rattle.closure_model.proofs.Deriving.{bound_at, link_at, joined_within, moved_within, freed_within, turned_within, between_within, positive}
 use Rattle.net_model.specs.Edges.{IsLinkOf}
 use Rattle.net_model.specs.Rules.{bound_edge, link_edge, no_case, upper_case, lower_case, cross_case, removal}

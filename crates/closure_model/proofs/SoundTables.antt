@@ -3,7 +3,8 @@ use Rattle.std.proofs.Common.{◌≡◌, Bool, true, false, cond, ◌⊎◌, Som
 use Rattle.std.specs.Ordering.{eq_by_cmp}
 use Rattle.net_model.specs.declared.part.Edge.{Edge}
 use Rattle.closure_model.specs.Keys.{Key, key_of, key_cmp, IsKey}
-use Rattle.closure_model.specs.Tables.{Graph, weight_of, HasEdge, with_edge, without_key, IsWeight, IsGraph}
+use Rattle.net_model.specs.Limits.{IsWeight}
+use Rattle.closure_model.specs.Tables.{Graph, weight_of, HasEdge, with_edge, without_key, IsGraph}
 use Rattle.closure_model.proofs.TableLemmas.{with_edge-cases, weight_of-without_key}
 
 pub IsGraph-with_edge : (graph : Graph) (edge : Edge) → IsGraph graph → IsKey graph.shape (key_of edge) → IsWeight edge.weight → IsGraph (with_edge graph edge)

@@ -1,10 +1,10 @@
 -- Tables of the labelled distance graph (Morris and Muscettola 2005, in this project's form): at most one edge for each key,
 -- the one of least weight.
-use Rattle.std.specs.Prelude.{◌≡◌, ◌==◌, ℕ, ℤ, ◌≤ℤ◌, ◌≤◌, ◌<◌, int_le, unsigned_abs, Bool, false, List, ◌++◌, length, map, filter, fold, Option, Some, IsSomeAnd, if◌then◌else◌}
+use Rattle.std.specs.Prelude.{◌≡◌, ◌==◌, ℕ, ℤ, ◌≤ℤ◌, ◌≤◌, ◌<◌, int_le, Bool, false, List, ◌++◌, length, map, filter, fold, Option, Some, IsSomeAnd, if◌then◌else◌}
 use Rattle.std.specs.FinMap as map_of
 use Rattle.std.specs.List.{All, Contains, enumerate_from, filter_map}
 use Rattle.std.specs.Option.{option_map, option_map_or}
-use Rattle.net_model.specs.Limits.{most_points, most_links, most_weight}
+use Rattle.net_model.specs.Limits.{most_points, most_links, IsWeight}
 use Rattle.net_model.specs.Network.{Plan}
 use Rattle.net_model.specs.Rules.{bound_edge, link_edge, Follows}
 use Rattle.net_model.specs.declared.ids.PointId.{PointId}
@@ -93,10 +93,6 @@ IsClosed net graph = (edge : Edge) → Follows net (edges_of graph) edge → Has
 -- one table has each edge of another, at a weight that is no greater
 abbrev pub IsAtMost : (low high : Graph) → Type 0
 IsAtMost low high = (edge : Edge) → HasEdge high edge → HasAtMost low edge
-
--- a weight that a table may hold
-abbrev pub IsWeight : ℤ → Type 0
-IsWeight weight = unsigned_abs weight ≤ most_weight
 
 -- a table is sound: its edges are of keys that there are and of weights that it may hold, its links begin in points, and
 -- there are not too many of either

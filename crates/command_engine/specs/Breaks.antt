@@ -1,7 +1,7 @@
 -- What was put by a run that a failed call, or want of memory, breaks off.
 use Rattle.std.specs.Prelude.{◌≡◌, ◌⊎◌, ℕ, ◌<◌, List, [], ◌∷◌, ◌++◌, length, map, codes}
 use Rattle.texts.specs.Lines.{InputLine, input_lines, whole_lines, whole_line}
-use Rattle.plan_port.specs.Limits.{most_line}
+use Rattle.texts.specs.Limits.{most_line}
 use Rattle.plan_port.specs.Lines.{Comes}
 use Rattle.plan_port.specs.Talk.{Piece}
 use Rattle.command_engine.specs.Machine.{Machine}

@@ -2,7 +2,7 @@
 
 ghost use Rattle.std.specs.Prelude.{◌≡◌, ℕ, ◌<◌, ◌≤◌, List, [], length, IfOk, OnErr};
 ghost use Rattle.std.specs.Thread.{IsSync};
-ghost use Rattle.plan_port.specs.Limits.{most_line};
+ghost use Rattle.texts.specs.Limits.{most_line};
 ghost use Rattle.command_engine.specs.Machine.{Machine, HasRoom};
 
 use crate::answers::Answer;

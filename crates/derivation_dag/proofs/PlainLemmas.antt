@@ -15,7 +15,8 @@ use Rattle.net_model.specs.declared.ids.LinkId.{LinkId}
 use Rattle.net_model.specs.declared.part.Edge.{Edge}
 use Rattle.net_model.specs.declared.part.Link.{Link}
 use Rattle.closure_model.specs.Keys.{Key, key_of, edge_of, key_cmp, Shape, shape_of, IsKey, IsLabelAt}
-use Rattle.closure_model.specs.Tables.{Graph, weight_of, with_edge, has_at_most, lowered, table_of, no_edges, IsWeight, IsGraph, base_edges}
+use Rattle.net_model.specs.Limits.{IsWeight}
+use Rattle.closure_model.specs.Tables.{Graph, weight_of, with_edge, has_at_most, lowered, table_of, no_edges, IsGraph, base_edges}
 use Rattle.closure_model.specs.Derivations.{Support, edges_of_nodes, with_node, base_nodes, base_support}
 use Rattle.closure_model.specs.declared.derivation.Node.{Node}
 use Rattle.closure_model.proofs.KeyOrder.{key_total, same_key, key_test}

@@ -4,7 +4,8 @@ use Rattle.std.specs.List.{All}
 use Rattle.net_model.specs.Network.{Plan}
 use Rattle.net_model.specs.declared.part.Edge.{Edge}
 use Rattle.closure_model.specs.Keys.{key_of, shape_of}
-use Rattle.closure_model.specs.Tables.{Graph, no_edges, with_edge, without_key, table_of, IsWeight}
+use Rattle.net_model.specs.Limits.{IsWeight}
+use Rattle.closure_model.specs.Tables.{Graph, no_edges, with_edge, without_key, table_of}
 use Rattle.closure_model.specs.Derivations.{Support, edges_of_nodes}
 use Rattle.closure_model.specs.declared.derivation.Node.{Node}
 

@@ -1,10 +1,9 @@
 ghost use Rattle.std.specs.Prelude.{◌≡◌, ◌++◌, length, map, IfOk, IfSome, IsSome, OnOk, ◌≤◌, unsigned_abs};
 ghost use Rattle.std.specs.List.{enumerate_from};
 ghost use Rattle.net_model.specs.Edges.{IsEdge};
-ghost use Rattle.net_model.specs.Limits.{most_size};
-ghost use Rattle.net_model.specs.Rules.{bound_edge, link_edge};
+ghost use Rattle.net_model.specs.Limits.{most_size, IsWeight};
 ghost use Rattle.closure_model.specs.Keys.{key_of, IsKey};
-ghost use Rattle.closure_model.specs.Tables.{weight_of, IsFor, IsWeight};
+ghost use Rattle.closure_model.specs.Tables.{weight_of, IsFor};
 ghost use Rattle.closure_model.specs.Derivations.{base_support, bound_node, link_node, with_node, IsGiven, StandsOn};
 ghost use Rattle.derivation_dag.specs.Supported.{no_support, restored};
 
@@ -13,7 +12,7 @@ use crate::keyed::KeyedDag;
 use crate::supports::Supports;
 use closure_model::{Node, NodeId, Rule};
 use labelled_graph::Table;
-use net_model::{Bound, BoundId, Edge, Link, LinkId, Network, Weight};
+use net_model::{Bound, BoundId, Edge, Link, LinkId, Network, Weight, bound_edge, link_edge};
 use std::alloc::{AllocError, Global};
 use std::marker::Model;
 
@@ -152,29 +151,6 @@ pub fn link_node(id: LinkId, link: &Link) -> Node
     Node {
         rule: Rule::Link(id),
         edge: link_edge(id, link),
-    }
-}
-
-fn bound_edge(bound: &Bound) -> Edge
-    ensures { result ≡ bound_edge bound.now }
-{
-    Edge {
-        from: bound.from,
-        to: bound.to,
-        label: None,
-        weight: bound.most,
-    }
-}
-
-fn link_edge(name: LinkId, link: &Link) -> Edge
-    requires { unsigned_abs link.now.high ≤ most_size }
-    ensures { result ≡ link_edge name link.now }
-{
-    Edge {
-        from: link.to,
-        to: link.from,
-        label: Some(name),
-        weight: -link.high,
     }
 }
 

@@ -14,7 +14,8 @@ use Rattle.net_model.specs.declared.part.Link.{Link}
 use Rattle.net_model.proofs.Accepted.{Makes}
 use Rattle.closure_model.proofs.Basing.{at_place}
 use Rattle.closure_model.proofs.Nodes.{listed_at}
-use Rattle.derivation_edits.specs.Taken.{name_of, point_in, bound_in, link_in, renumbering, is_new_bound, is_new_link}
+use Rattle.net_model.specs.NetworkParts.{point_name}
+use Rattle.derivation_edits.specs.Taken.{point_in, bound_in, link_in, renumbering, is_new_bound, is_new_link}
 use Rattle.derivation_edits.specs.TakenAway.{unnumbered_link, HasEditedParts, AddsBound, SetsBound, AddsLink, SetsLink, TakesBound, TakesLink, BringsBound, BringsLink, EditsBringBounds, EditsBringLinks}
 use Rattle.derivation_edits.proofs.ByNames.{bound_placed, link_placed, at_named}
 use Rattle.derivation_edits.proofs.Coming.{BoundStood, LinkStood, bound_comes, link_comes, dropped_bound_gone, dropped_link_gone}
@@ -79,7 +80,7 @@ module _ (old : Plan) (edit : Edit) (new : Plan) (before : IsPlan old) (after : 
   -- ---- links
   module _ (id : LinkId) (link : Link) (here : slice_get new.links id.0 ≡ Some link) where
     abbrev name : List ℕ
-    name = name_of new link.to
+    name = point_name new.points link.to
 
     named : slice_get new.points link.to.0 ≡ Some name
     named = let sound = link_sound new after id link here in slice_get-get_or new.points link.to.0 [] sound.to_point
@@ -101,7 +102,7 @@ module _ (old : Plan) (edit : Edit) (new : Plan) (before : IsPlan old) (after : 
       pub there : slice_get old.links place.0 ≡ Some was
       pub ends : slice_get old.points was.to.0 ≡ Some name
 
-    old_name : (stood : Stood) → name_of old stood.was.to ≡ name
+    old_name : (stood : Stood) → point_name old.points stood.was.to ≡ name
     old_name stood = get_or_from_slice_get old.points stood.was.to.0 name [] stood.ends
 
     link_came : AddsLink edit name ⊎ Stood
@@ -113,7 +114,7 @@ module _ (old : Plan) (edit : Edit) (new : Plan) (before : IsPlan old) (after : 
         to : slice_get has.made.points made.0.to.0 ≡ slice_get new.points link.to.0
         to = ap (λ (ps : List (List ℕ)). slice_get ps made.0.to.0) (sym has.parts.points) ∙ ap (λ (l : Link). slice_get new.points l.to.0) made.2
 
-        by : AddsLink edit (name_of has.made made.0.to) ⊎ LinkStood old has.made made.0.to → AddsLink edit name ⊎ Stood
+        by : AddsLink edit (point_name has.made.points made.0.to) ⊎ LinkStood old has.made made.0.to → AddsLink edit name ⊎ Stood
         by (inl adds) = inl (subst (AddsLink edit) (get_or_from_slice_get has.made.points made.0.to.0 name [] (to ∙ named)) adds)
         by (inr stood) = inr (record { place = record { 0 = stood.place }; was = stood.was; there = stood.there; ends = sym stood.ends ∙ (to ∙ named) })
 
@@ -127,9 +128,9 @@ module _ (old : Plan) (edit : Edit) (new : Plan) (before : IsPlan old) (after : 
             from : TakesLink old edit new stood.was → BringsLink old edit new link
             from (inl drops) =
                 let (again, at, parts) = link_back has.made new has.parts id.0 link here in
-                let to : slice_get has.made.points again.to.0 ≡ Some (name_of old stood.was.to) =
+                let to : slice_get has.made.points again.to.0 ≡ Some (point_name old.points stood.was.to) =
                 ap (λ (ps : List (List ℕ)). slice_get ps again.to.0) (sym has.parts.points) ∙ (ap (λ (l : Link). slice_get new.points l.to.0) parts ∙ (named ∙ ap (λ (n : List ℕ). Some n) (sym (old_name stood)))) in
-                absurd (dropped_link_gone old before (name_of old stood.was.to) has.made id.0 again (subst (λ (e : Edit). Makes old e has.made) drops (makes old edit new before after has)) at to)
+                absurd (dropped_link_gone old before (point_name old.points stood.was.to) has.made id.0 again (subst (λ (e : Edit). Makes old e has.made) drops (makes old edit new before after has)) at to)
             from (inr (inl sets)) = inr (inl (subst (SetsLink edit) (old_name stood) sets))
             from (inr (inr (other, listed, its, apart))) =
                 let (k, at) = at_place new.links other listed in

@@ -19,7 +19,8 @@ use Rattle.net_model.specs.declared.part.Link.{Link}
 use Rattle.closure_model.proofs.Nodes.{chained}
 use Rattle.derivation_edits.specs.Following.{IsRenumbering, moved_bound, moved_link}
 use Rattle.derivation_edits.specs.FollowingLaws.{NamesRenumber}
-use Rattle.derivation_edits.specs.Taken.{sets_bound, sets_link, name_of, point_in, is_point, is_same_bound, is_same_link, same_place, bound_in, same_link_place, link_in, renumbering}
+use Rattle.net_model.specs.NetworkParts.{point_name}
+use Rattle.derivation_edits.specs.Taken.{sets_bound, sets_link, point_in, is_point, is_same_bound, is_same_link, same_place, bound_in, same_link_place, link_in, renumbering}
 use Rattle.derivation_edits.proofs.Places.{found_passes, one_is_found, pair_at}
 
 -- ---- numbers as ids
@@ -140,7 +141,7 @@ module _ (old : Plan) (edit : Edit) (new : Plan) where
   pub link_in_gives : (link : Link) (place : LinkId) → link_in old edit new link ≡ Some place → SameLink link place
   link_in_gives link place is =
       let rest : option_and_then (λ (p : PointId). option_and_then (same_link_place old new link) (activation new p)) (point_in old new link.to) ≡ Some place =
-      unless (sets_link edit (name_of old link.to)) (option_and_then (λ (p : PointId). option_and_then (same_link_place old new link) (activation new p)) (point_in old new link.to)) place is in
+      unless (sets_link edit (point_name old.points link.to)) (option_and_then (λ (p : PointId). option_and_then (same_link_place old new link) (activation new p)) (point_in old new link.to)) place is in
       let (point, to, further) = chained (λ (p : PointId). option_and_then (same_link_place old new link) (activation new p)) (point_in old new link.to) place rest in
       let (found, ends, rest_is) = chained (same_link_place old new link) (activation new point) place further in
       let (other, there, test) = chained (λ (l : Link). if is_same_link old new link l then Some found else None) (slice_get new.links found.0) place rest_is in

@@ -17,7 +17,7 @@ use Rattle.net_model.specs.declared.part.Link.{Link}
 use Rattle.net_model.proofs.Accepted.{Makes}
 use Rattle.closure_model.proofs.Nodes.{push_cases, chained, mapped}
 use Rattle.closure_model.proofs.Slots.{set_same, set_other}
-use Rattle.derivation_edits.specs.Taken.{name_of}
+use Rattle.net_model.specs.NetworkParts.{point_name}
 use Rattle.derivation_edits.specs.TakenAway.{AddsBound, AddsLink}
 use Rattle.derivation_edits.proofs.ByNames.{at_named, bound_placed, link_placed}
 use Rattle.derivation_edits.proofs.Gaps.{stood_at}
@@ -97,7 +97,7 @@ module _ (old : Plan) (plan : IsPlan old) where
           record { place = id.0; was = its; there = at; ends = ap (λ (l : Link). slice_get old.points l.to.0) (sym is) }
       by false apart = same_link_stood k link old refl (sym (set_other old.links id.0 k (record its { low = low; high = high }) (eqb-false k id.0 apart)) ∙ here)
 
-  pub link_comes : (edit : Edit) (made : Plan) (k : ℕ) (link : Link) → Makes old edit made → slice_get made.links k ≡ Some link → AddsLink edit (name_of made link.to) ⊎ LinkStood old made link.to
+  pub link_comes : (edit : Edit) (made : Plan) (k : ℕ) (link : Link) → Makes old edit made → slice_get made.links k ≡ Some link → AddsLink edit (point_name made.points link.to) ⊎ LinkStood old made link.to
   link_comes (edits.AddPoint name) made k link (fresh, is) here =
       let stood : slice_get old.links k ≡ Some link = ap (λ (n : Plan). slice_get n.links k) (sym is) ∙ here in
       inr (record {
@@ -124,11 +124,11 @@ module _ (old : Plan) (plan : IsPlan old) where
       inr (same_link_stood k link made (ap (λ (n : Plan). n.points) is) (ap (λ (n : Plan). slice_get n.links k) (sym is) ∙ here))
   link_comes (edits.AddLink from low high to) made k link (added, named, fresh, is) here = by (push_cases old.links added k link (ap (λ (n : Plan). slice_get n.links k) (sym is) ∙ here))
     where
-      by : (slice_get old.links k ≡ Some link) ⊎ ((k ≡ length old.links) × (added ≡ link)) → AddsLink (edits.AddLink from low high to) (name_of made link.to) ⊎ LinkStood old made link.to
+      by : (slice_get old.links k ≡ Some link) ⊎ ((k ≡ length old.links) × (added ≡ link)) → AddsLink (edits.AddLink from low high to) (point_name made.points link.to) ⊎ LinkStood old made link.to
       by (inl stood) = inr (same_link_stood k link made (ap (λ (n : Plan). n.points) is) stood)
       by (inr (last, same)) =
-          let its : to ≡ name_of made link.to =
-          sym (named_as old added.to to plan named) ∙ (ap (λ (l : Link). name_of old l.to) same ∙ ap (λ (n : Plan). name_of n link.to) (sym is)) in
+          let its : to ≡ point_name made.points link.to =
+          sym (named_as old added.to to plan named) ∙ (ap (λ (l : Link). point_name old.points l.to) same ∙ ap (λ (n : Plan). point_name n.points link.to) (sym is)) in
           inl (from, low, high, ap (λ (n : List ℕ). edits.AddLink from low high n) its)
   link_comes (edits.DropLink to) made k link (id, named, is) here =
       let (j, apart, stood) = stood_at old.links id.0 k link (ap (λ (n : Plan). slice_get n.links k) (sym is) ∙ here) in

@@ -19,7 +19,7 @@ use Rattle.net_model.proofs.Accepted.{Makes}
 use Rattle.net_model.proofs.NetworkLemmas.{more_points}
 use Rattle.closure_model.proofs.Nodes.{before_push, chained}
 use Rattle.closure_model.proofs.Slots.{set_same, set_other}
-use Rattle.derivation_edits.specs.Taken.{name_of}
+use Rattle.net_model.specs.NetworkParts.{point_name}
 use Rattle.derivation_edits.proofs.ByNames.{named_at, bound_found, link_found}
 use Rattle.derivation_edits.proofs.Gaps.{stays_at, before_last}
 
@@ -58,7 +58,7 @@ pub point_closes_up : (old : Plan) (dropped point : PointId) → point.0 ≢ dro
 point_closes_up old dropped point apart = ap (slice_get (remove old.points dropped.0)) (closed_is dropped point) ∙ stays_at old.points dropped.0 point.0 apart
 
 -- a point that has a name is the one that has it
-pub named_as : (net : Plan) (point : PointId) (name : List ℕ) → IsPlan net → point_named net name ≡ Some point → name_of net point ≡ name
+pub named_as : (net : Plan) (point : PointId) (name : List ℕ) → IsPlan net → point_named net name ≡ Some point → point_name net.points point ≡ name
 named_as net point name plan named = get_or_from_slice_get net.points point.0 name [] (named_at net plan name point named)
 
 module _ (old : Plan) (plan : IsPlan old) where
@@ -180,7 +180,7 @@ module _ (old : Plan) (plan : IsPlan old) where
         }
 
     -- a link that an edit does not drop stands in what the edit makes
-    pub link_stays : (edit : Edit) (made : Plan) → Makes old edit made → (edit ≡ edits.DropLink (name_of old link.to)) ⊎ LinkStands old made link
+    pub link_stays : (edit : Edit) (made : Plan) → Makes old edit made → (edit ≡ edits.DropLink (point_name old.points link.to)) ⊎ LinkStands old made link
     link_stays (edits.AddPoint name) made (fresh, is) =
         inr (subst (λ (n : Plan). LinkStands old n link) (sym is)
         (record { place = id.0; other = link; there = here; from = point_more old name link.from link_sound.from_point; to = point_more old name link.to link_sound.to_point }))
@@ -202,7 +202,7 @@ module _ (old : Plan) (plan : IsPlan old) where
     link_stays (edits.SetBound name most) made (other, its, named, at, is) = inr (subst (λ (n : Plan). LinkStands old n link) (sym is) (same_links (with_number old other most its).bounds))
     link_stays (edits.DropLink to) made (other, named, is) = by (id.0 == other.0) refl
       where
-        by : (b : Bool) → id.0 == other.0 ≡ b → (edits.DropLink to ≡ edits.DropLink (name_of old link.to)) ⊎ LinkStands old made link
+        by : (b : Bool) → id.0 == other.0 ≡ b → (edits.DropLink to ≡ edits.DropLink (point_name old.points link.to)) ⊎ LinkStands old made link
         by true same =
             let (point, point_is, ends) = chained (activation old) (point_named old to) other named in
             let (its, at, its_to) = link_found old plan point other ends in
@@ -210,6 +210,6 @@ module _ (old : Plan) (plan : IsPlan old) where
             let both : Some its ≡ Some link = sym at ∙ (ap (slice_get old.links) (sym number) ∙ here) in
             let one : its ≡ link = cc in
             let to_is : point ≡ link.to = sym its_to ∙ ap (λ (l : Link). l.to) one in
-            inl (ap edits.DropLink (sym (named_as old point to plan point_is) ∙ ap (name_of old) to_is))
+            inl (ap edits.DropLink (sym (named_as old point to plan point_is) ∙ ap (point_name old.points) to_is))
         by false apart = inr (subst (λ (n : Plan). LinkStands old n link) (sym is) (without_link other.0 (eqb-false id.0 other.0 apart)))
     link_stays (edits.SetLink to low high) made (other, its, named, at, is) = inr (subst (λ (n : Plan). LinkStands old n link) (sym is) (renumbered_link other its low high at))

@@ -18,7 +18,8 @@ use Rattle.net_model.specs.declared.part.Link.{Link}
 use Rattle.net_model.proofs.Accepted.{Makes, accepted_makes}
 use Rattle.closure_model.proofs.Basing.{at_place}
 use Rattle.closure_model.proofs.Nodes.{chained, mapped, listed_at}
-use Rattle.derivation_edits.specs.Taken.{sets_bound, sets_link, name_of, point_in, is_point, is_same_bound, is_same_link, same_place, bound_in, same_link_place, link_in, renumbering}
+use Rattle.net_model.specs.NetworkParts.{point_name}
+use Rattle.derivation_edits.specs.Taken.{sets_bound, sets_link, point_in, is_point, is_same_bound, is_same_link, same_place, bound_in, same_link_place, link_in, renumbering}
 use Rattle.derivation_edits.specs.TakenAway.{unnumbered, unnumbered_link, HasPartsOf, HasEditedParts, DropsBound, SetsBound, DropsLink, SetsLink, DiffersIn, LinkDiffersIn, TakesBound, TakesLink, EditsTakeBounds, EditsTakeLinks}
 use Rattle.derivation_edits.proofs.ByNames.{SameBound, bound_in_gives, bound_found, bound_placed, SameLink, link_in_gives, link_found, link_placed, at_named, named_at, same_bytes, bytes_itself}
 use Rattle.derivation_edits.proofs.Coming.{dropped_bound_gone, dropped_link_gone}
@@ -199,14 +200,14 @@ module _ (old : Plan) (edit : Edit) (new : Plan) (before : IsPlan old) (after : 
 
   -- ---- links
   module _ (id : LinkId) (link : Link) (here : slice_get old.links id.0 ≡ Some link) where
-    link_unless_set : sets_link edit (name_of old link.to) ≡ false → link_in old edit new link ≡ option_and_then (λ (p : PointId). option_and_then (same_link_place old new link) (activation new p)) (point_in old new link.to)
+    link_unless_set : sets_link edit (point_name old.points link.to) ≡ false → link_in old edit new link ≡ option_and_then (λ (p : PointId). option_and_then (same_link_place old new link) (activation new p)) (point_in old new link.to)
     link_unless_set is = ap (λ (b : Bool). if b then None else option_and_then (λ (p : PointId). option_and_then (same_link_place old new link) (activation new p)) (point_in old new link.to)) is
 
     -- the point in which it ends has its name
-    link_name : slice_get old.points link.to.0 ≡ Some (name_of old link.to)
+    link_name : slice_get old.points link.to.0 ≡ Some (point_name old.points link.to)
     link_name = let sound = link_sound old before id link here in slice_get-get_or old.points link.to.0 [] sound.to_point
 
-    intervals_differ_in : LinkStands old new link → sets_link edit (name_of old link.to) ≡ false → link_in old edit new link ≡ None → LinkDiffersIn old new link
+    intervals_differ_in : LinkStands old new link → sets_link edit (point_name old.points link.to) ≡ false → link_in old edit new link ≡ None → LinkDiffersIn old new link
     intervals_differ_in stands unset none =
         let sound = link_sound old before id link here in
         let place : LinkId = record { 0 = stands.place } in
@@ -221,25 +222,25 @@ module _ (old : Plan) (edit : Edit) (new : Plan) (before : IsPlan old) (after : 
         let test : is_same_link old new link stands.other ≡ false = none_if (is_same_link old new link stands.other) place (sym (link_unless_set unset ∙ (found ∙ (there ∙ at))) ∙ none) in
         let apart : (int_eq link.low stands.other.low && int_eq link.high stands.other.high) ≡ false =
         later (is_point (point_in old new link.from) stands.other.from) (int_eq link.low stands.other.low && int_eq link.high stands.other.high) (is_this (point_in old new link.from) stands.other.from from) test in
-        let name : name_of new stands.other.to ≡ name_of old link.to = get_or_from_slice_get new.points stands.other.to.0 (name_of old link.to) [] (stands.to ∙ link_name) in
+        let name : point_name new.points stands.other.to ≡ point_name old.points link.to = get_or_from_slice_get new.points stands.other.to.0 (point_name old.points link.to) [] (stands.to ∙ link_name) in
         (stands.other, listed_at new.links stands.place stands.other stands.there, name, intervals_differ link.low link.high stands.other.low stands.other.high apart)
 
     pub takes_link : link_in old edit new link ≡ None → TakesLink old edit new link
     takes_link none = by (link_stays old before id link here edit has.made makes)
       where
-        unless_dropped : LinkStands old new link → (b : Bool) → sets_link edit (name_of old link.to) ≡ b → TakesLink old edit new link
-        unless_dropped stands true is = inr (inl (sets_link_is edit (name_of old link.to) is))
+        unless_dropped : LinkStands old new link → (b : Bool) → sets_link edit (point_name old.points link.to) ≡ b → TakesLink old edit new link
+        unless_dropped stands true is = inr (inl (sets_link_is edit (point_name old.points link.to) is))
         unless_dropped stands false is = inr (inr (intervals_differ_in stands is none))
 
-        by : DropsLink edit (name_of old link.to) ⊎ LinkStands old has.made link → TakesLink old edit new link
+        by : DropsLink edit (point_name old.points link.to) ⊎ LinkStands old has.made link → TakesLink old edit new link
         by (inl drops) = inl drops
-        by (inr stands) = unless_dropped (link_stands has.made new has.parts old link stands) (sets_link edit (name_of old link.to)) refl
+        by (inr stands) = unless_dropped (link_stands has.made new has.parts old link stands) (sets_link edit (point_name old.points link.to)) refl
 
     -- the point of its name in the new network has that name
-    same_name : (place : LinkId) (same : SameLink old edit new link place) → slice_get new.points same.point.0 ≡ Some (name_of old link.to)
+    same_name : (place : LinkId) (same : SameLink old edit new link place) → slice_get new.points same.point.0 ≡ Some (point_name old.points link.to)
     same_name place same =
         let (name, at, named) = chained (point_named new) (slice_get old.points link.to.0) same.point same.to in
-        let names : Some name ≡ Some (name_of old link.to) = sym at ∙ link_name in
+        let names : Some name ≡ Some (point_name old.points link.to) = sym at ∙ link_name in
         named_at new after name same.point named ∙ names
 
     pub link_taken : TakesLink old edit new link → link_in old edit new link ≡ None
@@ -251,16 +252,16 @@ module _ (old : Plan) (edit : Edit) (new : Plan) (before : IsPlan old) (after : 
             let (was, there, parts) = link_back has.made new has.parts place.0 found at in
             let points : slice_get has.made.points was.to.0 ≡ slice_get new.points same.point.0 =
             ap (λ (ps : List (List ℕ)). slice_get ps was.to.0) (sym has.parts.points) ∙ ap (λ (p : PointId). slice_get new.points p.0) (ap (λ (l : Link). l.to) parts ∙ ends) in
-            dropped_link_gone old before (name_of old link.to) has.made place.0 was (subst (λ (e : Edit). Makes old e has.made) drops makes) there (points ∙ same_name place same)
+            dropped_link_gone old before (point_name old.points link.to) has.made place.0 was (subst (λ (e : Edit). Makes old e has.made) drops makes) there (points ∙ same_name place same)
         never place same held (inr (inl sets)) =
             let none : link_in old edit new link ≡ None =
-            ap (λ (b : Bool). if b then None else option_and_then (λ (p : PointId). option_and_then (same_link_place old new link) (activation new p)) (point_in old new link.to)) (sets_link_so edit (name_of old link.to) sets) in
+            ap (λ (b : Bool). if b then None else option_and_then (λ (p : PointId). option_and_then (same_link_place old new link) (activation new p)) (point_in old new link.to)) (sets_link_so edit (point_name old.points link.to) sets) in
             let both : Some place ≡ None = sym held ∙ none in absurd cc
         never place same held (inr (inr (other, listed, name, apart))) =
             let (k, at) = at_place new.links other listed in
             let sound = link_sound new after (record { 0 = k }) other at in
-            let named : slice_get new.points other.to.0 ≡ Some (name_of old link.to) = slice_get-get_or new.points other.to.0 [] sound.to_point ∙ ap (λ (n : List ℕ). Some n) name in
-            let points : Some other.to ≡ Some same.point = sym (at_named new after (name_of old link.to) other.to named) ∙ at_named new after (name_of old link.to) same.point (same_name place same) in
+            let named : slice_get new.points other.to.0 ≡ Some (point_name old.points link.to) = slice_get-get_or new.points other.to.0 [] sound.to_point ∙ ap (λ (n : List ℕ). Some n) name in
+            let points : Some other.to ≡ Some same.point = sym (at_named new after (point_name old.points link.to) other.to named) ∙ at_named new after (point_name old.points link.to) same.point (same_name place same) in
             let point : other.to ≡ same.point = cc in
             let places : Some place ≡ Some (record { 0 = k }) = sym same.ends ∙ link_placed new after same.point (record { 0 = k }) other at point in
             let one : place ≡ record { 0 = k } = cc in

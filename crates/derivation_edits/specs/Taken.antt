@@ -39,10 +39,6 @@ sets_link (edits.SetBound name most) other = false
 sets_link (edits.AddLink from low high to) other = false
 sets_link (edits.DropLink to) other = false
 
--- the name of a point
-abbrev pub name_of : Plan → PointId → List ℕ
-name_of net point = point_name net.points point
-
 -- the point of a network that has the name of a point of another
 abbrev pub point_in : (old new : Plan) → PointId → Option PointId
 point_in old new point = option_and_then (point_named new) (slice_get old.points point.0)
@@ -77,7 +73,7 @@ same_link_place old new link place = option_and_then (λ other. if is_same_link 
 -- same and the edit does not set it
 abbrev pub link_in : (old : Plan) → Edit → (new : Plan) → Link → Option LinkId
 link_in old edit new link =
-    if sets_link edit (name_of old link.to) then None else option_and_then (λ point. option_and_then (same_link_place old new link) (activation new point)) (point_in old new link.to)
+    if sets_link edit (point_name old.points link.to) then None else option_and_then (λ point. option_and_then (same_link_place old new link) (activation new point)) (point_in old new link.to)
 
 -- the numbers that all have in the new network
 abbrev pub renumbering : (old : Plan) → Edit → (new : Plan) → Renumbering

@@ -16,7 +16,8 @@ use Rattle.closure_model.specs.declared.derivation.Item.TheVariants as item
 use Rattle.closure_model.specs.declared.derivation.Node.{Node}
 use Rattle.closure_model.specs.declared.derivation.NodeId.{NodeId}
 use Rattle.derivation_edits.specs.Following.{place_at, followed}
-use Rattle.derivation_edits.specs.Taken.{name_of, renumbering, is_new_bound, is_new_link}
+use Rattle.net_model.specs.NetworkParts.{point_name}
+use Rattle.derivation_edits.specs.Taken.{renumbering, is_new_bound, is_new_link}
 
 -- a bound without its number
 abbrev pub unnumbered : Bound → Bound
@@ -65,7 +66,7 @@ DiffersIn net bound = (other : Bound) × Contains net.bounds other × (other.nam
 
 -- a link of a network stands in another one with other durations: one that ends in a point of the same name is there
 abbrev pub LinkDiffersIn : (of net : Plan) → Link → Type 0
-LinkDiffersIn of net link = (other : Link) × Contains net.links other × (name_of net other.to ≡ name_of of link.to) × ¬ ((other.low ≡ link.low) × (other.high ≡ link.high))
+LinkDiffersIn of net link = (other : Link) × Contains net.links other × (point_name net.points other.to ≡ point_name of.points link.to) × ¬ ((other.low ≡ link.low) × (other.high ≡ link.high))
 
 -- an edit takes a bound of the old network away: it drops it or sets it, or the bound stands in the new network with another number
 abbrev pub TakesBound : Edit → (new : Plan) → Bound → Type 0
@@ -77,10 +78,10 @@ BringsBound old edit bound = AddsBound edit bound.name ⊎ (SetsBound edit bound
 
 -- the same of links
 abbrev pub TakesLink : (old : Plan) → Edit → (new : Plan) → Link → Type 0
-TakesLink old edit new link = DropsLink edit (name_of old link.to) ⊎ (SetsLink edit (name_of old link.to) ⊎ LinkDiffersIn old new link)
+TakesLink old edit new link = DropsLink edit (point_name old.points link.to) ⊎ (SetsLink edit (point_name old.points link.to) ⊎ LinkDiffersIn old new link)
 
 abbrev pub BringsLink : (old : Plan) → Edit → (new : Plan) → Link → Type 0
-BringsLink old edit new link = AddsLink edit (name_of new link.to) ⊎ (SetsLink edit (name_of new link.to) ⊎ LinkDiffersIn new old link)
+BringsLink old edit new link = AddsLink edit (point_name new.points link.to) ⊎ (SetsLink edit (point_name new.points link.to) ⊎ LinkDiffersIn new old link)
 
 -- an edit takes a bound or a link of the old network away
 abbrev pub Takes : (old : Plan) → Edit → (new : Plan) → Item → Type 0

@@ -11,7 +11,8 @@ use Rattle.net_model.specs.declared.ids.PointId.{PointId}
 use Rattle.net_model.specs.declared.ids.LinkId.{LinkId}
 use Rattle.net_model.specs.declared.part.Link.{Link}
 use Rattle.closure_model.specs.Keys.{Key, Shape, edge_of, ordinary_key, labelled_key}
-use Rattle.closure_model.specs.Tables.{Graph, weight_of, IsFor, IsGraph, IsWeight}
+use Rattle.net_model.specs.Limits.{IsWeight}
+use Rattle.closure_model.specs.Tables.{Graph, weight_of, IsFor, IsGraph}
 use Rattle.dispatch_net.specs.Dispatchable.{with_moments}
 use Rattle.dispatch_net.specs.declared.dispatch.Conditions.{Conditions}
 

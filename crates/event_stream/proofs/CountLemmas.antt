@@ -1,7 +1,8 @@
 -- How many words a line can have.
 use Rattle.std.proofs.Common.{◌≡◌, ℕ, ◌+◌, ◌*◌, ◌≤◌, Bool, true, false, List, [], ◌∷◌, ◌++◌, length, length-append, ap, arith, cond, suc}
 use Rattle.texts.specs.Words.{is_blank, if_filled, words_after, words}
-use Rattle.event_stream.specs.Limits.{most_line, most_completions}
+use Rattle.texts.specs.Limits.{most_line}
+use Rattle.event_stream.specs.Limits.{most_completions}
 
 -- words that with the blanks after them fit into so many bytes, of which the last word needs none
 abbrev IsFew : List (List ℕ) → ℕ → Type 0

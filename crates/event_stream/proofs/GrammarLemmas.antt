@@ -12,7 +12,7 @@ use Rattle.net_model.specs.declared.format.FormatKind.{FormatKind}
 use Rattle.net_model.specs.declared.format.FormatKind.TheVariants.{UnknownWord, WordCount, BadNumber, NumberLimit, UnknownName}
 use Rattle.net_model.proofs.ReadingLemmas.{choice, bind_ok, bind_err, name_ok, name_err, name_read, word_is}
 use Rattle.net_model.proofs.SpellingLemmas.{natural_spelled, spelled_natural}
-use Rattle.event_stream.specs.Limits.{most_moment}
+use Rattle.net_model.specs.Limits.{most_moment}
 use Rattle.event_stream.specs.EventText.{EventLine, blank, completed, done, NamesPoint, NamePoints, AreWordsOf, spells_moment, FitsMoment, MisfitsMoment, MisfitsPoint, FirstMisfits, IsFaultAfterAt, BeginsOtherwise, IsFaultOfWords, unknown_word, after_at, after_done}
 use Rattle.event_stream.specs.EventLines.{known, point_of, points_of, at_line, done_line, line_of, event_line}
 

@@ -8,7 +8,7 @@ use Rattle.net_model.specs.Network.{Plan, point_named}
 use Rattle.net_model.specs.declared.ids.PointId.{PointId}
 use Rattle.net_model.specs.declared.format.FormatKind.{FormatKind}
 use Rattle.net_model.specs.declared.format.FormatKind.TheVariants.{UnknownWord, WordCount, UnknownName}
-use Rattle.event_stream.specs.Limits.{most_moment}
+use Rattle.net_model.specs.Limits.{most_moment}
 use Rattle.event_stream.specs.EventText.{EventLine, blank, completed, done, event_of, kept}
 use Rattle.event_stream.specs.declared.event.Event.{Event}
 

@@ -9,7 +9,7 @@ use Rattle.net_model.specs.Network.{Plan, IsPoint, point_named}
 use Rattle.net_model.specs.declared.ids.PointId.{PointId}
 use Rattle.net_model.specs.declared.format.FormatKind.{FormatKind}
 use Rattle.net_model.specs.declared.format.FormatKind.TheVariants.{UnknownWord, WordCount, BadName, BadNumber, NumberLimit, UnknownName}
-use Rattle.event_stream.specs.Limits.{most_moment}
+use Rattle.net_model.specs.Limits.{most_moment}
 use Rattle.event_stream.specs.declared.event.Event.{Event}
 use Rattle.event_stream.specs.declared.event.Event.TheVariants.{Blank, At, Done}
 

@@ -8,5 +8,7 @@ mod names;
 mod reader;
 
 pub use event::Event;
-pub use limits::{MOST_COMPLETIONS, MOST_LINE, MOST_MOMENT, limits_are_defined};
+pub use limits::{MOST_COMPLETIONS, limits_are_defined};
+pub use net_model::MOST_MOMENT;
+pub use texts::MOST_LINE;
 pub use reader::EventReader;

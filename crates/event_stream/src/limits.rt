@@ -1,13 +1,12 @@
 //! The greatest sizes of a line of events. They are this project's own choice.
 
 ghost use Rattle.std.specs.Prelude.{◌≡◌};
-ghost use Rattle.event_stream.specs.Limits.{most_moment, most_line, most_completions};
+ghost use Rattle.net_model.specs.Limits.{most_moment};
+ghost use Rattle.texts.specs.Limits.{most_line};
+ghost use Rattle.event_stream.specs.Limits.{most_completions};
 
-/// The greatest moment of an event.
-pub const MOST_MOMENT: u64 = 4_000_000_000_000;
-
-/// The greatest number of bytes of a line of events, without its line end.
-pub const MOST_LINE: usize = 65_536;
+use net_model::MOST_MOMENT;
+use texts::MOST_LINE;
 
 /// The number of points for which a reader keeps room: no line of so many bytes names more.
 pub const MOST_COMPLETIONS: usize = 32_768;

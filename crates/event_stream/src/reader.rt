@@ -3,14 +3,15 @@
 ghost use Rattle.std.specs.Prelude.{◌≡◌, ◌≤◌, List, [], length, IfOk, IfErr, OnErr, IsOk};
 ghost use Rattle.texts.specs.Words.{words};
 ghost use Rattle.net_model.specs.Network.{Plan};
-ghost use Rattle.event_stream.specs.Limits.{most_line, most_completions};
+ghost use Rattle.texts.specs.Limits.{most_line};
+ghost use Rattle.event_stream.specs.Limits.{most_completions};
 ghost use Rattle.event_stream.specs.EventText.{EventLine, IsLine, IsFaultOf, said, event_of, kept, HasPoints};
 ghost use Rattle.event_stream.specs.EventLines.{Answers, event_line, at_line, done_line, points_of};
 
 use crate::event::Event;
-use crate::limits::{MOST_COMPLETIONS, MOST_MOMENT};
+use crate::limits::MOST_COMPLETIONS;
 use crate::names::{check_names, point_of};
-use net_model::{FormatKind, Network, PointId, text};
+use net_model::{FormatKind, MOST_MOMENT, Network, PointId, text};
 use std::alloc::{AllocError, Global};
 use std::marker::Model;
 

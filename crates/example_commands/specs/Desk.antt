@@ -3,7 +3,7 @@ use Rattle.std.specs.Prelude.{◌≡◌, ℕ, Bool, true, false, List, [], ◌�
 use Rattle.std.specs.Str.{bytes_eq}
 use Rattle.std.specs.Fmt.{decimal}
 use Rattle.texts.specs.Printing.{printed_line}
-use Rattle.plan_port.specs.Limits.{most_line}
+use Rattle.texts.specs.Limits.{most_line}
 use Rattle.command_engine.specs.Machine.{Machine}
 use Rattle.command_engine.specs.Phases.{Within}
 use Rattle.command_engine.specs.declared.endings.End.{End}

@@ -3,7 +3,6 @@
 ghost use Rattle.std.specs.Prelude.{◌≡◌, ◌++◌, ◌==◌, fold, map, length, not, IfOk, OnOk};
 ghost use Rattle.std.specs.List.{enumerate_from};
 ghost use Rattle.net_model.specs.Network.{Plan};
-ghost use Rattle.net_model.specs.Rules.{bound_edge, link_edge};
 ghost use Rattle.closure_model.specs.Derivations.{base_nodes, base_support, bound_node, link_node};
 ghost use Rattle.closure_model.specs.ReferenceRound.{rule_for, with_one, round_made, after_round};
 ghost use Rattle.closure_model.specs.ReferenceRounds.{RoundsEnd};
@@ -16,7 +15,7 @@ use crate::ordering::sought;
 use crate::settling::row;
 use closure_model::rows::{Made, Why};
 use closure_model::{Node, Rule};
-use net_model::{Bound, BoundId, Edge, Link, LinkId, Network, PointId};
+use net_model::{BoundId, LinkId, Network, PointId, bound_edge, link_edge};
 use std::alloc::Global;
 use std::test::Fail;
 
@@ -131,31 +130,9 @@ fn push_links(net: &Network, nodes: &mut Vec<Node>) -> Result<(), Fail>
     for (place, link) in net.links().iter().enumerate() {
         let name = LinkId(place as u32);
         let rule = Rule::Link(name);
-        let edge = link_edge(name, link)?;
+        let edge = link_edge(name, link);
         nodes.push(Node { rule, edge })?;
     }
     Ok(())
 }
 
-fn bound_edge(bound: &Bound) -> Edge
-    ensures { result ≡ bound_edge bound.now }
-{
-    Edge {
-        from: bound.from,
-        to: bound.to,
-        label: None,
-        weight: bound.most,
-    }
-}
-
-fn link_edge(name: LinkId, link: &Link) -> Result<Edge, Fail>
-    ensures { IfOk result (λ edge. edge ≡ link_edge name link.now) }
-{
-    let weight = 0i64.checked_sub(link.high).ok_or("a weight is too great")?;
-    Ok(Edge {
-        from: link.to,
-        to: link.from,
-        label: Some(name),
-        weight,
-    })
-}

@@ -4,11 +4,11 @@ ghost use Rattle.std.specs.Prelude.{◌≡◌, ◌↔◌, ◌<◌, length, slice
 ghost use Rattle.std.specs.Option.{option_map, option_and_then};
 ghost use Rattle.net_model.specs.Rules.{bound_edge, link_edge, upper_case, lower_case, removal};
 ghost use Rattle.closure_model.specs.Derivations.{edge_at, given_by};
-ghost use Rattle.reduction_rules.specs.Weights.{IsWeight};
+ghost use Rattle.net_model.specs.Limits.{IsWeight};
 
 use crate::networks::network;
 use derivation_dag::{Dag, Item, Node, NodeId, Rule};
-use net_model::{BoundId, Edge, LinkId, Network};
+use net_model::{BoundId, Edge, LinkId, MOST_WEIGHT, Network};
 use reduction_rules::{lower_case, removal, upper_case};
 use std::alloc::Global;
 use std::process::Abort;
@@ -42,12 +42,7 @@ fn bound_edge(net: &Network, name: BoundId) -> Option<Edge>
     ensures { IfSome result (λ edge. option_map bound_edge (slice_get net.now.bounds name.0) ≡ Some edge) }
 {
     let bound = net.bounds().get(name.0 as usize).copied()?;
-    Some(Edge {
-        from: bound.from,
-        to: bound.to,
-        label: None,
-        weight: bound.most,
-    })
+    Some(net_model::bound_edge(&bound))
 }
 
 /// The edge of a link.
@@ -55,12 +50,10 @@ fn link_edge(net: &Network, name: LinkId) -> Option<Edge>
     ensures { IfSome result (λ edge. option_map (link_edge name) (slice_get net.now.links name.0) ≡ Some edge) }
 {
     let link = net.links().get(name.0 as usize).copied()?;
-    Some(Edge {
-        from: link.to,
-        to: link.from,
-        label: Some(name),
-        weight: link.high.checked_neg()?,
-    })
+    if link.high.unsigned_abs() > MOST_WEIGHT {
+        return None;
+    }
+    Some(net_model::link_edge(name, &link))
 }
 
 fn low(net: &Network, dag: &Dag, name: LinkId, second: NodeId) -> Option<Edge>

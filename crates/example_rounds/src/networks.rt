@@ -1,7 +1,7 @@
 //! Points, links and edges of networks by words.
 
 ghost use Rattle.std.specs.Prelude.{◌<◌, length, IfSome};
-ghost use Rattle.reduction_rules.specs.Weights.{IsWeight};
+ghost use Rattle.net_model.specs.Limits.{IsWeight};
 
 pub(crate) use example_plans::{edit, network};
 use net_model::{Edge, LinkId, Network, PointId};

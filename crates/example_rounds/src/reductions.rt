@@ -1,6 +1,6 @@
 //! What each reduction gives from a table of premises.
 
-ghost use Rattle.reduction_rules.specs.Weights.{IsWeight};
+ghost use Rattle.net_model.specs.Limits.{IsWeight};
 
 use crate::networks::{edge, link, network};
 use net_model::{Edge, Network};

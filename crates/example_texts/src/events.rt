@@ -1,5 +1,5 @@
 use crate::rows::{cells, network};
-use event_stream::{Event, EventReader};
+use event_stream::{Event, EventReader, MOST_LINE};
 use net_model::{Network, PointId};
 use std::alloc::{AllocError, Global};
 use std::process::Abort;
@@ -56,7 +56,7 @@ fn answer(
     net: &Network,
     line: &[u8],
 ) -> Result<String, AllocError> {
-    if line.len() > 65_536 {
+    if line.len() > MOST_LINE as usize {
         return Err(AllocError);
     }
     let read = reader.read(line, net);

@@ -13,7 +13,8 @@ use Rattle.closure_model.specs.Tables.{Graph, IsFor}
 use Rattle.strategy_model.specs.Plays.{IsInstant}
 use Rattle.dispatch_net.proofs.ExecutionLemmas.{dispatchable_length}
 use Rattle.execution_model.specs.Execution.{Moments, Setting, points_of}
-use Rattle.execution_model.specs.Feeding.{Execution, started, next_moment, most_moment, refusal_of_moment, completed_in, taken, after_feed}
+use Rattle.net_model.specs.Limits.{most_moment}
+use Rattle.execution_model.specs.Feeding.{Execution, started, next_moment, refusal_of_moment, completed_in, taken, after_feed}
 use Rattle.execution_model.specs.Streams.{Listing}
 use Rattle.execution_model.specs.Timely.{with_completed, AreInTime, fed_all}
 use Rattle.execution_model.specs.Laws.{setting_of, AreWithinLimit, IsExecutionOf}

@@ -3,6 +3,7 @@
 use Rattle.std.specs.Prelude.{◌≡◌, ◌≢◌, ℕ, ◌+◌, ◌-◌, ◌<◌, ◌≤◌, nat_le, nat_lt, unsigned_abs, Bool, false, IsSome, List, [], ◌∷◌, ◌++◌, length, map, find, fold, Option, Some, None, is_some, Result, Ok, Err, slice_set, if◌then◌else◌}
 use Rattle.std.specs.List.{All}
 use Rattle.std.specs.Option.{option_map, option_map_or, option_and_then}
+use Rattle.net_model.specs.Limits.{most_moment}
 use Rattle.net_model.specs.declared.ids.PointId.{PointId}
 use Rattle.net_model.specs.declared.part.Link.{Link}
 use Rattle.execution_model.specs.Execution.{Moments, Setting, moment_of, has_come, points_of, link_to, acts_at, acted, time_runs, acts_while}
@@ -13,10 +14,6 @@ use Rattle.execution_model.specs.declared.feeding.Fed.{Fed}
 use Rattle.execution_model.specs.declared.feeding.Fed.TheVariants as fed
 use Rattle.execution_model.specs.declared.feeding.Finished.{Finished}
 use Rattle.execution_model.specs.declared.feeding.Finished.TheVariants as finished
-
--- the greatest moment that may be fed
-abbrev pub most_moment : ℕ
-most_moment = 4000000000000
 
 -- an execution as it stands: by what the network is executed, the moments so far, the last moment that was fed, the acts of the last
 -- feed that was taken or of the end, and why a feed was refused

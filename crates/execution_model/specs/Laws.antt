@@ -11,7 +11,8 @@ use Rattle.strategy_model.specs.Plays.{IsInstant}
 use Rattle.strategy_model.specs.Control.{IsEarliest}
 use Rattle.dispatch_net.specs.Dispatchable.{MayDispatch, dispatchable}
 use Rattle.execution_model.specs.Execution.{Moments, Setting, moment_of, acts_at}
-use Rattle.execution_model.specs.Feeding.{Execution, started, most_moment, taken, first_open, IsWhole}
+use Rattle.net_model.specs.Limits.{most_moment}
+use Rattle.execution_model.specs.Feeding.{Execution, started, taken, first_open, IsWhole}
 use Rattle.execution_model.specs.Streams.{Listing, Stream, Shows, IsFaithful, fixed_by, IsExecution}
 use Rattle.execution_model.specs.Timely.{IsInTime, with_completed, AreInTime, fed_all}
 

@@ -1,8 +1,5 @@
 use net_model::PointId;
 
-/// The greatest moment that may be fed.
-pub const MOST_MOMENT: u64 = 4_000_000_000_000;
-
 /// A point that is executed at a moment.
 #[derive(Clone, Copy, Debug, PartialEq, Eq)]
 pub struct Act {

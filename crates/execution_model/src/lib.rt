@@ -5,4 +5,5 @@
 mod feeding;
 pub mod laws;
 
-pub use feeding::{Act, Fed, Finished, MOST_MOMENT, Why};
+pub use feeding::{Act, Fed, Finished, Why};
+pub use net_model::MOST_MOMENT;

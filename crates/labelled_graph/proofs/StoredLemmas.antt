@@ -11,13 +11,13 @@ use Rattle.std.proofs.lemmas.List.{take_all}
 use Rattle.std.proofs.lemmas.List.Elements.{All-set}
 use Rattle.std.proofs.lemmas.List.FromFn.{get_or-map-range_with_len, length-map-range_with_len}
 use Rattle.net_model.specs.Network.{Plan, IsPlan}
-use Rattle.net_model.specs.Limits.{most_points, most_links}
+use Rattle.net_model.specs.Limits.{most_points, most_links, IsWeight}
 use Rattle.net_model.specs.declared.part.Link.{Link}
 use Rattle.net_model.specs.declared.ids.PointId.{PointId}
 use Rattle.net_model.specs.declared.ids.LinkId.{LinkId}
 use Rattle.net_model.specs.declared.part.Edge.{Edge}
 use Rattle.closure_model.specs.Keys.{Key, edge_of, key_cmp, Shape, shape_of, IsKey, IsLabelAt, labelled_key, ordinary_key}
-use Rattle.closure_model.specs.Tables.{Graph, weight_of, with_edge, without_key, no_edges, has_at_most, lowered, base_table, IsGraph, IsWeight}
+use Rattle.closure_model.specs.Tables.{Graph, weight_of, with_edge, without_key, no_edges, has_at_most, lowered, base_table, IsGraph}
 use Rattle.closure_model.proofs.BaseLemmas.{base_shape, base_sound}
 use Rattle.closure_model.proofs.KeyOrder.{key_test, key_total}
 use Rattle.closure_model.proofs.TableLemmas.{no_edges-has_none, weight_of-with_edge, weight_of-without_key}

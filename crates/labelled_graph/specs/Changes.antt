@@ -2,7 +2,8 @@
 use Rattle.std.specs.Prelude.{ℤ, Option, Some, None}
 use Rattle.net_model.specs.declared.part.Edge.{Edge}
 use Rattle.closure_model.specs.Keys.{Key, Shape, IsKey, key_of, edge_of}
-use Rattle.closure_model.specs.Tables.{Graph, with_edge, without_key, IsWeight}
+use Rattle.net_model.specs.Limits.{IsWeight}
+use Rattle.closure_model.specs.Tables.{Graph, with_edge, without_key}
 
 -- the table in which a key has this weight, or none
 abbrev pub with_weight : Graph → Key → Option ℤ → Graph

@@ -1,17 +1,19 @@
-ghost use Rattle.std.specs.Prelude.{◌≡◌, ◌<◌, ◌≤◌, ◌-ℤ◌, pos, not, length, fold, map, filter, IfOk, IsSome, OnOk, OnErr, Some, slice_get};
+ghost use Rattle.std.specs.Prelude.{◌≡◌, ◌<◌, ◌≤◌, not, length, fold, map, filter, IfOk, IsSome, OnOk, OnErr, Some, slice_get};
 ghost use Rattle.std.specs.List.{All, enumerate_from, range_with_len};
-ghost use Rattle.net_model.specs.Limits.{most_links};
+ghost use Rattle.net_model.specs.Limits.{most_links, IsWeight};
 ghost use Rattle.net_model.specs.Rules.{bound_edge, link_edge};
 ghost use Rattle.closure_model.specs.Keys.{IsKey, shape_of, key_of, ordinary_key, labelled_key};
 ghost use Rattle.closure_model.specs.ReferenceRow.{ordinary_into};
-ghost use Rattle.closure_model.specs.Tables.{weight_of, row_of, with_edge, without_key, no_edges, has_at_most, lowered, base_table, IsFor, IsWeight, IsGraph};
+ghost use Rattle.closure_model.specs.Tables.{weight_of, row_of, with_edge, without_key, no_edges, has_at_most, lowered, base_table, IsFor, IsGraph};
 ghost use Rattle.labelled_graph.specs.Changes.{IsEdgeFor};
 ghost use Rattle.labelled_graph.specs.Entries.{edge_into, is_ordinary};
 ghost use Rattle.labelled_graph.specs.Rows.{empty_row};
 
 use crate::entry::Entry;
 use crate::row::Row;
-use net_model::{Bound, Edge, Link, LinkId, Network, PointId, Weight};
+use net_model::{
+    Bound, Edge, Link, LinkId, Network, PointId, Weight, bound_edge, link_edge,
+};
 use std::alloc::{AllocError, Global};
 use std::marker::Model;
 
@@ -176,7 +178,7 @@ impl Table {
         ensures { OnOk result (self.new ≡ fold lowered self.old (map bound_edge bounds.now)) }
     {
         for bound in bounds {
-            self.lower_to(&edge_of_bound(bound))?;
+            self.lower_to(&bound_edge(bound))?;
         }
         Ok(())
     }
@@ -187,7 +189,7 @@ impl Table {
         ensures { OnOk result (self.new ≡ fold lowered self.old (map (λ e. link_edge (record { 0 = e.0 }) e.1) (enumerate_from 0 links.now))) }
     {
         for (place, link) in links.iter().enumerate() {
-            self.lower_to(&edge_of_link(LinkId(place as u32), link))?;
+            self.lower_to(&link_edge(LinkId(place as u32), link))?;
         }
         Ok(())
     }
@@ -201,29 +203,6 @@ impl Table {
             None => self.weight(edge.from, edge.to),
             Some(label) => self.upper(edge.from, label),
         }
-    }
-}
-
-fn edge_of_bound(bound: &Bound) -> Edge
-    ensures { result ≡ bound_edge bound.now }
-{
-    Edge {
-        from: bound.from,
-        to: bound.to,
-        label: None,
-        weight: bound.most,
-    }
-}
-
-fn edge_of_link(name: LinkId, link: &Link) -> Edge
-    requires { IsWeight (pos 0 -ℤ link.now.high) }
-    ensures { result ≡ link_edge name link.now }
-{
-    Edge {
-        from: link.to,
-        to: link.from,
-        label: Some(name),
-        weight: -link.high,
     }
 }
 

@@ -2,7 +2,7 @@
 
 ghost use Rattle.std.specs.Prelude.{◌≡◌, ◌+◌, ◌<◌, ◌≤◌, [], length, OnOk, OnErr};
 ghost use Rattle.std.specs.List.{All};
-ghost use Rattle.execution_model.specs.Feeding.{most_moment};
+ghost use Rattle.net_model.specs.Limits.{most_moment};
 ghost use Rattle.live_executor.specs.Awaited.{AreLatest};
 ghost use Rattle.live_executor.specs.Course.{IsCourseOf};
 ghost use Rattle.live_executor.specs.Limits.{end_of_time};

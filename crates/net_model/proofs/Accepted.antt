@@ -5,8 +5,8 @@ use Rattle.std.specs.List.{remove}
 use Rattle.std.proofs.lemmas.Bool.{eq-eqb}
 use Rattle.std.proofs.lemmas.Option.{slice_get_within, get_or_from_slice_get}
 use Rattle.net_model.specs.Building.{◌>>=◌, refuse_if, named, with_point, with_bound, with_link}
-use Rattle.net_model.specs.Editing.{added, refused_if, known, bound_user, link_user, user_by, user_of, unused, without_point, link_named, with_number, with_interval, edited}
-use Rattle.net_model.specs.Network.{Plan, point_named, bound_named, activation}
+use Rattle.net_model.specs.Editing.{added, known, bound_user, link_user, user_by, user_of, unused, without_point, with_number, with_interval, edited}
+use Rattle.net_model.specs.Network.{Plan, point_named, bound_named, activation, link_named}
 use Rattle.net_model.specs.declared.edit.Edit.{Edit}
 use Rattle.net_model.specs.declared.edit.Edit.TheVariants as edits
 use Rattle.net_model.specs.declared.edit.EditFault.{EditFault}
@@ -27,10 +27,6 @@ known_ok : {A B : Type 0} (o : Option A) (next : A → Result B EditFault) (made
 known_ok None next made is = absurd cc
 known_ok (Some x) next made is = (x, refl, is)
 
-refused_if_ok : {A : Type 0} (b : Bool) (cause : EditFault) (otherwise : Result A EditFault) (made : A) → refused_if b cause otherwise ≡ Ok made → otherwise ≡ Ok made
-refused_if_ok true cause otherwise made is = absurd cc
-refused_if_ok false cause otherwise made is = is
-
 added_ok : (r : Result Plan PartFault) (made : Plan) → added r ≡ Ok made → r ≡ Ok made
 added_ok (Ok net) made is = let same : net ≡ made = cc in ap (λ (n : Plan). Ok n) same
 added_ok (Err cause) made is = absurd cc
@@ -39,7 +35,7 @@ unused_ok : (o : Option User) (otherwise : Result Plan EditFault) (made : Plan) 
 unused_ok (Some user) otherwise made is = absurd cc
 unused_ok None otherwise made is = (refl, is)
 
-refuse_if_ok : {A : Type 0} (b : Bool) (cause : PartFault) (otherwise : Result A PartFault) (made : A) → refuse_if b cause otherwise ≡ Ok made → (b ≡ false) × (otherwise ≡ Ok made)
+refuse_if_ok : {A F : Type 0} (b : Bool) (cause : F) (otherwise : Result A F) (made : A) → refuse_if b cause otherwise ≡ Ok made → (b ≡ false) × (otherwise ≡ Ok made)
 refuse_if_ok true cause otherwise made is = absurd cc
 refuse_if_ok false cause otherwise made is = (refl, is)
 
@@ -150,12 +146,12 @@ accepted_makes old (edits.DropBound name) made is =
 accepted_makes old (edits.SetBound name most) made is =
     let (id, there, rest) = known_ok (bound_named old name) _ made is in
     let (bound, here, more) = known_ok (slice_get old.bounds id.0) _ made rest in
-    (id, bound, there, here, ok_is EditFault (with_number old id most bound) made (refused_if_ok (not (within_limit most)) _ _ made more))
+    (id, bound, there, here, ok_is EditFault (with_number old id most bound) made (refuse_if_ok (not (within_limit most)) _ _ made more).1)
 accepted_makes old (edits.DropLink to) made is =
     let (id, there, done) = known_ok (link_named old to) _ made is in
     (id, there, ok_is EditFault (record old { links = remove old.links id.0 }) made done)
 accepted_makes old (edits.SetLink to low high) made is =
     let (id, there, rest) = known_ok (link_named old to) _ made is in
     let (link, here, more) = known_ok (slice_get old.links id.0) _ made rest in
-    let within = refused_if_ok (int_lt low (pos 1) || int_lt high low) _ _ made more in
-    (id, link, there, here, ok_is EditFault (with_interval old id low high link) made (refused_if_ok (not (within_limit high)) _ _ made within))
+    let within = (refuse_if_ok (int_lt low (pos 1) || int_lt high low) _ _ made more).1 in
+    (id, link, there, here, ok_is EditFault (with_interval old id low high link) made (refuse_if_ok (not (within_limit high)) _ _ made within).1)

@@ -13,9 +13,9 @@ use Rattle.std.proofs.lemmas.Option.{get_or_from_slice_get}
 use Rattle.std.specs.Option.{option_map, option_and_then}
 use Rattle.net_model.specs.Building.{◌>>=◌, refuse_if, named, with_point, with_bound, with_link}
 use Rattle.net_model.specs.EditLaws.{by_names, effect, is_bound_named, is_link_to, part_with_most, part_with_interval, EditsChangeByNames}
-use Rattle.net_model.specs.Editing.{edited, unused, refused_if, user_of, link_named, without_point, with_number, with_interval, closed_up, closed_up_bounds, closed_up_links}
+use Rattle.net_model.specs.Editing.{edited, unused, user_of, without_point, with_number, with_interval, closed_up, closed_up_bounds, closed_up_links}
 use Rattle.net_model.specs.Limits.{most_points, most_bounds, most_links, within_limit}
-use Rattle.net_model.specs.Network.{Plan, IsPlan, point_named, bound_named, activation}
+use Rattle.net_model.specs.Network.{Plan, IsPlan, point_named, bound_named, activation, link_named}
 use Rattle.net_model.specs.NetworkParts.{point_name, bound_part, link_part}
 use Rattle.net_model.specs.declared.edit.Edit.{Edit}
 use Rattle.net_model.specs.declared.edit.Edit.TheVariants as edits
@@ -329,7 +329,7 @@ has_effect net (edits.SetLink to low high) sound =
     let P : Plan → Type 0 = HasEffect net (edits.SetLink to low high) in
     if_known P (link_named net to) _ (λ id named.
     if_known P (slice_get net.links id.0) _ (λ link at.
-    if_passed P (int_lt low (pos 1) || int_lt high low) fault.BadInterval (refused_if (not (within_limit high)) (fault.Limit Number) (Ok (with_interval net id low high link))) (λ good.
+    if_passed P (int_lt low (pos 1) || int_lt high low) fault.BadInterval (refuse_if (not (within_limit high)) (fault.Limit Number) (Ok (with_interval net id low high link))) (λ good.
     if_passed P (not (within_limit high)) (fault.Limit Number) (Ok (with_interval net id low high link)) (λ small.
     let change : Link → Link = λ l. record l { low = low; high = high } in
     let is = get_or_from_slice_get net.links id.0 link link at in

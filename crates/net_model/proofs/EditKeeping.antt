@@ -5,10 +5,10 @@ use Rattle.std.proofs.lemmas.Int.{ints}
 use Rattle.std.proofs.lemmas.List.Elements.{All-set, All-map}
 use Rattle.net_model.specs.Building.{◌>>=◌, refuse_if, named, with_point, with_bound, with_link}
 use Rattle.net_model.specs.EditLaws.{HasNames, EditsKeepSound}
-use Rattle.net_model.specs.Editing.{Edits, edited, added, known, unused, refused_if, user_of, link_named, without_point, with_number, with_interval}
+use Rattle.net_model.specs.Editing.{Edits, edited, added, known, unused, user_of, without_point, with_number, with_interval}
 use Rattle.net_model.specs.Limits.{most_points, most_bounds, most_links, within_limit, within_size}
 use Rattle.net_model.specs.Names.{is_name}
-use Rattle.net_model.specs.Network.{Plan, IsPlan, IsPoint, HasPlanNumbers, point_named, bound_named, activation}
+use Rattle.net_model.specs.Network.{Plan, IsPlan, IsPoint, HasPlanNumbers, point_named, bound_named, activation, link_named}
 use Rattle.net_model.specs.declared.edit.Edit.{Edit}
 use Rattle.net_model.specs.declared.edit.Edit.TheVariants as edits
 use Rattle.net_model.specs.declared.edit.EditFault.{EditFault}
@@ -38,7 +38,7 @@ pub if_unused : (P : Plan → Type 0) (user : Option User) (net : Plan) → (use
 if_unused P (Some user) net keeps = tt
 if_unused P None net keeps = keeps refl
 
-pub if_passed : (P : Plan → Type 0) (test : Bool) (cause : EditFault) (otherwise : Result Plan EditFault) → (test ≡ false → IfOk otherwise P) → IfOk (refused_if test cause otherwise) P
+pub if_passed : (P : Plan → Type 0) (test : Bool) (cause : EditFault) (otherwise : Result Plan EditFault) → (test ≡ false → IfOk otherwise P) → IfOk (refuse_if test cause otherwise) P
 if_passed P true cause otherwise keeps = tt
 if_passed P false cause otherwise keeps = keeps refl
 
@@ -74,7 +74,7 @@ edited_numbers net (edits.DropLink to) numbers =
 edited_numbers net (edits.SetLink to low high) numbers =
     if_known HasPlanNumbers (link_named net to) _ (λ id named.
     if_known HasPlanNumbers (slice_get net.links id.0) _ (λ link at.
-    if_passed HasPlanNumbers (int_lt low (pos 1) || int_lt high low) fault.BadInterval (refused_if (not (within_limit high)) (fault.Limit Number) (Ok (with_interval net id low high link))) (λ good.
+    if_passed HasPlanNumbers (int_lt low (pos 1) || int_lt high low) fault.BadInterval (refuse_if (not (within_limit high)) (fault.Limit Number) (Ok (with_interval net id low high link))) (λ good.
     if_passed HasPlanNumbers (not (within_limit high)) (fault.Limit Number) (Ok (with_interval net id low high link)) (λ small. record {
       bounds = numbers.bounds;
       links = All-set (λ (l : Link). within_limit l.high ≡ true) net.links id.0 (record link { low = low; high = high }) (fits high small) numbers.links;
@@ -161,7 +161,7 @@ edited_sound net (edits.DropLink to) sound names = if_known IsPlan (link_named n
 edited_sound net (edits.SetLink to low high) sound names =
     if_known IsPlan (link_named net to) _ (λ id named.
     if_known IsPlan (slice_get net.links id.0) _ (λ link at.
-    if_passed IsPlan (int_lt low (pos 1) || int_lt high low) fault.BadInterval (refused_if (not (within_limit high)) (fault.Limit Number) (Ok (with_interval net id low high link))) (λ good.
+    if_passed IsPlan (int_lt low (pos 1) || int_lt high low) fault.BadInterval (refuse_if (not (within_limit high)) (fault.Limit Number) (Ok (with_interval net id low high link))) (λ good.
     if_passed IsPlan (not (within_limit high)) (fault.Limit Number) (Ok (with_interval net id low high link)) (λ small.
     sound_with_interval net sound id low high link at (interval_of low high good).0 (interval_of low high good).1 (fits high small)))))
 

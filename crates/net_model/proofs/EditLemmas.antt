@@ -16,11 +16,11 @@ use Rattle.std.proofs.lemmas.Option.{slice_get_within, slice_get_read, slice_get
 use Rattle.net_model.proofs.FillingLemmas.{pairs_from_map}
 use Rattle.net_model.proofs.NetworkLemmas.{IsBound-more, IsLink-more}
 use Rattle.net_model.proofs.Positions.{fails_from_None, None_from_option_map}
-use Rattle.net_model.specs.Building.{Adds}
-use Rattle.net_model.specs.Editing.{closed_up, closed_up_bounds, closed_up_links, without_point, with_number, with_interval, bound_user, link_user, user_by, user_of, link_named, known, refused_if, edited, cause_of, added, Edits}
+use Rattle.net_model.specs.Building.{Adds, refuse_if}
+use Rattle.net_model.specs.Editing.{closed_up, closed_up_bounds, closed_up_links, without_point, with_number, with_interval, bound_user, link_user, user_by, user_of, known, edited, cause_of, added, Edits}
 use Rattle.net_model.specs.Limits.{within_limit, within_size}
 use Rattle.net_model.specs.Names.{is_name}
-use Rattle.net_model.specs.Network.{Plan, IsPlan, IsBound, IsLink, point_named, bound_named, activation}
+use Rattle.net_model.specs.Network.{Plan, IsPlan, IsBound, IsLink, point_named, bound_named, activation, link_named}
 use Rattle.net_model.specs.declared.ids.BoundId.{BoundId}
 use Rattle.net_model.specs.declared.ids.LinkId.{LinkId}
 use Rattle.net_model.specs.declared.ids.PointId.{PointId}
@@ -254,19 +254,19 @@ made_sound made points bounds links same_points same_bounds same_links = subst I
 pub number_set : (net : Plan) (name : List ℕ) (id : BoundId) (most : ℤ) (bound : Bound) → bound_named net name ≡ Some id → slice_get net.bounds id.0 ≡ Some bound → within_limit most ≡ true
     → edited net (edits.SetBound name most) ≡ Ok (with_number net id most bound)
 number_set net name id most bound named at small =
-    ap (λ (o : Option BoundId). known o (λ k. known (slice_get net.bounds k.0) (λ b. refused_if (not (within_limit most)) (fault.Limit Number) (Ok (with_number net k most b))))) named
-    ∙ ap (λ (o : Option Bound). known o (λ b. refused_if (not (within_limit most)) (fault.Limit Number) (Ok (with_number net id most b)))) at
-    ∙ ap (λ (t : Bool). refused_if (not t) (fault.Limit Number) (Ok (with_number net id most bound))) small
+    ap (λ (o : Option BoundId). known o (λ k. known (slice_get net.bounds k.0) (λ b. refuse_if (not (within_limit most)) (fault.Limit Number) (Ok (with_number net k most b))))) named
+    ∙ ap (λ (o : Option Bound). known o (λ b. refuse_if (not (within_limit most)) (fault.Limit Number) (Ok (with_number net id most b)))) at
+    ∙ ap (λ (t : Bool). refuse_if (not t) (fault.Limit Number) (Ok (with_number net id most bound))) small
 
 pub interval_set : (net : Plan) (to : List ℕ) (id : LinkId) (low high : ℤ) (link : Link) → link_named net to ≡ Some id → slice_get net.links id.0 ≡ Some link
     → pos 1 ≤ℤ low → low ≤ℤ high → within_limit high ≡ true
     → edited net (edits.SetLink to low high) ≡ Ok (with_interval net id low high link)
 interval_set net to id low high link named at positive interval small =
     let good : (int_lt low (pos 1) || int_lt high low) ≡ false = grind (arith, ints) in
-    ap (λ (o : Option LinkId). known o (λ k. known (slice_get net.links k.0) (λ l. refused_if (int_lt low (pos 1) || int_lt high low) fault.BadInterval (refused_if (not (within_limit high)) (fault.Limit Number) (Ok (with_interval net k low high l)))))) named
-    ∙ ap (λ (o : Option Link). known o (λ l. refused_if (int_lt low (pos 1) || int_lt high low) fault.BadInterval (refused_if (not (within_limit high)) (fault.Limit Number) (Ok (with_interval net id low high l))))) at
-    ∙ ap (λ (t : Bool). refused_if t fault.BadInterval (refused_if (not (within_limit high)) (fault.Limit Number) (Ok (with_interval net id low high link)))) good
-    ∙ ap (λ (t : Bool). refused_if (not t) (fault.Limit Number) (Ok (with_interval net id low high link))) small
+    ap (λ (o : Option LinkId). known o (λ k. known (slice_get net.links k.0) (λ l. refuse_if (int_lt low (pos 1) || int_lt high low) fault.BadInterval (refuse_if (not (within_limit high)) (fault.Limit Number) (Ok (with_interval net k low high l)))))) named
+    ∙ ap (λ (o : Option Link). known o (λ l. refuse_if (int_lt low (pos 1) || int_lt high low) fault.BadInterval (refuse_if (not (within_limit high)) (fault.Limit Number) (Ok (with_interval net id low high l))))) at
+    ∙ ap (λ (t : Bool). refuse_if t fault.BadInterval (refuse_if (not (within_limit high)) (fault.Limit Number) (Ok (with_interval net id low high link)))) good
+    ∙ ap (λ (t : Bool). refuse_if (not t) (fault.Limit Number) (Ok (with_interval net id low high link))) small
 
 -- a bound of the network is given another number: that is a network, and what the edit makes
 pub number_made : (net : Plan) → IsPlan net → (name : List ℕ) (id : BoundId) (most : ℤ) (bound : Bound) → bound_named net name ≡ Some id → bound ≡ get_or net.bounds id.0 bound → within_limit most ≡ true

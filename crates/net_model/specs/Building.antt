@@ -18,7 +18,7 @@ abbrev pub ◌>>=◌ : {A B : Type 0} → Result A PartFault → (A → Result B
 (Err fault) >>= next = Err fault
 
 -- refused for this cause where the test holds
-abbrev pub refuse_if : {A : Type 0} → Bool → PartFault → Result A PartFault → Result A PartFault
+abbrev pub refuse_if : {A F : Type 0} → Bool → F → Result A F → Result A F
 refuse_if true fault otherwise = Err fault
 refuse_if false fault otherwise = otherwise
 

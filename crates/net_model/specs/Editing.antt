@@ -1,10 +1,10 @@
 -- What an edit makes of a network, or why it is refused.
-use Rattle.std.specs.Prelude.{◌≡◌, ◌==◌, ◌||◌, ◌-◌, ℕ, ℤ, Bool, true, false, List, map, Option, Some, None, Result, Ok, Err, nat_lt, pos, int_lt, not, if◌then◌else◌, slice_get, codes}
+use Rattle.std.specs.Prelude.{◌≡◌, ◌==◌, ◌||◌, ◌-◌, ℕ, ℤ, List, map, Option, Some, None, Result, Ok, Err, nat_lt, pos, int_lt, not, if◌then◌else◌, slice_get, codes}
 use Rattle.std.specs.List.{position, remove, slice_set}
-use Rattle.std.specs.Option.{option_map, option_and_then}
-use Rattle.net_model.specs.Building.{with_point, with_bound, with_link}
+use Rattle.std.specs.Option.{option_map}
+use Rattle.net_model.specs.Building.{refuse_if, with_point, with_bound, with_link}
 use Rattle.net_model.specs.Limits.{within_limit}
-use Rattle.net_model.specs.Network.{Plan, point_named, bound_named, activation}
+use Rattle.net_model.specs.Network.{Plan, point_named, bound_named, link_named}
 use Rattle.net_model.specs.declared.ids.BoundId.{BoundId}
 use Rattle.net_model.specs.declared.ids.LinkId.{LinkId}
 use Rattle.net_model.specs.declared.ids.PointId.{PointId}
@@ -34,11 +34,6 @@ cause_of part.OutOfMemory = fault.OutOfMemory
 abbrev pub added : Result Plan PartFault → Result Plan EditFault
 added (Ok net) = Ok net
 added (Err cause) = Err (cause_of cause)
-
--- refused for this cause where the test holds
-abbrev pub refused_if : {A : Type 0} → Bool → EditFault → Result A EditFault → Result A EditFault
-refused_if true cause otherwise = Err cause
-refused_if false cause otherwise = otherwise
 
 -- what comes of what was found; where nothing was, the name is unknown
 abbrev pub known : {A B : Type 0} → Option A → (A → Result B EditFault) → Result B EditFault
@@ -88,10 +83,6 @@ without_point net dropped = record {
   links = closed_up_links dropped net.links;
 }
 
--- the link that ends in the point of a name
-abbrev pub link_named : Plan → List ℕ → Option LinkId
-link_named net name = option_and_then (activation net) (point_named net name)
-
 -- the network in which a bound has this number
 abbrev pub with_number : Plan → BoundId → ℤ → Bound → Plan
 with_number net id most bound = record net { bounds = slice_set net.bounds id.0 (record bound { most = most }) }
@@ -111,15 +102,15 @@ edited net (edits.SetBound name most) =
     known (bound_named net name)
     (λ id. known (slice_get net.bounds id.0)
     (λ bound.
-    refused_if (not (within_limit most)) (fault.Limit Number)
+    refuse_if (not (within_limit most)) (fault.Limit Number)
     (Ok (with_number net id most bound))))
 edited net (edits.DropLink to) = known (link_named net to) (λ id. Ok (record net { links = remove net.links id.0 }))
 edited net (edits.SetLink to low high) =
     known (link_named net to)
     (λ id. known (slice_get net.links id.0)
     (λ link.
-    refused_if (int_lt low (pos 1) || int_lt high low) fault.BadInterval
-    (refused_if (not (within_limit high)) (fault.Limit Number)
+    refuse_if (int_lt low (pos 1) || int_lt high low) fault.BadInterval
+    (refuse_if (not (within_limit high)) (fault.Limit Number)
     (Ok (with_interval net id low high link)))))
 
 -- The answer is what the edit makes, unless memory ran out.

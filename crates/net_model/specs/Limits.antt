@@ -1,5 +1,5 @@
 -- The greatest counts and sizes.
-use Rattle.std.specs.Prelude.{ℕ, ℤ, Bool, nat_le, unsigned_abs}
+use Rattle.std.specs.Prelude.{ℕ, ℤ, ◌≤◌, Bool, nat_le, unsigned_abs}
 
 -- how many points a network may have
 abbrev pub most_points : ℕ
@@ -25,6 +25,10 @@ most_size = 2000000000
 abbrev pub most_weight : ℕ
 most_weight = 1000000000000
 
+-- the greatest moment of an event, and of an execution
+abbrev pub most_moment : ℕ
+most_moment = 4000000000000
+
 -- how many lines of one text are read
 abbrev pub most_lines : ℕ
 most_lines = 2147483648
@@ -36,3 +40,7 @@ within_limit number = nat_le (unsigned_abs number) most_number
 -- a number that a sound network may have
 abbrev pub within_size : ℤ → Bool
 within_size number = nat_le (unsigned_abs number) most_size
+
+-- a weight that an edge may have that is derived or kept in a table
+abbrev pub IsWeight : ℤ → Type 0
+IsWeight weight = unsigned_abs weight ≤ most_weight

@@ -1,6 +1,6 @@
 -- Temporal networks with uncertainty (Morris, Muscettola and Vidal 2001), in whole moments.
 use Rattle.std.specs.Prelude.{◌≡◌, ◌≢◌, ℕ, ◌<◌, ◌≤◌, ◌==◌, true, List, [], length, map, filter, fold, max, Option, IsTrue, IsSome, IsNone, pos, ◌≤ℤ◌, unsigned_abs}
-use Rattle.std.specs.Option.{option_map}
+use Rattle.std.specs.Option.{option_map, option_and_then}
 use Rattle.std.specs.List.{All, AllPairs, IsDistinct, position, enumerate_from}
 use Rattle.std.specs.Str.{bytes_eq}
 use Rattle.net_model.specs.Names.{is_name}
@@ -28,6 +28,10 @@ bound_named net name = option_map (λ k. record { 0 = k }) (position (λ (b : Bo
 -- the link that ends in a point
 abbrev pub activation : Plan → PointId → Option LinkId
 activation net point = option_map (λ k. record { 0 = k }) (position (λ (l : Link). l.to.0 == point.0) net.links)
+
+-- the link that ends in the point of a name
+abbrev pub link_named : Plan → List ℕ → Option LinkId
+link_named net name = option_and_then (activation net) (point_named net name)
 
 abbrev pub IsPoint : Plan → PointId → Type 0
 IsPoint net point = point.0 < length net.points

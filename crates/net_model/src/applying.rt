@@ -3,8 +3,8 @@
 ghost use Rattle.std.specs.Prelude.{◌≡◌, ◌<◌, ◌==◌, ◌||◌, length, IfOk};
 ghost use Rattle.std.specs.List.{position, remove, slice_set};
 ghost use Rattle.net_model.specs.Building.{with_part};
-ghost use Rattle.net_model.specs.Editing.{Edits, edited, added, user_of, link_named, without_point, closed_up, closed_up_bounds, closed_up_links};
-ghost use Rattle.net_model.specs.Network.{IsPlan, IsPoint, HasPlanNumbers};
+ghost use Rattle.net_model.specs.Editing.{Edits, edited, added, user_of, without_point, closed_up, closed_up_bounds, closed_up_links};
+ghost use Rattle.net_model.specs.Network.{IsPlan, IsPoint, HasPlanNumbers, link_named};
 
 use crate::edit::{Edit, EditFault, User};
 use crate::ids::{BoundId, LinkId, PointId, Weight};

@@ -2,6 +2,7 @@
 #![tactic(auto)]
 
 mod applying;
+mod edges;
 mod edit;
 mod fault;
 mod filling;
@@ -15,13 +16,15 @@ mod network;
 mod part;
 pub mod text;
 
+pub use edges::{bound_edge, link_edge};
 pub use edit::{Edit, EditFault, User};
 pub use fault::BuildFault;
 pub use format::{FormatFault, FormatKind, TextFault, WordFault};
 pub use ids::{BoundId, LinkId, PointId, Weight};
 pub use items::Items;
 pub use limits::{
-    MOST_BOUNDS, MOST_LINES, MOST_LINKS, MOST_NUMBER, MOST_POINTS, limits_are_defined,
+    MOST_BOUNDS, MOST_LINES, MOST_LINKS, MOST_MOMENT, MOST_NUMBER, MOST_POINTS, MOST_WEIGHT,
+    limits_are_defined,
 };
 pub use name::{Name, NameFault};
 pub use network::Network;

@@ -1,7 +1,7 @@
 //! The greatest counts and sizes of a network. They are this project's own choice.
 
 ghost use Rattle.std.specs.Prelude.{◌≡◌};
-ghost use Rattle.net_model.specs.Limits.{most_points, most_links, most_bounds, most_number, most_lines};
+ghost use Rattle.net_model.specs.Limits.{most_points, most_links, most_bounds, most_number, most_weight, most_moment, most_lines};
 
 /// The greatest number of points of a network.
 pub const MOST_POINTS: usize = 1_000;
@@ -15,6 +15,12 @@ pub const MOST_BOUNDS: usize = 20_000;
 /// The greatest size of a number of a plan, in whole moments.
 pub const MOST_NUMBER: u64 = 1_000_000_000;
 
+/// The greatest size of the weight of an edge that is derived, judged or kept in a table, in whole moments.
+pub const MOST_WEIGHT: u64 = 1_000_000_000_000;
+
+/// The greatest moment of an event, and of an execution.
+pub const MOST_MOMENT: u64 = 4_000_000_000_000;
+
 /// The greatest number of lines of one text.
 pub const MOST_LINES: u32 = 2_147_483_648;
 
@@ -24,5 +30,7 @@ pub fn limits_are_defined()
     ensures links { MOST_LINKS ≡ most_links }
     ensures bounds { MOST_BOUNDS ≡ most_bounds }
     ensures number { MOST_NUMBER ≡ most_number }
+    ensures weight { MOST_WEIGHT ≡ most_weight }
+    ensures moment { MOST_MOMENT ≡ most_moment }
     ensures lines { MOST_LINES ≡ most_lines }
 {}

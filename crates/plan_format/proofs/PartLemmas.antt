@@ -14,10 +14,11 @@ use Rattle.plan_format.specs.declared.plan_line.PlanLine.{PlanLine}
 use Rattle.plan_format.specs.declared.plan_line.PlanLine.TheVariants as line
 use Rattle.plan_format.specs.PlanLines.{plan_line, line_of, header_line, end_line, declares, point_line, bound_line, link_line}
 use Rattle.plan_format.specs.PlanGrammar.{AreWordsOf}
-use Rattle.plan_format.specs.PlanParts.{part_words, IsSpelled, header_words, end_words}
+use Rattle.net_model.specs.NetworkParts.{IsDeclarable}
+use Rattle.plan_format.specs.PlanParts.{part_words, header_words, end_words}
 
 -- the line of a part is read as that part
-pub spelled_read : (p : Part) → IsSpelled p → plan_line (part_words p) ≡ Ok (line.Part p)
+pub spelled_read : (p : Part) → IsDeclarable p → plan_line (part_words p) ≡ Ok (line.Part p)
 unfolding plan_line
 spelled_read (part.Point name) spelled = rw (name_read name spelled) refl
 spelled_read (part.Bound name from to most) spelled =
@@ -39,20 +40,20 @@ blank_read [] blank = refl
 blank_read (first ∷ others) blank = rw blank refl
 
 -- the words after the first one of the line of a part
-point_ok : (others : List (List ℕ)) (p : Part) → point_line others ≡ Ok p → (codes "point" ∷ others ≡ part_words p) × IsSpelled p
+point_ok : (others : List (List ℕ)) (p : Part) → point_line others ≡ Ok p → (codes "point" ∷ others ≡ part_words p) × IsDeclarable p
 point_ok [] p read = absurd (cc)
 point_ok (word ∷ []) p read =
     let name = bind_ok (name_of word) _ p read in
     let named = name_ok word name.0 name.1 in
     let same : part.Point name.0 ≡ p = cc in
     let words : codes "point" ∷ word ∷ [] ≡ part_words (part.Point name.0) = ap (λ (w : List ℕ). codes "point" ∷ w ∷ []) named.0 in
-    subst (λ (q : Part). (codes "point" ∷ word ∷ [] ≡ part_words q) × IsSpelled q) same (words, named.1)
+    subst (λ (q : Part). (codes "point" ∷ word ∷ [] ≡ part_words q) × IsDeclarable q) same (words, named.1)
 point_ok (word ∷ next ∷ others) p read = absurd (cc)
 
 same_words : (first a b c d e f g h : List ℕ) → a ≡ e → b ≡ f → c ≡ g → d ≡ h → first ∷ a ∷ b ∷ c ∷ d ∷ [] ≡ first ∷ e ∷ f ∷ g ∷ h ∷ []
 same_words first a b c d e f g h p q r s = cc
 
-bound_ok : (others : List (List ℕ)) (p : Part) → bound_line others ≡ Ok p → (codes "bound" ∷ others ≡ part_words p) × IsSpelled p
+bound_ok : (others : List (List ℕ)) (p : Part) → bound_line others ≡ Ok p → (codes "bound" ∷ others ≡ part_words p) × IsDeclarable p
 bound_ok [] p read = absurd (cc)
 bound_ok (a ∷ []) p read = absurd (cc)
 bound_ok (a ∷ b ∷ []) p read = absurd (cc)
@@ -68,10 +69,10 @@ bound_ok (a ∷ b ∷ c ∷ d ∷ []) p read =
     let w = number_ok d most.0 most.1 in
     let same : part.Bound name.0 from.0 to.0 most.0 ≡ p = cc in
     let words : codes "bound" ∷ a ∷ b ∷ c ∷ d ∷ [] ≡ part_words (part.Bound name.0 from.0 to.0 most.0) = same_words _ _ _ _ _ _ _ _ _ x.0 y.0 z.0 w.0 in
-    subst (λ (q : Part). (codes "bound" ∷ a ∷ b ∷ c ∷ d ∷ [] ≡ part_words q) × IsSpelled q) same (words, (x.1, y.1, z.1, w.1))
+    subst (λ (q : Part). (codes "bound" ∷ a ∷ b ∷ c ∷ d ∷ [] ≡ part_words q) × IsDeclarable q) same (words, (x.1, y.1, z.1, w.1))
 bound_ok (a ∷ b ∷ c ∷ d ∷ e ∷ others) p read = absurd (cc)
 
-link_ok : (others : List (List ℕ)) (p : Part) → link_line others ≡ Ok p → (codes "link" ∷ others ≡ part_words p) × IsSpelled p
+link_ok : (others : List (List ℕ)) (p : Part) → link_line others ≡ Ok p → (codes "link" ∷ others ≡ part_words p) × IsDeclarable p
 link_ok [] p read = absurd (cc)
 link_ok (a ∷ []) p read = absurd (cc)
 link_ok (a ∷ b ∷ []) p read = absurd (cc)
@@ -87,10 +88,10 @@ link_ok (a ∷ b ∷ c ∷ d ∷ []) p read =
     let w = name_ok d to.0 to.1 in
     let same : part.Link from.0 low.0 high.0 to.0 ≡ p = cc in
     let words : codes "link" ∷ a ∷ b ∷ c ∷ d ∷ [] ≡ part_words (part.Link from.0 low.0 high.0 to.0) = same_words _ _ _ _ _ _ _ _ _ x.0 y.0 z.0 w.0 in
-    subst (λ (q : Part). (codes "link" ∷ a ∷ b ∷ c ∷ d ∷ [] ≡ part_words q) × IsSpelled q) same (words, (x.1, y.1, z.1, w.1))
+    subst (λ (q : Part). (codes "link" ∷ a ∷ b ∷ c ∷ d ∷ [] ≡ part_words q) × IsDeclarable q) same (words, (x.1, y.1, z.1, w.1))
 link_ok (a ∷ b ∷ c ∷ d ∷ e ∷ others) p read = absurd (cc)
 
-declared_ok : (first : List ℕ) (others : List (List ℕ)) (read : Result Part FormatKind) (l : PlanLine) → ((p : Part) → read ≡ Ok p → (first ∷ others ≡ part_words p) × IsSpelled p) → declares read ≡ Ok l → AreWordsOf l (first ∷ others)
+declared_ok : (first : List ℕ) (others : List (List ℕ)) (read : Result Part FormatKind) (l : PlanLine) → ((p : Part) → read ≡ Ok p → (first ∷ others ≡ part_words p) × IsDeclarable p) → declares read ≡ Ok l → AreWordsOf l (first ∷ others)
 declared_ok first others (Ok p) l spelled said =
     let same : line.Part p ≡ l = cc in
     subst (λ (k : PlanLine). AreWordsOf k (first ∷ others)) same (spelled p refl)

@@ -8,7 +8,7 @@ use Rattle.std.proofs.lemmas.List.Elements.{recursion_from_All, All-nil, All-app
 use Rattle.net_model.specs.Names.{is_name}
 use Rattle.net_model.specs.Limits.{within_limit, most_number}
 use Rattle.net_model.specs.Network.{Plan, IsPlan, HasPlanNumbers}
-use Rattle.net_model.specs.NetworkParts.{bound_part, link_part, parts_of}
+use Rattle.net_model.specs.NetworkParts.{bound_part, link_part, parts_of, IsDeclarable}
 use Rattle.texts.specs.Words.{words}
 use Rattle.texts.specs.Lines.{lines}
 use Rattle.texts.specs.Lines.{size_of_lines}
@@ -21,7 +21,7 @@ use Rattle.net_model.proofs.SpellingLemmas.{printable_name, printable_integer}
 use Rattle.plan_format.specs.declared.plan_line.PlanLine.TheVariants as line
 use Rattle.plan_format.specs.PlanGrammar.{IsLine, IsBegun, header, declares, IsPlanText}
 use Rattle.plan_format.specs.PlanNetwork.{DeclaresNetwork}
-use Rattle.plan_format.specs.PlanParts.{part_words, IsSpelled, header_words, end_words}
+use Rattle.plan_format.specs.PlanParts.{part_words, header_words, end_words}
 use Rattle.plan_format.specs.PlanPrinting.{plan_words, printed_plan, ReadsBack}
 use Rattle.net_model.proofs.PartsLemmas.{parts_build}
 use Rattle.plan_format.proofs.StepLemmas.{one_more}
@@ -49,7 +49,7 @@ literal_bound = record { filled = omega arith; plain = (omega arith, (omega arit
 literal_link : IsPrintable (codes "link")
 literal_link = record { filled = omega arith; plain = (omega arith, (omega arith, (omega arith, (omega arith, tt)))) }
 
-printable_part : (p : Part) → IsSpelled p → IsPrintableLine (part_words p)
+printable_part : (p : Part) → IsDeclarable p → IsPrintableLine (part_words p)
 printable_part (part.Point name) spelled = (literal_point, (printable_name name spelled, tt))
 printable_part (part.Bound name from to most) spelled =
     (literal_bound, (printable_name name spelled.0, (printable_name from spelled.1, (printable_name to spelled.2, (printable_number most spelled.3, tt)))))
@@ -59,11 +59,11 @@ printable_part (part.Link from low high to) spelled =
 printable_end : IsPrintableLine end_words
 printable_end = (literal_end, tt)
 
-printable_parts : (parts : List Part) → AllByRecursion IsSpelled parts → AllByRecursion IsPrintableLine (map part_words parts ++ end_words ∷ [])
+printable_parts : (parts : List Part) → AllByRecursion IsDeclarable parts → AllByRecursion IsPrintableLine (map part_words parts ++ end_words ∷ [])
 printable_parts [] spelled = (printable_end, tt)
 printable_parts (p ∷ parts) spelled = (printable_part p spelled.0, printable_parts parts spelled.1)
 
-printable_plan : (parts : List Part) → AllByRecursion IsSpelled parts → AllByRecursion IsPrintableLine (plan_words parts)
+printable_plan : (parts : List Part) → AllByRecursion IsDeclarable parts → AllByRecursion IsPrintableLine (plan_words parts)
 printable_plan parts spelled = ((literal_stnu, (literal_one, tt)), printable_parts parts spelled)
 
 -- the numbers of the lines of parts that stand one after another
@@ -79,7 +79,7 @@ begun_is lines text parts ps numbers ns e p n begun =
     subst (λ (ls : List (List ℕ)). IsBegun ls ps ns) e (subst (λ (qs : List Part). IsBegun lines qs ns) p (subst (λ (ms : List ℕ). IsBegun lines parts ms) n begun))
 
 -- printed lines of parts after lines that have begun
-begun_with : (before : List (List ℕ)) (ps : List Part) (ns : List ℕ) (parts : List Part) → AllByRecursion IsSpelled parts → IsBegun before ps ns → IsBegun (before ++ map joined (map part_words parts)) (ps ++ parts) (ns ++ numbers_from (length before + 1) parts)
+begun_with : (before : List (List ℕ)) (ps : List Part) (ns : List ℕ) (parts : List Part) → AllByRecursion IsDeclarable parts → IsBegun before ps ns → IsBegun (before ++ map joined (map part_words parts)) (ps ++ parts) (ns ++ numbers_from (length before + 1) parts)
 begun_with before ps ns [] spelled begun = rw (append-nil before, append-nil ps, append-nil ns) begun
 begun_with before ps ns (p ∷ parts) spelled begun =
     let text : List ℕ = joined (part_words p) in
@@ -110,7 +110,7 @@ size_of_printed (l ∷ text) printable =
     rw (count, split) (omega (arith, here, size, size_of_printed text printable.1))
 
 -- the printed lines of parts that can be spelled are a plan text
-plan_printed : (parts : List Part) → AllByRecursion IsSpelled parts → IsPlanText (map joined (plan_words parts)) parts (numbers_from 2 parts)
+plan_printed : (parts : List Part) → AllByRecursion IsDeclarable parts → IsPlanText (map joined (plan_words parts)) parts (numbers_from 2 parts)
 plan_printed parts spelled =
     let first : List ℕ = joined header_words in
     let heads : IsLine line.Header first = line_back header_words (literal_stnu, (literal_one, tt)) in
@@ -130,18 +130,18 @@ spelled_name net plan k inside = plan.points_named k [] inside
 size_below : (low high : ℤ) → pos 1 ≤ℤ low → low ≤ℤ high → unsigned_abs low ≤ unsigned_abs high
 size_below low high positive interval = grind arith
 
-spelled_parts : (net : Plan) → IsPlan net → HasPlanNumbers net → AllByRecursion IsSpelled (parts_of net)
+spelled_parts : (net : Plan) → IsPlan net → HasPlanNumbers net → AllByRecursion IsDeclarable (parts_of net)
 spelled_parts net plan numbers =
-    let points : All IsSpelled (map part.Point net.points) = All-map IsSpelled part.Point net.points plan.points_named in
-    let bounds : All IsSpelled (map (bound_part net.points) net.bounds) = All-map IsSpelled (bound_part net.points) net.bounds (λ k d inside.
+    let points : All IsDeclarable (map part.Point net.points) = All-map IsDeclarable part.Point net.points plan.points_named in
+    let bounds : All IsDeclarable (map (bound_part net.points) net.bounds) = All-map IsDeclarable (bound_part net.points) net.bounds (λ k d inside.
     (let b = plan.bounds_sound k d inside in
     (b.named, spelled_name net plan _ b.from_point, spelled_name net plan _ b.to_point, numbers.bounds k d inside))) in
-    let links : All IsSpelled (map (link_part net.points) net.links) = All-map IsSpelled (link_part net.points) net.links (λ k d inside.
+    let links : All IsDeclarable (map (link_part net.points) net.links) = All-map IsDeclarable (link_part net.points) net.links (λ k d inside.
     (let l = plan.links_sound k d inside in
     let few = leb-true (unsigned_abs (get_or net.links k d).high) most_number (numbers.links k d inside) in
     let smaller = size_below (get_or net.links k d).low (get_or net.links k d).high l.positive l.interval in
     (spelled_name net plan _ l.from_point, le-leb (unsigned_abs (get_or net.links k d).low) most_number (omega (arith, few, smaller)), numbers.links k d inside, spelled_name net plan _ l.to_point))) in
-    recursion_from_All IsSpelled (parts_of net) (All-append IsSpelled (map part.Point net.points) (map (bound_part net.points) net.bounds ++ map (link_part net.points) net.links) points (All-append IsSpelled (map (bound_part net.points) net.bounds) (map (link_part net.points) net.links) bounds links))
+    recursion_from_All IsDeclarable (parts_of net) (All-append IsDeclarable (map part.Point net.points) (map (bound_part net.points) net.bounds ++ map (link_part net.points) net.links) points (All-append IsDeclarable (map (bound_part net.points) net.bounds) (map (link_part net.points) net.links) bounds links))
 
 -- the printed text of a network is read back
 pub reads_back : (net : Plan) → IsPlan net → HasPlanNumbers net → ReadsBack (printed_plan net) net

@@ -7,13 +7,14 @@ use Rattle.net_model.specs.declared.part.Part.{Part}
 use Rattle.plan_format.specs.declared.plan_line.PlanLine.{PlanLine}
 use Rattle.plan_format.specs.declared.plan_line.PlanLine.TheVariants as line
 use Rattle.plan_format.specs.declared.read.Parts.{Parts}
-use Rattle.plan_format.specs.PlanParts.{part_words, IsSpelled, header_words, end_words}
+use Rattle.net_model.specs.NetworkParts.{IsDeclarable}
+use Rattle.plan_format.specs.PlanParts.{part_words, header_words, end_words}
 
 -- what the words of a line of each kind are
 abbrev pub AreWordsOf : PlanLine → List (List ℕ) → Type 0
 AreWordsOf line.Blank words = are_passed_over words ≡ true
 AreWordsOf line.Header words = words ≡ header_words
-AreWordsOf (line.Part part) words = (words ≡ part_words part) × IsSpelled part
+AreWordsOf (line.Part part) words = (words ≡ part_words part) × IsDeclarable part
 AreWordsOf line.End words = words ≡ end_words
 
 -- a line of a kind

@@ -8,7 +8,8 @@ use Rattle.net_model.specs.Names.{is_name}
 use Rattle.net_model.specs.declared.part.Part.{Part}
 use Rattle.net_model.specs.declared.part.Part.TheVariants as part
 use Rattle.plan_json.specs.Document.{Fault as Wrong, BoundForm, LinkForm, Lists, ◌>>=◌, bad_name, bound_form, bound_part, document_parts, item_part, items_parts, link_form, link_part, lists_parts, member_of, name_in, number_in, number_limit, or_fault, place_after, point_part, shape_at, top_of, unless}
-use Rattle.plan_json.specs.Reading.{IsDeclarable, declared, json_value}
+use Rattle.net_model.specs.NetworkParts.{IsDeclarable}
+use Rattle.plan_json.specs.Reading.{declared, json_value}
 use Rattle.plan_json.specs.declared.place.PartList.{PartList}
 use Rattle.plan_json.specs.declared.place.PartList.TheVariants as list
 use Rattle.plan_json.specs.declared.place.Place.{Place}

@@ -1,11 +1,9 @@
 -- What the bytes of a document say. This project's own choice; what a JSON text is (RFC 8259) is read as `serde_json` reads it.
-use Rattle.std.specs.Prelude.{◌≡◌, ℕ, List, ◌++◌, Option, Some, None, option_map, Result, Ok, Err, IsTrue, true, if◌then◌else◌}
+use Rattle.std.specs.Prelude.{◌≡◌, ℕ, List, ◌++◌, Option, Some, None, option_map, Result, Ok, Err, if◌then◌else◌}
 use Rattle.std.specs.List.{All}
 use Rattle.std.specs.Str.{is_utf8}
-use Rattle.net_model.specs.Limits.{within_limit}
-use Rattle.net_model.specs.Names.{is_name}
+use Rattle.net_model.specs.NetworkParts.{IsDeclarable}
 use Rattle.net_model.specs.declared.part.Part.{Part}
-use Rattle.net_model.specs.declared.part.Part.TheVariants as part
 use Rattle.serde_json.specs.Data.{Data}
 use Rattle.serde_json.specs.Read.{read}
 use Rattle.plan_json.specs.declared.fault.JsonFault.{JsonFault}
@@ -19,12 +17,6 @@ json_value bytes = if is_utf8 bytes then read bytes else None
 -- the parts that the bytes declare, or the first fault of their document; none where they have no reading
 abbrev pub declared : List ℕ → Option (Result (List Part) Fault)
 declared bytes = option_map document_parts (json_value bytes)
-
--- a part that can be declared: its names are names, and its numbers are within their limit
-abbrev pub IsDeclarable : Part → Type 0
-IsDeclarable (part.Point name) = IsTrue (is_name name)
-IsDeclarable (part.Bound name from to most) = IsTrue (is_name name) × IsTrue (is_name from) × IsTrue (is_name to) × (within_limit most ≡ true)
-IsDeclarable (part.Link from low high to) = IsTrue (is_name from) × (within_limit low ≡ true) × (within_limit high ≡ true) × IsTrue (is_name to)
 
 -- the parts that bytes declare can be declared
 abbrev pub DeclaredPartsAreDeclarable : Type 0

@@ -1,10 +1,6 @@
 -- The greatest sizes and counts of what comes over a port.
 use Rattle.std.specs.Prelude.{ℕ}
 
--- how many bytes a line may have for which a reader needs no memory
-abbrev pub most_line : ℕ
-most_line = 65536
-
 -- how many bytes an input may have at most, whatever its reader allows
 abbrev pub most_read : ℕ
 most_read = 2147483647

@@ -2,7 +2,7 @@
 use Rattle.std.specs.Prelude.{◌≡◌, ◌⊎◌, ℕ, ◌+◌, ◌-◌, ◌<◌, ◌≤◌, Bool, true, false, ◌||◌, if◌then◌else◌, List, [], ◌∷◌, ◌++◌, length, take, drop, All, Option, Some, None, is_some, IfSome}
 use Rattle.std.specs.List.{concat}
 use Rattle.texts.specs.Lines.{InputLine, input_lines, line_size}
-use Rattle.plan_port.specs.Limits.{most_line}
+use Rattle.texts.specs.Limits.{most_line}
 use Rattle.plan_port.specs.Talk.{Seen, Talk, WhereTold, LosesFront, with_pieces, with_failed_take, raised}
 use Rattle.plan_port.specs.Lines.{Coming, Comes, coming, DecideNothing}
 use Rattle.plan_port.specs.Lines.{TooLong as LongLine, TooMuch as MuchInput}

@@ -11,7 +11,8 @@ mod steady;
 mod window;
 mod writing;
 
-pub use limits::{MOST_LINE, MOST_READ, limits_are_defined};
+pub use limits::{MOST_READ, limits_are_defined};
+pub use texts::MOST_LINE;
 pub use lines::{Line, LineReader};
 pub use memory::MemoryPort;
 pub use ports::{Port, Sent, Took};

@@ -1,9 +1,9 @@
 //! The greatest sizes of what comes over a port. They are this project's own choice.
 ghost use Rattle.std.specs.Prelude.{◌≡◌};
-ghost use Rattle.plan_port.specs.Limits.{most_line, most_read};
+ghost use Rattle.texts.specs.Limits.{most_line};
+ghost use Rattle.plan_port.specs.Limits.{most_read};
 
-/// The greatest number of bytes of a line for which a reader needs no memory.
-pub const MOST_LINE: u32 = 65_536;
+use texts::MOST_LINE;
 
 /// The greatest number of bytes that a reader may allow its input.
 pub const MOST_READ: u64 = 2_147_483_647;

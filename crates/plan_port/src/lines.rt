@@ -1,6 +1,7 @@
 //! The lines of an input that comes over a port.
 ghost use Rattle.std.specs.Prelude.{◌≡◌, ◌≢◌, ℕ, ◌+◌, ◌<◌, ◌≤◌, ◌^◌, true, false, List, [], length, take, drop, Some, None, IfOk, IfSome, IfNone, OnErr};
-ghost use Rattle.plan_port.specs.Limits.{most_line, most_read};
+ghost use Rattle.texts.specs.Limits.{most_line};
+ghost use Rattle.plan_port.specs.Limits.{most_read};
 ghost use Rattle.plan_port.specs.Talk.{TakesOnce, WhereTold, bytes_given};
 ghost use Rattle.plan_port.specs.Reader.{Reader, IsReader, Takes, ReadsNext, GivesNext, WantsRoom, fresh, room, stop_of, answer, after_answer, with_pieces_kept};
 ghost use Rattle.plan_port.specs.Reading.{verdict, verdict_on, outcome_of, has_fault, ended_after, with_bytes_kept, gives_line};

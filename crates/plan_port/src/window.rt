@@ -1,14 +1,14 @@
 //! The bytes that a reader holds: the last line given, and those taken and not given out.
 ghost use Rattle.std.specs.Prelude.{◌≡◌, ℕ, ◌+◌, ◌<◌, ◌^◌, List, [], ◌++◌, length, take, drop, IfOk, IfSome, OnErr, OnOk};
 ghost use Rattle.std.specs.List.{position};
-ghost use Rattle.plan_port.specs.Limits.{most_line};
+ghost use Rattle.texts.specs.Limits.{most_line};
 ghost use Rattle.plan_port.specs.Talk.{TakesOnce, bytes_given};
 ghost use Rattle.plan_port.specs.Reading.{ends_line};
 
-use crate::limits::MOST_LINE;
 use crate::ports::{Port, Took};
 use std::alloc::{AllocError, Global};
 use std::marker::Model;
+use texts::MOST_LINE;
 
 /// A line of the greatest length that needs no memory, and one byte that shows that it is longer.
 const CAPACITY: usize = MOST_LINE as usize + 1;
@@ -28,7 +28,7 @@ impl Model for Window {
     ghost use Rattle.std.specs.Prelude.{◌≡◌, ◌<◌, ◌≤◌, ◌-◌, slice_range, vec_len};
     ghost use Rattle.std.specs.List.{position_or_len};
     ghost use Rattle.plan_port.specs.Held.{Held};
-    ghost use Rattle.plan_port.specs.Limits.{most_line};
+    ghost use Rattle.texts.specs.Limits.{most_line};
     ghost use Rattle.plan_port.specs.Reading.{ends_line};
 
     ghost Value = { Held };

@@ -5,10 +5,9 @@
 ghost use Rattle.std.specs.Prelude.{◌≡◌, ◌≤◌, ◌<◌, ◌&&◌, not, length, Some, None, MatchOption, IfSome, unsigned_abs};
 ghost use Rattle.std.specs.Option.{SomeIff};
 ghost use Rattle.net_model.specs.Network.{IsLink};
-ghost use Rattle.net_model.specs.Limits.{most_size};
+ghost use Rattle.net_model.specs.Limits.{most_size, IsWeight};
 ghost use Rattle.net_model.specs.Edges.{IsLinkOf};
 ghost use Rattle.net_model.specs.Rules.{no_case, upper_case, lower_case, cross_case, removal, is_ordinary, is_labelled, is_labelled_by, meet, is_negative, goes_on_from, moved_to_activation};
-ghost use Rattle.reduction_rules.specs.Weights.{IsWeight};
 ghost use Rattle.reduction_rules.specs.Applies.{NoCaseApplies, UpperCaseApplies, LowerCaseApplies, CrossCaseApplies, joined, without_label};
 
 use net_model::{Edge, Link, LinkId, Network};

@@ -11,7 +11,7 @@ use Rattle.closure_model.specs.Keys.{Key}
 use Rattle.closure_model.specs.ReferenceRounds.{cycle_keys}
 use Rattle.closure_model.specs.declared.derivation.Node.{Node}
 use Rattle.closure_model.specs.declared.derivation.NodeId.{NodeId}
-use Rattle.cert_format.specs.CertificateWords.{IsWeight}
+use Rattle.cert_format.specs.CertificateWords.{HasWrittenWeight}
 use Rattle.cert_format.specs.declared.line.CertLine.{CertLine}
 use Rattle.cert_checker.specs.Judgement.{judged, lines_pass, refutation_passes}
 use Rattle.cert_checker.specs.Walk.{walk_passes}
@@ -56,5 +56,5 @@ refutations_have_weights net support lines walk plan stands k d inside =
     let (id, among, made) = made_from (λ (i : NodeId). option_map (line_by net lines) (node_at support.nodes i)) lines k (get_or all k d) (slice_get-get_or all k d inside) in
     let (node, here, same) = node_line net lines (node_at support.nodes id) (get_or all k d) made in
     let within : unsigned_abs node.edge.weight ≤ most_size = node_within net plan support.nodes stands.derived id node here in
-    let line_within : IsWeight (line_by net lines node) = omega arith in
-    subst IsWeight same line_within
+    let line_within : HasWrittenWeight (line_by net lines node) = omega arith in
+    subst HasWrittenWeight same line_within

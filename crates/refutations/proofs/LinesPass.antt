@@ -32,7 +32,8 @@ use Rattle.cert_checker.specs.Lines.{unless, line_at, link_named, item_known, la
 use Rattle.cert_checker.specs.Judgement.{lines_pass}
 use Rattle.cert_checker.specs.declared.judgement.CertFault.TheVariants.{UnknownItem, WeightRange}
 use Rattle.cert_checker.proofs.Passing as loop
-use Rattle.refutations.specs.Certifying.{point_name, link_name, label_name, kind_of, line_by, lines_by}
+use Rattle.net_model.specs.NetworkParts.{point_name}
+use Rattle.refutations.specs.Certifying.{link_name, label_name, kind_of, line_by, lines_by}
 use Rattle.refutations.proofs.Places.{before, made_at_from, place_of, place_there, stands_before}
 use Rattle.refutations.proofs.Places as places
 use Rattle.refutations.proofs.Named.{named_point, bound_known, link_known}
@@ -223,8 +224,8 @@ module _ (net : Plan) (plan : IsPlan net) (nodes : List Node) (list : IsDerivati
       node_passes node here =
           let sound : IsEdge net node.edge = node_edge id node here in
           let from_premises = made_at net nodes list id node here in
-          let from : is_some (point_named net (point_name net node.edge.from)) ≡ true = ap is_some (named_point net plan node.edge.from sound.from_point) in
-          let to : is_some (point_named net (point_name net node.edge.to)) ≡ true = ap is_some (named_point net plan node.edge.to sound.to_point) in
+          let from : is_some (point_named net (point_name net.points node.edge.from)) ≡ true = ap is_some (named_point net plan node.edge.from sound.from_point) in
+          let to : is_some (point_named net (point_name net.points node.edge.to)) ≡ true = ap is_some (named_point net plan node.edge.to sound.to_point) in
           line_ok net (take k (lines_by net nodes lines)) (line_by net lines node) from to (within_range node.edge.weight most_size (node_within id node here) (omega arith)) (line_passes_by node.rule node.edge from_premises (λ premise among. is_line premise node here among) sound (says net nodes lines id.0 node from_premises))
 
     -- all lines pass

@@ -8,7 +8,7 @@ use Rattle.std.proofs.lemmas.Bool.Decides.{nat_tests}
 use Rattle.std.proofs.lemmas.Slice.Eq.{bytes_eq-Decides}
 use Rattle.std.proofs.lemmas.Map.Made.{AllPairs-from_IsDistinct}
 use Rattle.std.proofs.lemmas.Option.{slice_get-get_or, slice_get_within, get_or_from_slice_get, slice_get-map, same_Some}
-use Rattle.net_model.specs.Network.{Plan, IsPlan, IsPoint, IsLink, point_named, bound_named, activation}
+use Rattle.net_model.specs.Network.{Plan, IsPlan, IsPoint, IsLink, point_named, bound_named, activation, link_named as link_id}
 use Rattle.net_model.specs.declared.ids.PointId.{PointId}
 use Rattle.net_model.specs.declared.ids.LinkId.{LinkId}
 use Rattle.net_model.specs.declared.ids.BoundId.{BoundId}
@@ -16,9 +16,9 @@ use Rattle.net_model.specs.declared.part.Bound.{Bound}
 use Rattle.net_model.specs.declared.part.Link.{Link}
 use Rattle.closure_model.proofs.Deriving.{link_at}
 use Rattle.cert_checker.specs.Lines.{link_named, bound_of, names_point}
-use Rattle.cert_checker.specs.Truth.{link_id}
 use Rattle.cert_checker.proofs.Naming.{same_bytes, bytes_same}
-use Rattle.refutations.specs.Certifying.{point_name, bound_name, link_name}
+use Rattle.net_model.specs.NetworkParts.{point_name}
+use Rattle.refutations.specs.Certifying.{bound_name, link_name}
 use Rattle.refutations.proofs.Places.{first_at}
 
 differ : (x y : List ℕ) → (x ≡ y → ⊥) → bytes_eq x y ≡ false
@@ -31,15 +31,15 @@ other_number : (m n : ℕ) → (m ≡ n → ⊥) → (m == n) ≡ false
 other_number m n apart = grind (arith, nat_tests, apart)
 
 module _ (net : Plan) (plan : IsPlan net) where
-  pub named_point : (point : PointId) → IsPoint net point → point_named net (point_name net point) ≡ Some point
+  pub named_point : (point : PointId) → IsPoint net point → point_named net (point_name net.points point) ≡ Some point
   named_point point inside =
-      let name : List ℕ = point_name net point in
+      let name : List ℕ = point_name net.points point in
       let apart = AllPairs-from_IsDistinct bytes_eq-Decides net.points plan.points_apart in
       let fails : (j : ℕ) → j < point.0 → bytes_eq name (get_or net.points j []) ≡ false = λ j below. differ name (get_or net.points j []) (λ same. apart j point.0 [] below inside (sym same)) in
       ap (option_map (λ (k : ℕ). record { 0 = k })) (first_at (bytes_eq name) net.points point.0 [] inside (bytes_same name name refl) fails)
 
   -- a point has its name
-  pub has_name : (point : PointId) → IsPoint net point → names_point net (point_name net point) point ≡ true
+  pub has_name : (point : PointId) → IsPoint net point → names_point net (point_name net.points point) point ≡ true
   has_name point inside =
       let same : (point.0 == point.0) ≡ true = grind (arith, nat_tests) in
       ap (λ (o : Option PointId). option_map_or (λ (p : PointId). p.0 == point.0) o false) (named_point point inside) ∙ same
@@ -81,7 +81,7 @@ module _ (net : Plan) (plan : IsPlan net) where
   pub link_known : (id : LinkId) (link : Link) → slice_get net.links id.0 ≡ Some link → (link_id net (link_name net id) ≡ Some id) × (link_named net (link_name net id) ≡ Some link)
   link_known id link here =
       let sound : IsLink net link = link_at net plan id link here in
-      let name : link_name net id ≡ point_name net link.to = ap (λ (o : Option Link). option_map_or (λ (l : Link). point_name net l.to) o []) here in
+      let name : link_name net id ≡ point_name net.points link.to = ap (λ (o : Option Link). option_map_or (λ (l : Link). point_name net.points l.to) o []) here in
       let named : point_named net (link_name net id) ≡ Some link.to = ap (point_named net) name ∙ named_point link.to sound.to_point in
       let ends : activation net link.to ≡ Some id = ends_there id link here in
       (ap (option_and_then (activation net)) named ∙ ends, ap (option_and_then (λ (point : PointId). option_and_then (λ (l : LinkId). slice_get net.links l.0) (activation net point))) named ∙ (ap (option_and_then (λ (l : LinkId). slice_get net.links l.0)) ends ∙ here))

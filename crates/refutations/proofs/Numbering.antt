@@ -16,7 +16,8 @@ use Rattle.cert_format.specs.declared.line.CertLine.{CertLine}
 use Rattle.cert_format.specs.Kind.{has_label}
 use Rattle.cert_format.specs.declared.kind.LineKind.{LineKind}
 use Rattle.cert_format.proofs.EdgeLemmas.{same_line}
-use Rattle.refutations.specs.Certifying.{point_name, label_name, kind_of, only_if, is_there, line_by, lines_among}
+use Rattle.net_model.specs.NetworkParts.{point_name}
+use Rattle.refutations.specs.Certifying.{label_name, kind_of, only_if, is_there, line_by, lines_among}
 use Rattle.refutations.specs.Making.{AreInOrder}
 use Rattle.refutations.proofs.Places.{place_of, place_there}
 
@@ -69,15 +70,15 @@ made_line kind from to label weight fits = record { kind = kind; from = from; to
 
 -- a line that was put together of the words of a node is its line
 pub line_built : (net : Plan) (lines : List NodeId) (node : Node) (kind : LineKind) (from to : List ℕ) (label : Option (List ℕ)) (weight : ℤ) (p : is_some label ≡ has_label kind)
-    → weight ≡ node.edge.weight → kind ≡ kind_of net lines node.rule → label ≡ only_if (has_label kind) (label_name net node.edge.label) → from ≡ point_name net node.edge.from → to ≡ point_name net node.edge.to
+    → weight ≡ node.edge.weight → kind ≡ kind_of net lines node.rule → label ≡ only_if (has_label kind) (label_name net node.edge.label) → from ≡ point_name net.points node.edge.from → to ≡ point_name net.points node.edge.to
     → (let l : CertLine = record { kind = kind; from = from; to = to; label = label; weight = weight; labelled = p } in l) ≡ line_by net lines node
 unfolding made_line
 line_built net lines node kind from to label weight p is_weight is_kind is_label is_from is_to =
     let K : LineKind = kind_of net lines node.rule in
     let name : List ℕ = label_name net node.edge.label in
     let at_label : (r : is_some (only_if (has_label K) name) ≡ has_label K) → made_line K from to (only_if (has_label K) name) node.edge.weight r ≡ line_by net lines node = λ r.
-    ap (λ (f : List ℕ). made_line K f to (only_if (has_label K) name) node.edge.weight r) is_from ∙ (ap (λ (t : List ℕ). made_line K (point_name net node.edge.from) t (only_if (has_label K) name) node.edge.weight r) is_to
-    ∙ same_line K (point_name net node.edge.from) (point_name net node.edge.to) (only_if (has_label K) name) node.edge.weight r (is_there (has_label K) name)) in
+    ap (λ (f : List ℕ). made_line K f to (only_if (has_label K) name) node.edge.weight r) is_from ∙ (ap (λ (t : List ℕ). made_line K (point_name net.points node.edge.from) t (only_if (has_label K) name) node.edge.weight r) is_to
+    ∙ same_line K (point_name net.points node.edge.from) (point_name net.points node.edge.to) (only_if (has_label K) name) node.edge.weight r (is_there (has_label K) name)) in
     let at_kind : (l : Option (List ℕ)) (q : is_some l ≡ has_label K) → l ≡ only_if (has_label K) name → made_line K from to l node.edge.weight q ≡ line_by net lines node = λ l q e.
     subst (λ (m : Option (List ℕ)). (r : is_some m ≡ has_label K) → made_line K from to m node.edge.weight r ≡ line_by net lines node) (sym e) at_label q in
     ap (λ (w : ℤ). made_line kind from to label w p) is_weight ∙ subst (λ (k : LineKind). (l : Option (List ℕ)) (q : is_some l ≡ has_label k) → l ≡ only_if (has_label k) name → made_line k from to l node.edge.weight q ≡ line_by net lines node) (sym is_kind) at_kind label p is_label

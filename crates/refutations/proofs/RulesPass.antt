@@ -20,7 +20,8 @@ use Rattle.cert_format.specs.declared.line.CertLine.{CertLine}
 use Rattle.cert_checker.specs.Lines.{◌>>=◌, unless, there, line_at, link_named, bound_of, names_point, label_of, same_label, at_least, is_negative, has_label_of, has_ends_of, are_ordinary, takes_label, may_cross, goes, joins, reaches_back, bound_passes, link_passes, sum_passes, back_passes, no_passes, up_passes, low_passes, cross_passes, drop_passes}
 use Rattle.cert_checker.specs.declared.judgement.CertFault.TheVariants.{UnknownItem, Premise, RuleCondition, Ends, Label, TooLow}
 use Rattle.cert_checker.proofs.Naming.{bytes_same}
-use Rattle.refutations.specs.Certifying.{point_name, bound_name, link_name}
+use Rattle.net_model.specs.NetworkParts.{point_name}
+use Rattle.refutations.specs.Certifying.{bound_name, link_name}
 use Rattle.refutations.proofs.Named.{has_name, bound_known, link_known, links_differ}
 use Rattle.refutations.proofs.Stating.{Says}
 
@@ -63,11 +64,11 @@ same_labels x y name one two =
 
 module _ (net : Plan) (plan : IsPlan net) where
   -- two names of one point
-  meet_there : (x y : List ℕ) (p q : PointId) → x ≡ point_name net p → y ≡ point_name net q → p ≡ q → bytes_eq x y ≡ true
-  meet_there x y p q one two same = bytes_same x y (one ∙ (ap (point_name net) same ∙ sym two))
+  meet_there : (x y : List ℕ) (p q : PointId) → x ≡ point_name net.points p → y ≡ point_name net.points q → p ≡ q → bytes_eq x y ≡ true
+  meet_there x y p q one two same = bytes_same x y (one ∙ (ap (point_name net.points) same ∙ sym two))
 
-  stands_for : (x : List ℕ) (p q : PointId) → x ≡ point_name net p → p ≡ q → IsPoint net q → names_point net x q ≡ true
-  stands_for x p q is same inside = ap (λ name. names_point net name q) (is ∙ ap (point_name net) same) ∙ has_name net plan q inside
+  stands_for : (x : List ℕ) (p q : PointId) → x ≡ point_name net.points p → p ≡ q → IsPoint net q → names_point net x q ≡ true
+  stands_for x p q is same inside = ap (λ name. names_point net name q) (is ∙ ap (point_name net.points) same) ∙ has_name net plan q inside
 
   module _ (line : CertLine) (edge : Edge) (says : Says net line edge) where
     pub bound_ok : (id : BoundId) (bound : Bound) → slice_get net.bounds id.0 ≡ Some bound → bound_edge bound ≡ edge → bound_passes net line (bound_name net id) ≡ Ok tt

@@ -12,12 +12,13 @@ use Rattle.closure_model.specs.declared.derivation.Rule.{Rule}
 use Rattle.cert_format.specs.Kind.{has_label}
 use Rattle.cert_format.specs.declared.line.CertLine.{CertLine}
 use Rattle.cert_checker.specs.Lines.{label_of, label_by}
-use Rattle.refutations.specs.Certifying.{point_name, link_name, label_name, kind_of, only_if, line_by}
+use Rattle.net_model.specs.NetworkParts.{point_name}
+use Rattle.refutations.specs.Certifying.{link_name, label_name, kind_of, only_if, line_by}
 
 -- a line states an edge, by the names of the network
 pub record Says (net : Plan) (line : CertLine) (edge : Edge) : Type 0 where
-  pub from : line.from ≡ point_name net edge.from
-  pub to : line.to ≡ point_name net edge.to
+  pub from : line.from ≡ point_name net.points edge.from
+  pub to : line.to ≡ point_name net.points edge.to
   pub label : label_of line ≡ option_map (link_name net) edge.label
   pub weight : line.weight ≡ edge.weight
 

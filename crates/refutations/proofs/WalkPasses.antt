@@ -23,7 +23,8 @@ use Rattle.cert_checker.specs.Lines.{line_at, there, unless}
 use Rattle.cert_checker.specs.Walk.{refusal, steps_known, returns_to, is_negative_walk, total_weight, walked, walk_passes}
 use Rattle.cert_checker.specs.declared.judgement.CertFault.TheVariants.{Premise, WalkBroken, WalkNotNegative}
 use Rattle.cert_checker.proofs.Naming.{bytes_same}
-use Rattle.refutations.specs.Certifying.{point_name, line_by, lines_by}
+use Rattle.net_model.specs.NetworkParts.{point_name}
+use Rattle.refutations.specs.Certifying.{line_by, lines_by}
 use Rattle.refutations.proofs.RulesPass.{goes_on, there_is, unless_is, lt_test}
 use Rattle.refutations.proofs.LinesPass.{numbered_line}
 
@@ -67,12 +68,12 @@ negative_cycle table (first ∷ points) whole = negative_from table points first
 
 -- a line states an edge of a key, of negative weight
 pub record GoesBy (net : Plan) (key : Key) (line : CertLine) : Type 0 where
-  pub from : line.from ≡ point_name net key.from
-  pub to : line.to ≡ point_name net key.to
+  pub from : line.from ≡ point_name net.points key.from
+  pub to : line.to ≡ point_name net.points key.to
   pub negative : line.weight <ℤ pos 0
 
 -- lines that go on from a point by the keys of a cycle return to its first point
-returns : (net : Plan) (points : List PointId) (first last : PointId) (place : ℕ) (begin : List ℕ) (line : CertLine) (lines : List CertLine) → begin ≡ point_name net first → line.to ≡ point_name net last → AllZip (GoesBy net) (keys_from first last points) lines → returns_to begin place line lines ≡ Ok tt
+returns : (net : Plan) (points : List PointId) (first last : PointId) (place : ℕ) (begin : List ℕ) (line : CertLine) (lines : List CertLine) → begin ≡ point_name net.points first → line.to ≡ point_name net.points last → AllZip (GoesBy net) (keys_from first last points) lines → returns_to begin place line lines ≡ Ok tt
 returns net [] first last place begin line [] begins here zip = absurd zip
 returns net [] first last place begin line (next ∷ []) begins here (one, none) =
     goes_on (unless (bytes_eq next.from line.to) (refusal (place + 1) WalkBroken)) _ tt (Ok tt) (unless_is (bytes_eq next.from line.to) (refusal (place + 1) WalkBroken) (bytes_same next.from line.to (one.from ∙ sym here))) (unless_is (bytes_eq next.to begin) (refusal (place + 1) WalkBroken) (bytes_same next.to begin (one.to ∙ sym begins)))
@@ -122,8 +123,8 @@ module _ (net : Plan) (plan : IsPlan net) (support : Support) (stands : StandsOn
         line_by net lines is.node,
         numbered_line net plan support.nodes stands.derived tops lines all_under tops_are_nodes id is.node inside is.here,
         record {
-          from = ap (λ (k : Key). point_name net k.from) is.of_key;
-          to = ap (λ (k : Key). point_name net k.to) is.of_key;
+          from = ap (λ (k : Key). point_name net.points k.from) is.of_key;
+          to = ap (λ (k : Key). point_name net.points k.to) is.of_key;
           negative = subst (λ (w : ℤ). w <ℤ pos 0) (sym same) negative.negative;
         },
       )

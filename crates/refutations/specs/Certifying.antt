@@ -1,9 +1,10 @@
 -- The certificate that refutes a network, made from nodes of a derivation list and a walk: each node is a rule line with the names
 -- of the network, and its premises are named by the numbers of their lines.
 use Rattle.std.specs.Prelude.{◌≡◌, ℕ, Bool, true, false, List, [], Option, Some, None, is_some, if◌then◌else◌, slice_get, refl}
-use Rattle.std.specs.List.{filter_map, slice_index_or}
+use Rattle.std.specs.List.{filter_map}
 use Rattle.std.specs.Option.{option_map, option_map_or}
 use Rattle.net_model.specs.Network.{Plan}
+use Rattle.net_model.specs.NetworkParts.{point_name}
 use Rattle.net_model.specs.declared.ids.PointId.{PointId}
 use Rattle.net_model.specs.declared.ids.LinkId.{LinkId}
 use Rattle.net_model.specs.declared.ids.BoundId.{BoundId}
@@ -22,17 +23,13 @@ use Rattle.cert_format.specs.declared.kind.LineKind.{LineKind}
 use Rattle.cert_format.specs.declared.kind.LineKind.TheVariants as kind
 use Rattle.cert_format.specs.declared.line.CertLine.{CertLine}
 
--- the name of a point
-abbrev pub point_name : Plan → PointId → List ℕ
-point_name net point = slice_index_or net.points point.0 []
-
 -- the name of a bound
 abbrev pub bound_name : Plan → BoundId → List ℕ
 bound_name net name = option_map_or (λ (bound : Bound). bound.name) (slice_get net.bounds name.0) []
 
 -- the name of a link: that of its contingent point
 abbrev pub link_name : Plan → LinkId → List ℕ
-link_name net name = option_map_or (λ (link : Link). point_name net link.to) (slice_get net.links name.0) []
+link_name net name = option_map_or (λ (link : Link). point_name net.points link.to) (slice_get net.links name.0) []
 
 -- what the line of a rule names: a bound or a link by its name, and premises by the numbers of their lines
 abbrev pub kind_of : Plan → List NodeId → Rule → LineKind
@@ -64,8 +61,8 @@ line_by net lines node =
     let name = label_name net node.edge.label in
     record {
       kind = kind;
-      from = point_name net node.edge.from;
-      to = point_name net node.edge.to;
+      from = point_name net.points node.edge.from;
+      to = point_name net.points node.edge.to;
       label = only_if (has_label kind) name;
       weight = node.edge.weight;
       labelled = is_there (has_label kind) name;

@@ -2,14 +2,15 @@
 
 ghost use Rattle.std.specs.Prelude.{◌≡◌, ◌<◌, length};
 ghost use Rattle.net_model.specs.Network.{IsPoint};
-ghost use Rattle.refutations.specs.Certifying.{point_name, bound_name, link_name};
+ghost use Rattle.net_model.specs.NetworkParts.{point_name};
+ghost use Rattle.refutations.specs.Certifying.{bound_name, link_name};
 
 use net_model::{BoundId, LinkId, Name, Network, PointId};
 
 /// The name of a point.
 pub fn point_name(net: &Network, point: PointId) -> Name
     requires { IsPoint net.now point }
-    ensures { result ≡ point_name net.now point }
+    ensures { result ≡ point_name net.now.points point }
 {
     net.points()[point.0 as usize]
 }

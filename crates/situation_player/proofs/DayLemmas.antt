@@ -7,7 +7,7 @@ use Rattle.std.proofs.lemmas.Bool.{cases_lt, leb-true}
 use Rattle.std.proofs.lemmas.Int.{ints}
 use Rattle.std.proofs.lemmas.List.Elements.{All-weaker, All-contains_itself}
 use Rattle.std.proofs.lemmas.Option.{none-some, same_Some}
-use Rattle.net_model.specs.Limits.{most_size}
+use Rattle.net_model.specs.Limits.{most_size, most_moment}
 use Rattle.net_model.specs.Network.{Plan, IsPoint, IsContingent}
 use Rattle.net_model.specs.Edges.{IsLinkOf}
 use Rattle.net_model.specs.declared.ids.PointId.{PointId}
@@ -22,7 +22,7 @@ use Rattle.strategy_model.proofs.KindLemmas.{Ending}
 use Rattle.strategy_model.proofs.PlayLemmas.{link_sound}
 use Rattle.dispatch_net.proofs.ExecutionLemmas.{dispatchable_length}
 use Rattle.execution_model.specs.Execution.{Moments, Setting, moment_of, acts_at, acted, time_runs}
-use Rattle.execution_model.specs.Feeding.{Execution, next_moment, most_moment, IsNextDue}
+use Rattle.execution_model.specs.Feeding.{Execution, next_moment, IsNextDue}
 use Rattle.execution_model.specs.Streams.{Listing}
 use Rattle.execution_model.specs.Laws.{setting_of, IsDispatchedByClosure}
 use Rattle.execution_model.specs.declared.feeding.Why.{Why}

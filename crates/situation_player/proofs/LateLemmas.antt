@@ -7,7 +7,7 @@ use Rattle.std.specs.Option.{option_map_or}
 use Rattle.std.proofs.lemmas.Bool.{cases_lt, leb-true, lt-ltb, le-ltb}
 use Rattle.std.proofs.lemmas.Int.{ints}
 use Rattle.std.proofs.lemmas.List.Elements.{All-nil, All-cons, All-head, All-tail, Contains-append_cases}
-use Rattle.net_model.specs.Limits.{most_size}
+use Rattle.net_model.specs.Limits.{most_size, most_moment}
 use Rattle.net_model.specs.Network.{Plan, IsPoint, IsExecutable}
 use Rattle.net_model.specs.declared.ids.PointId.{PointId}
 use Rattle.net_model.specs.declared.ids.LinkId.{LinkId}
@@ -27,7 +27,6 @@ use Rattle.dispatch_net.specs.declared.dispatch.Conditions.{Conditions}
 use Rattle.dispatch_net.proofs.EarliestLemmas.{closures_may_dispatch}
 use Rattle.dispatch_net.proofs.ExactLemmas.{lists_are_exact}
 use Rattle.dispatch_net.proofs.ExecutionLemmas.{point_count}
-use Rattle.execution_model.specs.Feeding.{most_moment}
 use Rattle.execution_model.specs.Laws.{IsDispatchedByClosure}
 use Rattle.execution_model.proofs.CutLemmas.{IsRun, lasts}
 use Rattle.execution_model.proofs.LawLemmas.{run_of}

@@ -14,7 +14,8 @@ use Rattle.strategy_model.specs.Situations.{IsSituation}
 use Rattle.dispatch_net.proofs.EarliestLemmas.{closures_execute_earliest}
 use Rattle.dispatch_net.proofs.ExecutionLemmas.{dispatchable_length, executions_satisfy}
 use Rattle.execution_model.specs.Execution.{Moments, Setting}
-use Rattle.execution_model.specs.Feeding.{Execution, started, next_moment, most_moment, taken, after_feed, first_open, IsFed, IsWhole, IsFinished}
+use Rattle.net_model.specs.Limits.{most_moment}
+use Rattle.execution_model.specs.Feeding.{Execution, started, next_moment, taken, after_feed, first_open, IsFed, IsWhole, IsFinished}
 use Rattle.execution_model.specs.Streams.{Listing, Shows}
 use Rattle.execution_model.specs.Timely.{fed_all, with_completed, IsInTime}
 use Rattle.execution_model.specs.Earliest.{EndsEarliest}

@@ -12,7 +12,8 @@ use Rattle.event_stream.specs.EventText.{EventLine, blank, completed, done, IsLi
 use Rattle.event_stream.specs.Laws.{OneReading}
 use Rattle.execution_model.specs.Acts.{scheduled, ActsAreEarliest, LastActsAreEarliest}
 use Rattle.execution_model.specs.Execution.{Moments, moment_of, time_runs}
-use Rattle.execution_model.specs.Feeding.{Execution, started, next_moment, most_moment, taken, after_feed, first_open, IsWhole}
+use Rattle.net_model.specs.Limits.{most_moment}
+use Rattle.execution_model.specs.Feeding.{Execution, started, next_moment, taken, after_feed, first_open, IsWhole}
 use Rattle.execution_model.specs.Laws.{setting_of, IsDispatchedByClosure, going_on, ended, AreWithinLimit, FaithfulStreamsAreTaken, DoneWhereNoneIsOpen, EndsAreEarliest}
 use Rattle.execution_model.specs.Streams.{Listing, Shows, IsFaithful}
 use Rattle.execution_model.specs.Timely.{fed_all}

@@ -6,7 +6,7 @@ use Rattle.net_model.specs.Network.{Plan}
 use Rattle.net_model.specs.declared.ids.PointId.{PointId}
 use Rattle.net_model.specs.declared.format.FormatKind.{FormatKind}
 use Rattle.net_model.specs.declared.format.FormatKind.TheVariants.{NoEnd}
-use Rattle.plan_port.specs.Limits.{most_line}
+use Rattle.texts.specs.Limits.{most_line}
 use Rattle.plan_port.specs.Lines.{Comes, TooLong, TooMuch, coming}
 use Rattle.event_stream.specs.EventText.{EventLine, blank, completed, done, IsLine, IsFaultOf}
 use Rattle.event_stream.specs.Laws.{OneReading}

@@ -10,7 +10,7 @@ use Rattle.net_model.specs.declared.ids.PointId.{PointId}
 use Rattle.closure_model.specs.Tables.{Graph}
 use Rattle.strategy_model.specs.Control.{IsControllable, IsEarliest}
 use Rattle.strategy_model.specs.Situations.{Satisfies}
-use Rattle.plan_port.specs.Limits.{most_line}
+use Rattle.texts.specs.Limits.{most_line}
 use Rattle.plan_port.specs.Lines.{Comes, coming}
 use Rattle.event_stream.specs.EventText.{EventLine, blank, completed, done, IsLine}
 use Rattle.execution_model.specs.Acts.{scheduled}

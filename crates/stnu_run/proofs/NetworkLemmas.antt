@@ -23,7 +23,7 @@ use Rattle.net_model.specs.declared.fault.BuildFault.{BuildFault}
 use Rattle.net_model.proofs.NetworkLemmas.{IsPlan-more_points, IsPlan-more_bounds, IsPlan-more_links}
 use Rattle.plan_format.specs.PlanGrammar.{IsBegun, header, blank, declares}
 use Rattle.plan_format.specs.PlanNetwork.{DeclaresNetwork}
-use Rattle.plan_format.specs.PlanParts.{IsSpelled}
+use Rattle.net_model.specs.NetworkParts.{IsDeclarable}
 
 -- why a part is refused
 abbrev ErrorOf : {A E : Type 0} → Result A E → Type 0
@@ -186,7 +186,7 @@ link_sound net from low high to sound =
     } in
     IsPlan-more_links net link sound good (none_is (activation net c) first) (grind (arith, nat_tests)))))))))
 
-part_sound : (net : Plan) (part : Part) → IsSpelled part → IsPlan net → IfOk (with_part net part) IsPlan
+part_sound : (net : Plan) (part : Part) → IsDeclarable part → IsPlan net → IfOk (with_part net part) IsPlan
 part_sound net (part.Point name) spelled sound = point_sound net name spelled sound
 part_sound net (part.Bound name from to most) spelled sound = bound_sound net name from to most spelled.0 sound
 part_sound net (part.Link from low high to) spelled sound = link_sound net from low high to sound
@@ -195,19 +195,19 @@ sound_by : (place : ℕ) (parts : List Part) (taken : Result Plan PartFault) (ne
 sound_by place parts (Ok more) net sound later builds = later more sound builds
 sound_by place parts (Err fault) net sound later builds = absurd (cc)
 
-parts_sound : (place : ℕ) (net made : Plan) (parts : List Part) → All IsSpelled parts → IsPlan net → with_parts place net parts ≡ Ok made → IsPlan made
+parts_sound : (place : ℕ) (net made : Plan) (parts : List Part) → All IsDeclarable parts → IsPlan net → with_parts place net parts ≡ Ok made → IsPlan made
 parts_sound place net made [] spelled sound builds = let same : net ≡ made = cc in subst IsPlan same sound
 parts_sound place net made (part ∷ parts) spelled sound builds =
-    sound_by place parts (with_part net part) made (part_sound net part (All-head IsSpelled part parts spelled) sound)
-    (λ more also rest. parts_sound (place + 1) more made parts (All-tail IsSpelled part parts spelled) also rest) builds
+    sound_by place parts (with_part net part) made (part_sound net part (All-head IsDeclarable part parts spelled) sound)
+    (λ more also rest. parts_sound (place + 1) more made parts (All-tail IsDeclarable part parts spelled) also rest) builds
 
 -- the parts of a plan text can be spelled
-spelled_parts : (lines : List (List ℕ)) (parts : List Part) (numbers : List ℕ) → IsBegun lines parts numbers → All IsSpelled parts
-spelled_parts lines parts numbers (header blanks first all is) = All-nil IsSpelled
+spelled_parts : (lines : List (List ℕ)) (parts : List Part) (numbers : List ℕ) → IsBegun lines parts numbers → All IsDeclarable parts
+spelled_parts lines parts numbers (header blanks first all is) = All-nil IsDeclarable
 spelled_parts lines parts numbers (blank before next ps ns begins is) = spelled_parts before ps ns begins
 spelled_parts lines parts numbers (declares before next ps more ns begins declared) =
-    let one : All IsSpelled (declared.0 ∷ []) = All-cons IsSpelled declared.0 [] declared.2.1 (All-nil IsSpelled) in
-    All-append IsSpelled ps more (spelled_parts before ps ns begins) (subst (All IsSpelled) (sym declared.1) one)
+    let one : All IsDeclarable (declared.0 ∷ []) = All-cons IsDeclarable declared.0 [] declared.2.1 (All-nil IsDeclarable) in
+    All-append IsDeclarable ps more (spelled_parts before ps ns begins) (subst (All IsDeclarable) (sym declared.1) one)
 
 empty_sound : IsPlan empty
 empty_sound = record {
@@ -223,7 +223,7 @@ empty_sound = record {
 }
 
 -- what parts build that can be spelled is sound
-pub built_sound : (parts : List Part) (net : Plan) → All IsSpelled parts → built parts ≡ Ok net → IsPlan net
+pub built_sound : (parts : List Part) (net : Plan) → All IsDeclarable parts → built parts ≡ Ok net → IsPlan net
 built_sound parts net spelled builds = parts_sound 0 empty net parts spelled empty_sound builds
 
 -- a network that lines declare is sound

@@ -1,11 +1,6 @@
 -- Plans of either form are read by their grammar.
 use Rattle.std.proofs.Common.{◌≡◌, ℕ, List}
 use Rattle.net_model.specs.Network.{Plan, IsPlan}
-use Rattle.std.proofs.lemmas.List.Elements.{All-weaker}
-use Rattle.net_model.specs.declared.part.Part.{Part}
-use Rattle.net_model.specs.declared.part.Part.TheVariants as part
-use Rattle.plan_format.specs.PlanParts.{IsSpelled}
-use Rattle.plan_json.specs.Reading.{IsDeclarable}
 use Rattle.plan_json.proofs.PartsLemmas.{said_declarable}
 use Rattle.command_engine.specs.Grammars.{ReadsBy}
 use Rattle.command_engine.proofs.AlternativeLemmas.{left_by, right_by}
@@ -29,13 +24,7 @@ pub input_one : (form : PlanForm) (lines : List (List ℕ)) (net other : Plan) (
 input_one Text lines net other rest after is also = network_one lines net other rest after is also
 input_one Json lines net other rest after is also = document_one lines net other rest after is also
 
--- a part that can be declared can be spelled
-spelled : (one : Part) → IsDeclarable one → IsSpelled one
-spelled (part.Point name) is = is
-spelled (part.Bound name from to most) is = is
-spelled (part.Link from low high to) is = is
-
 -- the network that lines declare is sound
 pub input_sound : (form : PlanForm) (lines : List (List ℕ)) (net : Plan) (rest : List (List ℕ)) → (plan_in form).declares lines net rest → IsPlan net
 input_sound Text lines net rest is = declared_sound lines net rest is
-input_sound Json lines net rest is = built_sound is.parts net (All-weaker IsDeclarable IsSpelled spelled is.parts (said_declarable (bytes_of is.document) is.parts is.says)) is.builds
+input_sound Json lines net rest is = built_sound is.parts net (said_declarable (bytes_of is.document) is.parts is.says) is.builds

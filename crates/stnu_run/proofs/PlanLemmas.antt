@@ -22,7 +22,7 @@ use Rattle.plan_format.specs.declared.plan_line.PlanLine.TheVariants as line
 use Rattle.plan_format.proofs.FaultLemmas.{fault_in_line, fault_one, ends_too_soon}
 use Rattle.plan_format.proofs.OneReadingLemmas.{one_reading}
 use Rattle.plan_format.proofs.StepLemmas.{advance, one_more}
-use Rattle.plan_port.specs.Limits.{most_line}
+use Rattle.texts.specs.Limits.{most_line}
 use Rattle.command_engine.specs.Grammars.{Next, Line, NoLine, Leads, ReadsBy, number_after}
 use Rattle.command_engine.specs.declared.machines.Stop.{Stop}
 use Rattle.command_engine.specs.declared.machines.Stop.TheVariants.{LineTooLong as LongStop, InputTooMuch as MuchStop, InputEnded}

@@ -1,26 +1,23 @@
 -- The answers to events: acts, due moments, and why an event is refused.
 use Rattle.std.specs.Prelude.{ℕ, List, [], ◌∷◌, codes, Option, Some, None}
-use Rattle.std.specs.List.{flat_map, slice_index_or}
+use Rattle.std.specs.List.{flat_map}
 use Rattle.std.specs.Fmt.{decimal}
 use Rattle.texts.specs.Printing.{printed_line}
+use Rattle.net_model.specs.Limits.{most_moment}
 use Rattle.net_model.specs.Network.{Plan, IsPoint}
+use Rattle.net_model.specs.NetworkParts.{point_name}
 use Rattle.net_model.specs.declared.ids.PointId.{PointId}
 use Rattle.net_model.specs.declared.format.FormatKind.{FormatKind}
 use Rattle.net_model.specs.declared.format.FormatKind.TheVariants.{NumberLimit}
-use Rattle.execution_model.specs.Feeding.{most_moment}
 use Rattle.execution_model.specs.declared.feeding.Act.{Act}
 use Rattle.execution_model.specs.declared.feeding.Why.{Why}
 use Rattle.execution_model.specs.declared.feeding.Why.TheVariants as why
 use Rattle.stnu_run.specs.Faults.{fault_line}
 use Rattle.stnu_run.specs.declared.faults.Fault.TheVariants.{Format}
 
--- the name of a point
-abbrev pub name_in : Plan → PointId → List ℕ
-name_in net point = slice_index_or net.points point.0 []
-
 -- the line of an act
 abbrev pub act_line : Plan → Act → List ℕ
-act_line net act = printed_line (codes "act" ∷ decimal act.moment ∷ name_in net act.point ∷ [])
+act_line net act = printed_line (codes "act" ∷ decimal act.moment ∷ point_name net.points act.point ∷ [])
 
 -- the line of the next due moment
 abbrev pub due_line : Option ℕ → List ℕ
@@ -38,11 +35,11 @@ acts_text net acts = flat_map (act_line net) acts
 -- why an event is refused, in words
 abbrev pub why_words : Plan → Why → List (List ℕ)
 why_words net (why.NotLater last) = codes "not-later" ∷ decimal last ∷ []
-why_words net (why.NotContingent point) = codes "not-contingent" ∷ name_in net point ∷ []
-why_words net (why.Twice point moment) = codes "twice" ∷ name_in net point ∷ decimal moment ∷ []
-why_words net (why.NotActive point) = codes "not-active" ∷ name_in net point ∷ []
-why_words net (why.TooSoon point earliest) = codes "too-soon" ∷ name_in net point ∷ decimal earliest ∷ []
-why_words net (why.Overdue point latest) = codes "overdue" ∷ name_in net point ∷ decimal latest ∷ []
+why_words net (why.NotContingent point) = codes "not-contingent" ∷ point_name net.points point ∷ []
+why_words net (why.Twice point moment) = codes "twice" ∷ point_name net.points point ∷ decimal moment ∷ []
+why_words net (why.NotActive point) = codes "not-active" ∷ point_name net.points point ∷ []
+why_words net (why.TooSoon point earliest) = codes "too-soon" ∷ point_name net.points point ∷ decimal earliest ∷ []
+why_words net (why.Overdue point latest) = codes "overdue" ∷ point_name net.points point ∷ decimal latest ∷ []
 why_words net why.MomentLimit = codes "moment" ∷ decimal most_moment ∷ []
 
 -- the points that it names are points of the network
@@ -57,7 +54,7 @@ NamesPoints net why.MomentLimit = Unit {0}
 
 -- an end with a contingent point that has not completed, in words
 abbrev pub unfinished_words : Plan → PointId → List (List ℕ)
-unfinished_words net point = codes "unfinished" ∷ name_in net point ∷ []
+unfinished_words net point = codes "unfinished" ∷ point_name net.points point ∷ []
 
 -- the line of an event that is refused
 abbrev pub event_line : ℕ → List (List ℕ) → List ℕ

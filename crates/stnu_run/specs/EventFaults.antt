@@ -5,7 +5,7 @@ use Rattle.net_model.specs.Network.{Plan}
 use Rattle.net_model.specs.declared.format.FormatKind.{FormatKind}
 use Rattle.net_model.specs.declared.format.FormatKind.TheVariants.{NoEnd}
 use Rattle.strategy_model.specs.Control.{IsControllable}
-use Rattle.plan_port.specs.Limits.{most_line}
+use Rattle.texts.specs.Limits.{most_line}
 use Rattle.plan_port.specs.Lines.{Comes, TooLong, TooMuch, coming}
 use Rattle.event_stream.specs.EventText.{IsFaultOf}
 use Rattle.execution_model.specs.Laws.{going_on}

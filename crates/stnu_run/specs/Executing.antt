@@ -4,7 +4,7 @@ use Rattle.std.specs.List.{All}
 use Rattle.net_model.specs.Network.{Plan, IsPoint}
 use Rattle.net_model.specs.declared.format.FormatKind.{FormatKind}
 use Rattle.net_model.specs.declared.format.FormatKind.TheVariants.{NoEnd}
-use Rattle.plan_port.specs.Limits.{most_line}
+use Rattle.texts.specs.Limits.{most_line}
 use Rattle.event_stream.specs.EventText.{EventLine, blank, completed, done, IsLine, IsFaultOf}
 use Rattle.execution_model.specs.Feeding.{Execution, IsFed, IsFinished, IsDueAnswer}
 use Rattle.execution_model.specs.declared.feeding.Act.{Act}

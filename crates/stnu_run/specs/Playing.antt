@@ -9,7 +9,7 @@ use Rattle.net_model.specs.declared.ids.PointId.{PointId}
 use Rattle.strategy_model.specs.Control.{IsEarliest}
 use Rattle.strategy_model.specs.Plays.{points_of}
 use Rattle.strategy_model.specs.Situations.{moment_in}
-use Rattle.refutations.specs.Certifying.{point_name}
+use Rattle.net_model.specs.NetworkParts.{point_name}
 use Rattle.command_words.specs.Arguments.{Arguments, flag_at, operand_at, option_at}
 use Rattle.command_words.specs.Syntax.{Syntax}
 use Rattle.command_engine.specs.declared.endings.End.{End}
@@ -23,7 +23,7 @@ use Rattle.stnu_run.specs.declared.which.Which.{Which}
 
 -- the line of a point: its moment in a schedule
 abbrev pub time_line : Plan → List ℕ → PointId → List ℕ
-time_line net schedule point = printed_line (codes "time" ∷ point_name net point ∷ decimal (moment_in schedule point) ∷ [])
+time_line net schedule point = printed_line (codes "time" ∷ point_name net.points point ∷ decimal (moment_in schedule point) ∷ [])
 
 -- the lines of all points, in their order
 abbrev pub times_text : Plan → List ℕ → List ℕ

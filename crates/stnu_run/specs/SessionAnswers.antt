@@ -15,7 +15,8 @@ use Rattle.closure_model.specs.Keys.{all_points, shape_of}
 use Rattle.dispatch_net.specs.Dispatchable.{conditions_at}
 use Rattle.dispatch_net.specs.declared.dispatch.Conditions.{Conditions}
 use Rattle.plan_session.specs.declared.answers.Report.{Report}
-use Rattle.refutations.specs.Certifying.{point_name, bound_name, link_name}
+use Rattle.net_model.specs.NetworkParts.{point_name}
+use Rattle.refutations.specs.Certifying.{bound_name, link_name}
 
 -- the line of a session that begins
 abbrev pub ready_line : List ℕ
@@ -43,11 +44,11 @@ report_line (Some report) = printed_line (codes "report" ∷ decimal report.kept
 
 -- the line of a lower bound of a point: so many moments after another point
 abbrev pub after_line : Plan → PointId → PointId × ℤ → List ℕ
-after_line net point bound = printed_line (codes "after" ∷ point_name net point ∷ point_name net bound.0 ∷ decimal (unsigned_abs bound.1) ∷ [])
+after_line net point bound = printed_line (codes "after" ∷ point_name net.points point ∷ point_name net.points bound.0 ∷ decimal (unsigned_abs bound.1) ∷ [])
 
 -- the line of a wait of a point: the contingent point of a link, or so many moments after its activation point
 abbrev pub wait_line : Plan → PointId → LinkId × ℤ → List ℕ
-wait_line net point wait = printed_line (codes "wait" ∷ point_name net point ∷ link_name net wait.0 ∷ decimal (unsigned_abs wait.1) ∷ [])
+wait_line net point wait = printed_line (codes "wait" ∷ point_name net.points point ∷ link_name net wait.0 ∷ decimal (unsigned_abs wait.1) ∷ [])
 
 -- the lines of what a point is executed by
 abbrev pub conditions_text : Plan → PointId → Conditions → List ℕ

@@ -8,7 +8,7 @@ use Rattle.net_model.specs.declared.edit.EditFault.{EditFault}
 use Rattle.net_model.specs.declared.format.FormatKind.{FormatKind}
 use Rattle.net_model.specs.declared.format.FormatKind.TheVariants.{NoEnd}
 use Rattle.strategy_model.specs.Control.{IsControllable}
-use Rattle.plan_port.specs.Limits.{most_line}
+use Rattle.texts.specs.Limits.{most_line}
 use Rattle.plan_port.specs.Lines.{Comes, TooLong, TooMuch, coming}
 use Rattle.edit_script.specs.EditText.{IsLine, IsFaultOfWords}
 use Rattle.edit_script.specs.declared.step.Step.{Step}

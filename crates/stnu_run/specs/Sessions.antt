@@ -16,7 +16,7 @@ use Rattle.cert_format.specs.declared.certificate.Certificate.{Certificate}
 use Rattle.table_proofs.specs.Certified.{Certifies}
 use Rattle.dispatch_net.specs.Dispatchable.{dispatchable}
 use Rattle.plan_format.specs.PlanPrinting.{printed_plan}
-use Rattle.plan_port.specs.Limits.{most_line}
+use Rattle.texts.specs.Limits.{most_line}
 use Rattle.edit_script.specs.EditText.{IsLine, IsFaultOfWords}
 use Rattle.edit_script.specs.declared.step.Step.{Step}
 use Rattle.edit_script.specs.declared.step.Step.TheVariants as step

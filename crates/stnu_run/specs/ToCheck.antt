@@ -6,7 +6,7 @@ use Rattle.net_model.specs.declared.format.FormatKind.{FormatKind}
 use Rattle.plan_format.specs.PlanFaults.{IsFirstFault}
 use Rattle.plan_format.specs.PlanNetwork.{DeclaresNetwork, RefusesPart}
 use Rattle.plan_format.specs.PlanReading.{Progress, IsFront}
-use Rattle.plan_port.specs.Limits.{most_line}
+use Rattle.texts.specs.Limits.{most_line}
 use Rattle.command_engine.specs.Grammars.{Grammar, Next, Line, NoLine}
 use Rattle.stnu_run.specs.ToRead.{RefusesFormat}
 use Rattle.stnu_run.specs.declared.faults.Fault.{Fault}

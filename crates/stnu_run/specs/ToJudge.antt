@@ -4,7 +4,7 @@ use Rattle.net_model.specs.Network.{Plan}
 use Rattle.net_model.specs.declared.format.FormatKind.{FormatKind}
 use Rattle.cert_format.specs.CertificateGrammar.{DeclareCertificate, IsFirstFault, IsFront, Progress}
 use Rattle.cert_format.specs.declared.certificate.Certificate.{Certificate}
-use Rattle.plan_port.specs.Limits.{most_line}
+use Rattle.texts.specs.Limits.{most_line}
 use Rattle.command_engine.specs.Grammars.{Grammar}
 use Rattle.command_engine.specs.Pairs.{then_grammar}
 use Rattle.stnu_run.specs.PlanInput.{plan_in}

@@ -7,7 +7,8 @@ ghost use Rattle.net_model.specs.Network.{IsPoint};
 ghost use Rattle.command_engine.specs.Limits.{least_room};
 ghost use Rattle.command_engine.specs.Words.{most_word, word_text};
 ghost use Rattle.command_engine.specs.declared.endings.End.TheVariants.{EventRefused};
-ghost use Rattle.stnu_run.specs.EventAnswers.{name_in, acts_text, act_line, due_line, complete_line, most_act, NamesPoints, why_words, unfinished_words, event_line, event_fault_line};
+ghost use Rattle.net_model.specs.NetworkParts.{point_name};
+ghost use Rattle.stnu_run.specs.EventAnswers.{acts_text, act_line, due_line, complete_line, most_act, NamesPoints, why_words, unfinished_words, event_line, event_fault_line};
 ghost use Rattle.stnu_run.specs.Faults.{fault_end};
 ghost use Rattle.stnu_run.specs.declared.faults.Fault.TheVariants.{Format};
 
@@ -191,7 +192,7 @@ fn refuse_at<'a>(answer: &mut Answer, number: u32, word: &'a str, point: Word<'a
 /// The name of a point, of at most 32 bytes.
 fn name_of(net: &Network, point: PointId) -> &[u8]
     requires { IsPoint net.now point }
-    ensures text { result.now ≡ name_in net.now point }
+    ensures text { result.now ≡ point_name net.now.points point }
     ensures size { length result.now ≤ 32 }
 {
     net.points()[point.0 as usize].bytes()

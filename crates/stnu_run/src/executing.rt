@@ -3,10 +3,9 @@
 ghost use Rattle.std.specs.Prelude.{◌≡◌, ◌≤◌, [], length, IfOk, OnOk};
 ghost use Rattle.std.specs.List.{All};
 ghost use Rattle.net_model.specs.Network.{IsPoint};
-ghost use Rattle.execution_model.specs.Feeding.{started, IsDueAnswer, most_moment};
+ghost use Rattle.execution_model.specs.Feeding.{started, IsDueAnswer};
 ghost use Rattle.live_executor.specs.Sound.{IsDispatchOf};
 ghost use Rattle.event_stream.specs.EventText.{completed, done, said, HasPoints};
-ghost use Rattle.event_stream.specs.Limits as line_limits;
 ghost use Rattle.command_engine.specs.declared.machines.Onward.TheVariants.{Ends};
 ghost use Rattle.stnu_run.specs.Executing.{executing_machine, answer_room, AnswersEnd, AnswersEvent, EndsAmong, GoesWith};
 
@@ -212,7 +211,3 @@ fn put_end(
     }
 }
 
-/// The greatest moment that a line of events may tell is the greatest that may be fed.
-pub fn greatest_moments_are_one()
-    ensures { line_limits.most_moment ≡ most_moment }
-{}

@@ -30,7 +30,6 @@ mod which;
 mod workers;
 
 pub use dispatch::run;
-pub use executing::greatest_moments_are_one;
 pub use laws::{
     check_is_read_exactly, defined_run_is_one, forge_is_read_exactly, judge_is_read_exactly,
     play_is_read_exactly, run_is_read_exactly, session_is_read_exactly, show_is_read_exactly,

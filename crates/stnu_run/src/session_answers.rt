@@ -2,7 +2,8 @@
 
 ghost use Rattle.std.specs.Prelude.{◌≡◌, ◌<◌, ◌++◌, length, OnOk};
 ghost use Rattle.std.specs.List.{flat_map};
-ghost use Rattle.refutations.specs.Certifying.{point_name, bound_name, link_name};
+ghost use Rattle.net_model.specs.NetworkParts.{point_name};
+ghost use Rattle.refutations.specs.Certifying.{bound_name, link_name};
 ghost use Rattle.stnu_run.specs.SessionAnswers.{refused_line, report_line, after_line, wait_line, conditions_text, table_text};
 ghost use Rattle.dispatch_net.specs.Dispatchable.{conditions_at};
 
@@ -136,7 +137,7 @@ fn push_waits(
 
 /// The name of a point.
 pub(crate) fn point_name(net: &Network, point: PointId) -> &[u8]
-    ensures { result.now ≡ point_name net.now point }
+    ensures { result.now ≡ point_name net.now.points point }
 {
     match net.points().get(point.0 as usize) {
         Some(name) => name.bytes(),

@@ -12,11 +12,11 @@ use Rattle.std.proofs.Math.ListN.{length-map}
 use Rattle.net_model.specs.Network.{Plan, IsPlan}
 use Rattle.net_model.specs.declared.part.Link.{Link}
 use Rattle.closure_model.proofs.BaseLemmas.{base_shape, base_sound}
-use Rattle.net_model.specs.Limits.{most_points, most_links}
+use Rattle.net_model.specs.Limits.{most_points, most_links, IsWeight}
 use Rattle.net_model.specs.declared.ids.PointId.{PointId}
 use Rattle.net_model.specs.declared.ids.LinkId.{LinkId}
 use Rattle.closure_model.specs.Keys.{Key, edge_of, key_cmp, Shape, shape_of as shape_of_net, IsKey, IsLabelAt, labelled_key, ordinary_key}
-use Rattle.closure_model.specs.Tables.{Graph, weight_of, with_edge, no_edges, base_table, IsGraph, IsWeight}
+use Rattle.closure_model.specs.Tables.{Graph, weight_of, with_edge, no_edges, base_table, IsGraph}
 use Rattle.closure_model.proofs.KeyOrder.{key_test}
 use Rattle.closure_model.proofs.TableLemmas.{no_edges-has_none, weight_of-with_edge}
 use Rattle.closure_model.proofs.Tabulated.{dense_map, get-dense_in, is_dense}

@@ -6,7 +6,7 @@ use Rattle.std.specs.List.{Contains, enumerate_from}
 use Rattle.std.proofs.lemmas.Int.{ints}
 use Rattle.std.proofs.lemmas.Option.{slice_get-map}
 use Rattle.std.proofs.lemmas.List.Elements.{All-contains, Contains-append_left, Contains-append_right}
-use Rattle.net_model.specs.Limits.{most_size}
+use Rattle.net_model.specs.Limits.{most_size, IsWeight}
 use Rattle.net_model.specs.Network.{Plan, IsPlan, greatest}
 use Rattle.net_model.specs.Edges.{IsEdge, IsLabelled}
 use Rattle.net_model.specs.Rules.{bound_edge, link_edge, no_case, upper_case, lower_case, cross_case, removal}
@@ -20,7 +20,7 @@ use Rattle.closure_model.specs.Closure.{IsClosure, HoldsDerivable}
 use Rattle.closure_model.specs.Derivable.{IsDerivable}
 use Rattle.closure_model.specs.Keys.{key_of, shape_of, Shape, IsKey, IsLabelAt}
 use Rattle.closure_model.specs.ReferenceRow.{IsBelow}
-use Rattle.closure_model.specs.Tables.{Graph, HasEdge, HasAtMost, IsFor, IsClosed, HasBase, IsWeight, base_edges, base_table, lowered, has_at_most}
+use Rattle.closure_model.specs.Tables.{Graph, HasEdge, HasAtMost, IsFor, IsClosed, HasBase, base_edges, base_table, lowered, has_at_most}
 use Rattle.closure_model.proofs.BaseLemmas.{all_contained, numbered_contained, base_table_is_weakest}
 use Rattle.closure_model.proofs.LawProofs.{derivable_are_edges, derivable_are_bounded, closed_and_derivable_is_closure, reached_are_derivable}
 use Rattle.closure_model.proofs.Lists.{Contains-map}

@@ -1,11 +1,11 @@
 -- How a table is stored: a row of words for each point in which ordinary edges end, and one for each label.
 use Rattle.std.specs.Prelude.{◌≡◌, ℕ, ℤ, List, [], length, Option, Some, None}
 use Rattle.std.specs.FinMap as map_of
-use Rattle.std.specs.List.{All, slice_index_or, filter_map}
-use Rattle.std.specs.Option.{option_map}
+use Rattle.std.specs.List.{All, slice_index_or}
 use Rattle.net_model.specs.declared.ids.LinkId.{LinkId}
 use Rattle.closure_model.specs.Keys.{Key, Shape, all_keys}
 use Rattle.closure_model.specs.Tables.{Graph, IsGraph}
+use Rattle.labelled_graph.specs.Stored.{entries_of}
 use Rattle.table_closing.specs.declared.dense.DenseTable.TheInside.{Inside}
 
 -- the points and links that it is for
@@ -24,10 +24,6 @@ at_label table key (Some label) = at_place table.labelled.items label.0 key.from
 -- what the rows have for a key
 abbrev pub at_key : Inside → Key → Option ℤ
 at_key table key = at_label table key key.label
-
--- the entries of the keys at which a function gives a weight
-abbrev pub entries_of : (Key → Option ℤ) → List Key → List (Key × ℤ)
-entries_of weight keys = filter_map (λ key. option_map (λ w. (key, w)) (weight key)) keys
 
 -- the table that is stored
 abbrev pub graph_of : Inside → Graph

@@ -27,7 +27,7 @@ use Rattle.cert_checker.specs.Tables.{point_passes, entry_passes, read_each, bas
 use Rattle.cert_checker.specs.declared.judgement.Claim.TheVariants.{Controllable}
 use Rattle.cert_checker.specs.declared.judgement.Judgement.TheVariants.{Accepted}
 use Rattle.cert_checker.specs.declared.judgement.CertFault.TheVariants.{NotClosed}
-use Rattle.refutations.specs.Certifying.{point_name}
+use Rattle.net_model.specs.NetworkParts.{point_name}
 use Rattle.refutations.proofs.OneCertificate.{certificate_one}
 use Rattle.refutations.proofs.RulesPass.{goes_on}
 use Rattle.table_proofs.specs.Proving.{entry_of, table_proof_of}
@@ -43,7 +43,7 @@ module _ (net : Plan) (table : Graph) (order : List PointId) (plan : IsPlan net)
   edges = edges_of table
 
   abbrev names : List (List ℕ)
-  names = map (point_name net) order
+  names = map (point_name net.points) order
 
   abbrev entries : List Entry
   entries = map (entry_of net) edges
@@ -68,7 +68,7 @@ module _ (net : Plan) (table : Graph) (order : List PointId) (plan : IsPlan net)
     passes =
         let closed = closure_is_closed net table closure in
         goes_on (read_each (point_passes net) 1 names) (λ points. read_each (entry_passes net) (length names + 1) entries >>= (λ es. edges_pass net points es)) order (Ok tt)
-        (read_back (point_passes net) (point_name net) 1 order (each_of (λ p. point_passes net (point_name net p) ≡ Ok p) order (λ p among. point_read net plan p (order_inside p among))))
+        (read_back (point_passes net) (point_name net.points) 1 order (each_of (λ p. point_passes net (point_name net.points p) ≡ Ok p) order (λ p among. point_read net plan p (order_inside p among))))
         (goes_on (read_each (entry_passes net) (length names + 1) entries) (λ es. edges_pass net order es) edges (Ok tt)
         (read_back (entry_passes net) (entry_of net) (length names + 1) edges (each_of (λ e. entry_passes net (entry_of net e) ≡ Ok e) edges (λ e among. entry_read net plan e (edge_sound e among) (weight_within e among))))
         (goes_on (base_stands net edges) (λ base. ordered_passes net order edges) tt (Ok tt) (base_there table net closed.1)
@@ -109,10 +109,10 @@ certificates_are_one net cert other (inl one) (inr two) = absurd (two.never one.
 certificates_are_one net cert other (inr one) (inl two) = absurd (one.never two.some)
 
 -- ---- what `table_proof` makes
-module _ (net : Plan) (table : Graph) (order : List PointId) (plan : IsPlan net) (closure : IsClosure net table) (named : List (List ℕ)) (stated : List Entry) (are_names : named ≡ map (point_name net) order)
+module _ (net : Plan) (table : Graph) (order : List PointId) (plan : IsPlan net) (closure : IsClosure net table) (named : List (List ℕ)) (stated : List Entry) (are_names : named ≡ map (point_name net.points) order)
     (are_entries : stated ≡ map (entry_of net) (edges_of table)) where
   is_proof : TableProof named stated ≡ table_proof_of net table order
-  is_proof = ap (λ (ns : List (List ℕ)). TableProof ns stated) are_names ∙ ap (TableProof (map (point_name net) order)) are_entries
+  is_proof = ap (λ (ns : List (List ℕ)). TableProof ns stated) are_names ∙ ap (TableProof (map (point_name net.points) order)) are_entries
 
   pub made_accepted : IsOrder table order → judgement_of net (TableProof named stated) ≡ Accepted Controllable
   made_accepted is = ap (judgement_of net) is_proof ∙ table_proofs_are_accepted net table order plan closure is

@@ -5,7 +5,7 @@ use Rattle.std.specs.List.{AllByRecursion}
 use Rattle.std.specs.Option.{option_map, option_and_then}
 use Rattle.std.proofs.lemmas.Bool.Decides.{nat_tests}
 use Rattle.net_model.specs.Limits.{most_size}
-use Rattle.net_model.specs.Network.{Plan, IsPlan, IsPoint, point_named}
+use Rattle.net_model.specs.Network.{Plan, IsPlan, IsPoint, point_named, link_named as link_id}
 use Rattle.net_model.specs.Edges.{IsEdge, IsLabelled}
 use Rattle.net_model.specs.declared.ids.PointId.{PointId}
 use Rattle.net_model.specs.declared.ids.LinkId.{LinkId}
@@ -14,10 +14,10 @@ use Rattle.net_model.specs.declared.part.Link.{Link}
 use Rattle.cert_format.specs.declared.entry.Entry.{Entry}
 use Rattle.cert_checker.specs.Lines.{◌>>=◌, there, unless, in_range}
 use Rattle.cert_checker.specs.Tables.{edge_of_entry, labelled_by, point_passes, entry_passes, at_line, read_each}
-use Rattle.cert_checker.specs.Truth.{link_id}
 use Rattle.cert_checker.specs.declared.judgement.CertFault.{CertFault}
 use Rattle.cert_checker.specs.declared.judgement.CertFault.TheVariants.{UnknownItem, WeightRange}
-use Rattle.refutations.specs.Certifying.{point_name, link_name}
+use Rattle.net_model.specs.NetworkParts.{point_name}
+use Rattle.refutations.specs.Certifying.{link_name}
 use Rattle.refutations.proofs.Named.{named_point, link_known}
 use Rattle.refutations.proofs.RulesPass.{goes_on, there_is, unless_is}
 use Rattle.table_proofs.specs.Proving.{entry_with, entry_of}
@@ -30,14 +30,14 @@ read_back read write line (y ∷ ys) (one, more) =
     (goes_on (read_each read (line + 1) (map write ys)) (λ others. Ok (y ∷ others)) ys (Ok (y ∷ ys)) (read_back read write (line + 1) ys more) refl)
 
 module _ (net : Plan) (plan : IsPlan net) where
-  pub point_read : (point : PointId) → IsPoint net point → point_passes net (point_name net point) ≡ Ok point
-  point_read point inside = there_is (point_named net (point_name net point)) UnknownItem point (named_point net plan point inside)
+  pub point_read : (point : PointId) → IsPoint net point → point_passes net (point_name net.points point) ≡ Ok point
+  point_read point inside = there_is (point_named net (point_name net.points point)) UnknownItem point (named_point net plan point inside)
 
   -- the edge that an entry states
   stated : (from to : PointId) (label : Option LinkId) (weight : ℤ) (edge : Edge) → IsPoint net from → IsPoint net to → edge.to ≡ to → IsLabelled net edge label
       → edge_of_entry net (entry_with net from to label weight) ≡ Some (record { from = from; to = to; label = label; weight = weight })
   stated from to None weight edge from_point to_point ends labelled =
-      ap (option_and_then (λ x. option_map (λ y. record { from = x; to = y; label = None; weight = weight }) (point_named net (point_name net to)))) (named_point net plan from from_point)
+      ap (option_and_then (λ x. option_map (λ y. record { from = x; to = y; label = None; weight = weight }) (point_named net (point_name net.points to)))) (named_point net plan from from_point)
       ∙ ap (option_map (λ (y : PointId). let e : Edge = record { from = from; to = y; label = None; weight = weight } in e)) (named_point net plan to to_point)
   stated from to (Some label) weight edge from_point to_point ends (link, declared, begins) =
       let known = (link_known net plan label link declared).0 in

@@ -3,7 +3,7 @@
 ghost use Rattle.std.specs.Prelude.{◌≡◌, map, IfOk};
 ghost use Rattle.std.specs.List.{All};
 ghost use Rattle.net_model.specs.Network.{IsPoint};
-ghost use Rattle.refutations.specs.Certifying.{point_name};
+ghost use Rattle.net_model.specs.NetworkParts.{point_name};
 
 use net_model::{Name, Network, PointId};
 use refutations::point_name;
@@ -16,7 +16,7 @@ pub(crate) fn point_names(
     points: &[PointId],
 ) -> Result<Vec<Name>, AllocError>
     requires { All (IsPoint net.now) points.now }
-    ensures { IfOk result (λ names. names.items ≡ map (point_name net.now) points.now) }
+    ensures { IfOk result (λ names. names.items ≡ map (point_name net.now.points) points.now) }
 {
     let mut names = Vec::new(alloc);
     for point in points {

@@ -9,9 +9,9 @@ pub loop-place-preserved : goal.loop-place-preserved
 loop-place-preserved c =
     let place = c.loop-place.place in
     let size = ap length c.links-link-items.ensures.links in
-    let node : Node = record { rule = by_rule.Link (record { 0 = place }); edge = c.in_ok-edge.edge } in
+    let node : Node = record { rule = by_rule.Link (record { 0 = place }); edge = c.link_edge-edge.result } in
     pushed_more link_node c.args.nodes.now.items c.loop-place.nodes.items c.push.new.self.items c.links-link-items.result.now c.args.net.now.links place _ node
-    c.links-link-items.ensures.links (omega arith) c.loop-place.invariant (λ i. record { rule = by_rule.Link (record { 0 = place }); edge = c.in_ok-edge.ensures i }) c.in_ok-push.ensures.items
+    c.links-link-items.ensures.links (omega arith) c.loop-place.invariant (λ i. record { rule = by_rule.Link (record { 0 = place }); edge = c.link_edge-edge.ensures i }) c.in_ok-push.ensures.items
 
 pub returns : goal.returns
 returns c =

@@ -1,5 +1,6 @@
 use Rattle.std.proofs.Common.{◌≡◌, ◌-◌, suc}
-use Rattle.execution_model.specs.Feeding.{next_moment, most_moment}
+use Rattle.net_model.specs.Limits.{most_moment}
+use Rattle.execution_model.specs.Feeding.{next_moment}
 use Rattle.situation_player.specs.Playing.{IsUnderway, lastings_of}
 use Rattle.situation_player.proofs.playing.play_out.Given as goal
 

@@ -6,6 +6,6 @@ use Rattle.labelled_graph.proofs.table.Table.lower_to_bounds.Goals as goal
 
 pub lower_to-requires-clause-key : goal.lower_to-requires-clause-key
 lower_to-requires-clause-key c =
-    let before : IsEdgeFor c.args.self.now.shape c.edge_of_bound.result =
-    subst (IsEdgeFor c.args.self.now.shape) (ap bound_edge (sym c.bound-item.is) ∙ sym c.edge_of_bound.ensures) (c.requires c.loop-bound.bound-index c.bound-item.result c.loop-bound-test.true) in
-    (edge_still_for c.args.self.now c.loop-bound.self (map bound_edge (take c.loop-bound.bound-index c.args.bounds.now)) c.edge_of_bound.result c.loop-bound.invariant before).0
+    let before : IsEdgeFor c.args.self.now.shape c.bound_edge.result =
+    subst (IsEdgeFor c.args.self.now.shape) (ap bound_edge (sym c.bound-item.is) ∙ sym c.bound_edge.ensures) (c.requires c.loop-bound.bound-index c.bound-item.result c.loop-bound-test.true) in
+    (edge_still_for c.args.self.now c.loop-bound.self (map bound_edge (take c.loop-bound.bound-index c.args.bounds.now)) c.bound_edge.result c.loop-bound.invariant before).0

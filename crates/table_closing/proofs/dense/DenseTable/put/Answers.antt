@@ -1,7 +1,7 @@
 use Rattle.std.proofs.Common.{◌≡◌, ◌∙◌, ℤ, Some, set, ap, refl, arith, rules}
 use Rattle.std.specs.Vec.{with_item}
 use Rattle.closure_model.specs.Keys.{key_of}
-use Rattle.closure_model.specs.Tables.{IsWeight}
+use Rattle.net_model.specs.Limits.{IsWeight}
 use Rattle.table_closing.specs.declared.dense.DenseTable.TheInside.{Inside}
 use Rattle.table_closing.proofs.DenseLemmas.{fits_weight, IsPut, row_of_label, place_of_label, ordinary_put, labelled_put}
 use Rattle.table_closing.proofs.dense.DenseTable.put.Goals as goal
