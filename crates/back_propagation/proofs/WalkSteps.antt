@@ -73,8 +73,23 @@ module _ (table : Graph) (to : PointId) (key : Key) (later : List Key) (ends : k
       by false test other = refl
       by true test other = absurd (other (sym (of_it_is to key entry ends test)))
 
-pub slot_pushed : (table : Graph) (to from : PointId) (label : Option LinkId) (later : List Key) (entries left : List Entry) (old items : List Slot) → items ≡ old ++ record { from = from; label = label; weight = first_of (key_with to from label) entries; why = None; settled = false } ∷ []
-    → left ≡ left_after (first_of (key_with to from label) entries) entries → IsListOf table to entries (key_with to from label ∷ later) → (items ≡ old ++ first_slot table (key_with to from label) ∷ []) × IsListOf table to left later
+-- the weight at a key, if the first of the entries is of it, and the slot that has it
+abbrev pub first_weight : PointId → PointId → Option LinkId → List Entry → Option ℤ
+first_weight to from label entries = first_of (key_with to from label) entries
+
+abbrev pub read_slot : PointId → PointId → Option LinkId → List Entry → Slot
+read_slot to from label entries = record { from = from; label = label; weight = first_weight to from label entries; why = None; settled = false }
+
+-- the slot of a key was pushed, and these entries are left
+abbrev pub HasPushed : Graph → PointId → Key → List Slot → List Slot → List Entry → List Key → Type 0
+HasPushed table to key old items left later = (items ≡ old ++ first_slot table key ∷ []) × IsListOf table to left later
+
+-- with any keys after it
+abbrev pub PushesSlot : Graph → PointId → Key → List Slot → List Slot → List Entry → List Entry → Type 0
+PushesSlot table to key old items entries left = (later : List Key) → IsListOf table to entries (key ∷ later) → HasPushed table to key old items left later
+
+pub slot_pushed : (table : Graph) (to from : PointId) (label : Option LinkId) (later : List Key) (entries left : List Entry) (old items : List Slot) → items ≡ old ++ read_slot to from label entries ∷ []
+    → left ≡ left_after (first_weight to from label entries) entries → IsListOf table to entries (key_with to from label ∷ later) → HasPushed table to (key_with to from label) old items left later
 slot_pushed table to from label later entries left old items pushed is list =
     let (weight, rest) = held table to (key_with to from label) later refl entries (weight_of table (key_with to from label)) list.apart.0 list.edges in (
       pushed ∙ ap (λ (w : Option ℤ). old ++ record { from = from; label = label; weight = w; why = None; settled = false } ∷ []) weight,
@@ -99,7 +114,7 @@ pub record IsPushedTo (table : Graph) (to from : PointId) (labels : List LinkId)
   pub list : IsListOf table to left (map (labelled_key from to) (drop i labels) ++ later)
 
 pub pushed_more : (table : Graph) (to from : PointId) (labels : List LinkId) (old items new : List Slot) (rest left : List Entry) (later : List Key) (i : ℕ) (d : LinkId) → i < length labels
-    → ((later' : List Key) → IsListOf table to rest (key_with to from (Some (get_or labels i d)) ∷ later') → (new ≡ items ++ first_slot table (key_with to from (Some (get_or labels i d))) ∷ []) × IsListOf table to left later')
+    → PushesSlot table to (key_with to from (Some (get_or labels i d))) items new rest left
     → IsPushedTo table to from labels old items rest later i → IsPushedTo table to from labels old new left later (i + 1)
 pushed_more table to from labels old items new rest left later i d inside step was =
     let label : LinkId = get_or labels i d in
@@ -124,7 +139,7 @@ pushed_all table to from labels old items left later i are past was = (
 )
 
 pub pushed_first : (table : Graph) (to from : PointId) (labels : List LinkId) (old items : List Slot) (entries left : List Entry) (later : List Key) → labels ≡ labels_at table.shape to
-    → ((later' : List Key) → IsListOf table to entries (key_with to from None ∷ later') → (items ≡ old ++ first_slot table (key_with to from None) ∷ []) × IsListOf table to left later')
+    → PushesSlot table to (key_with to from None) old items entries left
     → IsListOf table to entries (keys_between table.shape to from ++ later) → IsPushedTo table to from labels old items left later 0
 pushed_first table to from labels old items entries left later are step was =
     let list : IsListOf table to entries (ordinary_key from to ∷ (map (labelled_key from to) labels ++ later)) = subst (λ (ls : List LinkId). IsListOf table to entries (ordinary_key from to ∷ (map (labelled_key from to) ls ++ later))) (sym are) was in
