@@ -33,7 +33,7 @@ use Rattle.labelled_graph.specs.declared.entry.Entry.{Entry}
 use Rattle.closure_model.proofs.KeyLists.{row_keys_rise}
 use Rattle.closure_model.proofs.Lists.{Contains-map, Contains-filter_from}
 use Rattle.closure_model.proofs.Nodes.{listed_at}
-use Rattle.closure_model.proofs.RowLaw.{only_place}
+use Rattle.closure_model.proofs.KeyPlaces.{only_place}
 use Rattle.closure_model.proofs.TableLemmas.{listed_edge}
 use Rattle.closure_model.proofs.Slots.{some_of_map, slot_of_key, key_of_slot, offered_keys}
 use Rattle.back_propagation.specs.Offering.{place_of, width_of, HasColumn, slot_key, IsSlotAt, after_entry, IsRowAgainst, IsOfRow}

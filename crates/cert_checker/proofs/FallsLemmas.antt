@@ -40,11 +40,14 @@ module _ (firsts there : List ℤ) (weight : ℤ) (starts : List Start) (words :
           let (same, is) = at d in
           ap (λ (w : ℤ). falls w (get_or there from absent) weight) is ∙ (ap (λ (n : ℕ). falls (get_or starts k d).word (get_or there n absent) weight) (sym same) ∙ each k d inside)
 
+-- a start does not fall below a weight there
+abbrev pub StartStays : List ℤ → ℤ → Start → Type 0
+StartStays there weight start = falls start.word (get_or there start.from absent) weight ≡ false
+
 -- one more that does not fall
 pub none_more : (starts : List Start) (there : List ℤ) (weight : ℤ) (index : ℕ) (e : Start) → index < length starts
-    → ((k : ℕ) (d : Start) → k < index → falls (get_or starts k d).word (get_or there (get_or starts k d).from absent) weight ≡ false)
-    → falls (get_or starts index e).word (get_or there (get_or starts index e).from absent) weight ≡ false
-    → (k : ℕ) (d : Start) → k < index + 1 → falls (get_or starts k d).word (get_or there (get_or starts k d).from absent) weight ≡ false
+    → ((k : ℕ) (d : Start) → k < index → StartStays there weight (get_or starts k d)) → StartStays there weight (get_or starts index e)
+    → (k : ℕ) (d : Start) → k < index + 1 → StartStays there weight (get_or starts k d)
 none_more starts there weight index e inside before here k d less = by (k == index) refl
   where
     at : Start → Bool

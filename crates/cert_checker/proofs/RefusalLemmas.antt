@@ -158,7 +158,10 @@ later_stop net earlier line lines refused passes s =
       own = ap (λ (ls : List CertLine). line_passes net ls s.line) (sym front) ∙ s.own;
     }
 
-stop_by : (net : Plan) (earlier : List CertLine) (line : CertLine) (lines : List CertLine) (refused : Refusal) (passes : Passes) → line_passes net earlier line ≡ passes → (lines_pass net (earlier ++ line ∷ []) lines ≡ Err refused → StopsAt net (earlier ++ line ∷ []) lines refused) → (at_number (length earlier + 1) passes >>= (λ _. lines_pass net (earlier ++ line ∷ []) lines)) ≡ Err refused → StopsAt net earlier (line ∷ lines) refused
+abbrev IfRefusedStopsAt : Plan → List CertLine → List CertLine → Refusal → Type 0
+IfRefusedStopsAt net earlier lines refused = lines_pass net earlier lines ≡ Err refused → StopsAt net earlier lines refused
+
+stop_by : (net : Plan) (earlier : List CertLine) (line : CertLine) (lines : List CertLine) (refused : Refusal) (passes : Passes) → line_passes net earlier line ≡ passes → IfRefusedStopsAt net (earlier ++ line ∷ []) lines refused → (at_number (length earlier + 1) passes >>= (λ _. lines_pass net (earlier ++ line ∷ []) lines)) ≡ Err refused → StopsAt net earlier (line ∷ lines) refused
 stop_by net earlier line lines refused (Ok passed) is later stops = later_stop net earlier line lines refused is (later stops)
 stop_by net earlier line lines refused (Err why) is later stops =
     let same : refusal (length earlier + 1) why ≡ refused = cc in

@@ -36,7 +36,10 @@ later_stop net earlier line lines refused passes stop =
     let one_more = length_push earlier line in
     (suc count, omega (arith, one_more), goes_on net earlier line (take count lines) passes ∙ front)
 
-first_or_later : (net : Plan) (earlier : List CertLine) (line : CertLine) (lines : List CertLine) (refused : Refusal) (passes : Passes) → line_passes net earlier line ≡ passes → (lines_pass net (earlier ++ line ∷ []) lines ≡ Err refused → StopsAt net (earlier ++ line ∷ []) lines refused) → (at_number (length earlier + 1) passes >>= (λ _. lines_pass net (earlier ++ line ∷ []) lines)) ≡ Err refused → StopsAt net earlier (line ∷ lines) refused
+abbrev IfRefusedStopsAt : Plan → List CertLine → List CertLine → Refusal → Type 0
+IfRefusedStopsAt net earlier lines refused = lines_pass net earlier lines ≡ Err refused → StopsAt net earlier lines refused
+
+first_or_later : (net : Plan) (earlier : List CertLine) (line : CertLine) (lines : List CertLine) (refused : Refusal) (passes : Passes) → line_passes net earlier line ≡ passes → IfRefusedStopsAt net (earlier ++ line ∷ []) lines refused → (at_number (length earlier + 1) passes >>= (λ _. lines_pass net (earlier ++ line ∷ []) lines)) ≡ Err refused → StopsAt net earlier (line ∷ lines) refused
 first_or_later net earlier line lines refused (Ok passed) is later stops = later_stop net earlier line lines refused is (later stops)
 first_or_later net earlier line lines refused (Err why) is later stops =
     let same : refusal (length earlier + 1) why ≡ refused = cc in

@@ -28,27 +28,36 @@ use Rattle.cert_format.proofs.NumberLemmas.{natural_err, natural_ok, integer_err
 use Rattle.cert_format.proofs.SaidLemmas.{keyword_is}
 use Rattle.cert_format.proofs.WordLemmas.{keyword_spelled, text_read}
 
--- a word of a line is refused, or it is what its place asks for and a later one is refused
-step : {A B : Type 0} (place : Place) (rest : List Place) (word : List ℕ) (others : List (List ℕ)) (fault : FormatKind) (read : Result A FormatKind) (next : A → Result B FormatKind) → ((k : FormatKind) → read ≡ Err k → Departs place word k) → ((x : A) → read ≡ Ok x → Fits place word) → ((x : A) → next x ≡ Err fault → DepartFirst rest others fault) → (read >>= next) ≡ Err fault → DepartFirst (place ∷ rest) (word ∷ others) fault
-step place rest word others fault (Err k) next departs fits later all =
-    let same : k ≡ fault = cc in
-    inl (subst (λ (f : FormatKind). Departs place word f) same (departs k refl))
-step place rest word others fault (Ok x) next departs fits later all = inr (fits x refl, later x all)
+-- where what is read next is refused, the other words depart from their places
+abbrev RestDeparts : {A B : Type 0} → (A → Result B FormatKind) → List Place → List (List ℕ) → FormatKind → Type 0
+RestDeparts {A} next rest others fault = (x : A) → next x ≡ Err fault → DepartFirst rest others fault
 
-name_step : {B : Type 0} (rest : List Place) (word : List ℕ) (others : List (List ℕ)) (fault : FormatKind) (next : List ℕ → Result B FormatKind) → ((x : List ℕ) → next x ≡ Err fault → DepartFirst rest others fault) → (name_of word >>= next) ≡ Err fault → DepartFirst (name ∷ rest) (word ∷ others) fault
+-- a word is what its place asks for where it is read, and departs from it where it is refused
+record IsReadAt {A : Type 0} (place : Place) (word : List ℕ) (read : Result A FormatKind) : Type 0 where
+  departs : (k : FormatKind) → read ≡ Err k → Departs place word k
+  fits : (x : A) → read ≡ Ok x → Fits place word
+
+-- a word of a line is refused, or it is what its place asks for and a later one is refused
+step : {A B : Type 0} (place : Place) (rest : List Place) (word : List ℕ) (others : List (List ℕ)) (fault : FormatKind) (read : Result A FormatKind) (next : A → Result B FormatKind) → IsReadAt place word read → RestDeparts next rest others fault → (read >>= next) ≡ Err fault → DepartFirst (place ∷ rest) (word ∷ others) fault
+step place rest word others fault (Err k) next is later all =
+    let same : k ≡ fault = cc in
+    inl (subst (λ (f : FormatKind). Departs place word f) same (is.departs k refl))
+step place rest word others fault (Ok x) next is later all = inr (is.fits x refl, later x all)
+
+name_step : {B : Type 0} (rest : List Place) (word : List ℕ) (others : List (List ℕ)) (fault : FormatKind) (next : List ℕ → Result B FormatKind) → RestDeparts next rest others fault → (name_of word >>= next) ≡ Err fault → DepartFirst (name ∷ rest) (word ∷ others) fault
 name_step rest word others fault next later all =
-    step name rest word others fault (name_of word) next (λ k read. name_err word k read) (λ x read. name_fits word x read) later all
+    step name rest word others fault (name_of word) next (record { departs = λ k read. name_err word k read; fits = λ x read. name_fits word x read }) later all
   where
     name_fits : (word x : List ℕ) → name_of word ≡ Ok x → Fits name word
     name_fits word x read = let is = name_ok word x read in subst (λ (w : List ℕ). Fits name w) (sym is.0) is.1
 
-number_step : {B : Type 0} (rest : List Place) (word : List ℕ) (others : List (List ℕ)) (fault : FormatKind) (next : ℕ → Result B FormatKind) → ((x : ℕ) → next x ≡ Err fault → DepartFirst rest others fault) → (number_of word >>= next) ≡ Err fault → DepartFirst (line_number ∷ rest) (word ∷ others) fault
+number_step : {B : Type 0} (rest : List Place) (word : List ℕ) (others : List (List ℕ)) (fault : FormatKind) (next : ℕ → Result B FormatKind) → RestDeparts next rest others fault → (number_of word >>= next) ≡ Err fault → DepartFirst (line_number ∷ rest) (word ∷ others) fault
 number_step rest word others fault next later all =
-    step line_number rest word others fault (number_of word) next (λ k read. natural_err word most_line_number k read) (λ x read. let is = natural_ok word most_line_number x read in (x, is.0, is.1)) later all
+    step line_number rest word others fault (number_of word) next (record { departs = λ k read. natural_err word most_line_number k read; fits = λ x read. let is = natural_ok word most_line_number x read in (x, is.0, is.1) }) later all
 
-weight_step : {B : Type 0} (rest : List Place) (word : List ℕ) (others : List (List ℕ)) (fault : FormatKind) (next : ℤ → Result B FormatKind) → ((x : ℤ) → next x ≡ Err fault → DepartFirst rest others fault) → (weight_of word >>= next) ≡ Err fault → DepartFirst (weight ∷ rest) (word ∷ others) fault
+weight_step : {B : Type 0} (rest : List Place) (word : List ℕ) (others : List (List ℕ)) (fault : FormatKind) (next : ℤ → Result B FormatKind) → RestDeparts next rest others fault → (weight_of word >>= next) ≡ Err fault → DepartFirst (weight ∷ rest) (word ∷ others) fault
 weight_step rest word others fault next later all =
-    step weight rest word others fault (weight_of word) next (λ k read. integer_err word most_written_weight k read) (λ x read. let is = integer_ok word most_written_weight x read in (x, is.0, is.1)) later all
+    step weight rest word others fault (weight_of word) next (record { departs = λ k read. integer_err word most_written_weight k read; fits = λ x read. let is = integer_ok word most_written_weight x read in (x, is.0, is.1) }) later all
 
 unlabelled_err : (k : LineKind) (none : false ≡ has_label k) (a b c : List ℕ) (fault : FormatKind) → unlabelled k none a b c ≡ Err fault → DepartFirst (name ∷ name ∷ weight ∷ []) (a ∷ b ∷ c ∷ []) fault
 unlabelled_err k none a b c fault read =

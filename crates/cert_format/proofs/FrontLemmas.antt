@@ -89,7 +89,12 @@ no_words (t ∷ said) none = absurd (cc)
 read_at : (q : Progress) (a b : ℕ) (more : List (List ℕ)) → a ≡ b → read_from q a more ≡ read_from q b more
 read_at q a b more same = ap (λ n. read_from q n more) same
 
-reaches_by : (blank : Bool) (line : List ℕ) (front more : List (List ℕ)) (p q : Progress) (number : ℕ) (said : List CertText) → are_passed_over (words line) ≡ blank → ((r : Progress) (later : List CertText) → Reaches r later q → filled_words front ≡ map text_words later → read_from r (number + 1) (front ++ more) ≡ read_from q (number + 1 + length front) more) → Reaches p said q → cond blank (filled_words front) (words line ∷ filled_words front) ≡ map text_words said → said_from p number (line_in p.section (words line)) (front ++ more) (λ r. read_from r (number + 1) (front ++ more)) ≡ read_from q (number + length (line ∷ front)) more
+-- lines in front are read: whatever they reach, reading goes on from there
+abbrev ReadOn : List (List ℕ) → List (List ℕ) → Progress → ℕ → Type 0
+ReadOn front more q number =
+    (r : Progress) (later : List CertText) → Reaches r later q → filled_words front ≡ map text_words later → read_from r number (front ++ more) ≡ read_from q (number + length front) more
+
+reaches_by : (blank : Bool) (line : List ℕ) (front more : List (List ℕ)) (p q : Progress) (n : ℕ) (said : List CertText) → are_passed_over (words line) ≡ blank → ReadOn front more q (n + 1) → Reaches p said q → cond blank (filled_words front) (words line ∷ filled_words front) ≡ map text_words said → read_from p n (line ∷ front ++ more) ≡ read_from q (n + length (line ∷ front)) more
 reaches_by true line front more p q number said is after reaches spelled =
     rw (blank_read p.section (words line) is) (after p said reaches spelled ∙ read_at q (number + 1 + length front) (number + length (line ∷ front)) more (omega arith))
 reaches_by false line front more p q number [] is after reaches spelled = absurd (cc)

@@ -27,11 +27,15 @@ printed_after : {X : Type 0} (line : X → List (List ℕ)) (xs : List X) (other
 printed_after line xs others =
     flat_map-append printed_line (map line xs) others ∙ ap (λ front. front ++ printed others) (flat_map-map printed_line line xs)
 
-regrouped : (header second rules walk end : List ℕ) → (((([] ++ header) ++ second) ++ rules) ++ walk) ++ end ≡ header ++ (second ++ (rules ++ (walk ++ (end ++ []))))
+-- five pieces, as they are written one after another
+abbrev in_turn : List ℕ → List ℕ → List ℕ → List ℕ → List ℕ → List ℕ
+in_turn header second rules walk end = (((([] ++ header) ++ second) ++ rules) ++ walk) ++ end
+
+regrouped : (header second rules walk end : List ℕ) → in_turn header second rules walk end ≡ header ++ (second ++ (rules ++ (walk ++ (end ++ []))))
 regrouped header second rules walk end = simp (append_assoc, append-nil)
 
 -- the pieces in the order in which they are written, of two lists of lines
-printed_two : {A B : Type 0} (second : List (List ℕ)) (spell : A → List (List ℕ)) (spells : B → List (List ℕ)) (xs : List A) (ys : List B) → (((([] ++ printed_line header_words) ++ printed_line second) ++ flat_map (λ x. printed_line (spell x)) xs) ++ flat_map (λ y. printed_line (spells y)) ys) ++ printed_line end_words ≡ printed (header_words ∷ second ∷ (map spell xs ++ (map spells ys ++ end_words ∷ [])))
+printed_two : {A B : Type 0} (second : List (List ℕ)) (spell : A → List (List ℕ)) (spells : B → List (List ℕ)) (xs : List A) (ys : List B) → in_turn (printed_line header_words) (printed_line second) (flat_map (λ x. printed_line (spell x)) xs) (flat_map (λ y. printed_line (spells y)) ys) (printed_line end_words) ≡ printed (header_words ∷ second ∷ (map spell xs ++ (map spells ys ++ end_words ∷ [])))
 printed_two second spell spells xs ys =
     let header : List ℕ = printed_line header_words in
     let next : List ℕ = printed_line second in

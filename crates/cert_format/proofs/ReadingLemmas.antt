@@ -161,7 +161,11 @@ moved front others line q reads =
     let count : length (front ++ line ∷ []) ≡ length front + 1 = length_push front line in
     subst (λ (n : ℕ). ReadsSo (front ++ line ∷ others) (read_from q (n + 1) others)) count (subst (λ (all : List (List ℕ)). ReadsSo all (read_from q (length (front ++ line ∷ []) + 1) others)) (append_assoc front (line ∷ []) others) reads)
 
-reads_by : (read : Result CertText FormatKind) (front others : List (List ℕ)) (line : List ℕ) (p : Progress) → line_in p.section (words line) ≡ read → IsFront front p → ((longer : List (List ℕ)) (q : Progress) → IsFront longer q → ReadsSo (longer ++ others) (read_from q (length longer + 1) others)) → ReadsSo (front ++ line ∷ others) (said_from p (length front + 1) read others (λ q. read_from q (length front + 1 + 1) others))
+-- lines are what is read of them, after whatever front
+abbrev ReadSoAfter : List (List ℕ) → Type 0
+ReadSoAfter others = (longer : List (List ℕ)) (q : Progress) → IsFront longer q → ReadsSo (longer ++ others) (read_from q (length longer + 1) others)
+
+reads_by : (read : Result CertText FormatKind) (front others : List (List ℕ)) (line : List ℕ) (p : Progress) → line_in p.section (words line) ≡ read → IsFront front p → ReadSoAfter others → ReadsSo (front ++ line ∷ others) (said_from p (length front + 1) read others (λ q. read_from q (length front + 1 + 1) others))
 reads_by (Err kind) front others line p read is later = front_refused front line p kind others is read
 reads_by (Ok text.End) front others line p read is later = said_brings front line p text.End is read others
 reads_by (Ok text.Blank) front others line p read is later = moved front others line p (later (front ++ line ∷ []) p (said_brings front line p text.Blank is read).1)

@@ -122,15 +122,22 @@ strictly_sorted [] rises = tt
 strictly_sorted (k ∷ ks) (first, more) = (first, strictly_sorted ks more)
 
 -- ---- which keys stand in the lists
-pub labels_sound : (to : PointId) (n : ℕ) (begins : List PointId) → AllByRecursion (λ (l : LinkId). (n ≤ l.0) × (slice_get begins (l.0 - n) ≡ Some to)) (labels to n begins)
+-- a label is the place, from a number on, where a point stands
+abbrev pub IsLabelFrom : PointId → ℕ → List PointId → LinkId → Type 0
+IsLabelFrom to n begins l = (n ≤ l.0) × (slice_get begins (l.0 - n) ≡ Some to)
+
+-- the labels after a point, and the place of that point in front where it is the target
+abbrev labels_with : Bool → PointId → ℕ → PointId → List PointId → List LinkId
+labels_with b to n p ps = map (λ (e : ℕ × PointId). record { 0 = e.0 }) (cond b ((n, p) ∷ filter (λ (e : ℕ × PointId). e.1.0 == to.0) (enumerate_from (n + 1) ps)) (filter (λ (e : ℕ × PointId). e.1.0 == to.0) (enumerate_from (n + 1) ps)))
+
+pub labels_sound : (to : PointId) (n : ℕ) (begins : List PointId) → AllByRecursion (IsLabelFrom to n begins) (labels to n begins)
 labels_sound to n [] = tt
-labels_sound to n (p ∷ ps) = by (p.0 == to.0) refl (each-weaker (λ (l : LinkId). (n + 1 ≤ l.0) × (slice_get ps (l.0 - (n + 1)) ≡ Some to)) (λ (l : LinkId). (n ≤ l.0) × (slice_get (p ∷ ps) (l.0 - n) ≡ Some to)) moved (labels to (n + 1) ps) (labels_sound to (n + 1) ps))
+labels_sound to n (p ∷ ps) = by (p.0 == to.0) refl (each-weaker (IsLabelFrom to (n + 1) ps) (IsLabelFrom to n (p ∷ ps)) moved (labels to (n + 1) ps) (labels_sound to (n + 1) ps))
   where
-    moved : (l : LinkId) → (n + 1 ≤ l.0) × (slice_get ps (l.0 - (n + 1)) ≡ Some to) → (n ≤ l.0) × (slice_get (p ∷ ps) (l.0 - n) ≡ Some to)
+    moved : (l : LinkId) → IsLabelFrom to (n + 1) ps l → IsLabelFrom to n (p ∷ ps) l
     moved l (low, at) = let next : l.0 - n ≡ suc (l.0 - (n + 1)) = omega arith in (omega arith, ap (slice_get (p ∷ ps)) next ∙ at)
 
-    by : (b : Bool) → p.0 == to.0 ≡ b → AllByRecursion (λ (l : LinkId). (n ≤ l.0) × (slice_get (p ∷ ps) (l.0 - n) ≡ Some to)) (labels to (n + 1) ps)
-        → AllByRecursion (λ (l : LinkId). (n ≤ l.0) × (slice_get (p ∷ ps) (l.0 - n) ≡ Some to)) (map (λ (e : ℕ × PointId). record { 0 = e.0 }) (cond b ((n, p) ∷ filter (λ (e : ℕ × PointId). e.1.0 == to.0) (enumerate_from (n + 1) ps)) (filter (λ (e : ℕ × PointId). e.1.0 == to.0) (enumerate_from (n + 1) ps))))
+    by : (b : Bool) → p.0 == to.0 ≡ b → AllByRecursion (IsLabelFrom to n (p ∷ ps)) (labels to (n + 1) ps) → AllByRecursion (IsLabelFrom to n (p ∷ ps)) (labels_with b to n p ps)
     by true is rest =
         let here : p ≡ to = ap (λ (k : ℕ). record { 0 = k }) (eqb-true p.0 to.0 is) in
         let first : n - n ≡ 0 = omega arith in
@@ -141,13 +148,13 @@ labels_whole : (to : PointId) (n : ℕ) (begins : List PointId) (k : ℕ) → sl
 labels_whole to n [] k at = absurd cc
 labels_whole to n (p ∷ ps) zero at = by (p.0 == to.0) refl
   where
-    by : (b : Bool) → p.0 == to.0 ≡ b → Contains {X = LinkId} (map (λ (e : ℕ × PointId). record { 0 = e.0 }) (cond b ((n, p) ∷ filter (λ (e : ℕ × PointId). e.1.0 == to.0) (enumerate_from (n + 1) ps)) (filter (λ (e : ℕ × PointId). e.1.0 == to.0) (enumerate_from (n + 1) ps)))) (record { 0 = n + 0 })
+    by : (b : Bool) → p.0 == to.0 ≡ b → Contains {X = LinkId} (labels_with b to n p ps) (record { 0 = n + 0 })
     by true is = (0, omega arith, let same : n ≡ n + 0 = omega arith in ap (λ (k : ℕ). record { 0 = k }) same)
     by false is = let here : p ≡ to = cc in let same : p.0 == to.0 ≡ true = rw here (grind (arith, nat_tests)) in absurd cc
 labels_whole to n (p ∷ ps) (suc k) at = by (p.0 == to.0) (let moved : n + 1 + k ≡ n + suc k = omega arith in subst (λ (m : ℕ). Contains {X = LinkId} (labels to (n + 1) ps) (record { 0 = m })) moved (labels_whole to (n + 1) ps k at))
   where
     by : (b : Bool) → Contains {X = LinkId} (labels to (n + 1) ps) (record { 0 = n + suc k })
-        → Contains {X = LinkId} (map (λ (e : ℕ × PointId). record { 0 = e.0 }) (cond b ((n, p) ∷ filter (λ (e : ℕ × PointId). e.1.0 == to.0) (enumerate_from (n + 1) ps)) (filter (λ (e : ℕ × PointId). e.1.0 == to.0) (enumerate_from (n + 1) ps)))) (record { 0 = n + suc k })
+        → Contains {X = LinkId} (labels_with b to n p ps) (record { 0 = n + suc k })
     by true rest = Contains-tail (record { 0 = n }) (labels to (n + 1) ps) (record { 0 = n + suc k }) rest
     by false rest = rest
 

@@ -20,7 +20,7 @@ use Rattle.closure_model.specs.declared.rows.Why.{Why}
 use Rattle.closure_model.proofs.Consequences.{IsConsequence, removed, moved, crossed, joined, joined_labelled, consequence_is}
 use Rattle.closure_model.proofs.FirstLeast.{FirstIs, first_least-is}
 use Rattle.closure_model.proofs.Lists.{Contains-head, Contains-tail}
-use Rattle.closure_model.proofs.RowLaw.{IsMaking}
+use Rattle.closure_model.proofs.RowMaking.{IsMaking}
 use Rattle.closure_model.proofs.RowRun.{IsUnderWay, under_way_first, under_way_done, under_way_next, next_there, fewer_after}
 use Rattle.closure_model.proofs.RowSteps.{unsettled, after_slot}
 use Rattle.closure_model.proofs.RuleSteps.{no_case_lengthens, upper_case_lengthens, lower_case_lengthens, cross_case_lengthens, removal_lengthens}

@@ -4,6 +4,13 @@ pub mod RuleSteps
 pub mod Consequences
 pub mod Slots
 pub mod Grounding
+pub mod KeyPlaces
+pub mod RowDerivable
+pub mod RowOffers
+pub mod RowSettling
+pub mod RowFirst
+pub mod RowMet
+pub mod RowMaking
 pub mod RowLaw
 pub mod RowSteps
 pub mod Lists

@@ -39,19 +39,26 @@ edges_listed graph sound =
     ∙ listed_tabulated graph (all_keys graph.shape)
 
 -- ---- rows
-filter-edges_at : (graph : Graph) (to : PointId) (keys : List Key) → filter (λ (edge : Edge). edge.to.0 == to.0) (edges_at graph keys) ≡ edges_at graph (filter (λ (key : Key). key.to.0 == to.0) keys)
+-- the edges, and the keys, that end in a point
+abbrev ending_in : PointId → List Edge → List Edge
+ending_in to edges = filter (λ (edge : Edge). edge.to.0 == to.0) edges
+
+abbrev keys_to : PointId → List Key → List Key
+keys_to to keys = filter (λ (key : Key). key.to.0 == to.0) keys
+
+filter-edges_at : (graph : Graph) (to : PointId) (keys : List Key) → ending_in to (edges_at graph keys) ≡ edges_at graph (keys_to to keys)
 filter-edges_at graph to [] = refl
 filter-edges_at graph to (key ∷ keys) = by (weight_of graph key) refl (key.to.0 == to.0) refl (filter-edges_at graph to keys)
   where
-    by : (o : Option ℤ) → weight_of graph key ≡ o → (b : Bool) → key.to.0 == to.0 ≡ b → filter (λ (edge : Edge). edge.to.0 == to.0) (edges_at graph keys) ≡ edges_at graph (filter (λ (key : Key). key.to.0 == to.0) keys)
-        → filter (λ (edge : Edge). edge.to.0 == to.0) (cons_option (option_map (edge_of key) o) (edges_at graph keys)) ≡ edges_at graph (cond b (key ∷ filter (λ (key : Key). key.to.0 == to.0) keys) (filter (λ (key : Key). key.to.0 == to.0) keys))
-    by None is true at rest = rest ∙ ap (λ o. cons_option (option_map (edge_of key) o) (edges_at graph (filter (λ (key : Key). key.to.0 == to.0) keys))) (sym is)
+    by : (o : Option ℤ) → weight_of graph key ≡ o → (b : Bool) → key.to.0 == to.0 ≡ b → ending_in to (edges_at graph keys) ≡ edges_at graph (keys_to to keys)
+        → ending_in to (cons_option (option_map (edge_of key) o) (edges_at graph keys)) ≡ edges_at graph (cond b (key ∷ keys_to to keys) (keys_to to keys))
+    by None is true at rest = rest ∙ ap (λ o. cons_option (option_map (edge_of key) o) (edges_at graph (keys_to to keys))) (sym is)
     by None is false at rest = rest
     by (Some w) is true at rest =
-        ap (λ b. cond b (edge_of key w ∷ filter (λ (edge : Edge). edge.to.0 == to.0) (edges_at graph keys)) (filter (λ (edge : Edge). edge.to.0 == to.0) (edges_at graph keys))) at
+        ap (λ b. cond b (edge_of key w ∷ ending_in to (edges_at graph keys)) (ending_in to (edges_at graph keys))) at
         ∙ ap (λ edges. edge_of key w ∷ edges) rest
-        ∙ ap (λ o. cons_option (option_map (edge_of key) o) (edges_at graph (filter (λ (key : Key). key.to.0 == to.0) keys))) (sym is)
-    by (Some w) is false at rest = ap (λ b. cond b (edge_of key w ∷ filter (λ (edge : Edge). edge.to.0 == to.0) (edges_at graph keys)) (filter (λ (edge : Edge). edge.to.0 == to.0) (edges_at graph keys))) at ∙ rest
+        ∙ ap (λ o. cons_option (option_map (edge_of key) o) (edges_at graph (keys_to to keys))) (sym is)
+    by (Some w) is false at rest = ap (λ b. cond b (edge_of key w ∷ ending_in to (edges_at graph keys)) (ending_in to (edges_at graph keys))) at ∙ rest
 
 filter_own : (to : PointId) (keys : List Key) → AllByRecursion (λ k. k.to ≡ to) keys → filter (λ (key : Key). key.to.0 == to.0) keys ≡ keys
 filter_own to [] own = refl

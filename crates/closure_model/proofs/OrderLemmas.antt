@@ -371,11 +371,15 @@ walk_closes graph before p k walk place = record {
 abbrev unmet : Graph → List PointId → ℕ
 unmet graph before = count (λ q. not (is_among before q)) (all_points graph.shape)
 
-cycle_met : (graph : Graph) (ps : List PointId) → free graph ps ≡ None → (steps : ℕ) (before : List PointId) (p : PointId) → IsWalk graph before p → p.0 < graph.shape.points → is_among ps p ≡ false → unmet graph before < steps → IsCycle graph (cycle_after graph ps steps before p)
+-- a walk that goes on to a point, with steps left for what it has not met, comes to a cycle
+abbrev MeetsCycle : Graph → List PointId → ℕ → List PointId → PointId → Type 0
+MeetsCycle graph ps steps before p = IsWalk graph before p → p.0 < graph.shape.points → is_among ps p ≡ false → unmet graph before < steps → IsCycle graph (cycle_after graph ps steps before p)
+
+cycle_met : (graph : Graph) (ps : List PointId) → free graph ps ≡ None → (steps : ℕ) (before : List PointId) (p : PointId) → MeetsCycle graph ps steps before p
 cycle_met graph ps stuck zero before p walk low out fuel = absurd (omega arith)
 cycle_met graph ps stuck (suc steps) before p walk low out fuel = by (λ next. cycle_met graph ps stuck steps (before ++ p ∷ []) next) (is_among before p) refl
   where
-    by : ((next : PointId) → IsWalk graph (before ++ p ∷ []) next → next.0 < graph.shape.points → is_among ps next ≡ false → unmet graph (before ++ p ∷ []) < steps → IsCycle graph (cycle_after graph ps steps (before ++ p ∷ []) next))
+    by : ((next : PointId) → MeetsCycle graph ps steps (before ++ p ∷ []) next)
         → (b : Bool) → is_among before p ≡ b → IsCycle graph (cond b (drop (position_or_len (λ q. q.0 == p.0) before) before) (option_map_or (cycle_after graph ps steps (before ++ p ∷ [])) (next_on graph ps p) []))
     by rest true met = walk_closes graph before p (position_or_len (λ q. q.0 == p.0) before) walk (place_of before p met)
     by rest false new = on (next_on graph ps p) refl

@@ -14,7 +14,9 @@ use Rattle.closure_model.specs.declared.rows.Slot.{Slot}
 use Rattle.closure_model.proofs.BaseLemmas.{all_contained}
 use Rattle.closure_model.proofs.FirstLeast.{FirstIs, first_least-is}
 use Rattle.closure_model.proofs.RoundClosing.{in_row_within}
-use Rattle.closure_model.proofs.RowLaw.{IsMaking, first_making, later_making, in_row_there, row_derived}
+use Rattle.closure_model.proofs.RowDerivable.{in_row_there}
+use Rattle.closure_model.proofs.RowMaking.{IsMaking, later_making}
+use Rattle.closure_model.proofs.RowLaw.{first_making, row_derived}
 use Rattle.closure_model.proofs.RowSteps.{unsettled, IsSlotThere, slot_there, after_slot, unsettled-after, settled_times-none, settled_times-some}
 use Rattle.closure_model.proofs.Slots.{key_in}
 

@@ -13,7 +13,8 @@ use Rattle.closure_model.specs.Tables.{Graph, HasEdge, HasAtMost, IsFor, IsGraph
 use Rattle.closure_model.specs.declared.rows.Made.{Made}
 use Rattle.closure_model.proofs.Consequences.{all_points_stand}
 use Rattle.closure_model.proofs.Lists.{Contains-none, Contains-map, Contains-map_from, Contains-flat_map, Contains-flat_map_from}
-use Rattle.closure_model.proofs.RowLaw.{row_is_least, row_derived, row_result, in_row_there}
+use Rattle.closure_model.proofs.RowDerivable.{in_row_there}
+use Rattle.closure_model.proofs.RowLaw.{row_is_least, row_derived, row_result}
 use Rattle.closure_model.proofs.TableLemmas.{all_lowered-at_most, all_lowered-has, all_lowered-cases, at_most_from, at_most_gives}
 use Rattle.closure_model.proofs.Weights.{le_then}
 

@@ -26,7 +26,8 @@ use Rattle.closure_model.proofs.Nodes.{listed_at}
 use Rattle.closure_model.proofs.RoundClosing.{standing_fits, standing_sound}
 use Rattle.closure_model.proofs.RoundsLaw.{round_stands_after}
 use Rattle.closure_model.proofs.RowsAfter.{now_in_row, row_met, was_there}
-use Rattle.closure_model.proofs.RowLaw.{row_derived, row_result, in_row_there}
+use Rattle.closure_model.proofs.RowDerivable.{in_row_there}
+use Rattle.closure_model.proofs.RowLaw.{row_derived, row_result}
 use Rattle.closure_model.proofs.RuleSteps.{at_weight, no_case_of_less, upper_case_of_less, lower_case_of_less, cross_case_of_less, removal_of_less, removal_applies}
 use Rattle.closure_model.proofs.TableLemmas.{at_most_from, at_most_gives, has_at_most_itself}
 use Rattle.closure_model.proofs.Weights.{lt_is, lt_true, le_then, le_then_lt, not_below}

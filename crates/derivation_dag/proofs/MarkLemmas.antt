@@ -231,10 +231,15 @@ marked_all marks n found all before = record {
             let both : true ≡ false = sym is ∙ get_or_past marks id.0 false beyond in absurd cc
 
 -- ---- the marks of ancestors
+-- each node that is marked stands under one that was marked at first, and each that stands under such a one is marked
+abbrev pub MarksAreUnder : List Node → List Bool → List Bool → Type 0
+MarksAreUnder nodes start marks = (id : NodeId) → IsMarked marks id → (top : NodeId) × IsMarked start top × IsUnder nodes id top
+
+abbrev pub MarksAreAllUnder : List Node → List Bool → List Bool → Type 0
+MarksAreAllUnder nodes start marks = (id top : NodeId) → IsMarked start top → IsUnder nodes id top → IsMarked marks id
+
 pub ancestors_from : (nodes : List Node) (ids : List NodeId) (n : ℕ) (marks : List Bool) (found : List NodeId) → n ≡ length nodes → All (λ (id : NodeId). id.0 < n) ids
-    → ((id : NodeId) → IsMarked marks id → (top : NodeId) × IsMarked (marked_with (replicate n false) ids) top × IsUnder nodes id top)
-    → ((id top : NodeId) → IsMarked (marked_with (replicate n false) ids) top → IsUnder nodes id top → IsMarked marks id)
-    → AreMarked marks found → AreAncestors nodes ids found
+    → MarksAreUnder nodes (marked_with (replicate n false) ids) marks → MarksAreAllUnder nodes (marked_with (replicate n false) ids) marks → AreMarked marks found → AreAncestors nodes ids found
 ancestors_from nodes ids n marks found size within sound whole are = record {
   under = λ k d inside. below_given (get_or found k d) (Contains-get_or found k d inside);
   whole = λ id below given descent. (are.each below).1 (whole below id (marked_with_has (replicate n false) ids id in_marks given) descent);

@@ -34,10 +34,14 @@ link_edge_for shape links k d all inside =
     let read : get_or (enumerate_from 0 links) k (0, d) ≡ (k, get_or links k d) = get_or-enumerate_from 0 links k (0, d) inside ∙ (let same : 0 + k ≡ k = omega arith in ap (λ (m : ℕ). (m, get_or links k d)) same) in
     subst (λ (e : ℕ × Link). IsEdgeFor shape (link_edge (record { 0 = e.0 }) e.1)) read (all k (0, d) long)
 
+-- the edges of links, by their places
+abbrev pub link_edges : List Link → List Edge
+link_edges links = map (λ (e : ℕ × Link). link_edge (record { 0 = e.0 }) e.1) (enumerate_from 0 links)
+
 pub links_lowered-more : (before now after : Graph) (links : List Link) (k : ℕ) (d : Link) → k < length links
-    → now ≡ fold lowered before (map (λ (e : ℕ × Link). link_edge (record { 0 = e.0 }) e.1) (enumerate_from 0 (take k links)))
+    → now ≡ fold lowered before (link_edges (take k links))
     → after ≡ lowered now (link_edge (record { 0 = k }) (get_or links k d))
-    → after ≡ fold lowered before (map (λ (e : ℕ × Link). link_edge (record { 0 = e.0 }) e.1) (enumerate_from 0 (take (k + 1) links)))
+    → after ≡ fold lowered before (link_edges (take (k + 1) links))
 links_lowered-more before now after links k d inside held step =
     let f : ℕ × Link → Edge = λ e. link_edge (record { 0 = e.0 }) e.1 in
     let last : Edge = link_edge (record { 0 = k }) (get_or links k d) in
@@ -46,12 +50,12 @@ links_lowered-more before now after links k d inside held step =
 
 -- ---- the base table, by bounds and then by links
 pub base_made : (net : Plan) (start middle done : Graph) (bounds : List Bound) (links : List Link) → start ≡ no_edges (shape_of net) → middle ≡ fold lowered start (map bound_edge bounds) → bounds ≡ net.bounds
-    → done ≡ fold lowered middle (map (λ (e : ℕ × Link). link_edge (record { 0 = e.0 }) e.1) (enumerate_from 0 links)) → links ≡ net.links → done ≡ base_table net
+    → done ≡ fold lowered middle (link_edges links) → links ≡ net.links → done ≡ base_table net
 base_made net start middle done bounds links empty by_bounds same_bounds by_links same_links =
     by_links
-    ∙ (λ i. fold lowered (by_bounds i) (map (λ (e : ℕ × Link). link_edge (record { 0 = e.0 }) e.1) (enumerate_from 0 (same_links i))))
-    ∙ (λ i. fold lowered (fold lowered (empty i) (map bound_edge (same_bounds i))) (map (λ (e : ℕ × Link). link_edge (record { 0 = e.0 }) e.1) (enumerate_from 0 net.links)))
-    ∙ sym (fold-append lowered (no_edges (shape_of net)) (map bound_edge net.bounds) (map (λ (e : ℕ × Link). link_edge (record { 0 = e.0 }) e.1) (enumerate_from 0 net.links)))
+    ∙ (λ i. fold lowered (by_bounds i) (link_edges (same_links i)))
+    ∙ (λ i. fold lowered (fold lowered (empty i) (map bound_edge (same_bounds i))) (link_edges net.links))
+    ∙ sym (fold-append lowered (no_edges (shape_of net)) (map bound_edge net.bounds) (link_edges net.links))
 
 -- the edges of links are for the table that the bounds have lowered
 pub links_for : (net : Plan) → IsPlan net → (start middle : Graph) (bounds : List Bound) (links : List Link) → start ≡ no_edges (shape_of net) → middle ≡ fold lowered start (map bound_edge bounds) → links ≡ net.links

@@ -150,6 +150,18 @@ module _ (rows : List TargetRow) (activations : List PointId) (stored : AreStore
               ap (λ (r : TargetRow). r.to.0) kept ∙ stored.targets k d (omega (arith, count))
 
 -- ---- a table, as it is seen
+-- rows and activations that store a table
+abbrev pub AreTableOf : List TargetRow → List PointId → Graph → Type 0
+AreTableOf rows activations graph = AreStored rows activations × (graph_with rows activations ≡ graph)
+
+-- a row after the change of what it has at a key
+abbrev pub IsChangedAt : Key → Option ℤ → TargetRow → TargetRow → Type 0
+IsChangedAt key o before after = (q : Key) → map_of.get after.weights q ≡ cond (eq_by_cmp key_cmp q key) o (map_of.get before.weights q)
+
+-- a key of the edges that end in the target of a row
+abbrev pub key_into : TargetRow → PointId → Option LinkId → Key
+key_into row from label = record { to = row.to; from = from; label = label }
+
 module _ (rows : List TargetRow) (activations : List PointId) (stored : AreStored rows activations) (graph : Graph) (view : graph_with rows activations ≡ graph) where
   pub sound_graph : IsGraph graph
   sound_graph = subst IsGraph view stored.sound
@@ -172,7 +184,7 @@ module _ (rows : List TargetRow) (activations : List PointId) (stored : AreStore
       ∙ sym (weight_at rows activations key (key_there key is))
       ∙ ap (λ g. weight_of g key) view
 
-  pub reads_ordinary : (from to : PointId) → from.0 < graph.shape.points → to.0 < graph.shape.points → (row : TargetRow) → row ≡ get_or rows to.0 row → map_of.get row.weights (record { to = row.to; from = from; label = None }) ≡ weight_of graph (ordinary_key from to)
+  pub reads_ordinary : (from to : PointId) → from.0 < graph.shape.points → to.0 < graph.shape.points → (row : TargetRow) → row ≡ get_or rows to.0 row → map_of.get row.weights (key_into row from None) ≡ weight_of graph (ordinary_key from to)
   reads_ordinary from to from_point to_point row read =
       (λ i. map_of.get row.weights (record { to = row_target to to_point row read i; from = from; label = None }))
       ∙ row_reads (ordinary_key from to) (record { to_point = to_point; from_point = from_point; labelled = tt }) row read
@@ -184,7 +196,7 @@ module _ (rows : List TargetRow) (activations : List PointId) (stored : AreStore
       subst (λ (s : Shape). begins.0 < s.points) shape_is (subst (λ (p : PointId). p.0 < length rows) (sym read) (stored.sound.begins link.0 begins there))
 
   pub reads_labelled : (from to begins : PointId) (link : LinkId) → from.0 < graph.shape.points → link.0 < length graph.shape.activations → slice_get graph.shape.activations link.0 ≡ Some to → begins ≡ get_or activations link.0 begins
-      → (row : TargetRow) → row ≡ get_or rows begins.0 row → map_of.get row.weights (record { to = row.to; from = from; label = Some link }) ≡ weight_of graph (labelled_key from to link)
+      → (row : TargetRow) → row ≡ get_or rows begins.0 row → map_of.get row.weights (key_into row from (Some link)) ≡ weight_of graph (labelled_key from to link)
   reads_labelled from to begins link from_point link_there at read row row_read =
       let at_here : slice_get activations link.0 ≡ Some to = subst (λ (s : Shape). slice_get s.activations link.0 ≡ Some to) (sym shape_is) at in
       let same : begins ≡ to = read ∙ get_or_from_slice_get activations link.0 to begins at_here in
@@ -206,7 +218,7 @@ module _ (rows : List TargetRow) (activations : List PointId) (stored : AreStore
       by (Some label) at = let inside = slice_get_within graph.shape.activations label.0 key.to at in omega (arith, few)
 
   pub one_changed : (key : Key) → IsKey graph.shape key → (o : Option ℤ) → IfSome o IsWeight → (before after : TargetRow) → before ≡ get_or rows key.to.0 before → after.to ≡ before.to
-      → ((q : Key) → map_of.get after.weights q ≡ cond (eq_by_cmp key_cmp q key) o (map_of.get before.weights q)) → AreStored (set rows key.to.0 after) activations × (graph_with (set rows key.to.0 after) activations ≡ with_weight graph key o)
+      → IsChangedAt key o before after → AreTableOf (set rows key.to.0 after) activations (with_weight graph key o)
   one_changed key is o small before after read ends gets = (
     changed_stored rows activations stored key (key_there key is) o small before after read ends gets,
     changed_graph rows activations stored key (key_there key is) o small before after read ends gets ∙ ap (λ g. with_weight g key o) view,
@@ -214,13 +226,13 @@ module _ (rows : List TargetRow) (activations : List PointId) (stored : AreStore
 
   -- an edge of the table was set
   pub one_set : (key : Key) (w : ℤ) → IsKey graph.shape key → IsWeight w → (before after : TargetRow) → before ≡ get_or rows key.to.0 before → after ≡ record before { weights = map_of.insert before.weights key w }
-      → AreStored (set rows key.to.0 after) activations × (graph_with (set rows key.to.0 after) activations ≡ with_edge graph (edge_of key w))
+      → AreTableOf (set rows key.to.0 after) activations (with_edge graph (edge_of key w))
   one_set key w is small before after read set_is =
       one_changed key is (Some w) small before after read (ap (λ (r : TargetRow). r.to) set_is) (λ q. ap (λ (r : TargetRow). map_of.get r.weights q) set_is ∙ map_of.get-insert key_total before.weights key w q)
 
   -- an edge of the table was taken out
   pub one_gone : (key : Key) → IsKey graph.shape key → (before after : TargetRow) → before ≡ get_or rows key.to.0 before → after ≡ record before { weights = map_of.remove before.weights key }
-      → AreStored (set rows key.to.0 after) activations × (graph_with (set rows key.to.0 after) activations ≡ without_key graph key)
+      → AreTableOf (set rows key.to.0 after) activations (without_key graph key)
   one_gone key is before after read gone_is =
       one_changed key is None tt before after read (ap (λ (r : TargetRow). r.to) gone_is) (λ q. ap (λ (r : TargetRow). map_of.get r.weights q) gone_is ∙ map_of.get-remove key_total before.weights key q)
 
@@ -246,7 +258,7 @@ module _ (shape : Shape) (begins : All (λ (p : PointId). p.0 < shape.points) sh
   rows : List TargetRow
   rows = map empty_row (range_with_len 0 shape.points)
 
-  empty_stored : AreStored (map empty_row (range_with_len 0 shape.points)) shape.activations × (graph_with (map empty_row (range_with_len 0 shape.points)) shape.activations ≡ no_edges shape)
+  empty_stored : AreTableOf (map empty_row (range_with_len 0 shape.points)) shape.activations (no_edges shape)
   empty_stored = (
     record {
       targets = λ k d inside. (let count = length-map-range_with_len empty_row 0 shape.points in ap (λ (r : TargetRow). r.to.0) (get_or-map-range_with_len empty_row 0 shape.points k k d (omega arith) (omega arith)));
@@ -281,7 +293,7 @@ module _ (shape : Shape) (begins : All (λ (p : PointId). p.0 < shape.points) sh
       is = λ i. record { shape = same i; weights = empty i }
 
 pub empty_made : (net : Plan) → IsPlan net → (points : List (List ℕ)) (links : List Link) (k : ℕ) → points ≡ net.points → links ≡ net.links → length links ≤ k → (rows : List TargetRow) (activations : List PointId)
-    → rows ≡ map empty_row (range_with_len 0 (length points)) → activations ≡ map (λ (l : Link). l.from) (take k links) → AreStored rows activations × (graph_with rows activations ≡ no_edges (shape_of net))
+    → rows ≡ map empty_row (range_with_len 0 (length points)) → activations ≡ map (λ (l : Link). l.from) (take k links) → AreTableOf rows activations (no_edges (shape_of net))
 empty_made net sound points links k same_points same_links done rows activations rows_are begin_in =
     let shape : (base_table net).shape ≡ shape_of net = base_shape net sound in
     let base : IsGraph (base_table net) = base_sound net sound in

@@ -57,53 +57,55 @@ pub record ArePushed (to : PointId) (before lists : List (List PointId)) (entrie
 pub pushed_none : (to : PointId) (before : List (List PointId)) (entries : List Entry) → ArePushed to before before (take 0 entries)
 pushed_none to before entries = record { count = refl; each = λ k inside. sym (append-nil (get_or before k [])) }
 
-pub pushed_past : (to : PointId) (before lists : List (List PointId)) (entries : List Entry) (i : ℕ) (d : Entry) → i < length entries → is_negative (get_or entries i d) ≡ false → ArePushed to before lists (take i entries)
-    → ArePushed to before lists (take (i + 1) entries)
-pushed_past to before lists entries i d inside other held = record {
-  count = held.count;
-  each = λ k within. held.each k within
-      ∙ ap (λ ps. get_or before k [] ++ ps) (sym (added_more to k i entries d inside ∙ ap (λ b. added to k (take i entries) ++ cond (b && (get_or entries i d).from.0 == k) (to ∷ []) []) other ∙ append-nil (added to k (take i entries))));
-}
+-- the next of the entries
+module _ (to : PointId) (before lists : List (List PointId)) (entries : List Entry) (i : ℕ) (d : Entry) (inside : i < length entries) where
+  pub pushed_past : is_negative (get_or entries i d) ≡ false → ArePushed to before lists (take i entries)
+      → ArePushed to before lists (take (i + 1) entries)
+  pushed_past other held = record {
+    count = held.count;
+    each = λ k within. held.each k within
+        ∙ ap (λ ps. get_or before k [] ++ ps) (sym (added_more to k i entries d inside ∙ ap (λ b. added to k (take i entries) ++ cond (b && (get_or entries i d).from.0 == k) (to ∷ []) []) other ∙ append-nil (added to k (take i entries))));
+  }
 
-pub pushed_one : (to : PointId) (before lists : List (List PointId)) (entries : List Entry) (i : ℕ) (d : Entry) → i < length entries → is_negative (get_or entries i d) ≡ true → (get_or entries i d).from.0 < length before
-    → ArePushed to before lists (take i entries) → (old new : List PointId) → old ≡ get_or lists (get_or entries i d).from.0 old → new ≡ old ++ to ∷ [] → ArePushed to before (set lists (get_or entries i d).from.0 new) (take (i + 1) entries)
-pushed_one to before lists entries i d inside negative begins held old new read pushed = record {
-  count = length-set lists (get_or entries i d).from.0 new ∙ held.count;
-  each = λ k within. by k within ((get_or entries i d).from.0 == k) refl;
-}
-  where
-    from : ℕ
-    from = (get_or entries i d).from.0
+  pub pushed_one : is_negative (get_or entries i d) ≡ true → (get_or entries i d).from.0 < length before
+      → ArePushed to before lists (take i entries) → (old new : List PointId) → old ≡ get_or lists (get_or entries i d).from.0 old → new ≡ old ++ to ∷ [] → ArePushed to before (set lists (get_or entries i d).from.0 new) (take (i + 1) entries)
+  pushed_one negative begins held old new read pushed = record {
+    count = length-set lists (get_or entries i d).from.0 new ∙ held.count;
+    each = λ k within. by k within ((get_or entries i d).from.0 == k) refl;
+  }
+    where
+      from : ℕ
+      from = (get_or entries i d).from.0
 
-    in_lists : (get_or entries i d).from.0 < length lists
-    in_lists = let count = held.count in omega arith
+      in_lists : (get_or entries i d).from.0 < length lists
+      in_lists = let count = held.count in omega arith
 
-    here : get_or lists (get_or entries i d).from.0 [] ≡ old
-    here = same lists (get_or entries i d).from.0 in_lists ∙ sym read
-      where
-        same : (ls : List (List PointId)) (k : ℕ) → k < length ls → get_or ls k [] ≡ get_or ls k old
-        same [] k less = absurd (omega arith)
-        same (l ∷ ls) zero less = refl
-        same (l ∷ ls) (suc k) less = same ls k (omega arith)
+      here : get_or lists (get_or entries i d).from.0 [] ≡ old
+      here = same lists (get_or entries i d).from.0 in_lists ∙ sym read
+        where
+          same : (ls : List (List PointId)) (k : ℕ) → k < length ls → get_or ls k [] ≡ get_or ls k old
+          same [] k less = absurd (omega arith)
+          same (l ∷ ls) zero less = refl
+          same (l ∷ ls) (suc k) less = same ls k (omega arith)
 
-    last : (k : ℕ) (b : Bool) → (get_or entries i d).from.0 == k ≡ b → added to k (take (i + 1) entries) ≡ added to k (take i entries) ++ cond b (to ∷ []) []
-    last k b is = added_more to k i entries d inside ∙ (λ j. added to k (take i entries) ++ cond (negative j && is j) (to ∷ []) [])
+      last : (k : ℕ) (b : Bool) → (get_or entries i d).from.0 == k ≡ b → added to k (take (i + 1) entries) ≡ added to k (take i entries) ++ cond b (to ∷ []) []
+      last k b is = added_more to k i entries d inside ∙ (λ j. added to k (take i entries) ++ cond (negative j && is j) (to ∷ []) [])
 
-    by : (k : ℕ) → k < length before → (b : Bool) → (get_or entries i d).from.0 == k ≡ b → get_or (set lists (get_or entries i d).from.0 new) k [] ≡ get_or before k [] ++ added to k (take (i + 1) entries)
-    by k within true is =
-        let same : (get_or entries i d).from.0 ≡ k = eqb-true (get_or entries i d).from.0 k is in
-        let now : get_or (set lists (get_or entries i d).from.0 new) k [] ≡ new = ap (get_or' (set lists (get_or entries i d).from.0 new)) (sym same) ∙ get_or-set_same lists (get_or entries i d).from.0 new [] in_lists in
-        now ∙ pushed
-        ∙ ap (λ ps. ps ++ to ∷ []) (sym here ∙ ap (get_or' lists) same ∙ held.each k within)
-        ∙ append_assoc (get_or before k []) (added to k (take i entries)) (to ∷ [])
-        ∙ ap (λ ps. get_or before k [] ++ ps) (sym (last k true is))
-      where
-        get_or' : List (List PointId) → ℕ → List PointId
-        get_or' ls j = get_or ls j []
-    by k within false is =
-        let apart : k ≢ (get_or entries i d).from.0 = λ same. (let test : (get_or entries i d).from.0 == k ≡ true = grind (arith, nat_tests) in absurd cc) in
-        let kept : get_or (set lists (get_or entries i d).from.0 new) k [] ≡ get_or lists k [] = grind (arith, get_or-set_other) in
-        kept ∙ held.each k within ∙ ap (λ ps. get_or before k [] ++ ps) (sym (last k false is ∙ append-nil (added to k (take i entries))))
+      by : (k : ℕ) → k < length before → (b : Bool) → (get_or entries i d).from.0 == k ≡ b → get_or (set lists (get_or entries i d).from.0 new) k [] ≡ get_or before k [] ++ added to k (take (i + 1) entries)
+      by k within true is =
+          let same : (get_or entries i d).from.0 ≡ k = eqb-true (get_or entries i d).from.0 k is in
+          let now : get_or (set lists (get_or entries i d).from.0 new) k [] ≡ new = ap (get_or' (set lists (get_or entries i d).from.0 new)) (sym same) ∙ get_or-set_same lists (get_or entries i d).from.0 new [] in_lists in
+          now ∙ pushed
+          ∙ ap (λ ps. ps ++ to ∷ []) (sym here ∙ ap (get_or' lists) same ∙ held.each k within)
+          ∙ append_assoc (get_or before k []) (added to k (take i entries)) (to ∷ [])
+          ∙ ap (λ ps. get_or before k [] ++ ps) (sym (last k true is))
+        where
+          get_or' : List (List PointId) → ℕ → List PointId
+          get_or' ls j = get_or ls j []
+      by k within false is =
+          let apart : k ≢ (get_or entries i d).from.0 = λ same. (let test : (get_or entries i d).from.0 == k ≡ true = grind (arith, nat_tests) in absurd cc) in
+          let kept : get_or (set lists (get_or entries i d).from.0 new) k [] ≡ get_or lists k [] = grind (arith, get_or-set_other) in
+          kept ∙ held.each k within ∙ ap (λ ps. get_or before k [] ++ ps) (sym (last k false is ∙ append-nil (added to k (take i entries))))
 
 pub pushed_entry : (to : PointId) (before lists after : List (List PointId)) (entries : List Entry) (i : ℕ) (d : Entry) → i < length entries → (get_or entries i d).from.0 < length before → ArePushed to before lists (take i entries)
     → after ≡ with_target lists (get_or entries i d) to → ArePushed to before after (take (i + 1) entries)
@@ -126,6 +128,10 @@ pub wrote_back : {X : Type 0} (n : ℕ) (new items : List X) → n ≡ length it
 wrote_back n new items long same = let none : drop (length new) items ≡ [] = drop_all (length new) items (omega arith) in ap (λ xs. take n (new ++ xs)) none ∙ ap (take n) (append-nil new) ∙ take_all n new (omega arith)
 
 -- ---- what all entries of a row add
+-- the ordinary edges of a row
+abbrev pub ordinary_edges : PointId → List Entry → List Edge
+ordinary_edges to entries = map (edge_into to) (filter is_ordinary entries)
+
 edge_test : ℕ → Edge → Bool
 edge_test k edge = int_lt edge.weight (pos 0) && edge.from.0 == k
 
@@ -134,22 +140,26 @@ module _ (to : PointId) (k : ℕ) where
   same_count [] = refl
   same_count (entry ∷ entries) = ap (λ ps. to ∷ ps) (same_count entries)
 
-  filtered : (entries : List Entry) → map (edge_into to) (filter (λ (entry : Entry). is_negative entry && entry.from.0 == k) entries)
-      ≡ filter (λ (edge : Edge). int_lt edge.weight (pos 0) && edge.from.0 == k) (map (edge_into to) (filter is_ordinary entries))
+  -- the entries, and the edges, that are negative and from the point
+  abbrev own : List Entry → List Entry
+  own entries = filter (λ (entry : Entry). is_negative entry && entry.from.0 == k) entries
+
+  abbrev tested : List Edge → List Edge
+  tested edges = filter (λ (edge : Edge). int_lt edge.weight (pos 0) && edge.from.0 == k) edges
+
+  filtered : (entries : List Entry) → map (edge_into to) (own entries)
+      ≡ tested (ordinary_edges to entries)
   filtered [] = refl
   filtered (entry ∷ entries) = by (is_ordinary entry) refl (filtered entries)
     where
-      rest : List Edge
-      rest = filter (λ (edge : Edge). int_lt edge.weight (pos 0) && edge.from.0 == k) (map (edge_into to) (filter is_ordinary entries))
-
-      both : (b : Bool) → map (edge_into to) (filter (λ (entry : Entry). is_negative entry && entry.from.0 == k) entries) ≡ filter (λ (edge : Edge). int_lt edge.weight (pos 0) && edge.from.0 == k) (map (edge_into to) (filter is_ordinary entries))
-          → map (edge_into to) (cond b (entry ∷ filter (λ (entry : Entry). is_negative entry && entry.from.0 == k) entries) (filter (λ (entry : Entry). is_negative entry && entry.from.0 == k) entries))
-          ≡ cond b (edge_into to entry ∷ filter (λ (edge : Edge). int_lt edge.weight (pos 0) && edge.from.0 == k) (map (edge_into to) (filter is_ordinary entries))) (filter (λ (edge : Edge). int_lt edge.weight (pos 0) && edge.from.0 == k) (map (edge_into to) (filter is_ordinary entries)))
+      both : (b : Bool) → map (edge_into to) (own entries) ≡ tested (ordinary_edges to entries)
+          → map (edge_into to) (cond b (entry ∷ own entries) (own entries))
+          ≡ cond b (edge_into to entry ∷ tested (ordinary_edges to entries)) (tested (ordinary_edges to entries))
       both true more = ap (λ es. edge_into to entry ∷ es) more
       both false more = more
 
-      by : (b : Bool) → is_ordinary entry ≡ b → map (edge_into to) (filter (λ (entry : Entry). is_negative entry && entry.from.0 == k) entries) ≡ filter (λ (edge : Edge). int_lt edge.weight (pos 0) && edge.from.0 == k) (map (edge_into to) (filter is_ordinary entries))
-          → map (edge_into to) (filter (λ (entry : Entry). is_negative entry && entry.from.0 == k) (entry ∷ entries)) ≡ filter (λ (edge : Edge). int_lt edge.weight (pos 0) && edge.from.0 == k) (map (edge_into to) (filter is_ordinary (entry ∷ entries)))
+      by : (b : Bool) → is_ordinary entry ≡ b → map (edge_into to) (own entries) ≡ tested (ordinary_edges to entries)
+          → map (edge_into to) (own (entry ∷ entries)) ≡ tested (ordinary_edges to (entry ∷ entries))
       by true is more =
           (λ i. map (edge_into to) (cond ((is i && int_lt entry.weight (pos 0)) && entry.from.0 == k) (entry ∷ filter (λ (entry : Entry). is_negative entry && entry.from.0 == k) entries) (filter (λ (entry : Entry). is_negative entry && entry.from.0 == k) entries)))
           ∙ both (int_lt entry.weight (pos 0) && entry.from.0 == k) more
@@ -162,9 +172,6 @@ module _ (to : PointId) (k : ℕ) where
   module _ (graph : Graph) where
     abbrev edge_from : PointId → Option Edge
     edge_from from = option_map (edge_of (ordinary_key from to)) (weight_of graph (ordinary_key from to))
-
-    abbrev tested : List Edge → List Edge
-    tested edges = filter (λ (edge : Edge). int_lt edge.weight (pos 0) && edge.from.0 == k) edges
 
     -- an edge from another point does not pass
     passed_over : (a : ℕ) (edges : List Edge) → a == k ≡ false → tested (cons_option (edge_from (point a)) edges) ≡ tested edges
@@ -211,13 +218,13 @@ module _ (to : PointId) (k : ℕ) where
                 one true = (λ i. map (λ (edge : Edge). to) (cond (is i) (edge_of (ordinary_key (point a) to) w ∷ nothing i) (nothing i)))
                 one false = ap (map (λ (edge : Edge). to)) nothing
 
-    all_added : (entries : List Entry) → map (edge_into to) (filter is_ordinary entries) ≡ ordinary_into graph to → k < graph.shape.points → added to k entries ≡ cond (goes graph (point k) to) (to ∷ []) []
+    all_added : (entries : List Entry) → ordinary_edges to entries ≡ ordinary_into graph to → k < graph.shape.points → added to k entries ≡ cond (goes graph (point k) to) (to ∷ []) []
     all_added entries are inside =
         same_count (filter (λ (entry : Entry). is_negative entry && entry.from.0 == k) entries)
         ∙ ap (map (λ (edge : Edge). to)) (filtered entries ∙ ap tested are)
         ∙ one_from 0 graph.shape.points (omega arith) (omega arith)
 
-pub pushed_all : (graph : Graph) (to : PointId) (before lists : List (List PointId)) (entries : List Entry) (n : ℕ) → length before ≡ graph.shape.points → map (edge_into to) (filter is_ordinary entries) ≡ ordinary_into graph to
+pub pushed_all : (graph : Graph) (to : PointId) (before lists : List (List PointId)) (entries : List Entry) (n : ℕ) → length before ≡ graph.shape.points → ordinary_edges to entries ≡ ordinary_into graph to
     → length entries ≤ n → ArePushed to before lists (take n entries) → (k : ℕ) → k < length before → get_or lists k [] ≡ get_or before k [] ++ cond (goes graph (point k) to) (to ∷ []) []
 pushed_all graph to before lists entries n count are done held k inside =
     held.each k inside ∙ ap (λ ps. get_or before k [] ++ ps) (ap (added to k) (take_all n entries done) ∙ all_added to k graph entries are (omega (arith, count)))

@@ -87,27 +87,34 @@ fresh_bound done bound rest distinct =
     sym (position-map (bytes_eq bound.name) (λ (b : Bound). b.name) done)
     ∙ fresh_name (names_of done) bound.name (names_of rest) (subst (λ (ns : List (List ℕ)). IsDistinct bytes_eq ns) names distinct)
 
-bound_taken : (points : List (List ℕ)) (done : List Bound) (bound : Bound) (rest : List Bound) → IsDistinct bytes_eq points → bound.from.0 < length points → bound.to.0 < length points → within_limit bound.most ≡ true → IsDistinct bytes_eq (names_of (done ++ bound ∷ rest)) → length (done ++ bound ∷ rest) ≤ most_bounds → with_part (with_bounds points done) (bound_part points bound) ≡ Ok (with_bounds points (done ++ bound ∷ []))
-unfolding with_bound
-bound_taken points done bound rest apart from to within distinct few =
-    let net : Plan = with_bounds points done in
-    rw (fresh_bound done bound rest distinct, named_is net bound.from apart from, named_is net bound.to apart to, within, has_room done bound rest most_bounds few) refl
-
 -- a bound between points that a plan has
 abbrev IsAmong : List (List ℕ) → Bound → Type 0
 IsAmong points bound = (bound.from.0 < length points) × (bound.to.0 < length points) × (within_limit bound.most ≡ true)
 
-bounds_built : (points : List (List ℕ)) (bounds rest done : List Bound) (more : List Part) (answer : Result Plan _) → ((place : ℕ) → with_parts place (with_bounds points bounds) more ≡ answer) → (place : ℕ) → bounds ≡ done ++ rest → IsDistinct bytes_eq points → All (IsAmong points) bounds → IsDistinct bytes_eq (names_of bounds) → length bounds ≤ most_bounds → with_parts place (with_bounds points done) (map (bound_part points) rest ++ more) ≡ answer
-bounds_built points bounds [] done more answer goes_on place split apart among distinct few =
+bound_taken : (points : List (List ℕ)) (done : List Bound) (bound : Bound) (rest : List Bound) → IsDistinct bytes_eq points → IsAmong points bound → IsDistinct bytes_eq (names_of (done ++ bound ∷ rest)) → length (done ++ bound ∷ rest) ≤ most_bounds → with_part (with_bounds points done) (bound_part points bound) ≡ Ok (with_bounds points (done ++ bound ∷ []))
+unfolding with_bound
+bound_taken points done bound rest apart (from, to, within) distinct few =
+    let net : Plan = with_bounds points done in
+    rw (fresh_bound done bound rest distinct, named_is net bound.from apart from, named_is net bound.to apart to, within, has_room done bound rest most_bounds few) refl
+
+-- the bounds of a plan of given points
+record AreBoundsAmong (points : List (List ℕ)) (bounds : List Bound) : Type 0 where
+  points_apart : IsDistinct bytes_eq points
+  among : All (IsAmong points) bounds
+  bounds_apart : IsDistinct bytes_eq (names_of bounds)
+  few : length bounds ≤ most_bounds
+
+bounds_built : (points : List (List ℕ)) (bounds rest done : List Bound) (more : List Part) (answer : Result Plan _) → ((place : ℕ) → with_parts place (with_bounds points bounds) more ≡ answer) → (place : ℕ) → bounds ≡ done ++ rest → AreBoundsAmong points bounds → with_parts place (with_bounds points done) (map (bound_part points) rest ++ more) ≡ answer
+bounds_built points bounds [] done more answer goes_on place split are =
     let same : bounds ≡ done = split ∙ append-nil done in
     subst (λ (bs : List Bound). with_parts place (with_bounds points bs) more ≡ answer) same (goes_on place)
-bounds_built points bounds (bound ∷ rest) done more answer goes_on place split apart among distinct few =
+bounds_built points bounds (bound ∷ rest) done more answer goes_on place split are =
     let size : length (done ++ bound ∷ rest) ≡ length done + length (bound ∷ rest) = length-append done (bound ∷ rest) in
-    let all : All (IsAmong points) (done ++ bound ∷ rest) = subst (λ (bs : List Bound). All (IsAmong points) bs) split among in
+    let all : All (IsAmong points) (done ++ bound ∷ rest) = subst (λ (bs : List Bound). All (IsAmong points) bs) split are.among in
     let here : IsAmong points bound = subst (λ (b : Bound). IsAmong points b) (get_or-append_seam done bound rest bound) (all (length done) bound (omega arith)) in
-    let taken = bound_taken points done bound rest apart here.0 here.1 here.2 (subst (λ (bs : List Bound). IsDistinct bytes_eq (names_of bs)) split distinct) (subst (λ (bs : List Bound). length bs ≤ most_bounds) split few) in
+    let taken = bound_taken points done bound rest are.points_apart here (subst (λ (bs : List Bound). IsDistinct bytes_eq (names_of bs)) split are.bounds_apart) (subst (λ (bs : List Bound). length bs ≤ most_bounds) split are.few) in
     built_step place (with_bounds points done) (with_bounds points (done ++ bound ∷ [])) (bound_part points bound) (map (bound_part points) rest ++ more) taken
-    ∙ bounds_built points bounds rest (done ++ bound ∷ []) more answer goes_on (place + 1) (split ∙ one_more done bound rest) apart among distinct few
+    ∙ bounds_built points bounds rest (done ++ bound ∷ []) more answer goes_on (place + 1) (split ∙ one_more done bound rest) are
 
 -- networks of given points and bounds
 abbrev with_links : List (List ℕ) → List Bound → List Link → Plan
@@ -159,5 +166,5 @@ parts_build net plan numbers =
     let among : All (IsAmong net.points) net.bounds = λ k d inside. (let b = plan.bounds_sound k d inside in (b.from_point, b.to_point, numbers.bounds k d inside)) in
     let sound : All (IsSound net.points) net.links = λ k d inside. (let l = plan.links_sound k d inside in (l.from_point, l.to_point, l.apart, l.positive, l.interval, numbers.links k d inside)) in
     let links : (place : ℕ) → with_parts place (with_bounds net.points net.bounds) (map (link_part net.points) net.links) ≡ Ok net = λ place. links_built net.points net.bounds net.links net.links [] place refl plan.points_apart sound plan.links_apart plan.few_links in
-    let bounds : (place : ℕ) → with_parts place (only_points net.points) (map (bound_part net.points) net.bounds ++ map (link_part net.points) net.links) ≡ Ok net = λ place. bounds_built net.points net.bounds net.bounds [] (map (link_part net.points) net.links) (Ok net) links place refl plan.points_apart among plan.bounds_apart plan.few_bounds in
+    let bounds : (place : ℕ) → with_parts place (only_points net.points) (map (bound_part net.points) net.bounds ++ map (link_part net.points) net.links) ≡ Ok net = λ place. bounds_built net.points net.bounds net.bounds [] (map (link_part net.points) net.links) (Ok net) links place refl (record { points_apart = plan.points_apart; among = among; bounds_apart = plan.bounds_apart; few = plan.few_bounds }) in
     points_built net.points net.points [] (map (bound_part net.points) net.bounds ++ map (link_part net.points) net.links) (Ok net) bounds 0 refl plan.points_apart plan.few_points

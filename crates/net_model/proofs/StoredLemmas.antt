@@ -22,15 +22,19 @@ use Rattle.net_model.specs.declared.network.Network.TheInside.{Inside}
 insert_key-new : (keys : List (List ℕ)) (key : List ℕ) → position (bytes_eq key) keys ≡ None → insert_key bytes_eq keys key ≡ keys ++ key ∷ []
 insert_key-new keys key none = rw (list_any_from_None (bytes_eq key) keys none)
 
+-- the first of some links that ends in a point
+abbrev ending_in : List Link → ℕ → Option LinkId
+ending_in links p = option_map (λ k. record { 0 = k }) (position (λ (l : Link). l.to.0 == p) links)
+
 -- the links that end in the points, before and after one more link
 ending-more_links : (links : List Link) (link : Link) (ending : List (Option LinkId)) (p : ℕ) → link.to.0 < length ending
     → position (λ (l : Link). l.to.0 == link.to.0) links ≡ None
-    → get_or ending p None ≡ option_map (λ k. record { 0 = k }) (position (λ (l : Link). l.to.0 == p) links)
-    → get_or (set ending link.to.0 (Some (record { 0 = length links }))) p None ≡ option_map (λ k. record { 0 = k }) (position (λ (l : Link). l.to.0 == p) (links ++ link ∷ []))
+    → get_or ending p None ≡ ending_in links p
+    → get_or (set ending link.to.0 (Some (record { 0 = length links }))) p None ≡ ending_in (links ++ link ∷ []) p
 ending-more_links links link ending p inside none before = by (p == link.to.0) refl
   where
     by : (b : Bool) → p == link.to.0 ≡ b
-        → get_or (set ending link.to.0 (Some (record { 0 = length links }))) p None ≡ option_map (λ k. record { 0 = k }) (position (λ (l : Link). l.to.0 == p) (links ++ link ∷ []))
+        → get_or (set ending link.to.0 (Some (record { 0 = length links }))) p None ≡ ending_in (links ++ link ∷ []) p
     by true same =
         let at : p ≡ link.to.0 = grind (arith, nat_tests) in
         let here = position-push_passes (λ (l : Link). l.to.0 == link.to.0) links link none (grind (arith, nat_tests)) in
@@ -47,12 +51,37 @@ get_or-push_default [] d (suc k) = refl
 get_or-push_default (x ∷ xs) d zero = refl
 get_or-push_default (x ∷ xs) d (suc k) = get_or-push_default xs d k
 
+module _ (old new : Inside) where
+  -- one more point, bound or link, and the rest as it was
+  pub record HasMorePoints (name : List ℕ) : Type 0 where
+    pub bounds : new.bounds ≡ old.bounds
+    pub links : new.links ≡ old.links
+    pub bound_names : new.bound_names ≡ old.bound_names
+    pub points : new.points.items ≡ old.points.items ++ name ∷ []
+    pub point_names : new.point_names.keys ≡ insert_key bytes_eq old.point_names.keys name
+    pub ending : new.ending.items ≡ old.ending.items ++ None ∷ []
+
+  pub record HasMoreBounds (bound : Bound) : Type 0 where
+    pub points : new.points ≡ old.points
+    pub links : new.links ≡ old.links
+    pub point_names : new.point_names ≡ old.point_names
+    pub ending : new.ending ≡ old.ending
+    pub bounds : new.bounds.items ≡ old.bounds.items ++ bound ∷ []
+    pub bound_names : new.bound_names.keys ≡ insert_key bytes_eq old.bound_names.keys bound.name
+
+  pub record HasMoreLinks (link : Link) : Type 0 where
+    pub points : new.points ≡ old.points
+    pub bounds : new.bounds ≡ old.bounds
+    pub point_names : new.point_names ≡ old.point_names
+    pub bound_names : new.bound_names ≡ old.bound_names
+    pub links : new.links.items ≡ old.links.items ++ link ∷ []
+    pub ending : new.ending.items ≡ set old.ending.items link.to.0 (Some (record { 0 = length old.links.items }))
+
 module _ (old new : Inside) (stored : IsStored old) where
   pub stored-more_points : (name : List ℕ) → IsTrue (is_name name) → point_named (plan_of old) name ≡ None → length old.points.items < most_points
-      → new.bounds ≡ old.bounds → new.links ≡ old.links → new.bound_names ≡ old.bound_names
-      → new.points.items ≡ old.points.items ++ name ∷ [] → new.point_names.keys ≡ insert_key bytes_eq old.point_names.keys name → new.ending.items ≡ old.ending.items ++ None ∷ []
-      → IsStored new
-  stored-more_points name named fresh room bounds links bound_names points point_names ending =
+      → HasMorePoints old new name → IsStored new
+  stored-more_points name named fresh room more =
+      let record { bounds = bounds; links = links; bound_names = bound_names; points = points; point_names = point_names; ending = ending } = more in
       let same : plan_of new ≡ more_points (plan_of old) name = cc in
       let none = None_from_option_map _ (position (bytes_eq name) old.points.items) fresh in
       let last = insert_key-new old.points.items name none in
@@ -71,10 +100,9 @@ module _ (old new : Inside) (stored : IsStored old) where
           (cases_lt p (length old.points.items))
 
   pub stored-more_bounds : (bound : Bound) → IsBound (plan_of old) bound → bound_named (plan_of old) bound.name ≡ None → length old.bounds.items < most_bounds
-      → new.points ≡ old.points → new.links ≡ old.links → new.point_names ≡ old.point_names → new.ending ≡ old.ending
-      → new.bounds.items ≡ old.bounds.items ++ bound ∷ [] → new.bound_names.keys ≡ insert_key bytes_eq old.bound_names.keys bound.name
-      → IsStored new
-  stored-more_bounds bound sound fresh room points links point_names ending bounds bound_names =
+      → HasMoreBounds old new bound → IsStored new
+  stored-more_bounds bound sound fresh room more =
+      let record { points = points; links = links; point_names = point_names; ending = ending; bounds = bounds; bound_names = bound_names } = more in
       let same : plan_of new ≡ more_bounds (plan_of old) bound = cc in
       let last = insert_key-new (names_of old.bounds.items) bound.name (free_name (plan_of old) bound.name fresh) in
       record {
@@ -86,10 +114,9 @@ module _ (old new : Inside) (stored : IsStored old) where
       }
 
   pub stored-more_links : (link : Link) → IsLink (plan_of old) link → activation (plan_of old) link.to ≡ None → length old.links.items < most_links
-      → new.points ≡ old.points → new.bounds ≡ old.bounds → new.point_names ≡ old.point_names → new.bound_names ≡ old.bound_names
-      → new.links.items ≡ old.links.items ++ link ∷ [] → new.ending.items ≡ set old.ending.items link.to.0 (Some (record { 0 = length old.links.items }))
-      → IsStored new
-  stored-more_links link sound fresh room points bounds point_names bound_names links ending =
+      → HasMoreLinks old new link → IsStored new
+  stored-more_links link sound fresh room more =
+      let record { points = points; bounds = bounds; point_names = point_names; bound_names = bound_names; links = links; ending = ending } = more in
       let same : plan_of new ≡ more_links (plan_of old) link = cc in
       let none = None_from_option_map _ (position (λ (l : Link). l.to.0 == link.to.0) old.links.items) fresh in
       record {

@@ -89,9 +89,18 @@ listed_none rows fresh none = record {
     by point true is = let within : point.0 < length fresh = grind (arith, nat_tests) in none point.0 [] within
     by point false is = let out : length fresh ≤ point.0 = grind (arith, nat_tests) in get_or-eq_default fresh [] out
 
-pub listed_more : (rows : List NewRow) (i : ℕ) (row : NewRow) (points : ℕ) (fresh : List (List Edge)) (list : List Edge) → i < length rows → row ≡ get_or rows i row → All (λ (r : NewRow). r.target.0 < points) rows
-    → AllPairs (λ (one other : NewRow). one.target.0 < other.target.0) rows → length fresh ≡ points → AreListed (take i rows) fresh → AreInOrder row.made list
-    → (length (slice_set fresh row.target.0 list) ≡ points) × AreListed (take (i + 1) rows) (slice_set fresh row.target.0 list)
+-- the targets of rows are points, and rise; the lists of the edges made, one for each point
+abbrev pub TargetsBelow : ℕ → List NewRow → Type 0
+TargetsBelow points rows = All (λ (r : NewRow). r.target.0 < points) rows
+
+abbrev pub TargetsRise : List NewRow → Type 0
+TargetsRise rows = AllPairs (λ (one other : NewRow). one.target.0 < other.target.0) rows
+
+abbrev pub HasListsOf : ℕ → List NewRow → List (List Edge) → Type 0
+HasListsOf points rows fresh = (length fresh ≡ points) × AreListed rows fresh
+
+pub listed_more : (rows : List NewRow) (i : ℕ) (row : NewRow) (points : ℕ) (fresh : List (List Edge)) (list : List Edge) → i < length rows → row ≡ get_or rows i row → TargetsBelow points rows
+    → TargetsRise rows → length fresh ≡ points → AreListed (take i rows) fresh → AreInOrder row.made list → HasListsOf points (take (i + 1) rows) (slice_set fresh row.target.0 list)
 listed_more rows i row points fresh list inside read known rise long was is = (
   length-set fresh row.target.0 list ∙ long,
   record {

@@ -129,9 +129,13 @@ rows_fit net support rows points plan stands are is =
     let same : support.table.shape.points ≡ points = ap (λ (s : Shape). s.points) (standing_fits net plan support stands) ∙ sym is in
     subst (λ (n : ℕ). All (λ (row : NewRow). row.target.0 < n) rows) same (rows_inside net support.table rows are)
 
+-- an order that stays one after any table is lowered by some edges
+abbrev pub StaysAfter : List PointId → List Made → Type 0
+StaysAfter order made = (table : Graph) → IsOrder table order → IsOrder (with_made table made) order
+
 -- an order that stays one row by row stays one
-pub stays_more : (order : List PointId) (rows : List NewRow) (i : ℕ) (row : NewRow) → i < length rows → row ≡ get_or rows i row → ((table : Graph) → IsOrder table order → IsOrder (with_made table (made_in (take i rows))) order)
-    → ((table : Graph) → IsOrder table order → IsOrder (with_made table row.made) order) → (table : Graph) → IsOrder table order → IsOrder (with_made table (made_in (take (i + 1) rows))) order
+pub stays_more : (order : List PointId) (rows : List NewRow) (i : ℕ) (row : NewRow) → i < length rows → row ≡ get_or rows i row → StaysAfter order (made_in (take i rows))
+    → StaysAfter order row.made → StaysAfter order (made_in (take (i + 1) rows))
 stays_more order rows i row inside read before here table is =
     let more : take (i + 1) rows ≡ take i rows ++ row ∷ [] = take_more rows i row inside ∙ ap (λ (r : NewRow). take i rows ++ r ∷ []) (sym read) in
     let both : made_in (take (i + 1) rows) ≡ made_in (take i rows) ++ row.made =
@@ -142,11 +146,11 @@ stays_more order rows i row inside read before here table is =
 
 -- where the rows are those of a round, it stays one of the table after the round
 pub order_stays : (net : Plan) (support after : Support) (rows : List NewRow) (order : List PointId) → IsPlan net → StandsOn net support → after ≡ after_round net support → AreRowsOfRound net support.table rows
-    → ((table : Graph) → IsOrder table order → IsOrder (with_made table (made_in rows)) order) → IsOrder support.table order → IsOrder after.table order
+    → StaysAfter order (made_in rows) → IsOrder support.table order → IsOrder after.table order
 order_stays net support after rows order plan stands is are stays ordered =
     let made : made_in rows ≡ round_made net support.table = rows_make_round net support.table rows are in
     let table_is : after.table ≡ with_made support.table (round_made net support.table) = ap (λ (s : Support). s.table) is ∙ (round_stands_after net support plan stands).table_is in
     subst (λ (t : Graph). IsOrder t order) (sym (table_is ∙ ap (with_made support.table) (sym made))) (stays support.table ordered)
 
-pub stays_all : (order : List PointId) (rows : List NewRow) (i : ℕ) → length rows ≤ i → ((table : Graph) → IsOrder table order → IsOrder (with_made table (made_in (take i rows))) order) → (table : Graph) → IsOrder table order → IsOrder (with_made table (made_in rows)) order
+pub stays_all : (order : List PointId) (rows : List NewRow) (i : ℕ) → length rows ≤ i → StaysAfter order (made_in (take i rows)) → StaysAfter order (made_in rows)
 stays_all order rows i long is table ordered = subst (λ (r : List NewRow). IsOrder (with_made table (made_in r)) order) (take_all i rows long) (is table ordered)

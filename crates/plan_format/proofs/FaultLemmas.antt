@@ -98,22 +98,27 @@ told_at : (answer : Result Declared FormatFault) (line : ℕ) (kind : FormatKind
 told_at answer line kind fault told at is =
     told ∙ (ap (λ (n : ℕ). Err (record { line = n; kind = kind })) (sym at) ∙ ap (λ (k : FormatKind). Err (record { line = fault.line; kind = k })) (sym is))
 
+-- the fault of a line: it stands there, and has the kind of what is read of it
+record IsFaultOfLine (before : List (List ℕ)) (next : List ℕ) (read : Progress) (fault : FormatFault) : Type 0 where
+  line : fault.line ≡ length before + 1
+  kind : (kind : FormatKind) → line_in read.section (words next) ≡ Err kind → fault.kind ≡ kind
+
 -- what is read of a line that cannot come is its fault
-refused_line : (before : List (List ℕ)) (next : List ℕ) (others : List (List ℕ)) (read : Progress) (said : Result PlanLine FormatKind) (fault : FormatFault) → IsFront before read → line_in read.section (words next) ≡ said → (CanBecomePlan (before ++ next ∷ []) → ⊥) → fault.line ≡ length before + 1 → ((kind : FormatKind) → line_in read.section (words next) ≡ Err kind → fault.kind ≡ kind) → read_from read (length before + 1) (next ∷ others) ≡ Err fault
-refused_line before next others read (Ok said) fault has is refused at kind =
+refused_line : (before : List (List ℕ)) (next : List ℕ) (others : List (List ℕ)) (read : Progress) (said : Result PlanLine FormatKind) (fault : FormatFault) → IsFront before read → line_in read.section (words next) ≡ said → (CanBecomePlan (before ++ next ∷ []) → ⊥) → IsFaultOfLine before next read fault → read_from read (length before + 1) (next ∷ others) ≡ Err fault
+refused_line before next others read (Ok said) fault has is refused of =
     absurd (refused (may_begin before next said (advanced read (length before + 1) said) (advance before next (length before + 1) said read refl is has)))
-refused_line before next others read (Err k) fault has is refused at kind =
-    told_at (read_from read (length before + 1) (next ∷ others)) (length before + 1) k fault (step read (length before + 1) next others (Err k) is) at (kind k is)
+refused_line before next others read (Err k) fault has is refused of =
+    told_at (read_from read (length before + 1) (next ∷ others)) (length before + 1) k fault (step read (length before + 1) next others (Err k) is) of.line (of.kind k is)
 
 fault_of_rest : (before rest : List (List ℕ)) (fault : FormatFault) → fault.line ≡ length before + 1 → ExcludesPlan before rest → (stops : Stops before rest fault.kind) → read_from (read_before before rest fault.kind stops).0 (length before + 1) rest ≡ Err fault
 fault_of_rest before [] fault at refused (inl none) = told_at _ (length before + 1) NoHeader fault refl at none.1
 fault_of_rest before (next ∷ others) fault at refused (inl none) =
     let front = read_before before (next ∷ others) fault.kind (inl none) in
-    refused_line before next others front.0 (line_in front.0.section (words next)) fault front.1 refl refused at (λ kind is. none.1 ∙ sym (headless (plan_line (words next)) kind is))
+    refused_line before next others front.0 (line_in front.0.section (words next)) fault front.1 refl refused (record { line = at; kind = λ kind is. none.1 ∙ sym (headless (plan_line (words next)) kind is) })
 fault_of_rest before [] fault at refused (inr some) = told_at _ (length before + 1) NoEnd fault refl at some.3
 fault_of_rest before (next ∷ others) fault at refused (inr some) =
     let front = read_before before (next ∷ others) fault.kind (inr some) in
-    refused_line before next others front.0 (line_in front.0.section (words next)) fault front.1 refl refused at (λ kind is. departs_one (words next) fault.kind kind some.3 (departs_by next (plan_line (words next)) kind refl is))
+    refused_line before next others front.0 (line_in front.0.section (words next)) fault front.1 refl refused (record { line = at; kind = λ kind is. departs_one (words next) fault.kind kind some.3 (departs_by next (plan_line (words next)) kind refl is) })
 
 -- the first fault of a text is what is read of it
 pub fault_is : (text : List (List ℕ)) (fault : FormatFault) → IsFirstFault text fault → read_from begun 1 text ≡ Err fault

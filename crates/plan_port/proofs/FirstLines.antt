@@ -22,8 +22,10 @@ abbrev much_test : ℕ → ℕ → Bool → Bool
 much_test room size closed = nat_lt room size || (closed && nat_le room size)
 
 -- where a line end stands in the bytes, they are a line and what stands after that end
-closed_by : (ends : Bool) (line : List ℕ) (byte : ℕ) (bytes : List ℕ) → ends_line byte ≡ ends → (ends ≡ false → input_lines_after (line ++ byte ∷ []) bytes ≡ whole_line ((line ++ byte ∷ []) ++ take (place bytes) bytes) ∷ input_lines (drop (place bytes + 1) bytes)) →
-    input_lines_after line (byte ∷ bytes) ≡ whole_line (line ++ take (place (byte ∷ bytes)) (byte ∷ bytes)) ∷ input_lines (drop (place (byte ∷ bytes) + 1) (byte ∷ bytes))
+abbrev IsCutAtPlace : List ℕ → List ℕ → Type 0
+IsCutAtPlace line bytes = input_lines_after line bytes ≡ whole_line (line ++ take (place bytes) bytes) ∷ input_lines (drop (place bytes + 1) bytes)
+
+closed_by : (ends : Bool) (line : List ℕ) (byte : ℕ) (bytes : List ℕ) → ends_line byte ≡ ends → (ends ≡ false → IsCutAtPlace (line ++ byte ∷ []) bytes) → IsCutAtPlace line (byte ∷ bytes)
 closed_by true line byte bytes e later =
     let here : place (byte ∷ bytes) ≡ 0 = ap (λ (b : Bool). cond (not b) (1 + place bytes) 0) e in
     let left : input_lines_after line (byte ∷ bytes) ≡ whole_line line ∷ input_lines bytes = ap (λ (b : Bool). map whole_line (cond b (line ∷ whole_lines_after [] bytes) (whole_lines_after (line ++ byte ∷ []) bytes)) ++ last_line (cond b (unfinished_after [] bytes) (unfinished_after (line ++ byte ∷ []) bytes))) e ∙ ap (λ (ls : List InputLine). whole_line line ∷ ls) (sym (input_lines_is bytes)) in
@@ -43,7 +45,7 @@ within_rest byte bytes e within =
     let here : place (byte ∷ bytes) ≡ 1 + place bytes = ap (λ (b : Bool). cond (not b) (1 + place bytes) 0) e in
     omega (arith, here, within)
 
-closed_after : (line bytes : List ℕ) → place bytes < length bytes → input_lines_after line bytes ≡ whole_line (line ++ take (place bytes) bytes) ∷ input_lines (drop (place bytes + 1) bytes)
+closed_after : (line bytes : List ℕ) → place bytes < length bytes → IsCutAtPlace line bytes
 closed_after line [] within = absurd (omega arith)
 closed_after line (byte ∷ bytes) within =
     closed_by (ends_line byte) line byte bytes refl (λ e. closed_after (line ++ byte ∷ []) bytes (within_rest byte bytes e within))

@@ -79,15 +79,19 @@ counted_is (Bytes n) count = refl
 counted_is End count = refl
 counted_is Failed count = refl
 
+-- a reader after one take: it keeps the bytes that the take gave, and knows whether the input has ended
+abbrev IsReaderAfter : Reader → Reader → Took → List ℕ → Type 0
+IsReaderAfter mid new took into = new ≡ with_bytes_kept mid (bytes_given took into) (ended_after took mid.ended)
+
 -- where a take found the end, the reader holds what it held
-none_at : (longest : ℕ) (mid new : Reader) (took : Took) (into : List ℕ) → took ≡ End → DecideNothing longest (room mid) mid.kept → new ≡ with_bytes_kept mid (bytes_given took into) (ended_after took mid.ended) → DecideNothing longest (room new) new.kept
+none_at : (longest : ℕ) (mid new : Reader) (took : Took) (into : List ℕ) → took ≡ End → DecideNothing longest (room mid) mid.kept → IsReaderAfter mid new took into → DecideNothing longest (room new) new.kept
 none_at longest mid new took into end decides is =
     let kept : mid.kept ++ bytes_given took into ≡ mid.kept = ap (λ (t : Took). mid.kept ++ bytes_given t into) end ∙ append-nil mid.kept in
     subst (λ (r : Reader). DecideNothing longest (room r) r.kept) (sym is) (subst (λ (l : List ℕ). DecideNothing longest (room mid) l) (sym kept) decides)
 
 -- one take more
 pub Takes-more : (longest : ℕ) (old mid new : Reader) (took : Took) (into : List ℕ) (pieces : List (List ℕ)) (a b c : Seen) → Takes longest old mid pieces false a b →
-    TakesOnce b c took into → mid.ended ≡ false → DecideNothing longest (room mid) mid.kept → new ≡ with_bytes_kept mid (bytes_given took into) (ended_after took mid.ended) →
+    TakesOnce b c took into → mid.ended ≡ false → DecideNothing longest (room mid) mid.kept → IsReaderAfter mid new took into →
     Takes longest old new (pieces ++ pieces_given took into) (has_failed took) a c
 Takes-more longest old mid new took into pieces a b c before once unended decides is =
     let more = pieces_given took into in
@@ -108,7 +112,7 @@ Takes-more longest old mid new took into pieces a b c before once unended decide
       write_faults = once.write_faults ∙ before.write_faults;
     }
 
-pub nearer : (longest : ℕ) (mid new : Reader) (took : Took) (into : List ℕ) (a b : Seen) → (took ≡ Failed → ⊥) → TakesOnce a b took into → mid.ended ≡ false → length mid.kept ≤ longest → new ≡ with_bytes_kept mid (bytes_given took into) (ended_after took mid.ended) → distance longest new < distance longest mid
+pub nearer : (longest : ℕ) (mid new : Reader) (took : Took) (into : List ℕ) (a b : Seen) → (took ≡ Failed → ⊥) → TakesOnce a b took into → mid.ended ≡ false → length mid.kept ≤ longest → IsReaderAfter mid new took into → distance longest new < distance longest mid
 nearer longest mid new (Bytes n) into a b h once e small is =
     let within = once.within in
     let kept = ap (λ (r : Reader). length r.kept) is ∙ length-append mid.kept (take n into) in

@@ -14,9 +14,13 @@ use Rattle.strategy_model.specs.declared.tree.Tree.{Tree, Leaf, Node', Row_of-Ca
 use Rattle.strategy_model.proofs.MomentLemmas.{made_length}
 use Rattle.strategy_model.proofs.PlayLemmas.{and_moment, along, goes_on}
 
--- where each link completes in both situations or in neither, the same points are completed
-same_completed : (so_far : Moments) (t : ℕ) (links : List Link) (ds es : List ℕ) → length ds ≡ length links → length es ≡ length links
-    → ((i : ℕ) (link : Link) (d e : ℕ) → slice_get links i ≡ Some link → slice_get ds i ≡ Some d → slice_get es i ≡ Some e → completes so_far t link d ≡ completes so_far t link e) → (point : PointId)
+-- each link completes in both situations or in neither
+abbrev CompleteAlike : Moments → ℕ → List Link → List ℕ → List ℕ → Type 0
+CompleteAlike so_far t links ds es =
+    (i : ℕ) (link : Link) (d e : ℕ) → slice_get links i ≡ Some link → slice_get ds i ≡ Some d → slice_get es i ≡ Some e → completes so_far t link d ≡ completes so_far t link e
+
+-- then the same points are completed
+same_completed : (so_far : Moments) (t : ℕ) (links : List Link) (ds es : List ℕ) → length ds ≡ length links → length es ≡ length links → CompleteAlike so_far t links ds es → (point : PointId)
     → is_completed so_far t links ds point ≡ is_completed so_far t links es point
 same_completed so_far t [] ds es ds_length es_length same point = refl
 same_completed so_far t (link ∷ links) [] es ds_length es_length same point = absurd (omega (arith, ds_length))

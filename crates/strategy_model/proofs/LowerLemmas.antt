@@ -88,14 +88,18 @@ ends_same first second point (link ∷ links) (duration ∷ durations) same =
     by false here rest = rest
 
 -- ---- the greatest
-not_above : (situation : List ℕ) (moment : PointId → ℕ) (point : PointId) (most : ℕ) (edges : List Edge) → latest situation moment point edges ≤ most → AllByRecursion (λ edge. binds point edge ≡ true → moment edge.to + delay situation edge ≤ most) edges
+-- the edges hold a point back up to a moment at most
+abbrev HeldUpTo : List ℕ → (PointId → ℕ) → PointId → ℕ → List Edge → Type 0
+HeldUpTo situation moment point most edges = AllByRecursion (λ edge. binds point edge ≡ true → moment edge.to + delay situation edge ≤ most) edges
+
+not_above : (situation : List ℕ) (moment : PointId → ℕ) (point : PointId) (most : ℕ) (edges : List Edge) → latest situation moment point edges ≤ most → HeldUpTo situation moment point most edges
 not_above situation moment point most [] below = tt
 not_above situation moment point most (edge ∷ edges) below =
     by (binds point edge) (not_above situation moment point most edges) below
   where
-    by : (b : Bool) → (latest situation moment point edges ≤ most → AllByRecursion (λ edge. binds point edge ≡ true → moment edge.to + delay situation edge ≤ most) edges)
+    by : (b : Bool) → (latest situation moment point edges ≤ most → HeldUpTo situation moment point most edges)
         → cond b (max (moment edge.to + delay situation edge) (latest situation moment point edges)) (latest situation moment point edges) ≤ most
-        → (b ≡ true → moment edge.to + delay situation edge ≤ most) × AllByRecursion (λ edge. binds point edge ≡ true → moment edge.to + delay situation edge ≤ most) edges
+        → (b ≡ true → moment edge.to + delay situation edge ≤ most) × HeldUpTo situation moment point most edges
     by true rest within = (λ here. omega (arith, within), rest (omega (arith, within)))
     by false rest within = (λ here. absurd cc, rest within)
 

@@ -81,21 +81,59 @@ longest_is_duration net link sound =
     let same : pos (nat_abs link.high) ≡ link.high = own_size link.high (omega (arith, ints, positive, interval)) in
     (omega (arith, ints, same, interval), omega (arith, ints, same))
 
--- A point that comes before a link's completion where the link is shortest comes at the same moment where it isn't.
-after_shortest : (net : Plan) (strategy : Tree) (name : LinkId) (link : Link) (situation schedule : List ℕ) → IsLink net link
-    → (both : Compared net strategy name link situation schedule (nat_abs link.low)) → (second edge : Edge) → HoldsIn both.other_schedule second → second.from ≡ link.to → second.weight <ℤ pos 0
-    → edge.from ≡ link.from → edge.to ≡ second.to → (link.low +ℤ second.weight) ≤ℤ edge.weight → HoldsIn schedule edge
-after_shortest net strategy name link situation schedule sound both second edge holds begins negative from to looser =
-    let begins_in : moment_in both.other_schedule second.from ≡ moment_in both.other_schedule link.to = ap (moment_in both.other_schedule) begins in
-    let from_in : moment_in schedule edge.from ≡ moment_in schedule link.from = ap (moment_in schedule) from in
-    let to_in : moment_in schedule edge.to ≡ moment_in schedule second.to = ap (moment_in schedule) to in
-    let same_activation = both.same_activation in
-    let completes = both.completes in
-    let other_completes = both.other_completes in
-    let low = both.is_duration.0 in
-    let shortest : pos (nat_abs link.low) ≡ link.low = own_size link.low sound.positive in
-    let same_end : moment_in schedule second.to ≡ moment_in both.other_schedule second.to = both.agree_back second.to (omega (arith, ints, holds, begins_in, negative, same_activation, completes, other_completes, low, shortest)) in
-    omega (arith, ints, holds, begins_in, from_in, to_in, same_activation, other_completes, shortest, same_end, looser)
+-- in the situation in which the link is longest, it takes its longest duration
+longest_there : (net : Plan) (other : List ℕ) (name : LinkId) (link : Link) → IsLinkOf net name link → slice_get other name.0 ≡ Some (nat_abs link.high) → pos (nat_abs link.high) ≡ link.high → TakesLongest net other (Some name)
+longest_there net other name link declared lasts longest its duration its_declared its_lasts =
+    let same_link : link ≡ its = same_Some link its (sym declared ∙ its_declared) in
+    let same_duration : duration ≡ nat_abs link.high = same_Some duration (nat_abs link.high) (sym its_lasts ∙ lasts) in
+    ap pos same_duration ∙ longest ∙ ap (λ (l : Link). l.high) same_link
+
+module _ (net : Plan) (strategy : Tree) (name : LinkId) (link : Link) where
+  -- A point that comes before a link's completion where the link is shortest comes at the same moment where it isn't.
+  after_shortest : (situation schedule : List ℕ) → IsLink net link
+      → (both : Compared net strategy name link situation schedule (nat_abs link.low)) → (second edge : Edge) → HoldsIn both.other_schedule second → second.from ≡ link.to → second.weight <ℤ pos 0
+      → edge.from ≡ link.from → edge.to ≡ second.to → (link.low +ℤ second.weight) ≤ℤ edge.weight → HoldsIn schedule edge
+  after_shortest situation schedule sound both second edge holds begins negative from to looser =
+      let begins_in : moment_in both.other_schedule second.from ≡ moment_in both.other_schedule link.to = ap (moment_in both.other_schedule) begins in
+      let from_in : moment_in schedule edge.from ≡ moment_in schedule link.from = ap (moment_in schedule) from in
+      let to_in : moment_in schedule edge.to ≡ moment_in schedule second.to = ap (moment_in schedule) to in
+      let same_activation = both.same_activation in
+      let completes = both.completes in
+      let other_completes = both.other_completes in
+      let low = both.is_duration.0 in
+      let shortest : pos (nat_abs link.low) ≡ link.low = own_size link.low sound.positive in
+      let same_end : moment_in schedule second.to ≡ moment_in both.other_schedule second.to = both.agree_back second.to (omega (arith, ints, holds, begins_in, negative, same_activation, completes, other_completes, low, shortest)) in
+      omega (arith, ints, holds, begins_in, from_in, to_in, same_activation, other_completes, shortest, same_end, looser)
+
+  -- a point that comes before a link's completion comes at the same moment where the link is longest
+  beside_longest : (situation schedule : List ℕ) → IsLink net link
+      → (both : Compared net strategy name link situation schedule (nat_abs link.high)) → (premise : Edge) → HoldsIn both.other_schedule premise → premise.to ≡ link.from
+      → moment_in schedule premise.from < moment_in schedule link.to → HoldsIn schedule premise
+  beside_longest situation schedule sound both premise holds ends before =
+      let ends_in : moment_in schedule premise.to ≡ moment_in schedule link.from = ap (moment_in schedule) ends in
+      let ends_there : moment_in both.other_schedule premise.to ≡ moment_in both.other_schedule link.from = ap (moment_in both.other_schedule) ends in
+      let same_activation = both.same_activation in
+      let completes = both.completes in
+      let other_completes = both.other_completes in
+      let high = both.is_duration.1 in
+      let positive = sound.positive in
+      let interval = sound.interval in
+      let longest : pos (nat_abs link.high) ≡ link.high = own_size link.high (omega (arith, ints, positive, interval)) in
+      let same : moment_in schedule premise.from ≡ moment_in both.other_schedule premise.from = both.agree premise.from (omega (arith, ints, before, same_activation, completes, other_completes, high, longest)) in
+      omega (arith, ints, holds, ends_in, ends_there, same_activation, same)
+
+  -- a labelled edge that is true holds wherever its first point comes before its label's completion
+  pub wait_kept : (premise : Edge) (situation schedule : List ℕ) → IsInstant net → Controls strategy net → HoldsOf net strategy premise
+      → premise.label ≡ Some name → IsLinkOf net name link → premise.to ≡ link.from → IsSituation net situation → play strategy net situation ≡ Some schedule
+      → moment_in schedule premise.from < moment_in schedule link.to → HoldsIn schedule premise
+  wait_kept premise situation schedule instant controls holds labelled declared ends is_situation played before =
+      let sound = link_sound net instant.sound name.0 link declared in
+      let positive = sound.positive in
+      let interval = sound.interval in
+      let both = compared net strategy name link situation schedule (nat_abs link.high) instant controls declared is_situation played (longest_is_duration net link sound) in
+      let is_longest = longest_there net both.other name link declared both.lasts (own_size link.high (omega (arith, ints, positive, interval))) in
+      let holds_there = holds both.other both.other_schedule both.is_situation (same_label net both.other (Some name) premise.label (sym labelled) is_longest) both.played in
+      beside_longest situation schedule sound both premise holds_there ends before
 
 pub lower_case_keeps_truth : LowerCaseKeepsTruth
 lower_case_keeps_truth net strategy second edge instant controls holds rule situation schedule is_situation longest played =
@@ -117,43 +155,6 @@ cross_case_keeps_truth net strategy second edge instant controls holds rule situ
     let longest_there : TakesLongest net both.other (Some rule.label) = longest_stays net situation both.other rule.name rule.label rule.another both.elsewhere longest_here in
     let holds_there = holds both.other both.other_schedule both.is_situation (same_label net both.other (Some rule.label) second.label (sym rule.second_labelled) longest_there) both.played in
     after_shortest net strategy rule.name rule.link situation schedule sound both second edge holds_there rule.begins rule.negative rule.from rule.to rule.looser
-
--- a point that comes before a link's completion comes at the same moment where the link is longest
-beside_longest : (net : Plan) (strategy : Tree) (name : LinkId) (link : Link) (situation schedule : List ℕ) → IsLink net link
-    → (both : Compared net strategy name link situation schedule (nat_abs link.high)) → (premise : Edge) → HoldsIn both.other_schedule premise → premise.to ≡ link.from
-    → moment_in schedule premise.from < moment_in schedule link.to → HoldsIn schedule premise
-beside_longest net strategy name link situation schedule sound both premise holds ends before =
-    let ends_in : moment_in schedule premise.to ≡ moment_in schedule link.from = ap (moment_in schedule) ends in
-    let ends_there : moment_in both.other_schedule premise.to ≡ moment_in both.other_schedule link.from = ap (moment_in both.other_schedule) ends in
-    let same_activation = both.same_activation in
-    let completes = both.completes in
-    let other_completes = both.other_completes in
-    let high = both.is_duration.1 in
-    let positive = sound.positive in
-    let interval = sound.interval in
-    let longest : pos (nat_abs link.high) ≡ link.high = own_size link.high (omega (arith, ints, positive, interval)) in
-    let same : moment_in schedule premise.from ≡ moment_in both.other_schedule premise.from = both.agree premise.from (omega (arith, ints, before, same_activation, completes, other_completes, high, longest)) in
-    omega (arith, ints, holds, ends_in, ends_there, same_activation, same)
-
--- in the situation in which the link is longest, it takes its longest duration
-longest_there : (net : Plan) (other : List ℕ) (name : LinkId) (link : Link) → IsLinkOf net name link → slice_get other name.0 ≡ Some (nat_abs link.high) → pos (nat_abs link.high) ≡ link.high → TakesLongest net other (Some name)
-longest_there net other name link declared lasts longest its duration its_declared its_lasts =
-    let same_link : link ≡ its = same_Some link its (sym declared ∙ its_declared) in
-    let same_duration : duration ≡ nat_abs link.high = same_Some duration (nat_abs link.high) (sym its_lasts ∙ lasts) in
-    ap pos same_duration ∙ longest ∙ ap (λ (l : Link). l.high) same_link
-
--- a labelled edge that is true holds wherever its first point comes before its label's completion
-pub wait_kept : (net : Plan) (strategy : Tree) (name : LinkId) (link : Link) (premise : Edge) (situation schedule : List ℕ) → IsInstant net → Controls strategy net → HoldsOf net strategy premise
-    → premise.label ≡ Some name → IsLinkOf net name link → premise.to ≡ link.from → IsSituation net situation → play strategy net situation ≡ Some schedule
-    → moment_in schedule premise.from < moment_in schedule link.to → HoldsIn schedule premise
-wait_kept net strategy name link premise situation schedule instant controls holds labelled declared ends is_situation played before =
-    let sound = link_sound net instant.sound name.0 link declared in
-    let positive = sound.positive in
-    let interval = sound.interval in
-    let both = compared net strategy name link situation schedule (nat_abs link.high) instant controls declared is_situation played (longest_is_duration net link sound) in
-    let is_longest = longest_there net both.other name link declared both.lasts (own_size link.high (omega (arith, ints, positive, interval))) in
-    let holds_there = holds both.other both.other_schedule both.is_situation (same_label net both.other (Some name) premise.label (sym labelled) is_longest) both.played in
-    beside_longest net strategy name link situation schedule sound both premise holds_there ends before
 
 pub removal_keeps_truth : RemovalKeepsTruth
 removal_keeps_truth net strategy premise edge instant controls holds rule situation schedule is_situation longest played =

@@ -31,12 +31,15 @@ dispatched_come_once_free net edges situation schedule point t dispatched execut
     let comes = dispatched.executable point executable in
     (λ by_then edge holds. let held = comes.not_before edge holds in omega (arith, held, by_then), no_later net edges schedule point t comes)
 
+-- where a point comes up to a moment in one schedule, it comes no later in another
+abbrev ComesSooner : List ℕ → List ℕ → ℕ → PointId → Type 0
+ComesSooner first second m point = moment_in first point ≤ m → moment_in second point ≤ moment_in first point
+
 module _ (net : Plan) (edges : List Edge) (order : List PointId) (plan : IsPlan net) (closed : IsClosedList net edges) (ordered : IsOrder net edges order) where
   -- What holds a point back in one schedule holds it back no longer in another, where its end and the completions up to then
   -- come no later.
   held_no_longer : (first second : List ℕ) (point : PointId) (edge : Edge) → HoldsBack edges point edge → awaited net first edge ≤ moment_in first point
-      → (moment_in first edge.to ≤ moment_in first point → moment_in second edge.to ≤ moment_in first edge.to)
-      → ((name : LinkId) (link : Link) → IsLinkOf net name link → edge.to ≡ link.from → moment_in first link.to ≤ moment_in first point → moment_in second link.to ≤ moment_in first link.to)
+      → ComesSooner first second (moment_in first point) edge.to → ((name : LinkId) (link : Link) → IsLinkOf net name link → edge.to ≡ link.from → ComesSooner first second (moment_in first point) link.to)
       → awaited net second edge ≤ moment_in first point
   held_no_longer first second point edge holds awaits before completed = by edge.label refl
     where

@@ -30,21 +30,23 @@ pub case_passed : (cases : List Case) (i : ℕ) (case : Case) (points : List Poi
 case_passed cases i case points within is fails =
     ap (λ (cs : List Case). case_for cs points) (next_of cases i case within is) ∙ cond-false (pointwise same_point case.seen points) (Some case) (case_for (drop (i + 1) cases) points) fails
 
-pub completion_found : (so_far : Moments) (t : ℕ) (links : List Link) (durations : List ℕ) (point : PointId) (i : ℕ) (link : Link) (duration : ℕ) → i < length links → i < length durations
-    → link ≡ get_or links i link → duration ≡ get_or durations i duration → (same_point link.to point && completes so_far t link duration) ≡ true
-    → is_completed so_far t (drop i links) (drop i durations) point ≡ true
-completion_found so_far t links durations point i link duration link_within within link_is is completes_now =
-    ap (λ (ls : List Link). is_completed so_far t ls (drop i durations) point) (next_of links i link link_within link_is)
-    ∙ ap (λ (ds : List ℕ). is_completed so_far t (link ∷ drop (i + 1) links) ds point) (next_of durations i duration within is)
-    ∙ or_left (same_point link.to point && completes so_far t link duration) (is_completed so_far t (drop (i + 1) links) (drop (i + 1) durations) point) completes_now
+-- the next link and its duration
+module _ (so_far : Moments) (t : ℕ) (links : List Link) (durations : List ℕ) (point : PointId) (i : ℕ) (link : Link) (duration : ℕ) where
+  pub completion_found : i < length links → i < length durations
+      → link ≡ get_or links i link → duration ≡ get_or durations i duration → (same_point link.to point && completes so_far t link duration) ≡ true
+      → is_completed so_far t (drop i links) (drop i durations) point ≡ true
+  completion_found link_within within link_is is completes_now =
+      ap (λ (ls : List Link). is_completed so_far t ls (drop i durations) point) (next_of links i link link_within link_is)
+      ∙ ap (λ (ds : List ℕ). is_completed so_far t (link ∷ drop (i + 1) links) ds point) (next_of durations i duration within is)
+      ∙ or_left (same_point link.to point && completes so_far t link duration) (is_completed so_far t (drop (i + 1) links) (drop (i + 1) durations) point) completes_now
 
-pub completion_passed : (so_far : Moments) (t : ℕ) (links : List Link) (durations : List ℕ) (point : PointId) (i : ℕ) (link : Link) (duration : ℕ) → i < length links → i < length durations
-    → link ≡ get_or links i link → duration ≡ get_or durations i duration → (same_point link.to point && completes so_far t link duration) ≡ false
-    → is_completed so_far t (drop i links) (drop i durations) point ≡ is_completed so_far t (drop (i + 1) links) (drop (i + 1) durations) point
-completion_passed so_far t links durations point i link duration link_within within link_is is fails =
-    ap (λ (ls : List Link). is_completed so_far t ls (drop i durations) point) (next_of links i link link_within link_is)
-    ∙ ap (λ (ds : List ℕ). is_completed so_far t (link ∷ drop (i + 1) links) ds point) (next_of durations i duration within is)
-    ∙ ap (λ (b : Bool). b || is_completed so_far t (drop (i + 1) links) (drop (i + 1) durations) point) fails
+  pub completion_passed : i < length links → i < length durations
+      → link ≡ get_or links i link → duration ≡ get_or durations i duration → (same_point link.to point && completes so_far t link duration) ≡ false
+      → is_completed so_far t (drop i links) (drop i durations) point ≡ is_completed so_far t (drop (i + 1) links) (drop (i + 1) durations) point
+  completion_passed link_within within link_is is fails =
+      ap (λ (ls : List Link). is_completed so_far t ls (drop i durations) point) (next_of links i link link_within link_is)
+      ∙ ap (λ (ds : List ℕ). is_completed so_far t (link ∷ drop (i + 1) links) ds point) (next_of durations i duration within is)
+      ∙ ap (λ (b : Bool). b || is_completed so_far t (drop (i + 1) links) (drop (i + 1) durations) point) fails
 
 -- whether the first of some acts may be executed
 abbrev pub may_act_first : Plan → Moments → PointId → List PointId → Bool

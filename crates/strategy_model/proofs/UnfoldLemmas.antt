@@ -152,9 +152,19 @@ module _ (net : Plan) (schedule_of : List ℕ → List ℕ) (plan : IsPlan net) 
           let now = eqb-true (moment_in (schedule_of second) point) t comes in
           and_from (is_none (activation net point)) (moment_in (schedule_of first) point == t) free (eq-eqb (moment_in (schedule_of first) point) t (at_once point free (inr now) ∙ now))
 
-  plays : (moments : ℕ) (situations : List (List ℕ)) (t : ℕ) (situation : List ℕ) (so_far : Moments) → Among situations situation → ((other : List ℕ) → Among situations other → IsSituation net other)
-      → ((other : List ℕ) → Among situations other → (m : ℕ) → m < t → seen_in net (schedule_of other) m ≡ seen_in net (schedule_of situation) m) → Known net (schedule_of situation) so_far t
-      → ((point : PointId) → IsPoint net point → moment_in (schedule_of situation) point < t + moments)
+  abbrev AreSituations : List (List ℕ) → Type 0
+  AreSituations situations = (other : List ℕ) → Among situations other → IsSituation net other
+
+  -- in each of some situations the same is seen before a moment as in one
+  abbrev SeenAlike : List (List ℕ) → ℕ → List ℕ → Type 0
+  SeenAlike situations t situation = (other : List ℕ) → Among situations other → (m : ℕ) → m < t → seen_in net (schedule_of other) m ≡ seen_in net (schedule_of situation) m
+
+  -- every point has come before a moment
+  abbrev AllComeBefore : List ℕ → ℕ → Type 0
+  AllComeBefore situation t = (point : PointId) → IsPoint net point → moment_in (schedule_of situation) point < t
+
+  plays : (moments : ℕ) (situations : List (List ℕ)) (t : ℕ) (situation : List ℕ) (so_far : Moments) → Among situations situation → AreSituations situations
+      → SeenAlike situations t situation → Known net (schedule_of situation) so_far t → AllComeBefore situation (t + moments)
       → play_from (unfolded net schedule_of moments situations t) net situation so_far t ≡ Some (schedule_of situation)
   plays zero situations t situation so_far among all alike known past =
       made_of_known net (schedule_of situation) so_far t (dynamic.complete situation (all situation among)) known (λ point within. let before = past point within in omega (arith, before))

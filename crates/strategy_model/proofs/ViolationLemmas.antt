@@ -137,80 +137,82 @@ module _ (net : Plan) (edges : List Edge) (situation schedule : List ℕ) (plan 
           | inr ending ↦ moved edge ending.link ending.name ending.declared ending.ends (stands_lower_case net edges closed ending.name ending.link edge ending.declared among ordinary (sym ending.ends) negative) low violated
         ]
 
-    -- an ordinary edge from 0 on, and the ordinary edge by which its end is held back: no-case
-    before_bound : (edge next : Edge) → Contains edges edge → edge.label ≡ None → pos 0 ≤ℤ edge.weight → HoldsBack edges edge.to next → next.label ≡ None → awaited net schedule next ≡ moment_in schedule edge.to → measure schedule edge < suc limit → Violated net schedule edge → ⊥
-    before_bound edge next among ordinary from_zero holds next_ordinary reached low violated =
-        let negative = below_zero next holds.negative in
-        let size = size_of next.weight negative in
-        let asks = bound_awaited net schedule next next_ordinary in
-        let late = violated.late in
-        let marked = mark_small edge.label in
-        let made : Edge = record { from = edge.from; to = next.to; label = None; weight = edge.weight +ℤ next.weight } in
-        impossible made (stands_no_case net edges closed edge next among holds.among ordinary next_ordinary (sym holds.begins) negative from_zero) (omega (arith, ints, size, negative, asks, reached, low)) (record {
-          late = omega (arith, ints, size, asks, reached, late);
-          sooner = λ label labelled. absurd (none-some label labelled);
-        })
+    -- an ordinary edge from 0 on
+    module _ (edge : Edge) (among : Contains edges edge) (ordinary : edge.label ≡ None) (from_zero : pos 0 ≤ℤ edge.weight) (low : measure schedule edge < suc limit) (violated : Violated net schedule edge) where
+      -- and the ordinary edge by which its end is held back: no-case
+      before_bound : (next : Edge) → HoldsBack edges edge.to next → next.label ≡ None → awaited net schedule next ≡ moment_in schedule edge.to → ⊥
+      before_bound next holds next_ordinary reached =
+          let negative = below_zero next holds.negative in
+          let size = size_of next.weight negative in
+          let asks = bound_awaited net schedule next next_ordinary in
+          let late = violated.late in
+          let marked = mark_small edge.label in
+          let made : Edge = record { from = edge.from; to = next.to; label = None; weight = edge.weight +ℤ next.weight } in
+          impossible made (stands_no_case net edges closed edge next among holds.among ordinary next_ordinary (sym holds.begins) negative from_zero) (omega (arith, ints, size, negative, asks, reached, low)) (record {
+            late = omega (arith, ints, size, asks, reached, late);
+            sooner = λ label labelled. absurd (none-some label labelled);
+          })
 
-    -- an ordinary edge from 0 on, and a labelled one from its end, before whose completion the end comes: upper-case
-    before_wait : (edge next : Edge) (name : LinkId) → Contains edges edge → edge.label ≡ None → pos 0 ≤ℤ edge.weight → Contains edges next → edge.to ≡ next.from → next.weight <ℤ pos 0
-        → next.label ≡ Some name → (pos (moment_in schedule edge.to) +ℤ next.weight) ≤ℤ pos (moment_in schedule next.to) → moment_in schedule edge.to ≤ completion_in net schedule name
-        → moment_in schedule next.to < moment_in schedule edge.to → measure schedule edge < suc limit → Violated net schedule edge → ⊥
-    before_wait edge next name among ordinary from_zero next_among meets negative labelled asks before falls low violated =
-        let late = violated.late in
-        let marked = mark_small next.label in
-        let made : Edge = record { from = edge.from; to = next.to; label = next.label; weight = edge.weight +ℤ next.weight } in
-        impossible made (stands_upper_case net edges closed edge next name among next_among ordinary labelled meets negative from_zero) (omega (arith, marked, falls, low)) (record {
-          late = omega (arith, ints, asks, late);
-          sooner = λ label its.
-              let same : completion_in net schedule label ≡ completion_in net schedule name = ap (completion_in net schedule) (same_Some label name (sym its ∙ labelled)) in
-              omega (arith, ints, same, before, late, from_zero);
-        })
+      -- and a labelled one from its end, before whose completion the end comes: upper-case
+      before_wait : (next : Edge) (name : LinkId) → Contains edges next → edge.to ≡ next.from → next.weight <ℤ pos 0
+          → next.label ≡ Some name → (pos (moment_in schedule edge.to) +ℤ next.weight) ≤ℤ pos (moment_in schedule next.to) → moment_in schedule edge.to ≤ completion_in net schedule name
+          → moment_in schedule next.to < moment_in schedule edge.to → ⊥
+      before_wait next name next_among meets negative labelled asks before falls =
+          let late = violated.late in
+          let marked = mark_small next.label in
+          let made : Edge = record { from = edge.from; to = next.to; label = next.label; weight = edge.weight +ℤ next.weight } in
+          impossible made (stands_upper_case net edges closed edge next name among next_among ordinary labelled meets negative from_zero) (omega (arith, marked, falls, low)) (record {
+            late = omega (arith, ints, asks, late);
+            sooner = λ label its.
+                let same : completion_in net schedule label ≡ completion_in net schedule name = ap (completion_in net schedule) (same_Some label name (sym its ∙ labelled)) in
+                omega (arith, ints, same, before, late, from_zero);
+          })
 
-    -- an ordinary edge from 0 on whose end is held back by another edge
-    before_held : (edge next : Edge) → Contains edges edge → edge.label ≡ None → pos 0 ≤ℤ edge.weight → HoldsBack edges edge.to next → awaited net schedule next ≡ moment_in schedule edge.to → measure schedule edge < suc limit → Violated net schedule edge → ⊥
-    before_held edge next among ordinary from_zero holds reached low violated = by next.label refl
-      where
-        by : (label : Option LinkId) → next.label ≡ label → ⊥
-        by None next_ordinary = before_bound edge next among ordinary from_zero holds next_ordinary reached low violated
-        by (Some name) labelled =
-            let negative = below_zero next holds.negative in
-            let size = size_of next.weight negative in
-            let asks = wait_awaited net schedule next name labelled in
-            let (link, declared, ends) = label_sound net edges closed next name holds.among labelled in
-            let completion = completion_is net schedule name link declared in
-            let lasting = its_lasts name link declared in
-            let is = lasting.is in
-            let shortest = lasting.fits.0 in
-            let positive = lasting.positive in
-            let to : moment_in schedule next.to ≡ moment_in schedule link.from = ap (moment_in schedule) ends in
-            before_wait edge next name among ordinary from_zero holds.among (sym holds.begins) negative labelled (omega (arith, ints, asks, reached, size)) (omega (arith, asks, reached)) (omega (arith, ints, asks, reached, completion, is, to, shortest, positive, size, negative)) low violated
+      -- its end is held back by another edge
+      before_held : (next : Edge) → HoldsBack edges edge.to next → awaited net schedule next ≡ moment_in schedule edge.to → ⊥
+      before_held next holds reached = by next.label refl
+        where
+          by : (label : Option LinkId) → next.label ≡ label → ⊥
+          by None next_ordinary = before_bound next holds next_ordinary reached
+          by (Some name) labelled =
+              let negative = below_zero next holds.negative in
+              let size = size_of next.weight negative in
+              let asks = wait_awaited net schedule next name labelled in
+              let (link, declared, ends) = label_sound net edges closed next name holds.among labelled in
+              let completion = completion_is net schedule name link declared in
+              let lasting = its_lasts name link declared in
+              let is = lasting.is in
+              let shortest = lasting.fits.0 in
+              let positive = lasting.positive in
+              let to : moment_in schedule next.to ≡ moment_in schedule link.from = ap (moment_in schedule) ends in
+              before_wait next name holds.among (sym holds.begins) negative labelled (omega (arith, ints, asks, reached, size)) (omega (arith, asks, reached)) (omega (arith, ints, asks, reached, completion, is, to, shortest, positive, size, negative))
 
-    -- an ordinary edge from 0 on to a contingent point: upper-case with the edge of its link
-    before_completion : (edge : Edge) → Contains edges edge → edge.label ≡ None → pos 0 ≤ℤ edge.weight → Ending net edge.to → measure schedule edge < suc limit → Violated net schedule edge → ⊥
-    before_completion edge among ordinary from_zero ending low violated =
-        let link = ending.link in
-        let stands = stands_link net edges closed ending.name link ending.declared in
-        let next = stands.entry in
-        let lasting = its_lasts ending.name link ending.declared in
-        let is = lasting.is in
-        let (shortest, longest) = lasting.fits in
-        let positive = lasting.positive in
-        let at_most = stands.at_most in
-        let negative : next.weight <ℤ pos 0 = omega (arith, ints, at_most, shortest, longest, positive) in
-        let end : moment_in schedule link.to ≡ moment_in schedule edge.to = ap (moment_in schedule) ending.ends in
-        let to : moment_in schedule next.to ≡ moment_in schedule link.from = ap (moment_in schedule) stands.to in
-        let completion = completion_is net schedule ending.name link ending.declared in
-        before_wait edge next ending.name among ordinary from_zero stands.among (sym ending.ends ∙ sym stands.from) negative stands.label (omega (arith, ints, at_most, longest, is, end, to)) (omega (arith, completion, end)) (omega (arith, ints, is, end, to, shortest, positive)) low violated
+      -- its end is a contingent point: upper-case with the edge of its link
+      before_completion : Ending net edge.to → ⊥
+      before_completion ending =
+          let link = ending.link in
+          let stands = stands_link net edges closed ending.name link ending.declared in
+          let next = stands.entry in
+          let lasting = its_lasts ending.name link ending.declared in
+          let is = lasting.is in
+          let (shortest, longest) = lasting.fits in
+          let positive = lasting.positive in
+          let at_most = stands.at_most in
+          let negative : next.weight <ℤ pos 0 = omega (arith, ints, at_most, shortest, longest, positive) in
+          let end : moment_in schedule link.to ≡ moment_in schedule edge.to = ap (moment_in schedule) ending.ends in
+          let to : moment_in schedule next.to ≡ moment_in schedule link.from = ap (moment_in schedule) stands.to in
+          let completion = completion_is net schedule ending.name link ending.declared in
+          before_wait next ending.name stands.among (sym ending.ends ∙ sym stands.from) negative stands.label (omega (arith, ints, at_most, longest, is, end, to)) (omega (arith, completion, end)) (omega (arith, ints, is, end, to, shortest, positive))
 
-    ordinary_from_zero : (edge : Edge) → Contains edges edge → edge.label ≡ None → pos 0 ≤ℤ edge.weight → measure schedule edge < suc limit → Violated net schedule edge → ⊥
-    ordinary_from_zero edge among ordinary from_zero low violated =
-        elim (kind net edge.to (edge_sound net edges closed edge among).to_point) [
-          | inl executable ↦ elim (dispatched.executable edge.to executable).reached [
-            | inl at_zero ↦ let late = violated.late in omega (arith, ints, at_zero, late, from_zero)
-            | inr (next, holds, reached) ↦ before_held edge next among ordinary from_zero holds reached low violated
+      ordinary_from_zero : ⊥
+      ordinary_from_zero =
+          elim (kind net edge.to (edge_sound net edges closed edge among).to_point) [
+            | inl executable ↦ elim (dispatched.executable edge.to executable).reached [
+              | inl at_zero ↦ let late = violated.late in omega (arith, ints, at_zero, late, from_zero)
+              | inr (next, holds, reached) ↦ before_held next holds reached
+            ]
+            | inr ending ↦ before_completion ending
           ]
-          | inr ending ↦ before_completion edge among ordinary from_zero ending low violated
-        ]
 
     -- a labelled edge from 0 on: removal
     labelled_from_zero : (edge : Edge) (name : LinkId) → Contains edges edge → edge.label ≡ Some name → pos 0 ≤ℤ edge.weight → measure schedule edge < suc limit → Violated net schedule edge → ⊥

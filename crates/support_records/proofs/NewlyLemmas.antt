@@ -27,24 +27,29 @@ one_filtered p made e = by (p e)
     by true = refl
     by false = refl
 
-pub newly_more : {X : Type 0} (p : ℕ × X → Bool) (made : ℕ × X → Node) (start before all : List Node) (listed xs : List X) (place : ℕ) (d : X) (node : Node) (wanted : Bool) → listed ≡ xs → place < length xs
-    → before ≡ start ++ map made (filter p (take place (enumerate_from 0 xs))) → node ≡ made (place, get_or listed place d) → wanted ≡ p (place, get_or listed place d) → all ≡ before ++ (if wanted then node ∷ [] else [])
-    → all ≡ start ++ map made (filter p (take (place + 1) (enumerate_from 0 xs)))
-newly_more {X = X} p made start before all listed xs place d node wanted same inside was node_is wanted_is pushed =
-    let e : ℕ × X = (place, get_or xs place d) in
-    let at : (place, get_or listed place d) ≡ e = ap (λ (ys : List X). (place, get_or ys place d)) same in
-    let step : map made (filter p (take (place + 1) (enumerate_from 0 xs))) ≡ map made (filter p (take place (enumerate_from 0 xs))) ++ (if p e then made e ∷ [] else []) =
-    ap (λ (es : List (ℕ × X)). map made (filter p es)) (numbered_more xs place d inside)
-    ∙ (ap (map made) (filter-append p (take place (enumerate_from 0 xs)) (e ∷ []))
-    ∙ (map-append made (filter p (take place (enumerate_from 0 xs))) (filter p (e ∷ [])) ∙ ap (λ (ns : List Node). map made (filter p (take place (enumerate_from 0 xs))) ++ ns) (one_filtered p made e))) in
-    pushed
-    ∙ ((λ i. was i ++ (if (wanted_is ∙ ap p at) i then (node_is ∙ ap made at) i ∷ [] else []))
-    ∙ (append_assoc start (map made (filter p (take place (enumerate_from 0 xs)))) (if p e then made e ∷ [] else []) ∙ ap (λ (ns : List Node). start ++ ns) (sym step)))
+-- nodes, and after them those of the first of some items that are wanted
+module _ {X : Type 0} (p : ℕ × X → Bool) (made : ℕ × X → Node) (start : List Node) where
+  abbrev pub with_first : ℕ → List X → List Node
+  with_first place xs = start ++ map made (filter p (take place (enumerate_from 0 xs)))
 
-pub newly_all : {X : Type 0} (p : ℕ × X → Bool) (made : ℕ × X → Node) (start after : List Node) (xs : List X) (place : ℕ) → length xs ≤ place → place ≤ length xs → after ≡ start ++ map made (filter p (take place (enumerate_from 0 xs))) → after ≡ start ++ map made (filter p (enumerate_from 0 xs))
-newly_all {X = X} p made start after xs place least most was =
-    let size : place ≡ length (enumerate_from 0 xs) = simp length-enumerate_from (omega arith) in
-    was ∙ ap (λ (es : List (ℕ × X)). start ++ map made (filter p es)) (ap (λ (n : ℕ). take n (enumerate_from 0 xs)) size ∙ take-length (enumerate_from 0 xs))
+  pub newly_more : (before all : List Node) (listed xs : List X) (place : ℕ) (d : X) (node : Node) (wanted : Bool) → listed ≡ xs → place < length xs
+      → before ≡ with_first place xs → node ≡ made (place, get_or listed place d) → wanted ≡ p (place, get_or listed place d) → all ≡ before ++ (if wanted then node ∷ [] else [])
+      → all ≡ with_first (place + 1) xs
+  newly_more before all listed xs place d node wanted same inside was node_is wanted_is pushed =
+      let e : ℕ × X = (place, get_or xs place d) in
+      let at : (place, get_or listed place d) ≡ e = ap (λ (ys : List X). (place, get_or ys place d)) same in
+      let step : map made (filter p (take (place + 1) (enumerate_from 0 xs))) ≡ map made (filter p (take place (enumerate_from 0 xs))) ++ (if p e then made e ∷ [] else []) =
+      ap (λ (es : List (ℕ × X)). map made (filter p es)) (numbered_more xs place d inside)
+      ∙ (ap (map made) (filter-append p (take place (enumerate_from 0 xs)) (e ∷ []))
+      ∙ (map-append made (filter p (take place (enumerate_from 0 xs))) (filter p (e ∷ [])) ∙ ap (λ (ns : List Node). map made (filter p (take place (enumerate_from 0 xs))) ++ ns) (one_filtered p made e))) in
+      pushed
+      ∙ ((λ i. was i ++ (if (wanted_is ∙ ap p at) i then (node_is ∙ ap made at) i ∷ [] else []))
+      ∙ (append_assoc start (map made (filter p (take place (enumerate_from 0 xs)))) (if p e then made e ∷ [] else []) ∙ ap (λ (ns : List Node). start ++ ns) (sym step)))
+
+  pub newly_all : (after : List Node) (xs : List X) (place : ℕ) → length xs ≤ place → place ≤ length xs → after ≡ with_first place xs → after ≡ start ++ map made (filter p (enumerate_from 0 xs))
+  newly_all after xs place least most was =
+      let size : place ≡ length (enumerate_from 0 xs) = simp length-enumerate_from (omega arith) in
+      was ∙ ap (λ (es : List (ℕ × X)). start ++ map made (filter p es)) (ap (λ (n : ℕ). take n (enumerate_from 0 xs)) size ∙ take-length (enumerate_from 0 xs))
 
 -- base nodes after a list
 pub first_pushed : (net : Plan) (list nodes : List Node) (n : ℕ) → IsDerivationList net list → All (Contains (base_nodes net)) nodes → IsDerivationList net (list ++ take n nodes)

@@ -25,18 +25,27 @@ pub input_lines_is : (bytes : List ℕ) → input_lines bytes ≡ input_lines_af
 unfolding input_lines whole_lines unfinished
 input_lines_is bytes = refl
 
+-- the whole lines, and what is unfinished, where a byte ends the line or goes on with it to a longer one
+abbrev whole_past : Bool → List ℕ → List ℕ → List ℕ → List (List ℕ)
+whole_past ends line bytes longer = cond ends (line ∷ whole_lines_after [] bytes) (whole_lines_after longer bytes)
+
+abbrev unfinished_past : Bool → List ℕ → List ℕ → List ℕ
+unfinished_past ends bytes longer = cond ends (unfinished_after [] bytes) (unfinished_after longer bytes)
+
 -- the lines of a text are the texts of its lines as an input
+abbrev TextsAfter : List ℕ → List ℕ → Type 0
+TextsAfter line bytes = lines_after line bytes ≡ map (λ (l : InputLine). l.text) (input_lines_after line bytes)
+
 text_of_last : (line : List ℕ) → if_filled line ≡ map (λ (l : InputLine). l.text) (last_line line)
 text_of_last [] = refl
 text_of_last (byte ∷ bytes) = refl
 
-texts_by : (ends : Bool) (line bytes more : List ℕ) → lines_after [] bytes ≡ map (λ (l : InputLine). l.text) (input_lines_after [] bytes) →
-    lines_after more bytes ≡ map (λ (l : InputLine). l.text) (input_lines_after more bytes) →
-    cond ends (line ∷ lines_after [] bytes) (lines_after more bytes) ≡ map (λ (l : InputLine). l.text) (map whole_line (cond ends (line ∷ whole_lines_after [] bytes) (whole_lines_after more bytes)) ++ last_line (cond ends (unfinished_after [] bytes) (unfinished_after more bytes)))
+texts_by : (ends : Bool) (line bytes more : List ℕ) → TextsAfter [] bytes → TextsAfter more bytes →
+    cond ends (line ∷ lines_after [] bytes) (lines_after more bytes) ≡ map (λ (l : InputLine). l.text) (map whole_line (whole_past ends line bytes more) ++ last_line (unfinished_past ends bytes more))
 texts_by true line bytes more here later = ap (λ (ls : List (List ℕ)). line ∷ ls) here
 texts_by false line bytes more here later = later
 
-lines_after-texts : (line bytes : List ℕ) → lines_after line bytes ≡ map (λ (l : InputLine). l.text) (input_lines_after line bytes)
+lines_after-texts : (line bytes : List ℕ) → TextsAfter line bytes
 lines_after-texts line [] = text_of_last line
 lines_after-texts line (byte ∷ bytes) =
     texts_by (byte == 10) line bytes (line ++ byte ∷ []) (lines_after-texts [] bytes) (lines_after-texts (line ++ byte ∷ []) bytes)
@@ -46,9 +55,14 @@ unfolding lines input_lines whole_lines unfinished
 lines-texts bytes = lines_after-texts [] bytes
 
 -- bytes that come go on with what is unfinished
-whole_by : (ends : Bool) (line bytes longer more : List ℕ) → whole_lines_after [] (bytes ++ more) ≡ whole_lines_after [] bytes ++ whole_lines_after (unfinished_after [] bytes) more →
-    whole_lines_after longer (bytes ++ more) ≡ whole_lines_after longer bytes ++ whole_lines_after (unfinished_after longer bytes) more →
-    cond ends (line ∷ whole_lines_after [] (bytes ++ more)) (whole_lines_after longer (bytes ++ more)) ≡ cond ends (line ∷ whole_lines_after [] bytes) (whole_lines_after longer bytes) ++ whole_lines_after (cond ends (unfinished_after [] bytes) (unfinished_after longer bytes)) more
+abbrev WholeGoesOn : List ℕ → List ℕ → List ℕ → Type 0
+WholeGoesOn line bytes more = whole_lines_after line (bytes ++ more) ≡ whole_lines_after line bytes ++ whole_lines_after (unfinished_after line bytes) more
+
+abbrev UnfinishedGoesOn : List ℕ → List ℕ → List ℕ → Type 0
+UnfinishedGoesOn line bytes more = unfinished_after line (bytes ++ more) ≡ unfinished_after (unfinished_after line bytes) more
+
+whole_by : (ends : Bool) (line bytes longer more : List ℕ) → WholeGoesOn [] bytes more → WholeGoesOn longer bytes more →
+    whole_past ends line (bytes ++ more) longer ≡ whole_past ends line bytes longer ++ whole_lines_after (unfinished_past ends bytes longer) more
 whole_by true line bytes longer more here later = ap (λ (ls : List (List ℕ)). line ∷ ls) here
 whole_by false line bytes longer more here later = later
 
@@ -57,9 +71,8 @@ whole_lines_after-append line [] more = refl
 whole_lines_after-append line (byte ∷ bytes) more =
     whole_by (byte == 10) line bytes (line ++ byte ∷ []) more (whole_lines_after-append [] bytes more) (whole_lines_after-append (line ++ byte ∷ []) bytes more)
 
-unfinished_by : (ends : Bool) (bytes longer more : List ℕ) → unfinished_after [] (bytes ++ more) ≡ unfinished_after (unfinished_after [] bytes) more →
-    unfinished_after longer (bytes ++ more) ≡ unfinished_after (unfinished_after longer bytes) more →
-    cond ends (unfinished_after [] (bytes ++ more)) (unfinished_after longer (bytes ++ more)) ≡ unfinished_after (cond ends (unfinished_after [] bytes) (unfinished_after longer bytes)) more
+unfinished_by : (ends : Bool) (bytes longer more : List ℕ) → UnfinishedGoesOn [] bytes more → UnfinishedGoesOn longer bytes more →
+    unfinished_past ends (bytes ++ more) longer ≡ unfinished_after (unfinished_past ends bytes longer) more
 unfinished_by true bytes longer more here later = here
 unfinished_by false bytes longer more here later = later
 
@@ -82,7 +95,7 @@ Begins-more line byte other begins = record {
   rest = λ more. ap (λ (l : List ℕ). unfinished_after [] l) (append_assoc line (byte ∷ []) more) ∙ (begins.rest (byte ∷ more) ∙ cond-false (byte == 10) (unfinished_after [] more) (unfinished_after (line ++ byte ∷ []) more) other);
 }
 
-begins_by : (ends : Bool) (bytes longer : List ℕ) → Begins (unfinished_after [] bytes) → (ends ≡ false → Begins (unfinished_after longer bytes)) → Begins (cond ends (unfinished_after [] bytes) (unfinished_after longer bytes))
+begins_by : (ends : Bool) (bytes longer : List ℕ) → Begins (unfinished_after [] bytes) → (ends ≡ false → Begins (unfinished_after longer bytes)) → Begins (unfinished_past ends bytes longer)
 begins_by true bytes longer here later = here
 begins_by false bytes longer here later = later refl
 
@@ -102,17 +115,20 @@ unfinished-append bytes more =
     unfinished_after-append [] bytes more ∙ sym ((unfinished_after-begins [] bytes Begins-nil).rest more)
 
 -- bytes of no whole line are all unfinished
-open_by : (ends : Bool) (line bytes longer : List ℕ) → cond ends (line ∷ whole_lines_after [] bytes) (whole_lines_after longer bytes) ≡ [] → (ends ≡ false → whole_lines_after longer bytes ≡ [] → (unfinished_after longer bytes ≡ longer ++ bytes) × Begins (longer ++ bytes)) →
-    (ends ≡ false) × (whole_lines_after longer bytes ≡ []) × (unfinished_after longer bytes ≡ longer ++ bytes) × Begins (longer ++ bytes)
-open_by true line bytes longer none later = absurd (cc)
-open_by false line bytes longer none later = let found = later refl none in (refl, none, found.0, found.1)
+abbrev IsOpen : List ℕ → List ℕ → Type 0
+IsOpen line bytes = (unfinished_after line bytes ≡ line ++ bytes) × Begins (line ++ bytes)
 
-open_after : (line bytes : List ℕ) → Begins line → whole_lines_after line bytes ≡ [] → (unfinished_after line bytes ≡ line ++ bytes) × Begins (line ++ bytes)
+open_by : (ends : Bool) (line bytes longer : List ℕ) → whole_past ends line bytes longer ≡ [] → (ends ≡ false → whole_lines_after longer bytes ≡ [] → IsOpen longer bytes) →
+    (ends ≡ false) × (whole_lines_after longer bytes ≡ []) × IsOpen longer bytes
+open_by true line bytes longer none later = absurd (cc)
+open_by false line bytes longer none later = let found = later refl none in (refl, none, found)
+
+open_after : (line bytes : List ℕ) → Begins line → whole_lines_after line bytes ≡ [] → IsOpen line bytes
 open_after line [] begins none = rw (append-nil line) (refl, begins)
 open_after line (byte ∷ bytes) begins none =
     let all = open_by (byte == 10) line bytes (line ++ byte ∷ []) none (λ other left. open_after (line ++ byte ∷ []) bytes (Begins-more line byte other begins) left) in
     let joined = append_assoc line (byte ∷ []) bytes in
-    (cond-false (byte == 10) (unfinished_after [] bytes) (unfinished_after (line ++ byte ∷ []) bytes) all.0 ∙ (all.2 ∙ joined), rw (sym joined) all.3)
+    (cond-false (byte == 10) (unfinished_after [] bytes) (unfinished_after (line ++ byte ∷ []) bytes) all.0 ∙ (all.2.0 ∙ joined), rw (sym joined) all.2.1)
 
 pub unfinished-open : (bytes : List ℕ) → whole_lines bytes ≡ [] → unfinished bytes ≡ bytes
 unfolding whole_lines unfinished

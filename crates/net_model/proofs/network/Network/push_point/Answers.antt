@@ -10,7 +10,11 @@ invariant_of-self-2 c =
     let keys = rw c.unwrap.ensures at c.insert.ensures.keys in
     stored-more_points c.self.inside _ c.self.invariant c.args.name.now
     c.bytes.ensures.name (subst (λ net. point_named net c.args.name.now ≡ None) (sym c.self.view_is) c.requires.fresh) (rw (ap (λ (net : Plan). net.points) c.self.view_is) c.requires.room)
-    refl refl refl
-    (c.push_reserved.ensures.items ∙ ap (λ points. points ++ c.args.name.now ∷ []) c.in_ok-reserve.ensures.items)
-    (keys ∙ ap (λ names. insert_key bytes_eq names c.args.name.now) c.in_ok-reserve-3.ensures.keys)
-    (c.push_reserved-2.ensures.items ∙ ap (λ links. links ++ None ∷ []) c.in_ok-reserve-2.ensures.items)
+    (record {
+      bounds = refl;
+      links = refl;
+      bound_names = refl;
+      points = c.push_reserved.ensures.items ∙ ap (λ points. points ++ c.args.name.now ∷ []) c.in_ok-reserve.ensures.items;
+      point_names = keys ∙ ap (λ names. insert_key bytes_eq names c.args.name.now) c.in_ok-reserve-3.ensures.keys;
+      ending = c.push_reserved-2.ensures.items ∙ ap (λ links. links ++ None ∷ []) c.in_ok-reserve-2.ensures.items;
+    })
