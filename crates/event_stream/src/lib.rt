@@ -10,5 +10,5 @@ mod reader;
 pub use event::Event;
 pub use limits::{MOST_COMPLETIONS, limits_are_defined};
 pub use net_model::MOST_MOMENT;
-pub use texts::MOST_LINE;
 pub use reader::EventReader;
+pub use texts::MOST_LINE;

@@ -135,4 +135,3 @@ fn push_links(net: &Network, nodes: &mut Vec<Node>) -> Result<(), Fail>
     }
     Ok(())
 }
-

@@ -11,9 +11,7 @@ ghost use Rattle.labelled_graph.specs.Rows.{empty_row};
 
 use crate::entry::Entry;
 use crate::row::Row;
-use net_model::{
-    Bound, Edge, Link, LinkId, Network, PointId, Weight, bound_edge, link_edge,
-};
+use net_model::{Bound, Edge, Link, LinkId, Network, PointId, Weight, bound_edge, link_edge};
 use std::alloc::{AllocError, Global};
 use std::marker::Model;
 

@@ -12,10 +12,10 @@ mod window;
 mod writing;
 
 pub use limits::{MOST_READ, limits_are_defined};
-pub use texts::MOST_LINE;
 pub use lines::{Line, LineReader};
 pub use memory::MemoryPort;
 pub use ports::{Port, Sent, Took};
 pub use standard::StdPort;
 pub use steady::SteadyPort;
+pub use texts::MOST_LINE;
 pub use writing::{Written, write_all};

@@ -210,4 +210,3 @@ fn put_end(
         Finished::Ended(why) => refuse_event(answer, net, number, why),
     }
 }
-
