@@ -82,13 +82,29 @@ some_of : (o : Option ℕ) → IsSome o → (m : ℕ) × (o ≡ Some m)
 some_of None is = absurd cc
 some_of (Some m) is = (m, refl)
 
+-- the moments so far before the end of an execution, by its last moment
+pub record IsAtLast (network : KeptNetwork) (moments : Moments) (last : Option ℕ) (from : ℕ) : Type 0 where
+  pub whole : length moments ≡ length network.made
+  pub before : AreBefore (moment_after last) moments
+  pub first : from ≡ moment_after last
+  pub soon : from ≤ end_of_time
+
+-- what has come of them when time has run out, and the acts that were made
+pub record HasRunOut (network : KeptNetwork) (old : Moments) (from : ℕ) (now : Moments) (acts : List Act) : Type 0 where
+  pub moments : now ≡ time_runs (made_setting network) old from (end_of_time - from)
+  pub acts_are : acts ≡ acts_while (made_setting network) old from (end_of_time - from)
+  pub come : All IsSome now
+
 -- at the end the execution goes on
-pub goes_at_end : (network : KeptNetwork) (old : Moments) (last : Option ℕ) (from : ℕ) (now : Moments) (counts : List ℕ) (due latest : List (Option ℕ)) (acts : List Act) → length old ≡ length network.made
-    → AreBefore (moment_after last) old → from ≡ moment_after last → from ≤ end_of_time → now ≡ time_runs (made_setting network) old from (end_of_time - from)
-    → acts ≡ acts_while (made_setting network) old from (end_of_time - from) → IsCourseOf network end_of_time now counts due → AreLatest network.setting now latest → All IsSome now
-    → GoesOn network now counts due latest (last_of last acts)
-goes_at_end network old last from now counts due latest acts whole before first soon is acts_are course awaited come =
-    let end = ends_at (made_setting network) last old from (end_of_time - from) whole (omega (arith, first)) before in
+pub goes_at_end : (network : KeptNetwork) (old now : Moments) (last : Option ℕ) (from : ℕ) (counts : List ℕ) (due latest : List (Option ℕ)) (acts : List Act) → IsAtLast network old last from
+    → HasRunOut network old from now acts → IsCourseOf network end_of_time now counts due → AreLatest network.setting now latest → GoesOn network now counts due latest (last_of last acts)
+goes_at_end network old now last from counts due latest acts at_last out course awaited =
+    let first = at_last.first in
+    let soon = at_last.soon in
+    let is = out.moments in
+    let acts_are = out.acts_are in
+    let come = out.come in
+    let end = ends_at (made_setting network) last old from (end_of_time - from) at_last.whole (omega (arith, first)) at_last.before in
     record {
       course = record {
         awake = awake_at_end network.setting end_of_time (moment_after (last_of last acts)) now counts due course.awake (λ point inside. some_of (moment_of now point) (come point.0 None inside));

@@ -70,6 +70,14 @@ any_passes p (suc n) = by (any_passes p n) (p (record { 0 = n })) refl
         ])
 
 module _ (setting : Setting) where
+  -- no point is due from a moment to the one before another
+  abbrev IsIdleFrom : Moments → (t until : ℕ) → Type 0
+  IsIdleFrom moments t until = (u : ℕ) → t ≤ u → u < until → IsIdle setting moments u
+
+  -- no moment brings an act
+  abbrev IsOver : Moments → Type 0
+  IsOver moments = (t : ℕ) → acts_at setting moments t ≡ []
+
   left_runs : (moments : Moments) (t count : ℕ) → length moments ≡ length setting.dispatch → left_of (time_runs setting moments t count) ≤ left_of moments
   left_runs moments t count whole =
       fewer moments (time_runs setting moments t count) (whole ∙ sym (length-time_runs setting moments t count whole))
@@ -88,13 +96,13 @@ module _ (setting : Setting) where
 
   -- in some time no point is due, or fewer are left after it
   progress : (moments : Moments) (t count : ℕ) → length moments ≡ length setting.dispatch
-      → ((u : ℕ) → t ≤ u → u < t + count → IsIdle setting moments u) ⊎ (left_of (time_runs setting moments t count) < left_of moments)
+      → IsIdleFrom moments t (t + count) ⊎ (left_of (time_runs setting moments t count) < left_of moments)
   progress moments t zero whole = inl (λ u above below. absurd (omega (arith, above, below)))
   progress moments t (suc count) whole = by (any_passes (is_due setting moments t) (length setting.dispatch)) (progress moments (suc t) count whole)
     where
       by : IsIdle setting moments t ⊎ ((point : PointId) × (point.0 < length setting.dispatch) × (is_due setting moments t point ≡ true))
-          → ((u : ℕ) → suc t ≤ u → u < suc t + count → IsIdle setting moments u) ⊎ (left_of (time_runs setting moments (suc t) count) < left_of moments)
-          → ((u : ℕ) → t ≤ u → u < t + suc count → IsIdle setting moments u) ⊎ (left_of (time_runs setting (acted setting moments t) (suc t) count) < left_of moments)
+          → IsIdleFrom moments (suc t) (suc t + count) ⊎ (left_of (time_runs setting moments (suc t) count) < left_of moments)
+          → IsIdleFrom moments t (t + suc count) ⊎ (left_of (time_runs setting (acted setting moments t) (suc t) count) < left_of moments)
       by (inr found) later =
           inr (let less = left_acted moments t found.0 whole found.1 found.2 in
           let more = left_runs (acted setting moments t) (suc t) count (length-acted setting moments t) in omega (arith, less, more))
@@ -106,7 +114,7 @@ module _ (setting : Setting) where
       by (inl idle) (inr less) = inr (subst (λ (m : Moments). left_of (time_runs setting m (suc t) count) < left_of moments) (sym (idle_same moments t whole idle)) less)
 
   idle_for_ever : (moments : Moments) (from count : ℕ) → length moments ≡ length setting.dispatch → ((t : ℕ) → IsIdle setting moments t)
-      → (t : ℕ) → acts_at setting (time_runs setting moments from count) t ≡ []
+      → IsOver (time_runs setting moments from count)
   idle_for_ever moments from count whole idle t =
       rw ((still setting moments from count whole (λ u above below. idle u)).same) (none_due_no_acts setting moments t (idle t))
 
@@ -125,20 +133,20 @@ module _ (setting : Setting) where
         by false is = refl
         by true is = (let yes = due_later setting sound moments from t u before (omega (arith, later, great)) point inside is in let no = idle point inside in cc)
 
+    abbrev IsSettledBy : (left : ℕ) → Moments → (from count : ℕ) → Type 0
+    IsSettledBy left moments from count =
+        length moments ≡ length setting.dispatch → AreBefore from moments → left_of moments ≤ left → size * left ≤ count → IsOver (time_runs setting moments from count)
+
     -- after so many times this size no act is left
-    pub settled : (left : ℕ) (moments : Moments) (from count : ℕ) → length moments ≡ length setting.dispatch → AreBefore from moments → left_of moments ≤ left → size * left ≤ count
-        → (t : ℕ) → acts_at setting (time_runs setting moments from count) t ≡ []
+    pub settled : (left : ℕ) (moments : Moments) (from count : ℕ) → IsSettledBy left moments from count
     settled zero moments from count whole before few long = idle_for_ever moments from count whole (none_left moments whole few)
     settled (suc left) moments from count whole before few long = by (progress moments from size whole) (settled left (time_runs setting moments from size) (from + size) (count - size))
       where
         more : size * suc left ≡ size * left + size
         more = mul-suc size left
 
-        by : ((u : ℕ) → from ≤ u → u < from + size → IsIdle setting moments u) ⊎ (left_of (time_runs setting moments from size) < left_of moments)
-            → (length (time_runs setting moments from size) ≡ length setting.dispatch → AreBefore (from + size) (time_runs setting moments from size)
-            → left_of (time_runs setting moments from size) ≤ left → size * left ≤ count - size
-            → (t : ℕ) → acts_at setting (time_runs setting (time_runs setting moments from size) (from + size) (count - size)) t ≡ [])
-            → (t : ℕ) → acts_at setting (time_runs setting moments from count) t ≡ []
+        by : IsIdleFrom moments from (from + size) ⊎ (left_of (time_runs setting moments from size) < left_of moments)
+            → IsSettledBy left (time_runs setting moments from size) (from + size) (count - size) → IsOver (time_runs setting moments from count)
         by (inl idle) next =
             idle_for_ever moments from count whole (quiet moments from (from + size - 1) before (omega (arith, great)) (idle (from + size - 1) (omega (arith, great)) (omega (arith, great))))
         by (inr less) next = λ t.

@@ -411,8 +411,11 @@ module _ (setting : Setting) (moments : Moments) (none : moments ≡ replicate (
       by None = refl
       by (Some link) = never link.from
 
-  pub awake_first : (counts : List ℕ) (due : List (Option ℕ)) → length counts ≡ length setting.dispatch → length due ≡ length counts
-      → ((point : PointId) → point.0 < length setting.dispatch → slice_index counts point.0 ≡ condition_count (conditions_at setting.dispatch point))
+  -- each point is counted with all its conditions
+  abbrev AreCountedWhole : List ℕ → Type 0
+  AreCountedWhole counts = (point : PointId) → point.0 < length setting.dispatch → slice_index counts point.0 ≡ condition_count (conditions_at setting.dispatch point)
+
+  pub awake_first : (counts : List ℕ) (due : List (Option ℕ)) → length counts ≡ length setting.dispatch → length due ≡ length counts → AreCountedWhole counts
       → ((point : PointId) → point.0 < length setting.dispatch → PassesFrom (λ t. is_due setting moments t point) (due_in due point)) → IsAwake setting 0 moments counts due
   awake_first counts due counts_long due_long counted found = record {
     moments_count = ap (λ (m : Moments). length m) none ∙ length-replicate (length setting.dispatch) None;
