@@ -250,32 +250,34 @@ module _ {C : Type 0} (machine : Machine C) (start : C) where
       let bound : reader.number ≤ reader.before + (if false then 1 else 0) = subst (λ (b : Bool). reader.number ≤ reader.before + (if b then 1 else 0)) none valid.numbered in
       omega (arith, bound, valid.within, most)
 
-  -- every piece was taken promptly, in a run that ends so
-  is_prompt : (command : C) (old new : Reader) (line : Line) (left_first left_now : Option (List ℕ)) (was is fin : Talk) (written : Written) (bytes : List ℕ) → ReadSoFar machine start command old new line left_first left_now was is → Wrote written bytes is fin → IsPrompt machine start was fin
-  is_prompt command old new line left_first left_now was is fin written bytes read wrote = record {
-    pieces = read.pieces;
-    taken = wrote.taken ∙ read.taken;
-    promptly = λ seen later piece split.
-        let one = read.in_time seen later piece split in
-        let last = bytes_put written bytes in
-        record {
-          said = one.by_then;
-          later = one.later ++ last;
-          answered = one.answered;
-          put_before = one.put_before;
-          put_after = wrote.put ∙ (ap (λ (l : List ℕ). l ++ last) (read.put ∙ ap (λ (l : List ℕ). was.put ++ l) one.said_is) ∙ (append_assoc was.put (one.by_then ++ one.later) last ∙ (ap (λ (l : List ℕ). was.put ++ l) (append_assoc one.by_then one.later last) ∙ sym (append_assoc was.put one.by_then (one.later ++ last)))));
-        };
-  }
+  -- what was read so far, and what is written after it
+  module _ (command : C) (old new : Reader) (line : Line) (left_first left_now : Option (List ℕ)) (was is fin : Talk) (written : Written) (bytes : List ℕ) where
+    -- every piece was taken promptly, in a run that ends so
+    is_prompt : ReadSoFar machine start command old new line left_first left_now was is → Wrote written bytes is fin → IsPrompt machine start was fin
+    is_prompt read wrote = record {
+      pieces = read.pieces;
+      taken = wrote.taken ∙ read.taken;
+      promptly = λ seen later piece split.
+          let one = read.in_time seen later piece split in
+          let last = bytes_put written bytes in
+          record {
+            said = one.by_then;
+            later = one.later ++ last;
+            answered = one.answered;
+            put_before = one.put_before;
+            put_after = wrote.put ∙ (ap (λ (l : List ℕ). l ++ last) (read.put ∙ ap (λ (l : List ℕ). was.put ++ l) one.said_is) ∙ (append_assoc was.put (one.by_then ++ one.later) last ∙ (ap (λ (l : List ℕ). was.put ++ l) (append_assoc one.by_then one.later last) ∙ sym (append_assoc was.put one.by_then (one.later ++ last)))));
+          };
+    }
 
-  puts_are : (s : Status) (command : C) (old new : Reader) (line : Line) (left_first left_now : Option (List ℕ)) (was is fin : Talk) (written : Written) (bytes input untaken : List ℕ) (read : ReadSoFar machine start command old new line left_first left_now was is) →
-      Wrote written bytes is fin → PutsFor machine start s input untaken (read.said ++ bytes_put written bytes) read.pieces → Puts machine start s was fin input untaken
-  puts_are s command old new line left_first left_now was is fin written bytes input untaken read wrote puts = record {
-    pieces = read.pieces;
-    put = read.said ++ bytes_put written bytes;
-    taken = wrote.taken ∙ read.taken;
-    all = wrote.put ∙ (ap (λ (l : List ℕ). l ++ bytes_put written bytes) read.put ∙ append_assoc was.put read.said (bytes_put written bytes));
-    puts = puts;
-  }
+    puts_are : (s : Status) (input untaken : List ℕ) (read : ReadSoFar machine start command old new line left_first left_now was is) →
+        Wrote written bytes is fin → PutsFor machine start s input untaken (read.said ++ bytes_put written bytes) read.pieces → Puts machine start s was fin input untaken
+    puts_are s input untaken read wrote puts = record {
+      pieces = read.pieces;
+      put = read.said ++ bytes_put written bytes;
+      taken = wrote.taken ∙ read.taken;
+      all = wrote.put ∙ (ap (λ (l : List ℕ). l ++ bytes_put written bytes) read.put ∙ append_assoc was.put read.said (bytes_put written bytes));
+      puts = puts;
+    }
 
   -- the calls that failed
   no_take : (fault : Bool) (was is : Talk) → fault ≡ false → take_place machine start fault was is → is.failed_take ≡ was.failed_take
@@ -323,10 +325,15 @@ module _ {C : Type 0} (machine : Machine C) (start : C) where
     pub gives : GivesFirst (machine.longest command) old new line before untaken
     pub all : input ≡ bytes_of pieces ++ untaken
 
+  -- what was put is right for whatever was ahead
+  abbrev PutsAhead : Status → C → Reader → Reader → Line → Seen → Seen → Written → List ℕ → Type 0
+  PutsAhead s command old new line first between written answer =
+      (was is : Talk) (input untaken : List ℕ) (read : ReadSoFar machine start command old new line first.left between.left was is) → Ahead command old new line read.lines read.pieces input untaken → PutsFor machine start s input untaken (read.said ++ bytes_put written answer) read.pieces
+
   -- a run that ends so, by what was put for what was ahead
   serves_by : (s : Status) (command : C) (old new : Reader) (line : Line) (first before between after : Seen) (written : Written) (answer : List ℕ) →
       ReadFrom line command old new first before between → Writes between after written answer → Calls s first after →
-      ((was is : Talk) (input untaken : List ℕ) (read : ReadSoFar machine start command old new line first.left between.left was is) → Ahead command old new line read.lines read.pieces input untaken → PutsFor machine start s input untaken (read.said ++ bytes_put written answer) read.pieces) →
+      PutsAhead s command old new line first between written answer →
       Serves machine start s first after
   serves_by s command old new line first before between after written answer from writes calls puts = record {
     calls = calls;
@@ -335,7 +342,7 @@ module _ {C : Type 0} (machine : Machine C) (start : C) where
     puts = WhereTold-twice first.talk between.talk after.talk (ReadSoFar machine start command old new line first.left between.left) (λ is fin. fin ≡ after_writing written answer is) (λ was fin. WhereTold first.left after.left (Puts machine start s was fin))
         (λ was is fin read changed. subst (λ (l : Option (List ℕ)). WhereTold first.left l (Puts machine start s was fin)) (sym writes.left)
         (WhereTold-so first.left between.left (λ input untaken. ((b : List ℕ) × (input_lines input ≡ read.lines ++ input_lines (remaining old b)) × GivesFirst (machine.longest command) old new line b untaken) × (input ≡ bytes_of read.pieces ++ untaken)) (Puts machine start s was fin)
-        (λ input untaken told. puts_are s command old new line first.left between.left was is fin written answer input untaken read (wrote written answer is fin changed) (puts was is input untaken read (record { before = told.0.0; divided = told.0.1; gives = told.0.2; all = told.1 })))
+        (λ input untaken told. puts_are command old new line first.left between.left was is fin written answer s input untaken read (wrote written answer is fin changed) (puts was is input untaken read (record { before = told.0.0; divided = told.0.1; gives = told.0.2; all = told.1 })))
         (told_left first.left between.left (bytes_of read.pieces) (λ input rest. (b : List ℕ) × (input_lines input ≡ read.lines ++ input_lines (remaining old b)) × GivesFirst (machine.longest command) old new line b rest) read.left read.ahead))) (read_seen command old new line first before between from) writes.talk;
     told = ap (λ (l : Option (List ℕ)). is_some l) writes.left ∙ (still_told before.left between.left (concat from.reads.pieces) from.reads.takes.left ∙ from.serving.told);
   }
@@ -477,8 +484,12 @@ module _ {C : Type 0} (machine : Machine C) (start : C) where
   wanted_by ReadFault command old new first before between (inl is) from may_want = absurd (cc is)
   wanted_by ReadFault command old new first before between (inr is) from may_want = absurd (cc is)
 
+  -- a reply that was written ends the run so
+  abbrev EndsSo : Status → Written → Turn C → Type 0
+  EndsSo s written reply = Ends s ≡ after_written written reply
+
   answered : (line : Line) (written : Written) (s : Status) (command : C) (old new : Reader) (first before between after : Seen) (answer : List ℕ) (reply : Turn C) → is_read_fault line ≡ false →
-      ReadFrom line command old new first before between → Writes between after written answer → ReplyTo machine command line new answer reply → Ends s ≡ after_written written reply →
+      ReadFrom line command old new first before between → Writes between after written answer → ReplyTo machine command line new answer reply → EndsSo s written reply →
       Serves machine start s first after
   answered line All s command old new first before between after answer reply fault from writes replies is =
       let end = ended_reply line command new answer reply s fault replies is in
@@ -489,7 +500,7 @@ module _ {C : Type 0} (machine : Machine C) (start : C) where
       subst (λ (t : Status). Serves machine start t first after) same (breaks_at_put command old new line first before between after count answer reply fault from writes replies)
 
   -- the last turn, by what the reader answered and what was put
-  ends_by : (line : Line) (written : Written) (s : Status) (command : C) (old new : Reader) (first before between after : Seen) (answer : List ℕ) (reply : Turn C) → ReadFrom line command old new first before between → Writes between after written answer → ReplyTo machine command line new answer reply → Ends s ≡ after_written written reply → Serves machine start s first after
+  ends_by : (line : Line) (written : Written) (s : Status) (command : C) (old new : Reader) (first before between after : Seen) (answer : List ℕ) (reply : Turn C) → ReadFrom line command old new first before between → Writes between after written answer → ReplyTo machine command line new answer reply → EndsSo s written reply → Serves machine start s first after
   ends_by ReadFault All s command old new first before between after answer reply from writes replies is =
       let same : status.ReadFault ≡ s = cc (is, replies.1) in
       subst (λ (t : Status). Serves machine start t first after) same (breaks_at_take command old new first before between after from (subst (λ (a : List ℕ). Writes between after All a) replies.0 writes))

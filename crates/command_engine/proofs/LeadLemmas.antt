@@ -19,8 +19,12 @@ module _ {S V F : Type 0} (reader : Reader S V F) where
   pub leads_next : (from between to : S) (past : ℕ) (front : List (List ℕ)) (line : List ℕ) → Leads reader from past front between → reader.reads between (number_after past front) line ≡ Goes to → Leads reader from past (front ++ line ∷ []) to
   leads_next from between to past front line leads reads = leads_on from between to past front (line ∷ []) leads (to, reads, refl)
 
+  -- it stays with each line that leads on
+  abbrev pub StaysOn : (List (List ℕ) → S → Type 0) → ℕ → Type 0
+  StaysOn Stands past = (lines : List (List ℕ)) (from to : S) (next : List ℕ) → Stands lines from → reader.reads from (number_after past lines) next ≡ Goes to → Stands (lines ++ next ∷ []) to
+
   -- what stays with each line that leads on stays where several lead
-  stands_from : (Stands : List (List ℕ) → S → Type 0) (past : ℕ) → ((lines : List (List ℕ)) (from to : S) (next : List ℕ) → Stands lines from → reader.reads from (number_after past lines) next ≡ Goes to → Stands (lines ++ next ∷ []) to)
+  stands_from : (Stands : List (List ℕ) → S → Type 0) (past : ℕ) → StaysOn Stands past
       → (others lines : List (List ℕ)) (from to : S) (count : ℕ) → count ≡ past + length lines → Stands lines from → Leads reader from count others to → Stands (lines ++ others) to
   stands_from Stands past step [] lines from to count at stands leads = subst (λ (ls : List (List ℕ)). Stands ls to) (sym (append-nil lines)) (subst (Stands lines) leads stands)
   stands_from Stands past step (next ∷ others) lines from to count at stands leads =
@@ -29,7 +33,7 @@ module _ {S V F : Type 0} (reader : Reader S V F) where
       let long = length-append lines (next ∷ []) in
       subst (λ (ls : List (List ℕ)). Stands ls to) (append_assoc lines (next ∷ []) others) (stands_from Stands past step others (lines ++ next ∷ []) leads.0 to (count + 1) (omega (arith, at, long)) on leads.2)
 
-  pub stands_by : (start : S) (past : ℕ) (Stands : List (List ℕ) → S → Type 0) → Stands [] start → ((lines : List (List ℕ)) (from to : S) (next : List ℕ) → Stands lines from → reader.reads from (number_after past lines) next ≡ Goes to → Stands (lines ++ next ∷ []) to)
+  pub stands_by : (start : S) (past : ℕ) (Stands : List (List ℕ) → S → Type 0) → Stands [] start → StaysOn Stands past
       → (lines : List (List ℕ)) (state : S) → Leads reader start past lines state → Stands lines state
   stands_by start past Stands begins step lines state leads = stands_from Stands past step lines [] start state past (let none : past ≡ past + 0 = omega arith in none) begins leads
 

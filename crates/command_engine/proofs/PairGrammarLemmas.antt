@@ -17,8 +17,12 @@ module _ {A V B W F : Type 0} (first : Reader A V F) (second : Reader B W F) (b 
   abbrev StandsSecond : V → B → ℕ → List (List ℕ) → Then A V B → Type 0
   StandsSecond value from past lines to = (there : B) × (to ≡ Second value there) × Leads second from past lines there
 
+  -- and it does where the lines lead to it
+  abbrev IfLeadsStands : V → B → ℕ → List (List ℕ) → Then A V B → Type 0
+  IfLeadsStands value from past lines to = Leads pair (Second value from) past lines to → StandsSecond value from past lines to
+
   second_on : (value : V) (from : B) (past : ℕ) (line : List ℕ) (lines : List (List ℕ)) (step : Step B W F) (next to : Then A V B) → second.reads from (past + 1) line ≡ step → second_step {A = A} value step ≡ Goes next → Leads pair next (past + 1) lines to
-      → ((on : B) → Leads pair (Second value on) (past + 1) lines to → StandsSecond value on (past + 1) lines to) → StandsSecond value from past (line ∷ lines) to
+      → ((on : B) → IfLeadsStands value on (past + 1) lines to) → StandsSecond value from past (line ∷ lines) to
   second_on value from past line lines (Goes on) next to reads goes leads more =
       let same : next ≡ Second value on = cc in
       let there = more on (subst (λ (s : Then A V B). Leads pair s (past + 1) lines to) same leads) in

@@ -3,7 +3,8 @@ use Rattle.std.proofs.Common.{◌≡◌, ◌+◌, ◌-◌, List, [], ◌∷◌, 
 use Rattle.texts.specs.Lines.{InputLine, line_size}
 use Rattle.plan_port.specs.Lines.{Coming, Comes, TooLong, TooMuch, coming}
 use Rattle.command_engine.specs.Runs.{Here, after_line}
-use Rattle.command_engine.specs.Reading.{Reader, outcome_by, reading}
+use Rattle.command_engine.specs.Reading.{Reader, reading}
+use Rattle.command_engine.proofs.PathLemmas.{outcome_on}
 use Rattle.command_engine.specs.Pairs.{first_step, second_step, then_reader, with_first, then_reading}
 use Rattle.command_engine.specs.declared.reading.Step.{Step}
 use Rattle.command_engine.specs.declared.reading.Step.TheVariants.{Goes, Gives, Refused}
@@ -20,24 +21,31 @@ module _ {A V B W F : Type 0} (first : Reader A V F) (second : Reader B W F) whe
   abbrev pub at_second : V → Here B → Here (Then A V B)
   at_second value here = record { state = Second value here.state; number = here.number; room = here.room }
 
+  -- what is read from a place of one text is what it gives, and the second after the first
+  abbrev ReadsSecond : V → Here B → List InputLine → Type 0
+  ReadsSecond value here lines = reading pair (at_second value here) lines ≡ with_first value (reading second here lines)
+
+  abbrev ReadsFirst : B → Here A → List InputLine → Type 0
+  ReadsFirst other here lines = reading pair (at_first other here) lines ≡ then_reading first second other (reading first here lines)
+
   second_by : (how : Coming) (step : Step B W F) (value : V) (here : Here B) (line : InputLine) (lines : List InputLine) →
-      ((state : B) → reading pair (at_second value (after_line here line state)) lines ≡ with_first value (reading second (after_line here line state) lines)) →
-      outcome_by pair how (second_step value step) (at_second value here) line lines (λ state. reading pair (after_line (at_second value here) line state) lines) ≡ with_first value (outcome_by second how step here line lines (λ state. reading second (after_line here line state) lines))
+      ((state : B) → ReadsSecond value (after_line here line state) lines) →
+      outcome_on pair how (second_step value step) (at_second value here) line lines ≡ with_first value (outcome_on second how step here line lines)
   second_by Comes (Goes text) value here line lines later = later text
   second_by Comes (Gives other) value here line lines later = refl
   second_by Comes (Refused fault) value here line lines later = refl
   second_by TooLong step value here line lines later = refl
   second_by TooMuch step value here line lines later = refl
 
-  second_reads : (value : V) (here : Here B) (lines : List InputLine) → reading pair (at_second value here) lines ≡ with_first value (reading second here lines)
+  second_reads : (value : V) (here : Here B) (lines : List InputLine) → ReadsSecond value here lines
   second_reads value here [] = refl
   second_reads value here (line ∷ lines) =
       second_by (coming (second.longest here.state) here.room line) (second.reads here.state (here.number + 1) line.text) value here line lines
       (λ state. second_reads value (after_line here line state) lines)
 
   first_by : (how : Coming) (step : Step A V F) (other : B) (here : Here A) (line : InputLine) (lines : List InputLine) →
-      ((state : A) → reading pair (at_first other (after_line here line state)) lines ≡ then_reading first second other (reading first (after_line here line state) lines)) →
-      outcome_by pair how (first_step other step) (at_first other here) line lines (λ state. reading pair (after_line (at_first other here) line state) lines) ≡ then_reading first second other (outcome_by first how step here line lines (λ state. reading first (after_line here line state) lines))
+      ((state : A) → ReadsFirst other (after_line here line state) lines) →
+      outcome_on pair how (first_step other step) (at_first other here) line lines ≡ then_reading first second other (outcome_on first how step here line lines)
   first_by Comes (Goes text) other here line lines later = later text
   first_by Comes (Gives value) other here line lines later =
       second_reads value (record { state = other; number = here.number + 1; room = here.room - line_size line }) lines

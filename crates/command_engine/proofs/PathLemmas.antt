@@ -10,6 +10,10 @@ use Rattle.command_engine.specs.declared.reading.Step.{Step}
 use Rattle.command_engine.specs.declared.reading.Step.TheVariants.{Goes, Gives, Refused}
 
 module _ {S V F : Type 0} (reader : Reader S V F) where
+  -- the outcome by what comes of a line and what it brings, and by the reading of the lines after it
+  abbrev pub outcome_on : Coming → Step S V F → Here S → InputLine → List InputLine → Outcome V F
+  outcome_on how step here line lines = outcome_by reader how step here line lines (λ state. reading reader (after_line here line state) lines)
+
   -- these lines come, and lead from a state to another
   abbrev pub ComeFrom : S → (past room : ℕ) → List InputLine → S → Type 0
   ComeFrom from past room [] to = from ≡ to
@@ -49,8 +53,12 @@ module _ {S V F : Type 0} (reader : Reader S V F) where
   fault_by how here line lines fault comes is =
       at_once here (line ∷ lines) (Faulty fault) (refused (line ∷ lines) fault (subst (λ (h : Coming). FaultOf reader here.state (here.number + 1) (next_by h line.text) fault) (sym comes) is))
 
+  -- the reading of lines goes by a path
+  abbrev ReadsByPath : Here S → List InputLine → Type 0
+  ReadsByPath here lines = Path here lines (reading reader here lines)
+
   path_by : (how : Coming) (step : Step S V F) (here : Here S) (line : InputLine) (lines : List InputLine) → coming (reader.longest here.state) here.room line ≡ how → reader.reads here.state (here.number + 1) line.text ≡ step
-      → ((state : S) → Path (after_line here line state) lines (reading reader (after_line here line state) lines)) → Path here (line ∷ lines) (outcome_by reader how step here line lines (λ state. reading reader (after_line here line state) lines))
+      → ((state : S) → ReadsByPath (after_line here line state) lines) → Path here (line ∷ lines) (outcome_on how step here line lines)
   path_by Comes (Goes next) here line lines comes reads later =
       let on = later next in
       let count : here.number + 1 + length on.before ≡ here.number + length (line ∷ on.before) = omega arith in
@@ -74,7 +82,7 @@ module _ {S V F : Type 0} (reader : Reader S V F) where
       path_by (coming (reader.longest here.state) here.room line) (reader.reads here.state (here.number + 1) line.text) here line lines refl refl (λ state. path lines (after_line here line state))
 
   -- the outcome by what comes of a line and what it brings
-  outcome_is : (here : Here S) (line : InputLine) (lines : List InputLine) (how : Coming) (step : Step S V F) → coming (reader.longest here.state) here.room line ≡ how → reader.reads here.state (here.number + 1) line.text ≡ step → reading reader here (line ∷ lines) ≡ outcome_by reader how step here line lines (λ state. reading reader (after_line here line state) lines)
+  outcome_is : (here : Here S) (line : InputLine) (lines : List InputLine) (how : Coming) (step : Step S V F) → coming (reader.longest here.state) here.room line ≡ how → reader.reads here.state (here.number + 1) line.text ≡ step → reading reader here (line ∷ lines) ≡ outcome_on how step here line lines
   outcome_is here line lines how step comes reads =
       ap (λ (h : Coming). outcome_by reader h (reader.reads here.state (here.number + 1) line.text) here line lines (λ state. reading reader (after_line here line state) lines)) comes
       ∙ ap (λ (s : Step S V F). outcome_by reader how s here line lines (λ state. reading reader (after_line here line state) lines)) reads

@@ -67,30 +67,38 @@ module _ {B S V F P : Type 0} (begin : B → V → List ℕ → Onward P → Typ
   ends start here (line ∷ rest) last end replies =
       ends_by (coming (reader.longest here.state) here.room line) start here line rest (λ state. reading reader (after_line here line state) rest) last end replies
 
+  -- the outcome by a line that stands in the input
+  abbrev pub outcome_here : Here S → InputLine → List InputLine → (S → Outcome V F) → Outcome V F
+  outcome_here here line lines others = outcome_by reader (coming (reader.longest here.state) here.room line) (reader.reads here.state (here.number + 1) line.text) here line lines others
+
   -- a reply after which the run goes on: the text goes on, or its value begins the phase
   pub record ReadsOn (start : B) (here : Here S) (line : InputLine) (answer : List ℕ) (state : TextThenPhase B S P) : Type 0 where
     pub text : S
     pub nothing : answer ≡ []
     pub so : state ≡ Reading start text
-    pub reads : (lines : List InputLine) (others : S → Outcome V F) → outcome_by reader (coming (reader.longest here.state) here.room line) (reader.reads here.state (here.number + 1) line.text) here line lines others ≡ others text
+    pub reads : (lines : List InputLine) (others : S → Outcome V F) → outcome_here here line lines others ≡ others text
 
   pub record BeginsPhase (start : B) (here : Here S) (line : InputLine) (answer : List ℕ) (state : TextThenPhase B S P) : Type 0 where
     pub value : V
     pub served : P
     pub begins : begin start value answer (run.Goes served)
     pub so : state ≡ Serving served
-    pub reads : (lines : List InputLine) (others : S → Outcome V F) → outcome_by reader (coming (reader.longest here.state) here.room line) (reader.reads here.state (here.number + 1) line.text) here line lines others ≡ Given value (here.number + 1) (here.room - line_size line) lines
+    pub reads : (lines : List InputLine) (others : S → Outcome V F) → outcome_here here line lines others ≡ Given value (here.number + 1) (here.room - line_size line) lines
+
+  -- either of the two
+  abbrev GoesWith : B → Here S → InputLine → List ℕ → TextThenPhase B S P → Type 0
+  GoesWith start here line answer state = ReadsOn start here line answer state ⊎ BeginsPhase start here line answer state
 
   -- what a line that comes and brings this makes of a reading
   outcome_is : (here : Here S) (line : InputLine) (step : Step S V F) → coming (reader.longest here.state) here.room line ≡ Comes → reader.reads here.state (here.number + 1) line.text ≡ step →
-      (lines : List InputLine) (others : S → Outcome V F) → outcome_by reader (coming (reader.longest here.state) here.room line) (reader.reads here.state (here.number + 1) line.text) here line lines others ≡ outcome_by reader Comes step here line lines others
+      (lines : List InputLine) (others : S → Outcome V F) → outcome_here here line lines others ≡ outcome_by reader Comes step here line lines others
   outcome_is here line step comes reads lines others =
       subst (λ (how : Coming). outcome_by reader how (reader.reads here.state (here.number + 1) line.text) here line lines others ≡ outcome_by reader Comes step here line lines others) (sym comes)
       (subst (λ (one : Step S V F). outcome_by reader Comes one here line lines others ≡ outcome_by reader Comes step here line lines others) (sym reads) refl)
 
   goes_by_step : (step : Step S V F) (start : B) (here : Here S) (line : InputLine) (answer : List ℕ) (state : TextThenPhase B S P) → coming (reader.longest here.state) here.room line ≡ Comes →
       reader.reads here.state (here.number + 1) line.text ≡ step → RepliesToStep begin reader refusing phase start step answer (run.Goes state) →
-      ReadsOn start here line answer state ⊎ BeginsPhase start here line answer state
+      GoesWith start here line answer state
   goes_by_step (Goes text) start here line answer state comes reads replies =
       inl (record { text = text; nothing = replies.0; so = cc (replies.1); reads = outcome_is here line (Goes text) comes reads })
   goes_by_step (Gives value) start here line answer state comes reads replies =
@@ -98,52 +106,13 @@ module _ {B S V F P : Type 0} (begin : B → V → List ℕ → Onward P → Typ
       inr (record { value = value; served = goes.0; begins = subst (λ (o : Onward P). begin start value answer o) goes.1 replies.1; so = goes.2; reads = outcome_is here line (Gives value) comes reads })
   goes_by_step (Refused fault) start here line answer state comes reads replies = absurd (cc (replies.1))
 
-  goes_by : (how : Coming) (start : B) (here : Here S) (line : InputLine) (answer : List ℕ) (state : TextThenPhase B S P) → coming (reader.longest here.state) here.room line ≡ how → RepliesTo machine how (at_text start here) line.text answer (run.Goes state) → ReadsOn start here line answer state ⊎ BeginsPhase start here line answer state
+  goes_by : (how : Coming) (start : B) (here : Here S) (line : InputLine) (answer : List ℕ) (state : TextThenPhase B S P) → coming (reader.longest here.state) here.room line ≡ how → RepliesTo machine how (at_text start here) line.text answer (run.Goes state) → GoesWith start here line answer state
   goes_by Comes start here line answer state is replies = goes_by_step (reader.reads here.state (here.number + 1) line.text) start here line answer state is refl replies
   goes_by TooLong start here line answer state is replies = absurd (cc (replies.1))
   goes_by TooMuch start here line answer state is replies = absurd (cc (replies.1))
 
-  goes : (start : B) (here : Here S) (line : InputLine) (rest : List InputLine) (answer : List ℕ) (state : TextThenPhase B S P) → Replies machine (at_text start here) (line ∷ rest) answer (run.Goes state) → ReadsOn start here line answer state ⊎ BeginsPhase start here line answer state
+  goes : (start : B) (here : Here S) (line : InputLine) (rest : List InputLine) (answer : List ℕ) (state : TextThenPhase B S P) → Replies machine (at_text start here) (line ∷ rest) answer (run.Goes state) → GoesWith start here line answer state
   goes start here line rest answer state replies = goes_by (coming (reader.longest here.state) here.room line) start here line answer state refl replies
-
-  runs_by : (start : B) (here : Here S) (line : InputLine) (first rest : List InputLine) (said last : List ℕ) (there : Here (TextThenPhase B S P)) (end : End) (so_far : Answers machine (at_text start here) (line ∷ first) said there) →
-      Replies machine there rest last (run.Ends end) → ReadsOn start here line so_far.0 so_far.2 ⊎ BeginsPhase start here line so_far.0 so_far.2 →
-      ((text : S) → Answers machine (at_text start (after_line here line text)) first so_far.1 there → Follows start (reading reader (after_line here line text) (first ++ rest)) (so_far.1 ++ last) end) →
-      Follows start (reading reader here ((line ∷ first) ++ rest)) (said ++ last) end
-  runs_by start here line first rest said last there end so_far replies (inl on) later =
-      let next = after_line here line on.text in
-      let follows = later on.text (subst (λ (s : TextThenPhase B S P). Answers machine (after_line (at_text start here) line s) first so_far.1 there) on.so so_far.5) in
-      let said_is : said ≡ so_far.1 = so_far.4 ∙ ap (λ (s : List ℕ). s ++ so_far.1) on.nothing in
-      subst (λ (o : Outcome V F). Follows start o (said ++ last) end) (sym (on.reads (first ++ rest) (λ state. reading reader (after_line here line state) (first ++ rest))))
-      (subst (λ (s : List ℕ). Follows start (reading reader next (first ++ rest)) (s ++ last) end) (sym said_is) follows)
-  runs_by start here line first rest said last there end so_far replies (inr on) later =
-      let next : Here P = record { state = on.served; number = here.number + 1; room = here.room - line_size line } in
-      let served : Answers machine (at_phase phase machine Serving wraps_phase next) first so_far.1 there = subst (λ (s : TextThenPhase B S P). Answers machine (after_line (at_text start here) line s) first so_far.1 there) on.so so_far.5 in
-      let follows : Follows start (Given on.value (here.number + 1) (here.room - line_size line) (first ++ rest)) (said ++ last) end = (
-        so_far.0,
-        so_far.1 ++ last,
-        run.Goes on.served,
-        on.begins,
-        ap (λ (s : List ℕ). s ++ last) so_far.4 ∙ append_assoc so_far.0 so_far.1 last,
-        served_run phase machine Serving wraps_phase next (first ++ rest) (so_far.1 ++ last) end
-            (record { first = first; rest = rest; said = so_far.1; there = there; last = last; divided = refl; answers = served; ends = replies; all = refl }),
-      ) in
-      subst (λ (o : Outcome V F). Follows start o (said ++ last) end) (sym (on.reads (first ++ rest) (λ state. reading reader (after_line here line state) (first ++ rest)))) follows
-
-  runs_on : (start : B) (here : Here S) (first rest : List InputLine) (said last : List ℕ) (there : Here (TextThenPhase B S P)) (end : End) → Answers machine (at_text start here) first said there → Replies machine there rest last (run.Ends end) → Follows start (reading reader here (first ++ rest)) (said ++ last) end
-  runs_on start here [] rest said last there end so_far replies =
-      let p : Replies machine (at_text start here) rest last (run.Ends end) = subst (λ (h : Here (TextThenPhase B S P)). Replies machine h rest last (run.Ends end)) (sym so_far.1) replies in
-      subst (λ (s : List ℕ). Follows start (reading reader here rest) (s ++ last) end) (sym so_far.0) (ends start here rest last end p)
-  runs_on start here (line ∷ first) rest said last there end so_far replies =
-      runs_by start here line first rest said last there end so_far replies (goes start here line first so_far.0 so_far.2 so_far.3)
-      (λ text later. runs_on start (after_line here line text) first rest so_far.1 last there end later replies)
-
-  -- a run is the reading of the text, and then the phase that begins from what it says
-  pub run_is : (start : B) (here : Here S) (lines : List InputLine) (put : List ℕ) (end : End) → Run machine (at_text start here) lines put end → FollowsOutcome begin reader refusing phase start (reading reader here lines) put end
-  run_is start here lines put end one =
-      subst (λ (ls : List InputLine). Follows start (reading reader here ls) put end) (sym one.divided)
-      (subst (λ (p : List ℕ). Follows start (reading reader here (one.first ++ one.rest)) p end) (sym one.all)
-      (runs_on start here one.first one.rest one.said one.last one.there end one.answers one.ends))
 
   -- ---- the lines that were answered so far
   -- the text is still read, and nothing was said
@@ -168,75 +137,117 @@ module _ {B S V F P : Type 0} (begin : B → V → List ℕ → Onward P → Typ
     pub stands : there ≡ at_phase phase machine Serving wraps_phase inner
     pub all : said ≡ answer ++ more
 
-  answered_by : (start : B) (here : Here S) (line : InputLine) (first rest : List InputLine) (said : List ℕ) (there : Here (TextThenPhase B S P)) (so_far : Answers machine (at_text start here) (line ∷ first) said there)
-      → ReadsOn start here line so_far.0 so_far.2 ⊎ BeginsPhase start here line so_far.0 so_far.2
-      → ((text : S) → Answers machine (at_text start (after_line here line text)) first so_far.1 there → StillReads start so_far.1 there ⊎ StillServes start (after_line here line text) first rest so_far.1 there)
-      → StillReads start said there ⊎ StillServes start here (line ∷ first) rest said there
-  answered_by start here line first rest said there so_far (inl on) later = by (later on.text (subst (λ (s : TextThenPhase B S P). Answers machine (after_line (at_text start here) line s) first so_far.1 there) on.so so_far.5))
-    where
-      all : said ≡ so_far.1
-      all = so_far.4 ∙ ap (λ (s : List ℕ). s ++ so_far.1) on.nothing
+  -- a run from a place is the reading from there
+  abbrev RunsOn : B → Here S → List InputLine → List InputLine → List ℕ → List ℕ → Here (TextThenPhase B S P) → End → Type 0
+  RunsOn start here first rest said last there end = Answers machine (at_text start here) first said there → Follows start (reading reader here (first ++ rest)) (said ++ last) end
 
-      by : StillReads start so_far.1 there ⊎ StillServes start (after_line here line on.text) first rest so_far.1 there → StillReads start said there ⊎ StillServes start here (line ∷ first) rest said there
-      by (inl one) = inl (record { text = one.text; stands = one.stands; nothing = all ∙ one.nothing })
-      by (inr one) = inr (record {
-        value = one.value;
-        number = one.number;
-        room = one.room;
-        others = one.others;
-        reads = on.reads (first ++ rest) (λ state. reading reader (after_line here line state) (first ++ rest)) ∙ one.reads;
-        answer = one.answer;
-        served = one.served;
-        begins = one.begins;
-        more = one.more;
-        inner = one.inner;
-        answers = one.answers;
-        stands = one.stands;
-        all = all ∙ one.all;
-      })
-  answered_by start here line first rest said there so_far (inr on) later =
-      let next : Here P = record { state = on.served; number = here.number + 1; room = here.room - line_size line } in
-      let served = served_lines phase machine Serving wraps_phase next first so_far.1 there (subst (λ (s : TextThenPhase B S P). Answers machine (after_line (at_text start here) line s) first so_far.1 there) on.so so_far.5) in
-      inr (record {
-        value = on.value;
-        number = here.number + 1;
-        room = here.room - line_size line;
-        others = first;
-        reads = on.reads (first ++ rest) (λ state. reading reader (after_line here line state) (first ++ rest));
-        answer = so_far.0;
-        served = on.served;
-        begins = on.begins;
-        more = so_far.1;
-        inner = served.0;
-        answers = served.2;
-        stands = served.1;
-        all = so_far.4;
-      })
+  -- after one line that was answered, and more
+  module _ (start : B) (here : Here S) (line : InputLine) (first : List InputLine) (said : List ℕ) (there : Here (TextThenPhase B S P)) (so_far : Answers machine (at_text start here) (line ∷ first) said there) where
+    runs_by : (rest : List InputLine) (last : List ℕ) (end : End) → Replies machine there rest last (run.Ends end) → GoesWith start here line so_far.0 so_far.2 →
+        ((text : S) → RunsOn start (after_line here line text) first rest so_far.1 last there end) →
+        Follows start (reading reader here ((line ∷ first) ++ rest)) (said ++ last) end
+    runs_by rest last end replies (inl on) later =
+        let next = after_line here line on.text in
+        let follows = later on.text (subst (λ (s : TextThenPhase B S P). Answers machine (after_line (at_text start here) line s) first so_far.1 there) on.so so_far.5) in
+        let said_is : said ≡ so_far.1 = so_far.4 ∙ ap (λ (s : List ℕ). s ++ so_far.1) on.nothing in
+        subst (λ (o : Outcome V F). Follows start o (said ++ last) end) (sym (on.reads (first ++ rest) (λ state. reading reader (after_line here line state) (first ++ rest))))
+        (subst (λ (s : List ℕ). Follows start (reading reader next (first ++ rest)) (s ++ last) end) (sym said_is) follows)
+    runs_by rest last end replies (inr on) later =
+        let next : Here P = record { state = on.served; number = here.number + 1; room = here.room - line_size line } in
+        let served : Answers machine (at_phase phase machine Serving wraps_phase next) first so_far.1 there = subst (λ (s : TextThenPhase B S P). Answers machine (after_line (at_text start here) line s) first so_far.1 there) on.so so_far.5 in
+        let follows : Follows start (Given on.value (here.number + 1) (here.room - line_size line) (first ++ rest)) (said ++ last) end = (
+          so_far.0,
+          so_far.1 ++ last,
+          run.Goes on.served,
+          on.begins,
+          ap (λ (s : List ℕ). s ++ last) so_far.4 ∙ append_assoc so_far.0 so_far.1 last,
+          served_run phase machine Serving wraps_phase next (first ++ rest) (so_far.1 ++ last) end
+              (record { first = first; rest = rest; said = so_far.1; there = there; last = last; divided = refl; answers = served; ends = replies; all = refl }),
+        ) in
+        subst (λ (o : Outcome V F). Follows start o (said ++ last) end) (sym (on.reads (first ++ rest) (λ state. reading reader (after_line here line state) (first ++ rest)))) follows
+
+    answered_by : (rest : List InputLine) → GoesWith start here line so_far.0 so_far.2
+        → ((text : S) → Answers machine (at_text start (after_line here line text)) first so_far.1 there → StillReads start so_far.1 there ⊎ StillServes start (after_line here line text) first rest so_far.1 there)
+        → StillReads start said there ⊎ StillServes start here (line ∷ first) rest said there
+    answered_by rest (inl on) later = by (later on.text (subst (λ (s : TextThenPhase B S P). Answers machine (after_line (at_text start here) line s) first so_far.1 there) on.so so_far.5))
+      where
+        all : said ≡ so_far.1
+        all = so_far.4 ∙ ap (λ (s : List ℕ). s ++ so_far.1) on.nothing
+
+        by : StillReads start so_far.1 there ⊎ StillServes start (after_line here line on.text) first rest so_far.1 there → StillReads start said there ⊎ StillServes start here (line ∷ first) rest said there
+        by (inl one) = inl (record { text = one.text; stands = one.stands; nothing = all ∙ one.nothing })
+        by (inr one) = inr (record {
+          value = one.value;
+          number = one.number;
+          room = one.room;
+          others = one.others;
+          reads = on.reads (first ++ rest) (λ state. reading reader (after_line here line state) (first ++ rest)) ∙ one.reads;
+          answer = one.answer;
+          served = one.served;
+          begins = one.begins;
+          more = one.more;
+          inner = one.inner;
+          answers = one.answers;
+          stands = one.stands;
+          all = all ∙ one.all;
+        })
+    answered_by rest (inr on) later =
+        let next : Here P = record { state = on.served; number = here.number + 1; room = here.room - line_size line } in
+        let served = served_lines phase machine Serving wraps_phase next first so_far.1 there (subst (λ (s : TextThenPhase B S P). Answers machine (after_line (at_text start here) line s) first so_far.1 there) on.so so_far.5) in
+        inr (record {
+          value = on.value;
+          number = here.number + 1;
+          room = here.room - line_size line;
+          others = first;
+          reads = on.reads (first ++ rest) (λ state. reading reader (after_line here line state) (first ++ rest));
+          answer = so_far.0;
+          served = on.served;
+          begins = on.begins;
+          more = so_far.1;
+          inner = served.0;
+          answers = served.2;
+          stands = served.1;
+          all = so_far.4;
+        })
+
+    quiet_by : WantsNone phase → machine.may_want there.state → GoesWith start here line so_far.0 so_far.2 →
+        ((text : S) → Answers machine (at_text start (after_line here line text)) first so_far.1 there → so_far.1 ≡ []) → said ≡ []
+    quiet_by none wants (inl on) later =
+        let nothing : so_far.1 ≡ [] = later on.text (subst (λ (s : TextThenPhase B S P). Answers machine (after_line (at_text start here) line s) first so_far.1 there) on.so so_far.5) in
+        so_far.4 ∙ ap (λ (s : List ℕ). s ++ so_far.1) on.nothing ∙ nothing
+    quiet_by none wants (inr on) later =
+        let next : Here P = record { state = on.served; number = here.number + 1; room = here.room - line_size line } in
+        let served = served_lines phase machine Serving wraps_phase next first so_far.1 there (subst (λ (s : TextThenPhase B S P). Answers machine (after_line (at_text start here) line s) first so_far.1 there) on.so so_far.5) in
+        absurd (none served.0.state (subst (λ (h : Here (TextThenPhase B S P)). machine.may_want h.state) served.1 wants))
+
+  runs_on : (start : B) (here : Here S) (first rest : List InputLine) (said last : List ℕ) (there : Here (TextThenPhase B S P)) (end : End) → Answers machine (at_text start here) first said there → Replies machine there rest last (run.Ends end) → Follows start (reading reader here (first ++ rest)) (said ++ last) end
+  runs_on start here [] rest said last there end so_far replies =
+      let p : Replies machine (at_text start here) rest last (run.Ends end) = subst (λ (h : Here (TextThenPhase B S P)). Replies machine h rest last (run.Ends end)) (sym so_far.1) replies in
+      subst (λ (s : List ℕ). Follows start (reading reader here rest) (s ++ last) end) (sym so_far.0) (ends start here rest last end p)
+  runs_on start here (line ∷ first) rest said last there end so_far replies =
+      runs_by start here line first said there so_far rest last end replies (goes start here line first so_far.0 so_far.2 so_far.3)
+      (λ text later. runs_on start (after_line here line text) first rest so_far.1 last there end later replies)
+
+  -- a run is the reading of the text, and then the phase that begins from what it says
+  pub run_is : (start : B) (here : Here S) (lines : List InputLine) (put : List ℕ) (end : End) → Run machine (at_text start here) lines put end → FollowsOutcome begin reader refusing phase start (reading reader here lines) put end
+  run_is start here lines put end one =
+      subst (λ (ls : List InputLine). Follows start (reading reader here ls) put end) (sym one.divided)
+      (subst (λ (p : List ℕ). Follows start (reading reader here (one.first ++ one.rest)) p end) (sym one.all)
+      (runs_on start here one.first one.rest one.said one.last one.there end one.answers one.ends))
 
   -- where a run stands after lines that were answered
   pub answered_so : (start : B) (here : Here S) (first rest : List InputLine) (said : List ℕ) (there : Here (TextThenPhase B S P)) → Answers machine (at_text start here) first said there
       → StillReads start said there ⊎ StillServes start here first rest said there
   answered_so start here [] rest said there so_far = inl (record { text = here; stands = sym so_far.1; nothing = so_far.0 })
   answered_so start here (line ∷ first) rest said there so_far =
-      answered_by start here line first rest said there so_far (goes start here line first so_far.0 so_far.2 so_far.3)
+      answered_by start here line first said there so_far rest (goes start here line first so_far.0 so_far.2 so_far.3)
       (λ text later. answered_so start (after_line here line text) first rest so_far.1 there later)
 
   -- while memory may be wanted nothing is said, where the phase wants none
-  quiet_by : (start : B) (here : Here S) (line : InputLine) (first : List InputLine) (said : List ℕ) (there : Here (TextThenPhase B S P)) → WantsNone phase → machine.may_want there.state →
-      (so_far : Answers machine (at_text start here) (line ∷ first) said there) → ReadsOn start here line so_far.0 so_far.2 ⊎ BeginsPhase start here line so_far.0 so_far.2 →
-      ((text : S) → Answers machine (at_text start (after_line here line text)) first so_far.1 there → so_far.1 ≡ []) → said ≡ []
-  quiet_by start here line first said there none wants so_far (inl on) later =
-      let nothing : so_far.1 ≡ [] = later on.text (subst (λ (s : TextThenPhase B S P). Answers machine (after_line (at_text start here) line s) first so_far.1 there) on.so so_far.5) in
-      so_far.4 ∙ ap (λ (s : List ℕ). s ++ so_far.1) on.nothing ∙ nothing
-  quiet_by start here line first said there none wants so_far (inr on) later =
-      let next : Here P = record { state = on.served; number = here.number + 1; room = here.room - line_size line } in
-      let served = served_lines phase machine Serving wraps_phase next first so_far.1 there (subst (λ (s : TextThenPhase B S P). Answers machine (after_line (at_text start here) line s) first so_far.1 there) on.so so_far.5) in
-      absurd (none served.0.state (subst (λ (h : Here (TextThenPhase B S P)). machine.may_want h.state) served.1 wants))
-
   quiet : (start : B) (here : Here S) (first : List InputLine) (said : List ℕ) (there : Here (TextThenPhase B S P)) → WantsNone phase → machine.may_want there.state → Answers machine (at_text start here) first said there → said ≡ []
   quiet start here [] said there none wants so_far = so_far.0
   quiet start here (line ∷ first) said there none wants so_far =
-      quiet_by start here line first said there none wants so_far (goes start here line first so_far.0 so_far.2 so_far.3)
+      quiet_by start here line first said there so_far none wants (goes start here line first so_far.0 so_far.2 so_far.3)
       (λ text later. quiet start (after_line here line text) first so_far.1 there none wants later)
 
   -- where the phase wants no memory, a run that breaks off for want of it has put nothing

@@ -26,8 +26,12 @@ module _ {C : Type 0} (machine : Machine C) (single : IsSingle machine) where
   replies_same here [] a b x y one other = stops_same here InputEnded a b x y one other
   replies_same here (line ∷ rest) a b x y one other = replies_by (coming_at machine here line) here line.text a b x y one other
 
+  -- over lines that are left, the run ends with this reply
+  abbrev EndsWith : Here C → List InputLine → List ℕ → End → Type 0
+  EndsWith here lines last end = Replies machine here lines last (Ends end)
+
   runs_on : (here : Here C) (first rest first' rest' : List InputLine) (said said' : List ℕ) (there there' : Here C) (last last' : List ℕ) (end end' : End) → first ++ rest ≡ first' ++ rest' →
-      Answers machine here first said there → Answers machine here first' said' there' → Replies machine there rest last (Ends end) → Replies machine there' rest' last' (Ends end') →
+      Answers machine here first said there → Answers machine here first' said' there' → EndsWith there rest last end → EndsWith there' rest' last' end' →
       (said ++ last ≡ said' ++ last') × (end ≡ end')
   runs_on here [] rest [] rest' said said' there there' last last' end end' lines one other ends ends' =
       let p : Replies machine here rest last (Ends end) = subst (λ (h : Here C). Replies machine h rest last (Ends end)) (sym one.1) ends in

@@ -125,10 +125,14 @@ module _ {C : Type 0} (machine : Machine C) (start : C) where
           let nothing : length pieces ≡ 0 = ap (λ (l : List (List ℕ)). length l) none in
           absurd (omega (arith, nothing, within))
 
+  -- the whole lines of bytes are these
+  abbrev AreWholeOf : List ℕ → List InputLine → Type 0
+  AreWholeOf bytes lines = map whole_line (whole_lines bytes) ≡ lines
+
   -- bytes that decide nothing after whole lines that were answered
   undecided_after : (command : C) (reader : Reader) (lines : List InputLine) (said given bytes : List ℕ) → Answers machine (begins start) lines said (here_at command reader) → unfinished given ≡ [] →
-      map whole_line (whole_lines given) ≡ lines → DecideNothing (machine.longest command) (room reader) bytes →
-      (Answered machine start (given ++ bytes) said) × (map whole_line (whole_lines (given ++ bytes)) ≡ lines)
+      AreWholeOf given lines → DecideNothing (machine.longest command) (room reader) bytes →
+      Answered machine start (given ++ bytes) said × AreWholeOf (given ++ bytes) lines
   undecided_after command reader lines said given bytes answers closed whole nothing =
       let lines_are : whole_lines (given ++ bytes) ≡ whole_lines given = whole_lines-closed given bytes closed ∙ (ap (λ (l : List (List ℕ)). whole_lines given ++ l) nothing.no_line ∙ append-nil (whole_lines given)) in
       let all : map whole_line (whole_lines (given ++ bytes)) ≡ lines = ap (λ (l : List (List ℕ)). map whole_line l) lines_are ∙ whole in (
@@ -257,7 +261,14 @@ module _ {C : Type 0} (machine : Machine C) (start : C) where
       let facts = undecided_after command old so_far.lines so_far.said held.given full.kept so_far.answers held.closed held.whole nothing in
       subst (λ (l : List ℕ). Answered machine start l so_far.said) (sym (pieces_held old full (machine.longest command) reads.pieces true before between so_far.pieces so_far.lines (length mid.put) held reads.takes)) facts.0
 
-  gives_by : (line : Line) (command : C) (old new : Reader) (before between : Seen) (left_first : Option (List ℕ)) (was mid : Talk) (so_far : SoFar command old left_first before.left was mid) (reads : ReadsNext (machine.longest command) old new line before between) →
+  -- what is read next, and the line that it gives
+  abbrev pub ReadsOne : C → Reader → Reader → Line → Seen → Seen → Type 0
+  ReadsOne command old new line before between = ReadsNext (machine.longest command) old new line before between
+
+  abbrev pub GivesOne : C → Reader → Reader → Line → Seen → Seen → Type 0
+  GivesOne command old new line before between = WhereTold before.left between.left (GivesNext (machine.longest command) old new line)
+
+  gives_by : (line : Line) (command : C) (old new : Reader) (before between : Seen) (left_first : Option (List ℕ)) (was mid : Talk) (so_far : SoFar command old left_first before.left was mid) (reads : ReadsOne command old new line before between) →
       line ≡ Text → (one : InputLine) × Given command old new (so_far.pieces ++ map (piece_at (length mid.put)) reads.pieces) so_far.lines one
   gives_by Text command old new before between left_first was mid so_far reads is = given_line command old new before between left_first was mid so_far reads
   gives_by End command old new before between left_first was mid so_far reads is = absurd (cc is)
@@ -266,7 +277,7 @@ module _ {C : Type 0} (machine : Machine C) (start : C) where
   gives_by ReadFault command old new before between left_first was mid so_far reads is = absurd (cc is)
   gives_by OutOfMemory command old new before between left_first was mid so_far reads is = absurd (cc is)
 
-  cut_off_by : (line : Line) (command : C) (old new : Reader) (before between : Seen) (left_first : Option (List ℕ)) (was mid : Talk) (so_far : SoFar command old left_first before.left was mid) (reads : ReadsNext (machine.longest command) old new line before between) →
+  cut_off_by : (line : Line) (command : C) (old new : Reader) (before between : Seen) (left_first : Option (List ℕ)) (was mid : Talk) (so_far : SoFar command old left_first before.left was mid) (reads : ReadsOne command old new line before between) →
       line ≡ ReadFault → Answered machine start (bytes_of (so_far.pieces ++ map (piece_at (length mid.put)) reads.pieces)) so_far.said
   cut_off_by ReadFault command old new before between left_first was mid so_far reads is = cut_off command old new before between left_first was mid so_far reads
   cut_off_by Text command old new before between left_first was mid so_far reads is = absurd (cc is)
@@ -276,9 +287,9 @@ module _ {C : Type 0} (machine : Machine C) (start : C) where
   cut_off_by OutOfMemory command old new before between left_first was mid so_far reads is = absurd (cc is)
 
   -- the reader read on
-  pub read_on : (command : C) (old new : Reader) (line : Line) (before between : Seen) (left_first : Option (List ℕ)) (was mid is : Talk) → SoFar command old left_first before.left was mid →
-      (reads : ReadsNext (machine.longest command) old new line before between) → is ≡ after_takes reads.pieces (is_read_fault line) mid →
-      WhereTold before.left between.left (GivesNext (machine.longest command) old new line) → ReadSoFar command old new line left_first between.left was is
+  pub read_on : (command : C) (old new : Reader) (line : Line) (before between : Seen) (left : Option (List ℕ)) (was mid is : Talk) → SoFar command old left before.left was mid →
+      (reads : ReadsOne command old new line before between) → is ≡ after_takes reads.pieces (is_read_fault line) mid →
+      GivesOne command old new line before between → ReadSoFar command old new line left between.left was is
   read_on command old new line before between left_first was mid is so_far reads changed next =
       let t = took reads.pieces (is_read_fault line) mid is changed in
       let new_pieces = map (piece_at (length mid.put)) reads.pieces in
@@ -314,9 +325,9 @@ module _ {C : Type 0} (machine : Machine C) (start : C) where
       ap (λ (t : List ℕ). make t a.ended) text ∙ ap (λ (e : Bool). make b.text e) ended
 
   -- a line was given, and its answer put: the run has come so far
-  pub goes_on : (command next : C) (old new : Reader) (left_first left_now : Option (List ℕ)) (was is fin : Talk) (answer : List ℕ) → ReadSoFar command old new Text left_first left_now was is →
+  pub goes_on : (command next : C) (old new : Reader) (first now : Option (List ℕ)) (was is fin : Talk) (answer : List ℕ) → ReadSoFar command old new Text first now was is →
       fin ≡ record is { put = is.put ++ answer } → machine.takes command new.number new.text answer (onward.Goes next) → new.number ≡ old.number + 1 → new.most ≡ old.most →
-      SoFar next new left_first left_now was fin
+      SoFar next new first now was fin
   goes_on command next old new left_first left_now was is fin answer read wrote takes number most =
       let one = (read.gives refl).0 in
       let given = (read.gives refl).1 in

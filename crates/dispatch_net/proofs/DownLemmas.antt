@@ -1,7 +1,7 @@
 -- Points are gone through from the last of an order to the first: the lists of those before are whole.
-use Rattle.std.proofs.Common.{◌≡◌, ◌≢◌, ◌⊎◌, ℕ, ℤ, ◌+◌, ◌<◌, ◌≤◌, arith, Bool, true, false, List, [], ◌∷◌, length, get_or, set, Option, refl, ap, sym, subst, ◌∙◌, inl, inr}
+use Rattle.std.proofs.Common.{◌≡◌, ◌≢◌, ℕ, ℤ, ◌+◌, ◌<◌, ◌≤◌, arith, Bool, true, false, List, [], ◌∷◌, length, get_or, set, Option, refl, ap, sym, subst, ◌∙◌, inl, inr}
 use Rattle.std.specs.Prelude.{◌&&◌, ◌||◌, ◌==◌, ◌+ℤ◌, int_le, int_lt, is_some, not, pos, slice_get, filter, if◌then◌else◌}
-use Rattle.std.specs.List.{All, AllPairs, Contains, list_any}
+use Rattle.std.specs.List.{Contains, list_any}
 use Rattle.std.specs.Option.{option_map_or}
 use Rattle.std.proofs.lemmas.Bool.{cases_lt, true≢false}
 use Rattle.std.proofs.lemmas.List.{get_or-set_same, get_or-set_other, get_or_default, length-map, length-set, same_lists, set-set}
@@ -17,7 +17,7 @@ use Rattle.closure_model.specs.Tables.{Graph, IsFor, weight_of}
 use Rattle.closure_model.proofs.Lists.{Contains-none, Contains-head, Contains-tail}
 use Rattle.closure_model.proofs.OrderLemmas.{in_points}
 use Rattle.dispatch_net.specs.declared.dispatch.Conditions.{Conditions}
-use Rattle.dispatch_net.specs.Dispatchable.{with_moments, lower_bounds_in, waits_in, no_conditions, conditions_in, dispatchable, conditions_at}
+use Rattle.dispatch_net.specs.Dispatchable.{with_moments, lower_bounds_in, waits_in, no_conditions, dispatchable, conditions_at}
 use Rattle.dispatch_net.specs.Held.{AreInOrder, AreEnds, AreHeld, AreOnOthers, GoDown}
 use Rattle.dispatch_net.specs.Slim.{over_point, over_link, is_bound_implied, over_end, over_wait, is_wait_implied, slim_conditions, slimmed}
 use Rattle.dispatch_net.proofs.HoldLemmas.{Contains-filter_map_from, given}

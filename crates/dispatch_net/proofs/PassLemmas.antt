@@ -35,12 +35,19 @@ numbered-push n m (y ∷ xs) x at = ap (λ es. (n, y) ∷ es) (numbered-push (n 
 numbered-more : {X : Type 0} (k : ℕ) (xs : List X) (d : X) → k < length xs → enumerate_from 0 (take (k + 1) xs) ≡ enumerate_from 0 (take k xs) ++ (k, get_or xs k d) ∷ []
 numbered-more k xs d inside = ap (enumerate_from 0) (take_more xs k d inside) ∙ numbered-push 0 k (take k xs) (get_or xs k d) (grind (arith, common_steps))
 
+-- the lower bounds of a point by those before a number, and its waits by the links before one
+abbrev pub bounds_before : Graph → PointId → ℕ → List (PointId × ℤ)
+bounds_before graph point k = filter_map (λ (other : PointId). with_moments other (weight_of graph (ordinary_key point other))) (map (λ (n : ℕ). record { 0 = n }) (range_with_len 0 k))
+
+abbrev pub waits_before : Graph → PointId → ℕ → List (LinkId × ℤ)
+waits_before graph point k = filter_map (λ (e : ℕ × PointId). with_moments (record { 0 = e.0 }) (weight_of graph (labelled_key point e.1 (record { 0 = e.0 })))) (enumerate_from 0 (take k graph.shape.activations))
+
 -- one more lower bound, where there is one
 pub bound_pushed : (graph : Graph) (point : PointId) (k : ℕ) (before after : List (PointId × ℤ)) (w : Option ℤ)
-    → before ≡ filter_map (λ other. with_moments other (weight_of graph (ordinary_key point other))) (map (λ n. record { 0 = n }) (range_with_len 0 k))
+    → before ≡ bounds_before graph point k
     → after ≡ before ++ cons_option (with_moments (record { 0 = k }) w) []
     → w ≡ weight_of graph (ordinary_key point (record { 0 = k }))
-    → after ≡ filter_map (λ other. with_moments other (weight_of graph (ordinary_key point other))) (map (λ n. record { 0 = n }) (range_with_len 0 (k + 1)))
+    → after ≡ bounds_before graph point (k + 1)
 bound_pushed graph point k before after w held pushed is =
     let give : PointId → Option (PointId × ℤ) = λ other. with_moments other (weight_of graph (ordinary_key point other)) in
     pushed
@@ -48,12 +55,16 @@ bound_pushed graph point k before after w held pushed is =
     ∙ sym (filter_map-append give (map (λ n. record { 0 = n }) (range_with_len 0 k)) (record { 0 = k } ∷ []))
     ∙ ap (filter_map give) (sym (points_more k))
 
+-- what a graph has for the wait by a link
+abbrev pub wait_weight : Graph → PointId → ℕ → PointId → Option ℤ
+wait_weight graph point k d = weight_of graph (labelled_key point (get_or graph.shape.activations k d) (record { 0 = k }))
+
 -- one more wait, where there is one
 pub wait_pushed : (graph : Graph) (point : PointId) (k : ℕ) (d : PointId) (before after : List (LinkId × ℤ)) (w : Option ℤ) → k < length graph.shape.activations
-    → before ≡ filter_map (λ (e : ℕ × PointId). with_moments (record { 0 = e.0 }) (weight_of graph (labelled_key point e.1 (record { 0 = e.0 })))) (enumerate_from 0 (take k graph.shape.activations))
+    → before ≡ waits_before graph point k
     → after ≡ before ++ cons_option (with_moments (record { 0 = k }) w) []
-    → w ≡ weight_of graph (labelled_key point (get_or graph.shape.activations k d) (record { 0 = k }))
-    → after ≡ filter_map (λ (e : ℕ × PointId). with_moments (record { 0 = e.0 }) (weight_of graph (labelled_key point e.1 (record { 0 = e.0 })))) (enumerate_from 0 (take (k + 1) graph.shape.activations))
+    → w ≡ wait_weight graph point k d
+    → after ≡ waits_before graph point (k + 1)
 wait_pushed graph point k d before after w inside held pushed is =
     let begins = graph.shape.activations in
     let give : ℕ × PointId → Option (LinkId × ℤ) = λ e. with_moments (record { 0 = e.0 }) (weight_of graph (labelled_key point e.1 (record { 0 = e.0 }))) in

@@ -135,15 +135,19 @@ module _ (setting : Setting) (rank : PointId → ℕ) (ranked : IsRankedNetwork 
   time_paced zero moments t paced long = paced
   time_paced (suc count) moments t paced long = time_paced count (acted setting moments t) (suc t) (acted_paced moments paced long t) (length-acted setting moments t)
 
+  -- paced moments, as many as there are points
+  abbrev pub PacedWhole : Moments → Type 0
+  PacedWhole moments = ArePaced setting moments × (length moments ≡ length setting.dispatch)
+
   pub taken_paced : (listed : List PointId) (moments after : Moments) (moment : ℕ) → ArePaced setting moments → length moments ≡ length setting.dispatch
-      → completions_taken setting moments moment listed ≡ Ok after → ArePaced setting after × (length after ≡ length setting.dispatch)
+      → completions_taken setting moments moment listed ≡ Ok after → PacedWhole after
   taken_paced [] moments after moment paced long took = let same : moments ≡ after = cc in (subst (ArePaced setting) same paced, ap (λ (m : Moments). length m) (sym same) ∙ long)
   taken_paced (point ∷ others) moments after moment paced long took =
       by (refusal_of setting moments moment point) refl took
       (λ here now. taken_paced others (completed_at moments moment point) after moment now (length-completed_at moments moment point ∙ long) here)
     where
       by : (o : Option Why) → refusal_of setting moments moment point ≡ o → option_map_or Err o (completions_taken setting (completed_at moments moment point) moment others) ≡ Ok after
-          → (completions_taken setting (completed_at moments moment point) moment others ≡ Ok after → ArePaced setting (completed_at moments moment point) → ArePaced setting after × (length after ≡ length setting.dispatch))
-          → ArePaced setting after × (length after ≡ length setting.dispatch)
+          → (completions_taken setting (completed_at moments moment point) moment others ≡ Ok after → ArePaced setting (completed_at moments moment point) → PacedWhole after)
+          → PacedWhole after
       by None free took rest = rest took (completed_paced moments paced long moment point free)
       by (Some why) refused took rest = absurd cc

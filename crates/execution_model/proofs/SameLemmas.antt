@@ -199,9 +199,13 @@ abbrev fed_on : Execution → Listing → List Listing → Result Moments Why �
 fed_on execution listing others (Ok moments) = fed_all (after_feed execution listing.moment moments) others
 fed_on execution listing others (Err cause) = Err cause
 
+-- an execution that is fed to an end goes on there as it would without what others imply
+abbrev pub FeedsTheSame : List Listing → Execution → Execution → Type 0
+FeedsTheSame listings execution old = (fed_all (slim_execution execution) listings ≡ Ok (slim_execution old)) × GoesTheSame old
+
 pub same_feeds_all : (listings : List Listing) (execution old : Execution) (rank : PointId → ℕ) → IsRankedNetwork execution.setting rank → ArePaced execution.setting execution.moments
     → length execution.moments ≡ length execution.setting.dispatch → fed_all execution listings ≡ Ok old
-    → (fed_all (slim_execution execution) listings ≡ Ok (slim_execution old)) × GoesTheSame old
+    → FeedsTheSame listings execution old
 same_feeds_all [] execution old rank ranked paced long fed =
     let same : execution ≡ old = cc in
     (ap (λ (e : Execution). let r : Result Execution Why = Ok (slim_execution e) in r) same, subst GoesTheSame same (goes_the_same execution rank ranked paced long))
@@ -211,8 +215,8 @@ same_feeds_all (listing ∷ others) execution old rank ranked paced long fed =
   where
     by : (r : Result Moments Why) → taken execution listing.moment listing.points ≡ r → fed_on execution listing others r ≡ Ok old
         → ((next : Execution) → IsRankedNetwork next.setting rank → ArePaced next.setting next.moments → length next.moments ≡ length next.setting.dispatch → fed_all next others ≡ Ok old
-        → (fed_all (slim_execution next) others ≡ Ok (slim_execution old)) × GoesTheSame old)
-        → (fed_all (slim_execution execution) (listing ∷ others) ≡ Ok (slim_execution old)) × GoesTheSame old
+        → FeedsTheSame others next old)
+        → FeedsTheSame (listing ∷ others) execution old
     by (Err cause) is went rest = absurd cc
     by (Ok moments) is went rest =
         let (now, now_long) = taken_is_paced execution rank ranked paced long listing.moment listing.points moments is in

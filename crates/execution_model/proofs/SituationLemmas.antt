@@ -90,12 +90,22 @@ all_keep net (listing ∷ others) execution of (is, are) point m found =
     all_keep net others (after_listing execution listing) (listed_of net execution listing of) are point m
     (feed_keeps net execution of listing is point m (before_keeps net execution of listing.moment point m found))
 
+-- a point that has not come, one that comes in feeds, and one that comes with a feed or later
+abbrev pub IsOpen : Execution → PointId → Type 0
+IsOpen execution point = moment_of execution.moments point ≡ None
+
+abbrev pub ComesIn : Execution → List Listing → PointId → ℕ → Type 0
+ComesIn execution listings point m = moment_of (after_all execution listings).moments point ≡ Some m
+
+abbrev pub ComesFrom : Listing → PointId → ℕ → Type 0
+ComesFrom listing point m = (Contains listing.points point × (listing.moment ≡ m)) ⊎ (listing.moment + 1 ≤ m)
+
 -- a contingent point that comes in feeds comes no sooner than the first
 pub comes_with_first : (net : Plan) (listing : Listing) (others : List Listing) (execution : Execution) → IsExecutionOf net execution → AreInTime execution (listing ∷ others)
     → (point : PointId) (m : ℕ)
-    → Ending net point → moment_of execution.moments point ≡ None → moment_of (after_all execution (listing ∷ others)).moments point ≡ Some m
-    → (moment_of (after_listing execution listing).moments point ≡ None → listing.moment + 1 ≤ m)
-    → (Contains listing.points point × (listing.moment ≡ m)) ⊎ (listing.moment + 1 ≤ m)
+    → Ending net point → IsOpen execution point → ComesIn execution (listing ∷ others) point m
+    → (IsOpen (after_listing execution listing) point → listing.moment + 1 ≤ m)
+    → ComesFrom listing point m
 comes_with_first net listing others execution of (is, are) point m ending unknown found rest =
     elim (is_listed listing.points point) [
       | inl among ↦
@@ -107,7 +117,7 @@ comes_with_first net listing others execution of (is, are) point m ending unknow
 
 pub comes_after : (net : Plan) (listings : List Listing) (execution : Execution) → IsExecutionOf net execution → AreInTime execution listings → (point : PointId) (m : ℕ)
     → Ending net point
-    → moment_of execution.moments point ≡ None → moment_of (after_all execution listings).moments point ≡ Some m → next_moment execution ≤ m
+    → IsOpen execution point → ComesIn execution listings point m → next_moment execution ≤ m
 comes_after net [] execution of are point m ending unknown found = absurd (none-some m (sym unknown ∙ found))
 comes_after net (listing ∷ others) execution of (is, are) point m ending unknown found =
     let later = is.later in

@@ -227,6 +227,10 @@ module _ (net : Plan) (setting : Setting) (links : setting.links ≡ net.links) 
           let none : moment_of moments timely.link.from ≡ None = ap (λ (k : ℕ). moment_of moments (record { 0 = k })) same ∙ new in
           none-some timely.activated (sym none ∙ timely.active)
 
+  -- what is taken after the first
+  abbrev rest_taken : Moments → PointId → List PointId → Result Moments Why
+  rest_taken moments point others = completions_taken setting (completed_at moments moment point) moment others
+
   taken_means : (moments after : Moments) (listed : List PointId) → length moments ≡ length net.points → completions_taken setting moments moment listed ≡ Ok after
       → AreTaken setting moments moment listed after
   unfolding IsDistinct
@@ -234,8 +238,8 @@ module _ (net : Plan) (setting : Setting) (links : setting.links ≡ net.links) 
   taken_means moments after (point ∷ others) long took =
       by (refusal_of setting moments moment point) refl took (λ here. taken_means (completed_at moments moment point) after others (length-completed_at moments moment point ∙ long) here)
     where
-      by : (o : Option Why) → refusal_of setting moments moment point ≡ o → option_map_or Err o (completions_taken setting (completed_at moments moment point) moment others) ≡ Ok after
-          → (completions_taken setting (completed_at moments moment point) moment others ≡ Ok after → AreTaken setting (completed_at moments moment point) moment others after)
+      by : (o : Option Why) → refusal_of setting moments moment point ≡ o → option_map_or Err o (rest_taken moments point others) ≡ Ok after
+          → (rest_taken moments point others ≡ Ok after → AreTaken setting (completed_at moments moment point) moment others after)
           → AreTaken setting moments moment (point ∷ others) after
       by (Some cause) refused took rest = absurd (cc)
       by None free took rest =

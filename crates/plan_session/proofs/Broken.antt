@@ -1,9 +1,9 @@
 -- What a broken session answers.
-use Rattle.std.proofs.Common.{◌≡◌, Option, Some, None, Result, Ok, Err, refl, subst}
+use Rattle.std.proofs.Common.{◌≡◌, Option, Result, Ok, Err, refl, subst}
 use Rattle.std.specs.Prelude.{IsSome}
 use Rattle.net_model.specs.declared.edit.Edit.{Edit}
 use Rattle.cert_format.specs.declared.certificate.Certificate.{Certificate}
-use Rattle.plan_session.specs.Laws.{SaysBroken, BrokenSessionsSaySo}
+use Rattle.plan_session.specs.Laws.{BrokenSessionsSaySo}
 use Rattle.plan_session.specs.Sessions.{Opened, State, IsOpen, IsBroken, AnswersEdit, IsVerdictOf, AnswersProof}
 use Rattle.plan_session.specs.declared.answers.Report.{Report}
 use Rattle.plan_session.specs.declared.answers.SessionFault.{SessionFault}

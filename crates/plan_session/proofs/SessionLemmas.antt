@@ -28,6 +28,7 @@ use Rattle.cert_checker.specs.declared.judgement.Judgement.TheVariants.{Accepted
 use Rattle.refutations.specs.Certifying.{IsCertificateBy}
 use Rattle.refutations.specs.Refuting.{Refutes}
 use Rattle.dispatch_net.specs.Dispatchable.{DispatchLists, IsDispatchBy}
+use Rattle.plan_session.specs.declared.answers.Report.{Report}
 use Rattle.plan_session.specs.Sessions.{Opened, State, EndsWell, IsPlacedBy, IsSound, Opens, FollowsEdit, IsDispatchOfClosure}
 
 -- what an outcome says of a table is what its ending does
@@ -76,9 +77,16 @@ module _ (net : Plan) (opened : Opened) (sound : IsSound net opened) where
   looped_excludes exclude instant cycle is = exclude net opened.support cycle instant sound.stands (looped_well cycle is)
 
 -- ---- an accepted edit
+-- what was propagated, as a session has it, and what is told of an edit
+abbrev pub opened_by : Support → Outcome → Opened
+opened_by after outcome = record { support = after; ending = ending_of outcome }
+
+abbrev pub told_by : Withdrawn → Outcome → Report
+told_by answer outcome = record { kept = answer.kept; withdrawn = answer.withdrawn; rounds = rounds_of outcome }
+
 pub follows : LaterNodesFall → (old : Plan) (edit : Edit) (new : Plan) (before : Opened) (start after : Support) (outcome : Outcome) (answer : Withdrawn) → IsFollowed old edit new before.support start answer
     → IsPropagated new start after outcome
-    → FollowsEdit old edit new before (record { support = after; ending = ending_of outcome }) (record { kept = answer.kept; withdrawn = answer.withdrawn; rounds = rounds_of outcome })
+    → FollowsEdit old edit new before (opened_by after outcome) (told_by answer outcome)
 follows fall old edit new before start after outcome answer followed propagated = record {
   start = start;
   answer = answer;

@@ -68,12 +68,20 @@ images_more f xs i d inside = ap (map f) (take_more xs i d inside) ∙ map-appen
 made_line : (kind : LineKind) (from to : List ℕ) (label : Option (List ℕ)) (weight : ℤ) → is_some label ≡ has_label kind → CertLine
 made_line kind from to label weight fits = record { kind = kind; from = from; to = to; label = label; weight = weight; labelled = fits }
 
+-- the parts of a line are those of a node
+pub record ArePartsOf (net : Plan) (lines : List NodeId) (node : Node) (kind : LineKind) (from to : List ℕ) (label : Option (List ℕ)) (weight : ℤ) : Type 0 where
+  pub weight_is : weight ≡ node.edge.weight
+  pub kind_is : kind ≡ kind_of net lines node.rule
+  pub label_is : label ≡ only_if (has_label kind) (label_name net node.edge.label)
+  pub from_is : from ≡ point_name net.points node.edge.from
+  pub to_is : to ≡ point_name net.points node.edge.to
+
 -- a line that was put together of the words of a node is its line
-pub line_built : (net : Plan) (lines : List NodeId) (node : Node) (kind : LineKind) (from to : List ℕ) (label : Option (List ℕ)) (weight : ℤ) (p : is_some label ≡ has_label kind)
-    → weight ≡ node.edge.weight → kind ≡ kind_of net lines node.rule → label ≡ only_if (has_label kind) (label_name net node.edge.label) → from ≡ point_name net.points node.edge.from → to ≡ point_name net.points node.edge.to
+pub line_built : (net : Plan) (lines : List NodeId) (node : Node) (kind : LineKind) (from to : List ℕ) (label : Option (List ℕ)) (weight : ℤ) (p : is_some label ≡ has_label kind) → ArePartsOf net lines node kind from to label weight
     → (let l : CertLine = record { kind = kind; from = from; to = to; label = label; weight = weight; labelled = p } in l) ≡ line_by net lines node
 unfolding made_line
-line_built net lines node kind from to label weight p is_weight is_kind is_label is_from is_to =
+line_built net lines node kind from to label weight p are =
+    let record { weight_is = is_weight; kind_is = is_kind; label_is = is_label; from_is = is_from; to_is = is_to } = are in
     let K : LineKind = kind_of net lines node.rule in
     let name : List ℕ = label_name net node.edge.label in
     let at_label : (r : is_some (only_if (has_label K) name) ≡ has_label K) → made_line K from to (only_if (has_label K) name) node.edge.weight r ≡ line_by net lines node = λ r.

@@ -113,6 +113,10 @@ walk_ok net place first points (line ∷ lines) zip =
 -- ---- the lines of the steps
 module _ (net : Plan) (plan : IsPlan net) (support : Support) (stands : StandsOn net support) (tops lines : List NodeId) (all_under : AreAncestors support.nodes tops lines)
     (tops_are_nodes : (id : NodeId) → Contains tops id → (node : Node) × (node_at support.nodes id ≡ Some node)) where
+  -- the lines of the derivation
+  abbrev own_lines : List CertLine
+  own_lines = lines_by net support.nodes lines
+
   -- the line of the node of a key that is negative
   step_line : (key : Key) (id : NodeId) → IsNodeOf support.nodes key id → IsNegativeKey support.table key → Contains tops id → (line : CertLine) × (line_at (lines_by net support.nodes lines) (line_of lines id) ≡ Some line) × GoesBy net key line
   step_line key id is negative among =
@@ -131,7 +135,7 @@ module _ (net : Plan) (plan : IsPlan net) (support : Support) (stands : StandsOn
 
   -- each step names a line, and these go by the keys
   steps_ok : (keys : List Key) (steps : List NodeId) (place : ℕ) → AllZip (IsNodeOf support.nodes) keys steps → AllByRecursion (IsNegativeKey support.table) keys → ((id : NodeId) → Contains steps id → Contains tops id)
-      → (steps_known (lines_by net support.nodes lines) place (map (line_of lines) steps) ≡ Ok tt) × AllZip (GoesBy net) keys (walked (lines_by net support.nodes lines) (map (line_of lines) steps))
+      → (steps_known own_lines place (map (line_of lines) steps) ≡ Ok tt) × AllZip (GoesBy net) keys (walked own_lines (map (line_of lines) steps))
   steps_ok [] [] place zip negative among = (refl, tt)
   steps_ok [] (step ∷ steps) place zip negative among = absurd zip
   steps_ok (key ∷ keys) [] place zip negative among = absurd zip

@@ -1,6 +1,5 @@
 use Rattle.std.proofs.Common.{◌∙◌, ◌≤◌, ℕ, List, length, sym, subst, inr}
 use Rattle.net_model.specs.declared.part.Link.{Link}
-use Rattle.dispatch_net.specs.declared.dispatch.Conditions.{Conditions}
 use Rattle.dispatch_net.specs.Held.{IsSlimOrWhole, GoDown}
 use Rattle.dispatch_net.proofs.DownLemmas.{slim_go_down}
 use Rattle.dispatch_net.proofs.StayLemmas.{slim_again}

@@ -1,4 +1,4 @@
-use Rattle.std.proofs.Common.{◌∙◌, ap, rules, ℤ, Bool, List}
+use Rattle.std.proofs.Common.{◌∙◌, ap, rules, ℤ, Bool}
 use Rattle.std.specs.Prelude.{not, filter, slice_get, false, ◌||◌}
 use Rattle.std.specs.List.{list_any}
 use Rattle.std.specs.Option.{option_map_or}

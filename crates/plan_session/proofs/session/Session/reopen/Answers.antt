@@ -1,4 +1,4 @@
-use Rattle.std.proofs.Common.{Some, ap, sym, subst}
+use Rattle.std.proofs.Common.{Some, ap, subst}
 use Rattle.plan_session.specs.Sessions.{State, Opens}
 use Rattle.plan_session.proofs.session.Session.reopen.Goals as goal
 
