@@ -19,7 +19,7 @@ use Rattle.command_words.specs.Reading.{is_stray, is_refused, count_operands, lo
 use Rattle.command_words.proofs.RuleLemmas.{app_is}
 use Rattle.command_words.proofs.SoundLemmas.{option_apart, operand_not, slice_in}
 use Rattle.command_words.proofs.DefaultLemmas.{Fits}
-use Rattle.command_words.proofs.WalkLemmas.{Plain}
+use Rattle.command_words.proofs.WalkLemmas.{Plain, after_long}
 use Rattle.command_words.proofs.UseLemmas.{operand_count, operands_append}
 use Rattle.command_words.proofs.FaultLemmas.{simple, simple_and_free, matches_say, refusals_say}
 use Rattle.command_words.proofs.SpelledLemmas.{long_is, plain_is, of_more, given_in, apart_more, take_more}
@@ -91,6 +91,10 @@ module _ (command : Syntax) (sound : is_sound command ≡ true) where
   abbrev Waited : List Text → Text → List Use → List Use → Type 0
   Waited words name uses more = (value : Text) × (rest : List Text) × (words ≡ value ∷ rest) × (is_plain value ≡ true) × ((first : List Text) → Spells (valued name value) first → Read (first ++ rest) uses more)
 
+  -- where an option waits, the next word is its value
+  abbrev GoesNext : List Text → Type 0
+  GoesNext words = (name : Text) (uses more : List Use) → Fine command uses → is_in name command.options ≡ true → with_next command words name uses ≡ Some more → Waited words name uses more
+
   read_value : (words : List Text) → Goes (uses_from command words) words → (word name : Text) (uses more : List Use) → Fine command uses → is_in name command.options ≡ true → is_stray word ≡ false
       → (long : Option (Text × Option Text)) → long_of word ≡ long → after_value long word name uses (uses_from command words) ≡ Some more → Waited (word ∷ words) name uses more
   read_value words goes word name uses more fine known plain (Some said) e is = absurd cc
@@ -103,11 +107,14 @@ module _ (command : Syntax) (sound : is_sound command ≡ true) where
         (λ fresh. one_more uses (valued name word) fine known fresh (same_turn uses (valued name word) fine refl)) spells is,
   )
 
-  read_long : (words : List Text) → Goes (uses_from command words) words
-      → ((name : Text) (uses more : List Use) → Fine command uses → is_in name command.options ≡ true → with_next command words name uses ≡ Some more → Waited words name uses more)
-      → (word name : Text) (v : Option Text) (uses more : List Use) → Fine command uses → word ≡ dashed (Rattle.command_words.proofs.SpelledLemmas.spelled (name, v))
+  -- a word is a name with its dashes, and a text if there is one
+  abbrev IsLong : Text → Text → Option Text → Type 0
+  IsLong word name v = word ≡ dashed (Rattle.command_words.proofs.SpelledLemmas.spelled (name, v))
+
+  read_long : (words : List Text) → Goes (uses_from command words) words → GoesNext words
+      → (word name : Text) (v : Option Text) (uses more : List Use) → Fine command uses → IsLong word name v
       → (f o : Bool) → is_in name command.flags ≡ f → is_in name command.options ≡ o
-      → (if f then after_flag name v uses (uses_from command words) else (if o then after_option name v uses (uses_from command words) (with_next command words) else None)) ≡ Some more
+      → after_long command words name v uses f o ≡ Some more
       → Read (word ∷ words) uses more
   read_long words goes waits word name None uses more fine spelt true o is_f is_o is =
       took (uses_from command words) (word ∷ []) words uses more (flag name) goes (λ fresh. one_more uses (flag name) fine is_f fresh (same_turn uses (flag name) fine refl)) (ap (λ w. w ∷ []) spelt) is
@@ -127,8 +134,7 @@ module _ (command : Syntax) (sound : is_sound command ≡ true) where
       took (uses_from command words) (word ∷ []) words uses more (operand name word) goes
       (λ fresh. one_more uses (operand name word) fine (slice_in command.operands (count_operands uses) name at) fresh (next_turn uses name word fine at)) (refl, plain) is
 
-  read_word : (words : List Text) → Goes (uses_from command words) words
-      → ((name : Text) (uses more : List Use) → Fine command uses → is_in name command.options ≡ true → with_next command words name uses ≡ Some more → Waited words name uses more)
+  read_word : (words : List Text) → Goes (uses_from command words) words → GoesNext words
       → (word : Text) (uses more : List Use) → Fine command uses → is_stray word ≡ false
       → (long : Option (Text × Option Text)) → long_of word ≡ long → after_word command long word uses (uses_from command words) (with_next command words) ≡ Some more → Read (word ∷ words) uses more
   read_word words goes waits word uses more fine plain (Some said) e is =
@@ -143,8 +149,7 @@ module _ (command : Syntax) (sound : is_sound command ≡ true) where
         (record { added = []; same = sym same ∙ sym (append-nil uses); spelled = refl }, subst (Fine command) same fine)
     reads (word ∷ words) plain uses more fine is = read_word words (reads words plain.1) (reads_next words plain.1) word uses more fine plain.0 (long_of word) refl is
 
-    reads_next : (words : List Text) → Plain words → (name : Text) (uses more : List Use) → Fine command uses → is_in name command.options ≡ true → with_next command words name uses ≡ Some more
-        → Waited words name uses more
+    reads_next : (words : List Text) → Plain words → GoesNext words
     reads_next [] plain name uses more fine known is = absurd cc
     reads_next (word ∷ words) plain name uses more fine known is = read_value words (reads words plain.1) word name uses more fine known plain.0 (long_of word) refl is
 

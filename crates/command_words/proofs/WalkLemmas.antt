@@ -28,6 +28,14 @@ Plain (word ∷ words) = (is_stray word ≡ false) × Plain words
 abbrev pub rows_in : Option (List Use) → Option (List Row)
 rows_in found = option_map (map row_for) found
 
+-- what is read after a name with its dashes, by whether it is one of a flag, or of an option
+abbrev pub after_long : Syntax → List Text → Text → Option Text → List Use → Bool → Bool → Option (List Use)
+after_long command words name v uses f o = if f then after_flag name v uses (uses_from command words) else (if o then after_option name v uses (uses_from command words) (with_next command words) else None)
+
+-- the rule of a name, by whether it is one of a flag, or of an option
+abbrev rule_named : Text → Bool → Bool → Option Rule
+rule_named name f o = if f then Some (flag_arg name) else (if o then Some (option_arg name) else None)
+
 and_false : (b : Bool) → (b && false) ≡ false
 and_false true = refl
 and_false false = refl
@@ -62,7 +70,7 @@ module _ (command : Syntax) (rules : List Rule) (finds : Finds command rules) wh
   -- where what waits cannot be used, any option is refused
   spoiled_arg : (words : List Text) (h : Held) (waiting : Waiting) (place : ℕ) (k : ErrorKind) (ks : Kinds) → settle_fault rules false h ≡ k ∷ ks
       → (name : Text) (f o : Bool) (v : Option Text) (word : Text)
-      → turned_arg rules words h waiting place (if f then Some (flag_arg name) else (if o then Some (option_arg name) else None)) v word ≡ None
+      → turned_arg rules words h waiting place (rule_named name f o) v word ≡ None
   spoiled_arg words h waiting place k ks bad name true o None word = rw bad refl
   spoiled_arg words h waiting place k ks bad name true o (Some value) word = refl
   spoiled_arg words h waiting place k ks bad name false true None word = rw bad refl
@@ -91,15 +99,23 @@ module _ (command : Syntax) (rules : List Rule) (finds : Finds command rules) wh
           ap (λ arg. turned_arg rules words h idle (suc n) arg said.1 word) (finds.by_long said.0)
           ∙ spoiled_arg words h idle (suc n) k ks bad said.0 (is_in said.0 command.flags) (is_in said.0 command.options) said.1 word
 
+  -- a use with a text of its own, and so many operands with it; the rows are those of the uses before it
+  record IsTextUse (h : Held) (uses : List Use) (u : Use) (text : Text) (long : Option Text) (index : Option ℕ) (n : ℕ) : Type 0 where
+    is : text_of u ≡ Some text
+    rows : h.rows ≡ map row_for uses
+    found : arg_by_id rules (name_of u) ≡ Some (text_arg (name_of u) long index)
+    count : count_operands (uses ++ u ∷ []) ≡ n
+
   -- the text of an option or an operand, which is a word of its own
-  text_says : (words : List Text) → Go words → Plain words → (h : Held) (uses : List Use) (u : Use) (text : Text) (long : Option Text) (index : Option ℕ) (n : ℕ) → text_of u ≡ Some text
-      → h.rows ≡ map row_for uses → arg_by_id rules (name_of u) ≡ Some (text_arg (name_of u) long index) → count_operands (uses ++ u ∷ []) ≡ n
+  text_says : (words : List Text) → Go words → Plain words → (h : Held) (uses : List Use) (u : Use) (text : Text) (long : Option Text) (index : Option ℕ) (n : ℕ) → IsTextUse h uses u text long index n
       → (given : Bool) → is_given (name_of u) uses ≡ given
       → outcome rules words (at (record h { pending = Some (name_of u, text ∷ []) }) idle (suc n)) ≡ uses_after words uses u
-  text_says words go plain h uses u text long index n is rows found count true given =
+  text_says words go plain h uses u text long index n of true given =
+      let record { is = is; rows = rows; found = found; count = count } = of in
       let bad : settle_fault rules false (record h { pending = Some (name_of u, text ∷ []) }) ≡ kind.ArgumentConflict ∷ [] = rw (found, rows, rows_given (name_of u) uses, given) refl in
       spoiled words _ n _ _ bad plain ∙ rw given refl
-  text_says words go plain h uses u text long index n is rows found count false given =
+  text_says words go plain h uses u text long index n of false given =
+      let record { is = is; rows = rows; found = found; count = count } = of in
       let absent : has_row (name_of u) (map row_for uses) ≡ false = rows_given (name_of u) uses ∙ given in
       let fine : settle_fault rules false (record h { pending = Some (name_of u, text ∷ []) }) ≡ [] = rw (found, rows, absent) refl in
       let same : (settled rules (record h { pending = Some (name_of u, text ∷ []) })).rows ≡ map row_for (uses ++ u ∷ []) =
@@ -129,8 +145,7 @@ module _ (command : Syntax) (rules : List Rule) (finds : Finds command rules) wh
 
   idle_arg : (words : List Text) → Go words → Next words → (h : Held) (uses : List Use) (name : Text) (v : Option Text) (word : Text) → Rests h uses
       → (f o : Bool) → is_in name command.flags ≡ f → is_in name command.options ≡ o
-      → turned_arg rules words h idle (suc (count_operands uses)) (if f then Some (flag_arg name) else (if o then Some (option_arg name) else None)) v word
-      ≡ rows_in (if f then after_flag name v uses (uses_from command words) else (if o then after_option name v uses (uses_from command words) (with_next command words) else None))
+      → turned_arg rules words h idle (suc (count_operands uses)) (rule_named name f o) v word ≡ rows_in (after_long command words name v uses f o)
   idle_arg words go next h uses name None word rests true o is_f is_o = flag_says words go h uses name word rests (is_given name uses) refl
   idle_arg words go next h uses name (Some text) word rests true o is_f is_o = refl
   idle_arg words go next h uses name (Some text) word rests false true is_f is_o = attached_says words go h uses name text word rests (is_given name uses) refl
@@ -148,7 +163,7 @@ module _ (command : Syntax) (rules : List Rule) (finds : Finds command rules) wh
       let found : arg_by_index rules (suc n) ≡ Some (operand_arg (suc n) name) = finds.by_index n ∙ ap (option_map (operand_arg (suc n))) is in
       let id = finds.operand_by_id n name is in
       rw (short, found, and_false (is_pending (operand_arg (suc n) name) h.pending), rests.fine, finds.next_place n name is)
-      (text_says words go plain (settled rules h) uses (operand name word) word None (Some id.0) (suc n) refl rests.rows id.1 (operand_count uses name word) (is_given name uses) refl)
+      (text_says words go plain (settled rules h) uses (operand name word) word None (Some id.0) (suc n) (record { is = refl; rows = rests.rows; found = id.1; count = operand_count uses name word }) (is_given name uses) refl)
 
   idle_word : (words : List Text) → Go words → Next words → Plain words → (h : Held) (uses : List Use) (word : Text) → Rests h uses → short_of word ≡ None → (long : Long)
       → turned rules words h idle (suc (count_operands uses)) long word ≡ rows_in (after_word command long word uses (uses_from command words) (with_next command words))
@@ -165,7 +180,7 @@ module _ (command : Syntax) (rules : List Rule) (finds : Finds command rules) wh
       → turned rules words h (option name) (suc (count_operands uses)) long word ≡ rows_in (after_value long word name uses (uses_from command words))
   waits_word words go plain h name uses word waits short None =
       rw (short, waits.found, waits.pending, bytes_same name)
-      (text_says words go plain h uses (valued name word) word (Some name) None (count_operands uses) refl waits.rows waits.found (valued_count uses name word) (is_given name uses) refl)
+      (text_says words go plain h uses (valued name word) word (Some name) None (count_operands uses) (record { is = refl; rows = waits.rows; found = waits.found; count = valued_count uses name word }) (is_given name uses) refl)
   waits_word words go plain h name uses word waits short (Some said) =
       ap (λ arg. turned_arg rules words h (option name) (suc (count_operands uses)) arg said.1 word) (finds.by_long said.0)
       ∙ spoiled_arg words h (option name) (suc (count_operands uses)) _ _ (lacks h name uses waits) said.0 (is_in said.0 command.flags) (is_in said.0 command.options) said.1 word

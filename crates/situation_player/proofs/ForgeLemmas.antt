@@ -45,9 +45,11 @@ takes_one : (net more after : Plan) (p : Part) (parts : List Part) → with_part
 takes_one net more after p parts taken rest place = rw (taken, with_parts) (rest (place + 1))
 
 -- what follows a part that is taken
+abbrev then_takes : {E : Type 0} → Result Plan E → (E → BuildFault) → (Plan → Result Plan BuildFault) → Result Plan BuildFault
+then_takes r bad next = elim r [ Ok more ↦ next more | Err fault ↦ Err (bad fault) ]
+
 followed : {E : Type 0} (r : Result Plan E) (bad : E → BuildFault) (first both : Plan → Result Plan BuildFault) (middle after : Plan)
-    → ((more : Plan) → first more ≡ Ok middle → both more ≡ Ok after) → ◌≡◌ {A = Result Plan BuildFault} (elim r [ Ok more ↦ first more | Err fault ↦ Err (bad fault) ]) (Ok middle)
-    → ◌≡◌ {A = Result Plan BuildFault} (elim r [ Ok more ↦ both more | Err fault ↦ Err (bad fault) ]) (Ok after)
+    → ((more : Plan) → first more ≡ Ok middle → both more ≡ Ok after) → then_takes r bad first ≡ Ok middle → then_takes r bad both ≡ Ok after
 followed (Ok more) bad first both middle after later here = later more here
 followed (Err fault) bad first both middle after later here = absurd (err_ok middle (bad fault) here)
 

@@ -13,7 +13,7 @@ use Rattle.net_model.specs.declared.part.Edge.{Edge}
 use Rattle.net_model.specs.declared.part.Link.{Link}
 use Rattle.closure_model.specs.Closure.{IsClosure, HoldsDerivable}
 use Rattle.closure_model.specs.Derivable.{IsDerivable, IsDerivableFor, IsLeastDerivable}
-use Rattle.closure_model.specs.Keys.{shape_of, key_of}
+use Rattle.closure_model.specs.Keys.{Key, shape_of, key_of}
 use Rattle.closure_model.specs.Tables.{Graph, weight_of, HasEdge, HasAtMost, IsAtMost, base_edges, edges_of, row_of, no_edges, lowered}
 use Rattle.closure_model.proofs.BaseLemmas.{all_contained}
 use Rattle.closure_model.proofs.LawProofs.{rules_keep_derivable, closed_and_derivable_is_closure}
@@ -121,13 +121,17 @@ target_more table to row edge is below = by (cases_below edge.to.0 to.0 below.1)
     by (inl less) = inl (below.0, less)
     by (inr same) = inr (subst (λ (edges : List Edge). Contains edges edge) (sym is) (in_row table to edge below.0 same))
 
-pub found_more : (dense : Graph) (place : ℕ) (to : PointId) (label : Option LinkId) (found : Option Edge) → MatchOption found (weight_of dense (record { to = to; from = record { 0 = place }; label = label }) ≡ None) (IsHeld dense (record { 0 = place }) to label)
+-- the key of an edge from a place
+abbrev pub key_at : PointId → ℕ → Option LinkId → Key
+key_at to place label = record { to = to; from = record { 0 = place }; label = label }
+
+pub found_more : (dense : Graph) (place : ℕ) (to : PointId) (label : Option LinkId) (found : Option Edge) → MatchOption found (weight_of dense (key_at to place label) ≡ None) (IsHeld dense (record { 0 = place }) to label)
     → (edge : Edge) → IsEdgeInto dense to label edge × (edge.from.0 < place + 1) → (IsEdgeInto dense to label edge × (edge.from.0 < place)) ⊎ (found ≡ Some edge)
 found_more dense place to label found held edge into = by (cases_below edge.from.0 place into.1)
   where
-    it_is : (o : Option Edge) → MatchOption o (weight_of dense (record { to = to; from = record { 0 = place }; label = label }) ≡ None) (IsHeld dense (record { 0 = place }) to label) → edge.from ≡ record { 0 = place } → o ≡ Some edge
+    it_is : (o : Option Edge) → MatchOption o (weight_of dense (key_at to place label) ≡ None) (IsHeld dense (record { 0 = place }) to label) → edge.from ≡ record { 0 = place } → o ≡ Some edge
     it_is None none begins =
-        let keys : key_of edge ≡ record { to = to; from = record { 0 = place }; label = label } = λ i. record { to = into.0.to_is i; from = begins i; label = into.0.label_is i } in
+        let keys : key_of edge ≡ key_at to place label = λ i. record { to = into.0.to_is i; from = begins i; label = into.0.label_is i } in
         let both : None ≡ Some edge.weight = sym none ∙ (ap (weight_of dense) (sym keys) ∙ into.0.has) in
         absurd cc
     it_is (Some one) is begins = ap Some (held_one dense (record { 0 = place }) to label one edge is into.0.has begins into.0.to_is into.0.label_is)

@@ -260,6 +260,10 @@ same_read [] k d e inside = absurd (omega arith)
 same_read (x ∷ xs) zero d e inside = refl
 same_read (x ∷ xs) (suc k) d e inside = same_read xs k d e (omega arith)
 
+-- a dense table that is seen as a graph
+abbrev pub IsDenseOf : Inside → Graph → Type 0
+IsDenseOf table graph = IsDense table × (graph_of table ≡ graph)
+
 -- the row in which the edges of a key have their word, by what is read of it
 pub record IsPut (old : Inside) (graph : Graph) (key : Key) (w : ℤ) : Type 0 where
   pub dense : IsDense old
@@ -290,21 +294,22 @@ place_of_label old graph key w put l some row read =
     let long : length row ≡ length old.ordinary.items = ap length read ∙ put.dense.labelled_rows l.0 row (row_of_label old graph key w put l some) in
     omega (arith, is_key.from_point)
 
-pub ordinary_put : (old new : Inside) (graph : Graph) (key : Key) (w : ℤ) → IsPut old graph key w → (before after : List (Option ℤ)) → key.label ≡ None → before ≡ get_or old.ordinary.items key.to.0 before → after ≡ set before key.from.0 (Some w)
-    → new.activations.items ≡ old.activations.items → new.labelled.items ≡ old.labelled.items → new.ordinary.items ≡ set old.ordinary.items key.to.0 after → IsDense new × (graph_of new ≡ with_edge graph (edge_of key w))
-ordinary_put old new graph key w put before after none read written activations labelled ordinary =
-    let is_key = in_old old graph key put.view put.is_key in
-    let row : before ≡ get_or old.ordinary.items key.to.0 [] = read ∙ same_read old.ordinary.items key.to.0 before [] is_key.to_point in
-    let (dense, is) = put_ordinary old new put.dense key is_key w put.small none activations labelled (ordinary ∙ ap (set old.ordinary.items key.to.0) (written ∙ ap (λ xs. set xs key.from.0 (Some w)) row)) in
-    (dense, is ∙ ap (λ g. with_edge g (edge_of key w)) put.view)
+module _ (old new : Inside) (graph : Graph) (key : Key) (w : ℤ) (put : IsPut old graph key w) where
+  pub ordinary_put : (before after : List (Option ℤ)) → key.label ≡ None → before ≡ get_or old.ordinary.items key.to.0 before → after ≡ set before key.from.0 (Some w)
+      → new.activations.items ≡ old.activations.items → new.labelled.items ≡ old.labelled.items → new.ordinary.items ≡ set old.ordinary.items key.to.0 after → IsDenseOf new (with_edge graph (edge_of key w))
+  ordinary_put before after none read written activations labelled ordinary =
+      let is_key = in_old old graph key put.view put.is_key in
+      let row : before ≡ get_or old.ordinary.items key.to.0 [] = read ∙ same_read old.ordinary.items key.to.0 before [] is_key.to_point in
+      let (dense, is) = put_ordinary old new put.dense key is_key w put.small none activations labelled (ordinary ∙ ap (set old.ordinary.items key.to.0) (written ∙ ap (λ xs. set xs key.from.0 (Some w)) row)) in
+      (dense, is ∙ ap (λ g. with_edge g (edge_of key w)) put.view)
 
-pub labelled_put : (old new : Inside) (graph : Graph) (key : Key) (w : ℤ) → IsPut old graph key w → (l : LinkId) (before after : List (Option ℤ)) → key.label ≡ Some l → before ≡ get_or old.labelled.items l.0 before → after ≡ set before key.from.0 (Some w)
-    → new.activations.items ≡ old.activations.items → new.ordinary.items ≡ old.ordinary.items → new.labelled.items ≡ set old.labelled.items l.0 after → IsDense new × (graph_of new ≡ with_edge graph (edge_of key w))
-labelled_put old new graph key w put l before after some read written activations ordinary labelled =
-    let is_key = in_old old graph key put.view put.is_key in
-    let row : before ≡ get_or old.labelled.items l.0 [] = read ∙ same_read old.labelled.items l.0 before [] (row_of_label old graph key w put l some) in
-    let (dense, is) = put_labelled old new put.dense key is_key w put.small l some activations ordinary (labelled ∙ ap (set old.labelled.items l.0) (written ∙ ap (λ xs. set xs key.from.0 (Some w)) row)) in
-    (dense, is ∙ ap (λ g. with_edge g (edge_of key w)) put.view)
+  pub labelled_put : (l : LinkId) (before after : List (Option ℤ)) → key.label ≡ Some l → before ≡ get_or old.labelled.items l.0 before → after ≡ set before key.from.0 (Some w)
+      → new.activations.items ≡ old.activations.items → new.ordinary.items ≡ old.ordinary.items → new.labelled.items ≡ set old.labelled.items l.0 after → IsDenseOf new (with_edge graph (edge_of key w))
+  labelled_put l before after some read written activations ordinary labelled =
+      let is_key = in_old old graph key put.view put.is_key in
+      let row : before ≡ get_or old.labelled.items l.0 [] = read ∙ same_read old.labelled.items l.0 before [] (row_of_label old graph key w put l some) in
+      let (dense, is) = put_labelled old new put.dense key is_key w put.small l some activations ordinary (labelled ∙ ap (set old.labelled.items l.0) (written ∙ ap (λ xs. set xs key.from.0 (Some w)) row)) in
+      (dense, is ∙ ap (λ g. with_edge g (edge_of key w)) put.view)
 
 -- ---- what is read
 pub ordinary_read : (table : Inside) (graph : Graph) → IsDense table → graph_of table ≡ graph → (from to : PointId) → from.0 < graph.shape.points → to.0 < graph.shape.points → (row : List (Option ℤ)) → row ≡ get_or table.ordinary.items to.0 row
@@ -346,7 +351,7 @@ module _ (table : Inside) (shape : Shape) (points : length table.ordinary.items 
   long_rows : (n m : ℕ) → All (λ (row : List (Option ℤ)). length row ≡ m) (replicate n (replicate m None))
   long_rows n m = All-replicate (λ (row : List (Option ℤ)). length row ≡ m) n (replicate m None) (simp length-replicate)
 
-  without_weights : All (λ point. point.0 < shape.points) shape.activations → shape.points ≤ most_points → length shape.activations ≤ most_links → IsDense table × (graph_of table ≡ no_edges shape)
+  without_weights : All (λ point. point.0 < shape.points) shape.activations → shape.points ≤ most_points → length shape.activations ≤ most_links → IsDenseOf table (no_edges shape)
   without_weights begins few_points few_links = (
     record {
       ordinary_rows = λ k d inside. subst (λ rows. All (λ (row : List (Option ℤ)). length row ≡ shape.points) rows) (sym ordinary) (long_rows shape.points shape.points) k d inside ∙ sym points;
@@ -382,23 +387,39 @@ module _ (table : Inside) (shape : Shape) (points : length table.ordinary.items 
       is : graph_of table ≡ no_edges shape
       is = λ i. record { shape = same i; weights = empty i }
 
-pub absent_table : (table : Inside) (shape : Shape) → table.activations.items ≡ shape.activations → table.ordinary.items ≡ replicate shape.points (replicate shape.points None)
-    → table.labelled.items ≡ replicate (length shape.activations) (replicate shape.points None) → All (λ point. point.0 < shape.points) shape.activations → shape.points ≤ most_points → length shape.activations ≤ most_links
-    → IsDense table × (graph_of table ≡ no_edges shape)
-absent_table table shape activations ordinary labelled begins few_points few_links =
-    let points : length table.ordinary.items ≡ shape.points = (let count : length (replicate shape.points (replicate {A = Option ℤ} shape.points None)) ≡ shape.points = simp length-replicate in ap length ordinary ∙ count) in
-    without_weights table shape points activations ordinary labelled begins few_points few_links
+-- so many rows of so many absent words
+abbrev pub absent_words : ℕ → ℕ → List (List (Option ℤ))
+absent_words rows places = replicate rows (replicate places None)
 
-pub absent_made : (net : Plan) → IsPlan net → (table : Inside) (points : List (List ℕ)) (links : List Link) (k : ℕ) → points ≡ net.points → links ≡ net.links → length links ≤ k → table.activations.items ≡ map (λ (l : Link). l.from) (take k links)
-    → table.ordinary.items ≡ replicate (length points) (replicate (length points) None) → table.labelled.items ≡ replicate (length links) (replicate (length points) None) → IsDense table × (graph_of table ≡ no_edges (shape_of_net net))
-absent_made net sound table points links k same_points same_links done activations ordinary labelled =
+-- the points in which links begin
+abbrev pub begins_of : List Link → List PointId
+begins_of links = map (λ (l : Link). l.from) links
+
+-- a table of absent words alone
+pub record HasAbsentWords (table : Inside) (begins : List PointId) (points links : ℕ) : Type 0 where
+  pub activations : table.activations.items ≡ begins
+  pub ordinary : table.ordinary.items ≡ absent_words points points
+  pub labelled : table.labelled.items ≡ absent_words links points
+
+pub absent_table : (table : Inside) (shape : Shape) → HasAbsentWords table shape.activations shape.points (length shape.activations)
+    → All (λ point. point.0 < shape.points) shape.activations → shape.points ≤ most_points → length shape.activations ≤ most_links
+    → IsDenseOf table (no_edges shape)
+absent_table table shape absent begins few_points few_links =
+    let points : length table.ordinary.items ≡ shape.points = (let count : length (replicate shape.points (replicate {A = Option ℤ} shape.points None)) ≡ shape.points = simp length-replicate in ap length absent.ordinary ∙ count) in
+    without_weights table shape points absent.activations absent.ordinary absent.labelled begins few_points few_links
+
+pub absent_made : (net : Plan) → IsPlan net → (table : Inside) (points : List (List ℕ)) (links : List Link) (k : ℕ) → points ≡ net.points → links ≡ net.links → length links ≤ k → HasAbsentWords table (begins_of (take k links)) (length points) (length links)
+    → IsDenseOf table (no_edges (shape_of_net net))
+absent_made net sound table points links k same_points same_links done absent =
     let shape : (base_table net).shape ≡ shape_of_net net = base_shape net sound in
     let base : IsGraph (base_table net) = base_sound net sound in
     let count : length (map (λ (l : Link). l.from) net.links) ≡ length net.links = simp length-map in
     absent_table table (shape_of_net net)
-    (activations ∙ ap (map (λ (l : Link). l.from)) (take_all k links done ∙ same_links))
-    (ordinary ∙ ap (λ (ps : List (List ℕ)). replicate (length ps) (replicate {A = Option ℤ} (length ps) None)) same_points)
-    (labelled ∙ (λ i. replicate (length (same_links i)) (replicate {A = Option ℤ} (length (same_points i)) None)) ∙ ap (λ n. replicate n (replicate {A = Option ℤ} (length net.points) None)) (sym count))
+    (record {
+      activations = absent.activations ∙ ap (map (λ (l : Link). l.from)) (take_all k links done ∙ same_links);
+      ordinary = absent.ordinary ∙ ap (λ (ps : List (List ℕ)). replicate (length ps) (replicate {A = Option ℤ} (length ps) None)) same_points;
+      labelled = absent.labelled ∙ (λ i. replicate (length (same_links i)) (replicate {A = Option ℤ} (length (same_points i)) None)) ∙ ap (λ n. replicate n (replicate {A = Option ℤ} (length net.points) None)) (sym count);
+    })
     (subst (λ (s : Shape). All (λ (p : PointId). p.0 < s.points) s.activations) shape base.begins)
     (subst (λ (s : Shape). s.points ≤ most_points) shape base.few_points)
     (subst (λ (s : Shape). length s.activations ≤ most_links) shape base.few_links)

@@ -35,8 +35,12 @@ module _ (net : Plan) (table : Graph) where
       first : (share : ℕ) → share < 1 → share ≡ 0
       first share below = omega (arith, below)
 
+  -- one of the edges that are found, or none where none is
+  abbrev pub IsOneFound : List (Option Edge) → Option Edge → Type 0
+  IsOneFound found first = MatchOption first ((k : ℕ) → k < length found → get_or found k None ≡ None) (λ edge. (k : ℕ) × (k < length found) × (get_or found k None ≡ Some edge))
+
   pub first_decides : (shares : ℕ) → 0 < shares → IsOnWay net table → (given found : List (Option Edge)) → given ≡ found → length found ≡ shares → ((share : ℕ) → share < shares → Gives net table share shares (get_or given share None))
-      → (first : Option Edge) → MatchOption first ((k : ℕ) → k < length found → get_or found k None ≡ None) (λ edge. (k : ℕ) × (k < length found) × (get_or found k None ≡ Some edge)) → TestsTo net table first
+      → (first : Option Edge) → IsOneFound found first → TestsTo net table first
   first_decides shares some way given found same len each None none =
       shares_meet shares some way (λ share below. subst (Gives net table share shares) (at share ∙ none share (subst (λ (n : ℕ). share < n) (sym len) below)) (each share below))
     where
