@@ -1,13 +1,12 @@
 //! The contingent points that are awaited.
 
-ghost use Rattle.std.specs.Prelude.{◌≡◌, ◌<◌, length, replicate, IfOk, None};
+ghost use Rattle.std.specs.Prelude.{◌≡◌, ◌<◌, true, length, replicate, IfOk, None};
 ghost use Rattle.net_model.specs.declared.ids.PointId.{PointId};
 ghost use Rattle.execution_model.specs.Execution.{has_come};
 ghost use Rattle.execution_model.specs.Feeding.{first_overdue};
 ghost use Rattle.live_executor.specs.Awaited.{AreLatest, IsLatestOrKept};
 ghost use Rattle.live_executor.specs.Limits.{AreBefore, end_of_time};
 ghost use Rattle.live_executor.specs.Sound.{made_setting};
-ghost use Rattle.std.specs.Prelude.{true};
 
 use crate::dispatched::Dispatched;
 use due_queue::DueQueue;

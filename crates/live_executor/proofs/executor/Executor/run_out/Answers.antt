@@ -17,7 +17,7 @@ invariant_of-self c =
     let network = kept.dispatched in
     let first : from.result ≡ moment_after kept.last = from.ensures ∙ ap (λ (e : Execution). next_moment e) (sym c.self.view_is) in
     let soon : from.result ≤ end_of_time = (let low = goes.time_left in omega (arith, low, first)) in
-    let ends : GoesOn network after.moments.items after.waiting.counts.items after.waiting.due after.awaited.latest (last_of kept.last after.acts.items) = 
+    let ends : GoesOn network after.moments.items after.waiting.counts.items after.waiting.due after.awaited.latest (last_of kept.last after.acts.items) =
     goes_at_end network kept.course.moments.items after.moments.items kept.last from.result after.waiting.counts.items after.waiting.due after.awaited.latest after.acts.items
     (record { whole = goes.course.count; before = goes.early; first = first; soon = soon })
     (record { moments = c.run_out.ensures.moments; acts_are = c.run_out.ensures.acts; come = c.run_out.ensures.come }) c.run_out.ensures.course c.run_out.ensures.latest in
