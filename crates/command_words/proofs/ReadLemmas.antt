@@ -15,7 +15,7 @@ use Rattle.command_words.specs.ClapRules.{app_for, arguments_found}
 use Rattle.command_words.specs.Syntax.{Text, Syntax, is_in, asks, is_sound, dashed, are_apart}
 use Rattle.command_words.specs.Spelling.{Use, flag, valued, operand, name_of, is_plain, Spells, SpellsAll, IsOf, AreOf, operand_names}
 use Rattle.command_words.specs.Arguments.{is_given}
-use Rattle.command_words.specs.Reading.{is_stray, is_refused, count_operands, long_of, with_use, Reads, uses_from, with_next, after_flag, after_option, after_plain, after_word, after_value, complete_by, arguments_of}
+use Rattle.command_words.specs.Reading.{is_stray, is_refused, count_operands, long_of, with_use, Reads, uses_from, with_next, after_plain, after_word, after_value, complete_by, arguments_of}
 use Rattle.command_words.proofs.RuleLemmas.{app_is}
 use Rattle.command_words.proofs.SoundLemmas.{option_apart, operand_not, slice_in}
 use Rattle.command_words.proofs.DefaultLemmas.{Fits}

@@ -1,6 +1,5 @@
 -- `check` keeps its promise.
 use Rattle.std.proofs.Common.{◌≡◌, ℕ, Bool, true, false, List, [], ◌++◌, sym, ap, ◌∙◌, true≢false}
-use Rattle.texts.specs.Lines.{lines}
 use Rattle.net_model.specs.Network.{Plan}
 use Rattle.cert_format.specs.CertificateWords.{printed_certificate}
 use Rattle.cert_format.specs.declared.certificate.Certificate.{Certificate}

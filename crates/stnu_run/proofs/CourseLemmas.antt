@@ -46,9 +46,13 @@ pub fed_stops : (execution : Execution) (listing : Listing) (others : List Listi
     → fed_all execution (listing ∷ others) ≡ Err cause
 fed_stops execution listing others cause is = ap (fed_on execution listing others) is
 
+-- where feeds lead to an execution, more feeds go on from there
+abbrev LeadsOn : List Listing → List Listing → Execution → Execution → Type 0
+LeadsOn others more middle next = fed_all next others ≡ Ok middle → fed_all next (others ++ more) ≡ fed_all middle more
+
 fed_both_by : (execution : Execution) (listing : Listing) (others more : List Listing) (middle : Execution) (result : Result Moments Why)
     → taken execution listing.moment listing.points ≡ result
-    → fed_all execution (listing ∷ others) ≡ Ok middle → ((next : Execution) → fed_all next others ≡ Ok middle → fed_all next (others ++ more) ≡ fed_all middle more)
+    → fed_all execution (listing ∷ others) ≡ Ok middle → ((next : Execution) → LeadsOn others more middle next)
     → fed_all execution (listing ∷ others ++ more) ≡ fed_all middle more
 fed_both_by execution listing others more middle (Ok moments) is fed later =
     fed_step execution listing (others ++ more) moments is ∙ later (after_feed execution listing.moment moments) (sym (fed_step execution listing others moments is) ∙ fed)
@@ -79,6 +83,13 @@ pub record OverEvents (net : Plan) (execution final : Execution) (listings : Lis
   pub all : put ≡ said ++ more
   pub later : Run executing_machine (at net final listed number room) rest more end
   pub none : final.refused ≡ None
+
+-- a run over lines that list a stream and others, of an execution that takes each of their feeds
+pub record RunsOver (net : Plan) (execution final : Execution) (listings : List Listing) (events rest : List InputLine) (listed : List PointId) (number room : ℕ) (put : List ℕ) (end : End) : Type 0 where
+  pub none : execution.refused ≡ None
+  pub lists : ListLines net (texts events) listings
+  pub fed : fed_all execution listings ≡ Ok final
+  pub run : Run executing_machine (at net execution listed number room) (events ++ rest) put end
 
 over_none : (net : Plan) (execution final : Execution) (listings : List Listing) (rest : List InputLine) (listed : List PointId) (number room : ℕ) (put : List ℕ) (end : End)
     → execution.refused ≡ None → listings ≡ [] → fed_all execution listings ≡ Ok final
@@ -121,59 +132,62 @@ pub record EndsAt (net : Plan) (lines : List InputLine) (number room : ℕ) (exe
   pub decided : IsDecided net final (number + length events) (room_after room events) rest end
 
 module _ (reading : (net : Plan) (line : List (List ℕ)) → OneReading net line) (net : Plan) where
-  over_line : (line : InputLine) (events rest : List InputLine) (listings : List Listing) (execution final : Execution) (listed : List PointId) (number room : ℕ) (put : List ℕ) (end : End)
-      → execution.refused ≡ None → coming most_line room line ≡ Comes → ListLines net (texts (line ∷ events)) listings → fed_all execution listings ≡ Ok final
-      → Run executing_machine (at net execution listed number room) (line ∷ events ++ rest) put end
-      → ((others : List Listing) (next : Execution) (points : List PointId)
-      (more : List ℕ) → next.refused ≡ None → ListLines net (texts events) others → fed_all next others ≡ Ok final
-      → Run executing_machine (at net next points (number + 1) (room - line_size line)) (events ++ rest) more end
-      → OverEvents net next final others rest (number + 1 + length events) (room_after (room - line_size line) events) more end)
-      → OverEvents net execution final listings rest (number + 1 + length events) (room_after (room - line_size line) events) put end
-  over_line line events rest listings execution final listed number room put end none comes (inl (is, lists)) fed run later =
-      later listings execution listed put none lists fed (one_blank reading net execution listed number room none line (events ++ rest) put end comes run is)
-  over_line line events rest listings execution final listed number room put end none comes (inr (moment, points, others, is, same, lists)) fed run later =
-      subst (λ (ls : List Listing). OverEvents net execution final ls rest (number + 1 + length events) (room_after (room - line_size line) events) put end) (sym same)
-      (by (taken execution moment points) refl)
-    where
-      first : Listing
-      first = record { moment = moment; points = points }
+  module _ (line : InputLine) (events rest : List InputLine) (final : Execution) (number room : ℕ) (end : End) (comes : coming most_line room line ≡ Comes) where
+    -- what the run is over the lines after one
+    abbrev OverOthers : Type 0
+    OverOthers =
+        (others : List Listing) (next : Execution) (points : List PointId) (more : List ℕ) → RunsOver net next final others events rest points (number + 1) (room - line_size line) more end
+        → OverEvents net next final others rest (number + 1 + length events) (room_after (room - line_size line) events) more end
 
-      all_fed : fed_all execution (first ∷ others) ≡ Ok final
-      all_fed = subst (λ (ls : List Listing). fed_all execution ls ≡ Ok final) same fed
+    over_line : (listings : List Listing) (execution : Execution) (listed : List PointId) (put : List ℕ) → RunsOver net execution final listings (line ∷ events) rest listed number room put end → OverOthers
+        → OverEvents net execution final listings rest (number + 1 + length events) (room_after (room - line_size line) events) put end
+    over_line listings execution listed put over later = by_line over.lists
+      where
+        by_line : ListLines net (texts (line ∷ events)) listings → OverEvents net execution final listings rest (number + 1 + length events) (room_after (room - line_size line) events) put end
+        by_line (inl (is, lists)) =
+            later listings execution listed put (record { none = over.none; lists = lists; fed = over.fed; run = one_blank reading net execution listed number room over.none line (events ++ rest) put end comes over.run is })
+        by_line (inr (moment, points, others, is, same, lists)) =
+            subst (λ (ls : List Listing). OverEvents net execution final ls rest (number + 1 + length events) (room_after (room - line_size line) events) put end) (sym same)
+            (by (taken execution moment points) refl)
+          where
+            first : Listing
+            first = record { moment = moment; points = points }
 
-      by : (result : Result Moments Why) → taken execution moment points ≡ result
-          → OverEvents net execution final (first ∷ others) rest (number + 1 + length events) (room_after (room - line_size line) events) put end
-      by (Err cause) takes = absurd (cc (fed_stops execution first others cause takes, all_fed))
-      by (Ok moments) takes =
-          let went = one_feed reading net execution listed number room none line (events ++ rest) put end comes run moment points moments is takes in
-          let on = later others (after_feed execution moment moments) points went.1 none lists (sym (fed_step execution first others moments takes) ∙ all_fed) went.4 in
-          let before : List ℕ = acts_text net (after_feed execution moment moments).acts in
-          record {
-            said = before ++ (due_line went.0 ++ on.said);
-            more = on.more;
-            listed = on.listed;
-            says = (moments, went.0, on.said, takes, went.2, refl, on.says);
-            all =
-                went.3 ∙ (ap (λ (s : List ℕ). before ++ (due_line went.0 ++ s)) on.all
-                ∙ (ap (λ (s : List ℕ). before ++ s) (sym (append_assoc (due_line went.0) on.said on.more)) ∙ sym (append_assoc before (due_line went.0 ++ on.said) on.more)));
-            later = on.later;
-            none = on.none;
-          }
+            all_fed : fed_all execution (first ∷ others) ≡ Ok final
+            all_fed = subst (λ (ls : List Listing). fed_all execution ls ≡ Ok final) same over.fed
+
+            by : (result : Result Moments Why) → taken execution moment points ≡ result
+                → OverEvents net execution final (first ∷ others) rest (number + 1 + length events) (room_after (room - line_size line) events) put end
+            by (Err cause) takes = absurd (cc (fed_stops execution first others cause takes, all_fed))
+            by (Ok moments) takes =
+                let went = one_feed reading net execution listed number room over.none line (events ++ rest) put end comes over.run moment points moments is takes in
+                let on = later others (after_feed execution moment moments) points went.1 (record { none = over.none; lists = lists; fed = sym (fed_step execution first others moments takes) ∙ all_fed; run = went.4 }) in
+                let before : List ℕ = acts_text net (after_feed execution moment moments).acts in
+                record {
+                  said = before ++ (due_line went.0 ++ on.said);
+                  more = on.more;
+                  listed = on.listed;
+                  says = (moments, went.0, on.said, takes, went.2, refl, on.says);
+                  all =
+                      went.3 ∙ (ap (λ (s : List ℕ). before ++ (due_line went.0 ++ s)) on.all
+                      ∙ (ap (λ (s : List ℕ). before ++ s) (sym (append_assoc (due_line went.0) on.said on.more)) ∙ sym (append_assoc before (due_line went.0 ++ on.said) on.more)));
+                  later = on.later;
+                  none = on.none;
+                }
 
   -- a run goes over lines that list a stream whose feeds are all taken
   pub over_events : (events rest : List InputLine) (listings : List Listing) (execution final : Execution) (listed : List PointId) (number room : ℕ) (put : List ℕ) (end : End)
-      → execution.refused ≡ None → Come room events → ListLines net (texts events) listings → fed_all execution listings ≡ Ok final
-      → Run executing_machine (at net execution listed number room) (events ++ rest) put end
+      → Come room events → RunsOver net execution final listings events rest listed number room put end
       → OverEvents net execution final listings rest (number + length events) (room_after room events) put end
-  over_events [] rest listings execution final listed number room put end none come lists fed run =
+  over_events [] rest listings execution final listed number room put end come over =
       let same : number ≡ number + 0 = omega arith in
       subst (λ (n : ℕ). OverEvents net execution final listings rest n room put end) same
-      (over_none net execution final listings rest listed number room put end none lists fed run)
-  over_events (line ∷ events) rest listings execution final listed number room put end none come lists fed run =
+      (over_none net execution final listings rest listed number room put end over.none over.lists over.fed over.run)
+  over_events (line ∷ events) rest listings execution final listed number room put end come over =
       let same : number + 1 + length events ≡ number + length (line ∷ events) = omega arith in
       subst (λ (n : ℕ). OverEvents net execution final listings rest n (room_after (room - line_size line) events) put end) same
-      (over_line line events rest listings execution final listed number room put end none come.0 lists fed run
-      (λ others next points more unrefused list goes on. over_events events rest others next final points (number + 1) (room - line_size line) more end unrefused come.1 list goes on))
+      (over_line line events rest final number room end come.0 listings execution listed put over
+      (λ others next points more on. over_events events rest others next final points (number + 1) (room - line_size line) more end come.1 on))
 
   -- ---- how a run ends
   ends_here : (lines : List InputLine) (number room : ℕ) (execution : Execution) (end : End) → IsDecided net execution number room lines end → EndsAt net lines number room execution end
@@ -191,11 +205,16 @@ module _ (reading : (net : Plan) (line : List (List ℕ)) → OneReading net lin
         decided = subst (λ (n : ℕ). IsDecided net execution n room lines end) same decided;
       }
 
+  -- one line more lists so, and one feed more is taken so
+  abbrev ListsMore : InputLine → (List Listing → List Listing) → Type 0
+  ListsMore line listings = (lines : List (List ℕ)) (others : List Listing) → ListLines net lines others → ListLines net (line.text ∷ lines) (listings others)
+
+  abbrev FeedsMore : Execution → Execution → (List Listing → List Listing) → Type 0
+  FeedsMore execution next listings = (others : List Listing) (final : Execution) → fed_all next others ≡ Ok final → fed_all execution (listings others) ≡ Ok final
+
   after_line : (line : InputLine) (lines : List InputLine) (number room : ℕ) (execution next : Execution) (listings : List Listing → List Listing) (end : End)
       → coming most_line room line ≡ Comes
-      → ((lines : List (List ℕ)) (others : List Listing) → ListLines net lines others → ListLines net (line.text ∷ lines) (listings others))
-      → ((others : List Listing) (final : Execution) → fed_all next others ≡ Ok final → fed_all execution (listings others) ≡ Ok final)
-      → EndsAt net lines (number + 1) (room - line_size line) next end → EndsAt net (line ∷ lines) number room execution end
+      → ListsMore line listings → FeedsMore execution next listings → EndsAt net lines (number + 1) (room - line_size line) next end → EndsAt net (line ∷ lines) number room execution end
   after_line line lines number room execution next listings end comes lists fed one =
       let same : number + 1 + length one.events ≡ number + length (line ∷ one.events) = omega arith in
       record {
@@ -215,12 +234,22 @@ module _ (reading : (net : Plan) (line : List (List ℕ)) → OneReading net lin
       → Decides execution told end → EndsAt net (line ∷ lines) number room execution end
   told_here line lines number room execution end told comes is decides = ends_here (line ∷ lines) number room execution end (inl (line, lines, told, refl, comes, is, decides))
 
+  -- a line tells something, or has a fault
+  abbrev TellsOrFails : InputLine → Type 0
+  TellsOrFails line = ((told : EventLine) × AreWordsOf net told (words line.text)) ⊎ ((kind : FormatKind) × IsFaultOfWords net (words line.text) kind)
+
+  -- a run of an execution over lines, and how each ends over the lines after one
+  abbrev Runs : Execution → List PointId → ℕ → ℕ → List InputLine → List ℕ → End → Type 0
+  Runs execution listed number room lines put end = Run executing_machine (at net execution listed number room) lines put end
+
+  abbrev EachEnds : InputLine → List InputLine → ℕ → ℕ → End → Type 0
+  EachEnds line lines number room end =
+      (next : Execution) (points : List PointId) (more : List ℕ) → next.refused ≡ None
+      → Runs next points (number + 1) (room - line_size line) lines more end → EndsAt net lines (number + 1) (room - line_size line) next end
+
   line_ends : (line : InputLine) (lines : List InputLine) (execution : Execution) (listed : List PointId) (number room : ℕ) (put : List ℕ) (end : End) (how : Coming)
       → execution.refused ≡ None → coming most_line room line ≡ how
-      → ((told : EventLine) × AreWordsOf net told (words line.text)) ⊎ ((kind : FormatKind) × IsFaultOfWords net (words line.text) kind)
-      → Run executing_machine (at net execution listed number room) (line ∷ lines) put end
-      → ((next : Execution) (points : List PointId) (more : List ℕ) → next.refused ≡ None
-      → Run executing_machine (at net next points (number + 1) (room - line_size line)) lines more end → EndsAt net lines (number + 1) (room - line_size line) next end)
+      → TellsOrFails line → Runs execution listed number room (line ∷ lines) put end → EachEnds line lines number room end
       → EndsAt net (line ∷ lines) number room execution end
   line_ends line lines execution listed number room put end Comes none comes (inl (blank, is)) run later =
       after_line line lines number room execution execution (λ others. others) end comes (λ lines others lists. inl (is, lists)) (λ others final fed. fed)

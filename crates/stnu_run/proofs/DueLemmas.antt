@@ -53,15 +53,19 @@ next_last net schedule from [] listing are = are.0
 next_last net schedule from (one ∷ first) listing are = next_last net schedule (one.moment + 1) first listing are.1
 
 -- ---- the first moment that has not gone by
+-- the moment of the last of some listings, or the one before them
+abbrev last_of : Option ℕ → List Listing → Option ℕ
+last_of before listings = fold (λ before (one : Listing). Some one.moment) before listings
+
 fed_last_by : (execution : Execution) (listing : Listing) (others : List Listing) (final : Execution) (result : Result Moments Why) → taken execution listing.moment listing.points ≡ result
     → fed_all execution (listing ∷ others) ≡ Ok final
-    → ((next : Execution) → fed_all next others ≡ Ok final → final.last ≡ fold (λ before (one : Listing). Some one.moment) next.last others)
-    → final.last ≡ fold (λ before (one : Listing). Some one.moment) (Some listing.moment) others
+    → ((next : Execution) → fed_all next others ≡ Ok final → final.last ≡ last_of next.last others)
+    → final.last ≡ last_of (Some listing.moment) others
 fed_last_by execution listing others final (Ok moments) is fed later = later (after_feed execution listing.moment moments) (sym (fed_step execution listing others moments is) ∙ fed)
 fed_last_by execution listing others final (Err cause) is fed later = absurd (cc (fed_stops execution listing others cause is, fed))
 
 fed_last_is : (listings : List Listing) (execution final : Execution) → fed_all execution listings ≡ Ok final
-    → final.last ≡ fold (λ before (one : Listing). Some one.moment) execution.last listings
+    → final.last ≡ last_of execution.last listings
 fed_last_is [] execution final fed = let same : execution ≡ final = cc in ap (λ (e : Execution). e.last) (sym same)
 fed_last_is (listing ∷ others) execution final fed =
     fed_last_by execution listing others final (taken execution listing.moment listing.points) refl fed (λ next on. fed_last_is others next final on)

@@ -9,10 +9,10 @@ use Rattle.cert_checker.specs.declared.judgement.Judgement.{Judgement}
 use Rattle.cert_checker.specs.declared.judgement.Judgement.TheVariants.{Accepted, Refused as Rejected}
 use Rattle.execution_model.specs.Streams.{Listing}
 use Rattle.command_engine.specs.Grammars.{Grammar}
-use Rattle.command_engine.specs.Inputs.{AnswersOrRefuses, AnswersText, DeclaresWithinLimits, IsFirstRefusal}
+use Rattle.command_engine.specs.Inputs.{AnswersOrRefuses, AnswersText, IsFirstRefusal}
 use Rattle.command_engine.specs.declared.endings.End.{End}
 use Rattle.command_engine.specs.declared.endings.End.TheVariants as ends
-use Rattle.stnu_run.specs.Causes.{Causes, EndsByCause, IsAnswer, IsDayRefused, IsTextRefused, text_causes}
+use Rattle.stnu_run.specs.Causes.{EndsByCause, IsAnswer, IsDayRefused, IsTextRefused, text_causes}
 use Rattle.stnu_run.specs.CheckPromise.{PutsVerdict}
 use Rattle.stnu_run.specs.Checking.{PutsYes}
 use Rattle.stnu_run.specs.Day.{Opening, IsRefusedDay, IsWholeDay, number_of}

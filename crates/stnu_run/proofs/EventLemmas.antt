@@ -72,12 +72,17 @@ finished_so execution answer after first none is so =
     (subst (λ (o : Option Why). FinishedBy o (first_open execution) execution answer after) none so)
 
 module _ (state : Course) (number : ℕ) (none : state.execution.refused ≡ None) (answer : List ℕ) (onward : Onward Course) where
-  -- a feed that is taken: its acts, the next due moment, and the run goes on
-  taken_goes : (moment : ℕ) (points : List PointId) (moments : Moments) → taken state.execution moment points ≡ Ok moments
-      → AnswersEvent state number (completed moment points) answer onward
-      → (due : Option ℕ) × IsDueAnswer (after_feed state.execution moment moments) due
+  -- the acts of a feed, the next due moment, and the run goes on
+  abbrev GoesAfterFeed : ℕ → List PointId → Moments → Type 0
+  GoesAfterFeed moment points moments =
+      (due : Option ℕ) × IsDueAnswer (after_feed state.execution moment moments) due
       × (answer ≡ acts_text state.net (after_feed state.execution moment moments).acts ++ due_line due)
       × (onward ≡ Goes (record state { execution = after_feed state.execution moment moments; listed = points }))
+
+  -- a feed that is taken
+  taken_goes : (moment : ℕ) (points : List PointId) (moments : Moments) → taken state.execution moment points ≡ Ok moments
+      → AnswersEvent state number (completed moment points) answer onward
+      → GoesAfterFeed moment points moments
   taken_goes moment points moments is (answered, after, so, answers) =
       let by = fed_so state.execution moment points answered after (Ok moments) none is so in
       let there = subst (λ (e : Execution). AnswersFeed state number answered (record state { execution = e; listed = points }) answer onward) by.1 answers in
@@ -174,10 +179,15 @@ module _ (reading : (net : Plan) (line : List (List ℕ)) → OneReading net lin
         let on = on_as (Goes here.state) answers.1 in
         subst (λ (p : List ℕ). Run executing_machine (at net execution listed (number + 1) (room - line_size line)) lines p end) (sym (on.1 ∙ ap (λ (a : List ℕ). a ++ on.0) answers.0)) on.2
 
-    pub one_feed : (moment : ℕ) (points : List PointId) (moments : Moments) → IsLine net (completed moment points) line.text → taken execution moment points ≡ Ok moments
-        → (due : Option ℕ) × (more : List ℕ) × IsDueAnswer (after_feed execution moment moments) due
+    -- what was put for a feed, and the run over the lines after it
+    abbrev pub RunsAfterFeed : ℕ → List PointId → Moments → Type 0
+    RunsAfterFeed moment points moments =
+        (due : Option ℕ) × (more : List ℕ) × IsDueAnswer (after_feed execution moment moments) due
         × (put ≡ acts_text net (after_feed execution moment moments).acts ++ (due_line due ++ more))
         × Run executing_machine (at net (after_feed execution moment moments) points (number + 1) (room - line_size line)) lines more end
+
+    pub one_feed : (moment : ℕ) (points : List PointId) (moments : Moments) → IsLine net (completed moment points) line.text → taken execution moment points ≡ Ok moments
+        → RunsAfterFeed moment points moments
     one_feed moment points moments is takes =
         let goes = taken_goes here.state (number + 1) none one.answer one.onward moment points moments takes (tells (completed moment points) is) in
         let on = on_as _ goes.3 in

@@ -1,21 +1,19 @@
 -- The bytes that the program puts are exact, where its command has at most one reply to each line.
-use Rattle.std.proofs.Common.{◌≡◌, ◌⊎◌, inl, inr, ℕ, ◌<◌, List, [], ◌++◌, take, drop, refl, sym, ap, ◌∙◌, subst, arith, append-nil}
+use Rattle.std.proofs.Common.{◌≡◌, inl, inr, ℕ, ◌<◌, List, [], ◌++◌, take, drop, refl, sym, ap, ◌∙◌, subst, arith, append-nil}
 use Rattle.std.proofs.lemmas.List.{append_cancel_left, take-append-drop}
 use Rattle.plan_port.specs.Talk.{Seen, Talk, WhereTold}
 use Rattle.plan_port.specs.Writing.{after_writing}
 use Rattle.plan_port.specs.declared.writing.Written.{Written}
 use Rattle.plan_port.specs.declared.writing.Written.TheVariants.{All, Part}
 use Rattle.plan_port.proofs.Talks.{WhereTold-same, WhereTold-so}
-use Rattle.command_engine.specs.Breaks.{read_fault_line}
 use Rattle.command_engine.specs.Bytes.{IsFrontOfRun, IsToPutAfterTake as IsToPut, PutsExactly as PutsSo}
 use Rattle.command_engine.specs.Endings.{status_number}
 use Rattle.command_engine.specs.Machine.{Machine}
-use Rattle.command_engine.specs.declared.endings.End.{End}
 use Rattle.command_engine.specs.declared.endings.Status.{Status as Ending}
 use Rattle.command_engine.specs.declared.endings.Status.TheVariants.{Ended, ReadFault, WriteFault, NoMemory}
 use Rattle.command_engine.proofs.BytesLemmas.{bytes_exact}
 use Rattle.stnu_run.specs.ExactBytes.{IsFrontOfDefined, IsToPutAfterTake, PutsExactly, BytesAreExact}
-use Rattle.stnu_run.specs.Programs.{Program, Promise, serves, tells, told_number, written_number, Defines, DefinesOne, ServesProgram}
+use Rattle.stnu_run.specs.Programs.{Program, Promise, serves, tells, told_number, written_number, DefinesOne, ServesProgram}
 use Rattle.stnu_run.specs.declared.status.Status.{Status}
 use Rattle.stnu_run.specs.declared.telling.TellingEnd.{TellingEnd}
 use Rattle.stnu_run.specs.declared.telling.TellingEnd.TheVariants.{Told, Refuted, WordsRefused}

@@ -135,8 +135,8 @@ module _ (laws : ExecutionLaws) where
       fed_over faithful =
           let (final, fed) = faithful_fed laws net _ _ by_closure listings within faithful in
           let start_room : ℕ = room_after most_input day.used in
-          let over = over_events laws.reading net day.events day.rest listings first final [] (length day.used) start_room opened.more end refl
-          day.come day.lists fed opened.later in
+          let over = over_events laws.reading net day.events day.rest listings first final [] (length day.used) start_room opened.more end day.come
+          (record { none = refl; lists = day.lists; fed = fed; run = opened.later }) in
           record {
             final = final;
             fed = fed;

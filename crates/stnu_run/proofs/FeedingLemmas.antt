@@ -126,10 +126,14 @@ ends_among net execution answer after going same is = by (first_open execution) 
     by (Some first) (finished.Ended cause) so (unfinished, kept) = absurd (cc)
 
 -- ---- lines of events
+-- a state with other points listed
+abbrev pub with_listed : Course → List PointId → Course
+with_listed state listed = record { net = state.net; execution = state.execution; listed = listed }
+
 -- what a line tells is answered by the state in which its points are listed
 pub told_answers : (state : Course) (number : ℕ) (line : List ℕ) (event : Event) (listed : List PointId) (put : List ℕ) (onward : Onward Course)
     → IsLine state.net (said event listed) line → listed ≡ kept (said event listed) state.listed
-    → AnswersEvent (record { net = state.net; execution = state.execution; listed = listed }) number (said event listed) put onward → TakesEvent state number line put onward
+    → AnswersEvent (with_listed state listed) number (said event listed) put onward → TakesEvent state number line put onward
 told_answers state number line Blank listed put onward is same answers =
     inl (
       said Blank listed,

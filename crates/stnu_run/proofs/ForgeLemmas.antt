@@ -1,26 +1,22 @@
 -- What `forge` tells is one.
-use Rattle.std.proofs.Common.{◌≡◌, ◌⊎◌, ℕ, List, ◌++◌, length, Ok, inl, inr, refl, sym, append_assoc, ap, ◌∙◌, subst}
+use Rattle.std.proofs.Common.{◌≡◌, ℕ, List, ◌++◌, length, Ok, inl, inr, refl, sym, append_assoc, ap, ◌∙◌, subst}
 use Rattle.std.proofs.lemmas.List.{length-map}
 use Rattle.net_model.specs.Building.{built}
 use Rattle.net_model.specs.Network.{Plan}
-use Rattle.net_model.specs.declared.part.Edge.{Edge}
 use Rattle.closure_model.specs.Tables.{edges_of}
-use Rattle.strategy_model.specs.Control.{IsControllable}
 use Rattle.strategy_model.specs.Laws.{AtMostOneEarliest}
 use Rattle.cert_format.specs.declared.certificate.Certificate.{Certificate}
 use Rattle.cert_checker.specs.Judgement.{judgement_of}
-use Rattle.cert_checker.specs.declared.judgement.Judgement.{Judgement}
-use Rattle.refutations.specs.Refuting.{Refutes}
-use Rattle.table_proofs.specs.Certified.{Certifies, Proves}
+use Rattle.table_proofs.specs.Certified.{Proves}
 use Rattle.table_proofs.specs.Proving.{entry_of}
 use Rattle.table_proofs.proofs.LawProofs.{certificates_are_one}
 use Rattle.situation_player.specs.ForgedParts.{forged_parts}
 use Rattle.stnu_run.specs.Forging.{Adds, IsLastMoment, TellsControllable, TellsForged, TellsRefuted, TellsVerdict, controllable_text, counts_text, forge_program, greatest_of, judged_line, refuted_text, size_of}
-use Rattle.stnu_run.specs.Programs.{DefinesOne, EachDefinesOne, tells}
+use Rattle.stnu_run.specs.Programs.{EachDefinesOne}
 use Rattle.stnu_run.specs.Which.{situation_of}
 use Rattle.stnu_run.specs.declared.forging.ForgeWords.{ForgeWords}
 use Rattle.stnu_run.specs.declared.telling.TellingEnd.{TellingEnd}
-use Rattle.stnu_run.specs.declared.telling.TellingEnd.TheVariants.{Told, Refuted}
+use Rattle.stnu_run.specs.declared.telling.TellingEnd.TheVariants.{Told}
 use Rattle.stnu_run.specs.declared.which.Which.TheVariants.{Longest}
 use Rattle.stnu_run.proofs.ProgramLemmas.{told_defines_one}
 

@@ -1,7 +1,6 @@
 -- `judge` keeps its promise.
-use Rattle.std.proofs.Common.{◌≡◌, ℕ, List, [], ◌∷◌, get_or, refl, sym, ap, ◌∙◌, subst, arith, inl, inr, codes}
+use Rattle.std.proofs.Common.{◌≡◌, ℕ, List, get_or, refl, sym, ap, ◌∙◌, subst, arith, inl, inr}
 use Rattle.texts.specs.Lines.{lines}
-use Rattle.texts.specs.Printing.{printed_line}
 use Rattle.net_model.specs.Network.{Plan}
 use Rattle.strategy_model.specs.Control.{IsControllable}
 use Rattle.strategy_model.specs.Plays.{IsInstant}

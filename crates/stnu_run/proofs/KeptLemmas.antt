@@ -67,10 +67,15 @@ kept (serves {C} machine start promise) status before after holds (ending, numbe
     holds input put end (puts_run machine start end ending was is input untaken put same puts all)) inner) ran.puts
 kept (tells answers) status before after holds ran = tt
 
--- where a run ended for want of memory, what was put is what the command promises for that, where each run that breaks off so has put that
+-- each run that breaks off for want of memory has put what the command promises for that
+abbrev pub KeepsWhereBroken : {C : Type 0} → Machine C → C → Promise → Type 0
+KeepsWhereBroken machine start promise =
+    (input untaken put : List ℕ) (pieces : List Piece) → BreaksForMemory machine start input untaken put pieces → (put ≡ []) ⊎ promise.without_memory input put
+
+-- where a run ended for want of memory, what was put is what the command promises for that
 pub kept_without_memory : {C : Type 0} (machine : Machine C) (start at : C) (promise : Promise) (ending : Ending) (status : Status) (before after : Seen)
     → status ≡ record { 0 = status_number ending } → at ≡ start
-    → ((input untaken put : List ℕ) (pieces : List Piece) → BreaksForMemory machine start input untaken put pieces → (put ≡ []) ⊎ promise.without_memory input put)
+    → KeepsWhereBroken machine start promise
     → Serves machine at ending before after → KeepsWithoutMemory (serves machine start promise) status before after
 kept_without_memory {C} machine start at promise ending status before after number same law ran = λ is.
     let so : ending ≡ NoMemory = ending_one ending NoMemory (ap (λ (s : Status). s.0) (sym number) ∙ is) in

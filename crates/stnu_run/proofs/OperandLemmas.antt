@@ -1,5 +1,5 @@
 -- The texts of operands: as many as there are names.
-use Rattle.std.proofs.Common.{◌≡◌, ℕ, suc, List, [], ◌∷◌, length, refl, ap, ◌∙◌}
+use Rattle.std.proofs.Common.{◌≡◌, suc, List, [], ◌∷◌, length, refl, ap, ◌∙◌}
 use Rattle.command_words.specs.Arguments.{operand_texts}
 use Rattle.command_words.specs.Spelling.{Use, flag, valued, operand, operand_names}
 use Rattle.command_words.specs.Syntax.{Text}

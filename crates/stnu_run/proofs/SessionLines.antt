@@ -201,8 +201,16 @@ ends_here standing lines number room put end how =
       how = subst (λ (n : ℕ). HowEnds standing n room lines put end) same how;
     }
 
+-- how a session ends over the lines after one
+abbrev EndsAfter : Standing → InputLine → List InputLine → ℕ → ℕ → List ℕ → End → Type 0
+EndsAfter standing line lines number room put end = EndsSession standing lines (number + 1) (room - line_size line) put end
+
+-- a line tells a step, or has a fault
+abbrev TellsOrFails : InputLine → Type 0
+TellsOrFails line = ((told : Step) × AreWordsOf told (words line.text)) ⊎ ((kind : FormatKind) × IsFaultOfWords (words line.text) kind)
+
 goes_on : (standing : Standing) (told : Step) (line : InputLine) (lines : List InputLine) (number room : ℕ) (put : List ℕ) (end : End) → coming most_line room line ≡ Comes → IsLine told line.text
-    → (over : EditsOver standing told lines (number + 1) (room - line_size line) put end) → EndsSession over.next lines (number + 1) (room - line_size line) over.more end → EndsSession standing (line ∷ lines) number room put end
+    → (over : EditsOver standing told lines (number + 1) (room - line_size line) put end) → EndsAfter over.next line lines number room over.more end → EndsSession standing (line ∷ lines) number room put end
 goes_on standing told line lines number room put end comes is over one =
     let same : number + 1 + length one.edits ≡ number + length (line ∷ one.edits) = omega arith in
     record {
@@ -291,8 +299,8 @@ module _ (steps : (line : List (List ℕ)) → OneStep line) where
         let on = subst (λ (o : Onward InSession). Continues session_machine here line lines put end o one.answer) one.replies.1 one.on in
         (on.0 ∙ one.replies.2.0, on.1 ∙ one.replies.2.1)
 
-    line_ends : (how : Coming) → coming most_line room line ≡ how → ((told : Step) × AreWordsOf told (words line.text)) ⊎ ((kind : FormatKind) × IsFaultOfWords (words line.text) kind)
-        → ((next : Standing) (more : List ℕ) → RunOver session_machine (at_edit next (number + 1) (room - line_size line)) lines more end → EndsSession next lines (number + 1) (room - line_size line) more end)
+    line_ends : (how : Coming) → coming most_line room line ≡ how → TellsOrFails line
+        → ((next : Standing) (more : List ℕ) → RunOver session_machine (at_edit next (number + 1) (room - line_size line)) lines more end → EndsAfter next line lines number room more end)
         → EndsSession standing (line ∷ lines) number room put end
     line_ends Comes comes (inl (told, is)) later = told_ends told comes is later
     line_ends Comes comes (inr (kind, fault)) later =

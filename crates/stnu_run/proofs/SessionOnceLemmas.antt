@@ -31,7 +31,6 @@ use Rattle.stnu_run.specs.SessionAnswers.{ready_line, table_text}
 use Rattle.stnu_run.specs.SessionPromise.{SaysSteps, SaysAll}
 use Rattle.stnu_run.specs.Sessions.{net_of, SaysEdit, SaysVerdict, SaysProof, SaysTable, SaysStep, StandsEdited, StandsAfterEdit, StandsAfter, EditsOn, BeginsByGo, AnswersStep, TakesStep, session_machine, OpensOn, session_begins}
 use Rattle.stnu_run.specs.Standing.{Standing}
-use Rattle.stnu_run.specs.Verdict.{controllable_line}
 use Rattle.stnu_run.specs.declared.faults.Fault.TheVariants.{Format}
 use Rattle.stnu_run.specs.declared.session.InSession.{InSession}
 use Rattle.stnu_run.specs.declared.session.InSession.TheVariants.{Editing, Executing}

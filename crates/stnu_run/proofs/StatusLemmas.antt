@@ -1,5 +1,5 @@
 -- The exit status of a run has its cause, where each run of a program's command ends by the causes in its input.
-use Rattle.std.proofs.Common.{◌≡◌, ◌⊎◌, inl, inr, ℕ, zero, suc, ◌<◌, List, [], ◌++◌, Bool, true, false, Option, Some, None, refl, sym, ap, ◌∙◌, subst, arith}
+use Rattle.std.proofs.Common.{◌≡◌, ◌⊎◌, inl, inr, ℕ, zero, suc, ◌<◌, List, [], Bool, true, false, Option, Some, None, refl, sym, ap, ◌∙◌, subst, arith}
 use Rattle.plan_port.specs.Talk.{Seen}
 use Rattle.plan_port.specs.declared.writing.Written.{Written}
 use Rattle.plan_port.specs.declared.writing.Written.TheVariants.{All, Part}
@@ -15,9 +15,8 @@ use Rattle.stnu_run.specs.ExactBytes.{BytesAreExact}
 use Rattle.stnu_run.specs.ExecutionPromise.{PutsLast}
 use Rattle.stnu_run.specs.Programs.{Program, serves, tells, told_number, written_number, Defines, DefinesOne, HasCauses, RunsEndByCause, ServesProgram}
 use Rattle.stnu_run.specs.Requests.{refuses_words, program_asked}
-use Rattle.stnu_run.specs.Statuses.{IsRefusal, IsRefused, IsWhole, TellsRefusal, HasCauseInInput, StatusHasCause}
+use Rattle.stnu_run.specs.Statuses.{IsRefusal, HasCauseInInput, StatusHasCause}
 use Rattle.stnu_run.specs.declared.status.Status.{Status}
-use Rattle.stnu_run.specs.declared.telling.TellingEnd.{TellingEnd}
 use Rattle.stnu_run.proofs.ExactLemmas.{told_below}
 use Rattle.stnu_run.proofs.KeptLemmas.{ending_one}
 

@@ -1,5 +1,5 @@
 -- What decides the verdict of a network, and that it is put.
-use Rattle.std.proofs.Common.{◌≡◌, ℕ, Bool, true, false, List, refl, sym, ap, ◌∙◌, subst, true≢false, inl, inr}
+use Rattle.std.proofs.Common.{◌≡◌, ℕ, Bool, true, false, List, refl, sym, ap, ◌∙◌, true≢false, inl, inr}
 use Rattle.net_model.specs.Network.{Plan}
 use Rattle.controllability.specs.Laws.{CyclesOfTablesExclude, OrderedClosuresAreControllable}
 use Rattle.strategy_model.specs.Plays.{IsInstant}

@@ -1,12 +1,11 @@
 -- The number of workers changes nothing in what the words ask, and what words of commands that take it say.
-use Rattle.std.proofs.Common.{◌≡◌, ◌↔◌, ◌⊎◌, ◌||◌, map, codes, not, ℕ, ◌<◌, ◌≤◌, ◌^◌, ◌==◌, Bool, true, false, List, [], ◌∷◌, ◌++◌, Option, Some, None, Result, Ok, Err, inl, inr, refl, sym, ap, ◌∙◌, subst, true≢false, arith, rules, if◌then◌else◌}
+use Rattle.std.proofs.Common.{◌≡◌, ◌↔◌, ◌⊎◌, ◌||◌, map, codes, not, ℕ, ◌<◌, ◌≤◌, ◌^◌, ◌==◌, Bool, true, false, List, [], ◌∷◌, ◌++◌, Option, Some, None, Ok, inl, inr, refl, sym, ap, ◌∙◌, subst, true≢false, rules}
 use Rattle.std.specs.Fmt.{decimal}
 use Rattle.std.specs.Option.{option_and_then, option_map}
 use Rattle.std.specs.Str.{bytes_eq}
 use Rattle.std.proofs.lemmas.Slice.Eq.{bytes_eq-Decides}
 use Rattle.std.proofs.lemmas.Bool.{eqb-true}
 use Rattle.net_model.specs.Numbers.{natural_of}
-use Rattle.net_model.specs.declared.format.FormatKind.{FormatKind}
 use Rattle.net_model.proofs.SpellingLemmas.{natural_spelled}
 use Rattle.command_words.specs.Arguments.{Arguments, arguments_by, flag_at, is_given, text_given, option_at}
 use Rattle.command_words.specs.Reading.{arguments_of}

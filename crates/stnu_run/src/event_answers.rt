@@ -97,44 +97,14 @@ pub(crate) fn refuse_event(answer: &mut Answer, net: &Network, number: u32, why:
 {
     match why {
         Why::NotLater(last) => refuse(answer, number, "not-later", Word::Number(last)),
-        Why::NotContingent(point) => refuse(
-            answer,
-            number,
-            "not-contingent",
-            Word::Name(name_of(net, point)),
-        ),
-        Why::Twice(point, moment) => {
-            refuse_at(
-                answer,
-                number,
-                "twice",
-                Word::Name(name_of(net, point)),
-                moment,
-            )
-        }
-        Why::NotActive(point) => refuse(
-            answer,
-            number,
-            "not-active",
-            Word::Name(name_of(net, point)),
-        ),
+        Why::NotContingent(point) => refuse_point(answer, net, number, "not-contingent", point),
+        Why::Twice(point, moment) => refuse_point_at(answer, net, number, "twice", point, moment),
+        Why::NotActive(point) => refuse_point(answer, net, number, "not-active", point),
         Why::TooSoon(point, earliest) => {
-            refuse_at(
-                answer,
-                number,
-                "too-soon",
-                Word::Name(name_of(net, point)),
-                earliest,
-            )
+            refuse_point_at(answer, net, number, "too-soon", point, earliest)
         }
         Why::Overdue(point, latest) => {
-            refuse_at(
-                answer,
-                number,
-                "overdue",
-                Word::Name(name_of(net, point)),
-                latest,
-            )
+            refuse_point_at(answer, net, number, "overdue", point, latest)
         }
         Why::MomentLimit => refuse(answer, number, "moment", Word::Number(MOST_MOMENT)),
     }
@@ -148,13 +118,39 @@ pub(crate) fn refuse_end(answer: &mut Answer, net: &Network, number: u32, point:
     ensures end { result ≡ EventRefused }
     ensures capacity { answer.old.capacity ≤ answer.new.capacity }
 {
-    refuse(
+    refuse_point(answer, net, number, "unfinished", point);
+    End::EventRefused
+}
+
+/// Puts the line of an event that is refused: a word, and the name of a point.
+fn refuse_point(answer: &mut Answer, net: &Network, number: u32, word: &str, point: PointId)
+    requires { (length word.now ≤ 32) × IsPoint net.now point }
+    ensures put { answer.new.text ≡ event_line number (word.now ∷ name_in net.now point ∷ []) }
+    ensures capacity { answer.old.capacity ≤ answer.new.capacity }
+{
+    refuse(answer, number, word, Word::Name(name_of(net, point)));
+}
+
+/// Puts the line of an event that is refused: a word, the name of a point, and a moment.
+fn refuse_point_at(
+    answer: &mut Answer,
+    net: &Network,
+    number: u32,
+    word: &str,
+    point: PointId,
+    moment: u64,
+)
+    requires { (length word.now ≤ 32) × IsPoint net.now point }
+    ensures put { answer.new.text ≡ event_line number (word.now ∷ name_in net.now point ∷ decimal moment ∷ []) }
+    ensures capacity { answer.old.capacity ≤ answer.new.capacity }
+{
+    refuse_at(
         answer,
         number,
-        "unfinished",
+        word,
         Word::Name(name_of(net, point)),
+        moment,
     );
-    End::EventRefused
 }
 
 /// Puts the line of an event that is refused: a word, and what it speaks of.

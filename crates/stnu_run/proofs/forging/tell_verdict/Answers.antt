@@ -1,4 +1,4 @@
-use Rattle.std.proofs.Common.{List, IfOk, inr, subst}
+use Rattle.std.proofs.Common.{IfOk, inr, subst}
 use Rattle.std.proofs.lemmas.Result.{IfOk-weaker}
 use Rattle.net_model.specs.Network.{Plan}
 use Rattle.stnu_run.specs.Forging.{Adds, TellsRefuted, TellsVerdict}

@@ -1,7 +1,6 @@
-use Rattle.std.proofs.Common.{◌≡◌, List, ◌++◌, ℕ, Ok, IfOk, ap, ◌∙◌, subst}
+use Rattle.std.proofs.Common.{◌≡◌, List, ◌++◌, ℕ, Ok, ap, ◌∙◌, subst}
 use Rattle.std.proofs.lemmas.Result.{IfOk-weaker}
 use Rattle.net_model.specs.Building.{built}
-use Rattle.net_model.specs.Network.{Plan}
 use Rattle.plan_session.specs.Sessions.{State}
 use Rattle.situation_player.specs.ForgedParts.{forged_parts}
 use Rattle.stnu_run.specs.Forging.{Adds, TellsForged, TellsVerdict, counts_text}
