@@ -125,7 +125,7 @@ pub(crate) fn refuse_end(answer: &mut Answer, net: &Network, number: u32, point:
 /// Puts the line of an event that is refused: a word, and the name of a point.
 fn refuse_point(answer: &mut Answer, net: &Network, number: u32, word: &str, point: PointId)
     requires { (length word.now ≤ 32) × IsPoint net.now point }
-    ensures put { answer.new.text ≡ event_line number (word.now ∷ name_in net.now point ∷ []) }
+    ensures put { answer.new.text ≡ event_line number (word.now ∷ point_name net.now.points point ∷ []) }
     ensures capacity { answer.old.capacity ≤ answer.new.capacity }
 {
     refuse(answer, number, word, Word::Name(name_of(net, point)));
@@ -141,7 +141,7 @@ fn refuse_point_at(
     moment: u64,
 )
     requires { (length word.now ≤ 32) × IsPoint net.now point }
-    ensures put { answer.new.text ≡ event_line number (word.now ∷ name_in net.now point ∷ decimal moment ∷ []) }
+    ensures put { answer.new.text ≡ event_line number (word.now ∷ point_name net.now.points point ∷ decimal moment ∷ []) }
     ensures capacity { answer.old.capacity ≤ answer.new.capacity }
 {
     refuse_at(
