@@ -28,12 +28,24 @@ module _ (setting : Setting) (t until : ℕ) (less : t < until) where
       ∙ ap (λ u. more ++ acts_while setting (acted setting moments t) u (until - (t + 1))) (plus_one t)
       ∙ ap (λ (m : Moments). more ++ acts_while setting m (t + 1) (until - (t + 1))) (sym are)
 
--- time that runs until each point has come makes an execution whole
+-- an execution, by its parts
+abbrev pub execution_of : Setting → Moments → Option ℕ → List Act → Option Why → Execution
+execution_of setting moments last acts refused = record { setting = setting; moments = moments; last = last; acts = acts; refused = refused }
+
+-- time that runs from a moment, so many more, until each point has come
+pub record RunsWhole (setting : Setting) (before moments : Moments) (last latest : Option ℕ) (acts : List Act) (from count : ℕ) : Type 0 where
+  pub long : length before ≡ length setting.dispatch
+  pub runs : moments ≡ time_runs setting before from count
+  pub makes : acts ≡ acts_while setting before from count
+  pub latest_is : latest ≡ last_of last acts
+  pub come : All IsSome moments
+
+-- it makes an execution whole
 pub whole_by : (setting : Setting) (before moments : Moments) (last latest : Option ℕ) (old acts : List Act) (refused : Option Why) (from count : ℕ)
-    → length before ≡ length setting.dispatch → from ≡ next_moment (record { setting = setting; moments = before; last = last; acts = old; refused = refused })
-    → moments ≡ time_runs setting before from count → acts ≡ acts_while setting before from count → latest ≡ last_of last acts → All IsSome moments
-    → IsWhole (record { setting = setting; moments = before; last = last; acts = old; refused = refused }) (record { setting = setting; moments = moments; last = latest; acts = acts; refused = refused })
-whole_by setting before moments last latest old acts refused from count long begins runs makes is come =
+    → from ≡ next_moment (execution_of setting before last old refused) → RunsWhole setting before moments last latest acts from count
+    → IsWhole (execution_of setting before last old refused) (execution_of setting moments latest acts refused)
+whole_by setting before moments last latest old acts refused from count begins whole =
+    let record { long = long; runs = runs; makes = makes; latest_is = is; come = come } = whole in
     let execution : Execution = record { setting = setting; moments = before; last = last; acts = old; refused = refused } in
     let now : moments ≡ time_runs setting before (next_moment execution) count = runs ∙ ap (λ t. time_runs setting before t count) begins in
     let made : acts ≡ acts_while setting before (next_moment execution) count = makes ∙ ap (λ t. acts_while setting before t count) begins in

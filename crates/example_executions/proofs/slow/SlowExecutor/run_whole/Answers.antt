@@ -20,6 +20,11 @@ returns-clause-whole c =
     let makes : c.run.new.acts.items ≡ acts_while setting kept.moments.items c.args.from count =
     c.in_ok-run.ensures.acts ∙ (λ i. c.new-acts.ensures.items i ++ acts_while setting (copied i) c.args.from count) in
     subst (λ (e : Execution). IsWhole e (record { setting = setting; moments = c.run.new.moments.items; last = c.last_of-self-inside.result; acts = c.run.new.acts.items; refused = kept.refused })) c.self.view_is
-    (whole_by setting kept.moments.items c.run.new.moments.items kept.last c.last_of-self-inside.result kept.acts.items c.run.new.acts.items kept.refused c.args.from count long
-    (c.requires ∙ ap next_moment (sym c.self.view_is)) runs makes (c.last_of-self-inside.ensures ∙ ap (last_of kept.last) c.as_slice-3.ensures.value)
-    (subst (All IsSome) c.as_slice-2.ensures.value (c.if-not-all_have_come.ensures refl)))
+    (whole_by setting kept.moments.items c.run.new.moments.items kept.last c.last_of-self-inside.result kept.acts.items c.run.new.acts.items kept.refused c.args.from count (c.requires ∙ ap next_moment (sym c.self.view_is))
+    (record {
+      long = long;
+      runs = runs;
+      makes = makes;
+      latest_is = c.last_of-self-inside.ensures ∙ ap (last_of kept.last) c.as_slice-3.ensures.value;
+      come = subst (All IsSome) c.as_slice-2.ensures.value (c.if-not-all_have_come.ensures refl);
+    }))
