@@ -158,9 +158,16 @@ unmarked_is None false is = absurd cc
 unmarked_is (Some node) true is = absurd cc
 unmarked_is (Some node) false is = refl
 
+-- what is made of a node, and whether it is marked as gone
+abbrev pub IsMadeOf : Renumbering → List Node → ℕ → Node → List Bool → Option Node → Type 0
+IsMadeOf moves nodes n d marks made = made ≡ node_after moves marks (get_or nodes n d)
+
+abbrev pub IsMarkOf : Option Node → Bool → Type 0
+IsMarkOf made mark = is_some made ≡ not mark
+
 -- the same of what the loop has after an iteration
 pub holds_next : (moves : Renumbering) (nodes : List Node) (n : ℕ) (d : Node) (marks now marked : List Bool) (kept pushed : List Node) (made : Option Node) (mark : Bool) → n < length nodes → Holds moves nodes n marks kept → now ≡ marks
-    → made ≡ node_after moves now (get_or nodes n d) → is_some made ≡ not mark → marked ≡ marks ++ mark ∷ [] → pushed ≡ with_some kept made → Holds moves nodes (n + 1) marked pushed
+    → IsMadeOf moves nodes n d now made → IsMarkOf made mark → marked ≡ marks ++ mark ∷ [] → pushed ≡ with_some kept made → Holds moves nodes (n + 1) marked pushed
 holds_next moves nodes n d marks now marked kept pushed made mark inside was same made_is mark_is marked_is pushed_is =
     let node : Node = get_or nodes n d in
     let one : made ≡ node_after moves marks node = made_is ∙ ap (λ (ms : List Bool). node_after moves ms node) same in

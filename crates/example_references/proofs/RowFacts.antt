@@ -76,11 +76,15 @@ flat_more {Y} f from before after was is =
     let one : flat_map f (points ++ record { 0 = from } ∷ []) ≡ flat_map f points ++ f (record { 0 = from }) = flat_map-append f points (record { 0 = from } ∷ []) ∙ ap (λ (ys : List Y). flat_map f points ++ ys) (append-nil (f (record { 0 = from }))) in
     is ∙ (ap (λ (ys : List Y). ys ++ f (record { 0 = from })) was ∙ (sym one ∙ ap (flat_map f) (sym (points_more from))))
 
+-- the slots of the sources before one
+abbrev pub slots_before : Graph → PointId → ℕ → List Slot
+slots_before table to from = map (first_slot table) (flat_map (keys_between table.shape to) (map (λ k. record { 0 = k }) (range_with_len 0 from)))
+
 -- the slots of one more source
 pub source_more : (table : Graph) (to : PointId) (from : ℕ) (before after : List Slot)
-    → before ≡ map (first_slot table) (flat_map (keys_between table.shape to) (map (λ k. record { 0 = k }) (range_with_len 0 from)))
+    → before ≡ slots_before table to from
     → after ≡ before ++ map (first_slot table) (keys_between table.shape to (record { 0 = from }))
-    → after ≡ map (first_slot table) (flat_map (keys_between table.shape to) (map (λ k. record { 0 = k }) (range_with_len 0 (from + 1))))
+    → after ≡ slots_before table to (from + 1)
 source_more table to from before after was is =
     let points : List PointId = map (λ k. record { 0 = k }) (range_with_len 0 from) in
     let keys = flat_more (keys_between table.shape to) from (flat_map (keys_between table.shape to) points) (flat_map (keys_between table.shape to) points ++ keys_between table.shape to (record { 0 = from })) refl refl in
@@ -88,15 +92,26 @@ source_more table to from before after was is =
     ∙ (sym (map-append (first_slot table) (flat_map (keys_between table.shape to) points) (keys_between table.shape to (record { 0 = from }))) ∙ ap (map (first_slot table)) keys))
 
 -- ---- the links that begin in a point, by the network and by its shape
-labels_same : (to : PointId) (n : ℕ) (links : List Link) → ◌≡◌ {A = List LinkId} (map (λ (l : ℕ × Link). record { 0 = l.0 }) (filter (λ (l : ℕ × Link). l.1.from.0 == to.0) (enumerate_from n links)))
-    (map (λ (e : ℕ × PointId). record { 0 = e.0 }) (filter (λ (e : ℕ × PointId). e.1.0 == to.0) (enumerate_from n (map (λ (link : Link). link.from) links))))
+-- the places in pairs of them and links, and in pairs of them and points
+abbrev link_places : List (ℕ × Link) → List LinkId
+link_places pairs = map (λ (l : ℕ × Link). record { 0 = l.0 }) pairs
+
+abbrev point_places : List (ℕ × PointId) → List LinkId
+point_places pairs = map (λ (e : ℕ × PointId). record { 0 = e.0 }) pairs
+
+-- those of links that begin in a point, and of that point
+abbrev links_in : PointId → ℕ → List Link → List (ℕ × Link)
+links_in to n links = filter (λ (l : ℕ × Link). l.1.from.0 == to.0) (enumerate_from n links)
+
+abbrev points_in : PointId → ℕ → List Link → List (ℕ × PointId)
+points_in to n links = filter (λ (e : ℕ × PointId). e.1.0 == to.0) (enumerate_from n (map (λ (link : Link). link.from) links))
+
+labels_same : (to : PointId) (n : ℕ) (links : List Link) → link_places (links_in to n links) ≡ point_places (points_in to n links)
 labels_same to n [] = refl
 labels_same to n (link ∷ links) = by (link.from.0 == to.0) (labels_same to (n + 1) links)
   where
-    by : (b : Bool) → ◌≡◌ {A = List LinkId} (map (λ (l : ℕ × Link). record { 0 = l.0 }) (filter (λ (l : ℕ × Link). l.1.from.0 == to.0) (enumerate_from (n + 1) links)))
-        (map (λ (e : ℕ × PointId). record { 0 = e.0 }) (filter (λ (e : ℕ × PointId). e.1.0 == to.0) (enumerate_from (n + 1) (map (λ (link : Link). link.from) links))))
-        → ◌≡◌ {A = List LinkId} (map (λ (l : ℕ × Link). record { 0 = l.0 }) (cond b ((n, link) ∷ filter (λ (l : ℕ × Link). l.1.from.0 == to.0) (enumerate_from (n + 1) links)) (filter (λ (l : ℕ × Link). l.1.from.0 == to.0) (enumerate_from (n + 1) links))))
-        (map (λ (e : ℕ × PointId). record { 0 = e.0 }) (cond b ((n, link.from) ∷ filter (λ (e : ℕ × PointId). e.1.0 == to.0) (enumerate_from (n + 1) (map (λ (link : Link). link.from) links))) (filter (λ (e : ℕ × PointId). e.1.0 == to.0) (enumerate_from (n + 1) (map (λ (link : Link). link.from) links)))))
+    by : (b : Bool) → link_places (links_in to (n + 1) links) ≡ point_places (points_in to (n + 1) links)
+        → link_places (cond b ((n, link) ∷ links_in to (n + 1) links) (links_in to (n + 1) links)) ≡ point_places (cond b ((n, link.from) ∷ points_in to (n + 1) links) (points_in to (n + 1) links))
     by true rest = ap (λ (ls : List LinkId). record { 0 = n } ∷ ls) rest
     by false rest = rest
 
