@@ -1,5 +1,5 @@
 -- What is offered to a row goes to one slot, and the slots keep their keys.
-use Rattle.std.proofs.Common.{◌≡◌, ℕ, zero, suc, ◌+◌, ◌*◌, ◌^◌, ◌<◌, ◌≤◌, ℤ, pos, ◌≤ℤ◌, ◌<ℤ◌, Bool, true, false, cond, List, [], ◌∷◌, ◌++◌, length, map, take, fold, get_or, Option, Some, None, IfSome, refl, ap, sym, subst, ◌∙◌, arith, ◌==◌}
+use Rattle.std.proofs.Common.{◌≡◌, ℕ, zero, suc, ◌+◌, ◌*◌, ◌^◌, ◌<◌, ◌≤◌, ℤ, pos, ◌≤ℤ◌, ◌<ℤ◌, Bool, true, false, cond, List, [], ◌∷◌, ◌++◌, length, map, fold, get_or, Option, Some, None, IfSome, refl, ap, sym, subst, ◌∙◌, arith, ◌==◌}
 use Rattle.std.specs.Prelude.{slice_get, position, slice_set, unsigned_abs, filter}
 use Rattle.std.specs.Option.{option_map, option_map_or}
 use Rattle.std.specs.List.{Contains, flat_map, enumerate_from}
@@ -7,7 +7,6 @@ use Rattle.std.proofs.lemmas.Int.{ints}
 use Rattle.std.proofs.lemmas.Nat.{mul-add-lt, mul-le}
 use Rattle.std.proofs.lemmas.Option.{slice_get-map, same_Some, slice_get_within, get_or_from_slice_get}
 use Rattle.std.proofs.lemmas.List.Elements.{All-contains, Contains-get_or}
-use Rattle.std.proofs.lemmas.List.{take_all}
 use Rattle.std.proofs.lemmas.List.Quantifiers.{position-Some}
 use Rattle.std.proofs.lemmas.List.Sums.{fold-append}
 use Rattle.std.proofs.Math.ListN.{length-map}
@@ -227,13 +226,8 @@ module _ (net : Plan) (table : Graph) (to : PointId) (slots : List Slot) (width 
       (slot_at net table to slots width row other column ends (subst (λ (p : PointId). p.0 < table.shape.points) (sym from) (row.sound.keys first has).from_point) (subst (λ (l : Option LinkId). HasColumn table.shape to l column) label is.column))
 
 -- ---- the lists of consequences
--- two offers, one after the other
-pub two_given : (slots middle after : List Slot) (one two : Why) (first second : Option Edge) → middle ≡ fold offered slots (given one first) → after ≡ fold offered middle (given two second) → after ≡ fold offered slots (given one first ++ given two second)
-two_given slots middle after one two first second is_first is_second =
-    is_second ∙ (ap (λ (s : List Slot). fold offered s (given two second)) is_first ∙ sym (fold-append offered slots (given one first) (given two second)))
-
 -- what follows with the entries of a row, those without a label
-pub entries_follow : (edge : Edge) (entries : List Entry) → flat_map (after_entry edge) entries ≡ flat_map (from_first edge) (map (edge_into edge.from) (filter is_ordinary entries))
+entries_follow : (edge : Edge) (entries : List Entry) → flat_map (after_entry edge) entries ≡ flat_map (from_first edge) (map (edge_into edge.from) (filter is_ordinary entries))
 entries_follow edge [] = refl
 entries_follow edge (entry ∷ entries) = by (is_ordinary entry) (entries_follow edge entries)
   where
@@ -242,10 +236,8 @@ entries_follow edge (entry ∷ entries) = by (is_ordinary entry) (entries_follow
     by true rest = ap (λ (list : List Made). from_first edge (edge_into edge.from entry) ++ list) rest
     by false rest = rest
 
-pub entries_all : (table : Graph) (edge : Edge) (entries : List Entry) (i : ℕ) (slots after : List Slot) → map (edge_into edge.from) (filter is_ordinary entries) ≡ ordinary_into table edge.from → length entries ≤ i → after ≡ fold offered slots (flat_map (after_entry edge) (take i entries))
-    → after ≡ fold offered slots (flat_map (from_first edge) (ordinary_into table edge.from))
-entries_all table edge entries i slots after are past is =
-    is ∙ ap (fold offered slots) (ap (flat_map (after_entry edge)) (take_all i entries past) ∙ (entries_follow edge entries ∙ ap (flat_map (from_first edge)) are))
+pub entries_all : (table : Graph) (edge : Edge) (entries : List Entry) → map (edge_into edge.from) (filter is_ordinary entries) ≡ ordinary_into table edge.from → flat_map (after_entry edge) entries ≡ flat_map (from_first edge) (ordinary_into table edge.from)
+entries_all table edge entries are = entries_follow edge entries ∙ ap (flat_map (from_first edge)) are
 
 -- an edge of an entry is one of the table
 pub entry_held : (table : Graph) (to : PointId) (entries : List Entry) (i : ℕ) (d : Entry) → map (edge_into to) entries ≡ row_of table to → i < length entries → HasEdge table (edge_into to (get_or entries i d))
@@ -281,24 +273,16 @@ from_link_none net edge high = by (activation net edge.from)
         let two : given (Cross name edge) (cross_case net name edge) ≡ [] = never_given (Cross name edge) (cross_case net name edge) (λ e is. not_negative edge high edge.weight refl (cross_case_gives net name edge e is).negative) in
         rw (one, two) refl
 
-pub consequences_of_heavy : (net : Plan) (table : Graph) (edge : Edge) (slots after : List Slot) → pos 0 ≤ℤ edge.weight → after ≡ fold offered slots (from_removal net edge) → after ≡ fold offered slots (consequences net table edge)
-consequences_of_heavy net table edge slots after high is =
+pub consequences_of_heavy : (net : Plan) (table : Graph) (edge : Edge) → pos 0 ≤ℤ edge.weight → from_removal net edge ≡ consequences net table edge
+consequences_of_heavy net table edge high =
     let link = from_link_none net edge high in
     let firsts = firsts_none edge high (ordinary_into table edge.from) in
     let same : consequences net table edge ≡ from_removal net edge ++ [] = rw (link, firsts) refl in
-    is ∙ ap (fold offered slots) (sym (same ∙ append_nil (from_removal net edge)))
+    sym (same ∙ append_nil (from_removal net edge))
   where
     append_nil : (list : List Made) → list ++ [] ≡ list
     append_nil [] = refl
     append_nil (x ∷ xs) = ap (λ (ys : List Made). x ∷ ys) (append_nil xs)
-
-pub consequences_of_light : (net : Plan) (table : Graph) (edge : Edge) (slots one two after : List Slot) → one ≡ fold offered slots (from_removal net edge) → two ≡ fold offered one (from_link net edge)
-    → after ≡ fold offered two (flat_map (from_first edge) (ordinary_into table edge.from)) → after ≡ fold offered slots (consequences net table edge)
-consequences_of_light net table edge slots one two after is_one is_two is =
-    let firsts : List Made = flat_map (from_first edge) (ordinary_into table edge.from) in
-    is ∙ (ap (λ (s : List Slot). fold offered s (flat_map (from_first edge) (ordinary_into table edge.from))) (is_two ∙ ap (λ (s : List Slot). fold offered s (from_link net edge)) is_one)
-    ∙ (sym (fold-append offered (fold offered slots (from_removal net edge)) (from_link net edge) (flat_map (from_first edge) (ordinary_into table edge.from)))
-    ∙ sym (fold-append offered slots (from_removal net edge) (from_link net edge ++ flat_map (from_first edge) (ordinary_into table edge.from)))))
 
 -- ---- what stands at the place of an offer
 pub at_place : (slots : List Slot) (place : ℕ) (made : Made) (d : Slot) → IsSlotAt slots place made.edge → slice_get slots place ≡ Some (get_or slots place d)

@@ -39,8 +39,14 @@ pub record IsBegunTo (table : Graph) (to : PointId) (fresh : List (List Edge)) (
 -- the slots of the row of a target as a table has it, so many for each source
 pub record IsFirstRow (table : Graph) (to : PointId) (slots : List Slot) (width : ℕ) : Type 0 where
   pub sound : IsGraph table
+  pub target : to.0 < table.shape.points
   pub first : slots ≡ first_slots table to
   pub wide : width ≡ width_of table.shape to
+
+-- a list of fresh edges for each point, which are edges of the table
+pub record AreFresh (table : Graph) (firsts : List (List Edge)) : Type 0 where
+  pub count : length firsts ≡ table.shape.points
+  pub edges : AreOfTable table firsts
 
 -- a row against a table that is met but for fresh edges, which are edges of the table
 pub record IsToldRow (net : Plan) (table : Graph) (to : PointId) (firsts : List (List Edge)) : Type 0 where
@@ -49,8 +55,7 @@ pub record IsToldRow (net : Plan) (table : Graph) (to : PointId) (firsts : List 
   pub sound : IsGraph table
   pub target : IsPoint net to
   pub within : HasWeightsWithin net table
-  pub count : length firsts ≡ length net.points
-  pub fresh : AreOfTable table firsts
+  pub fresh : AreFresh table firsts
   pub met : IsMetBut net table to firsts
 
 -- what is offered when a slot is settled: all that follows where it fell, and else what follows with the fresh edges

@@ -1,27 +1,23 @@
-ghost use Rattle.std.specs.Prelude.{◌≡◌, ◌<◌, ◌+◌, ℤ, length, Some, IfOk, OnOk};
+ghost use Rattle.std.specs.Prelude.{◌≡◌, ◌<◌, ◌+◌, [], length, OnOk};
 ghost use Rattle.std.specs.List.{All, list_any};
 ghost use Rattle.closure_model.specs.Keys.{IsKey};
-ghost use Rattle.closure_model.specs.ReferenceRow.{edge_in};
 ghost use Rattle.closure_model.specs.Tables.{HasEdge, IsGraph, row_of, weight_of};
-ghost use Rattle.closure_model.specs.FreshEdges.{fresh_at, AreOfTable};
-ghost use Rattle.back_propagation.specs.Begun.{improves, begins_with, is_begun_with, begun, IsBegunTo, IsFirstRow};
+ghost use Rattle.back_propagation.specs.Begun.{improves, begins_with, begun, AreFresh, IsBegunTo, IsFirstRow};
+ghost use Rattle.back_propagation.specs.OpenRows.{IsBeginning, IsInFirstRow, IsSameButForQueue};
 ghost use Rattle.back_propagation.specs.Queued.{IsQueued};
-ghost use Rattle.back_propagation.specs.Offering.{HasColumn};
 
-use crate::offers::{Column, has_above, joined_weight, place_of};
-use crate::queue::Queue;
+use crate::offers::{joined_weight, place_of};
+use crate::open_row::OpenRow;
 use crate::settling::queue_slot;
 use crate::slots::edge_in;
-use closure_model::rows::Slot;
 use labelled_graph::Table;
 use net_model::{Edge, Items, LinkId, PointId, Weight};
-use std::alloc::{AllocError, Global};
+use std::alloc::AllocError;
 
 /// Whether the row of a target begins with any of its edges, by what is fresh. It takes no memory.
 pub(crate) fn begins(table: &Table, target: PointId, fresh: &[Items<Edge>]) -> bool
     requires target { target.0 < table.now.shape.points }
-    requires count { length fresh.now ≡ table.now.shape.points }
-    requires fresh { AreOfTable table.now fresh.now }
+    requires fresh { AreFresh table.now fresh.now }
     ensures { result ≡ list_any (begins_with table.now fresh.now) (row_of table.now target) }
 {
     for entry in table.entries(target) {
@@ -36,8 +32,7 @@ pub(crate) fn begins(table: &Table, target: PointId, fresh: &[Items<Edge>]) -> b
 fn begins_with(table: &Table, edge: &Edge, fresh: &[Items<Edge>]) -> bool
     requires sound { IsGraph table.now }
     requires edge { HasEdge table.now edge.now }
-    requires count { length fresh.now ≡ table.now.shape.points }
-    requires fresh { AreOfTable table.now fresh.now }
+    requires fresh { AreFresh table.now fresh.now }
     ensures { result ≡ begins_with table.now fresh.now edge.now }
 {
     let firsts = fresh[edge.from.0 as usize].as_slice();
@@ -78,105 +73,81 @@ fn weight_at(table: &Table, from: PointId, to: PointId, label: Option<LinkId>) -
     }
 }
 
-/// The places with which a row begins, by what is fresh; its slots are those of the table.
-pub(crate) fn queue_begun(
-    alloc: Global,
-    slots: &[Slot],
-    table: &Table,
-    target: PointId,
-    width: usize,
-    fresh: &[Items<Edge>],
-) -> Result<Queue, AllocError>
-    requires row { IsFirstRow table.now target slots.now width }
-    requires target { target.0 < table.now.shape.points }
-    requires count { length fresh.now ≡ table.now.shape.points }
-    requires fresh { AreOfTable table.now fresh.now }
-    ensures { IfOk result (IsQueued (begun table.now target fresh.now) slots.now) }
-{
-    let mut queue = Queue::new(alloc);
-    for place in 0..slots.len() {
-        queue_begun_slot(&mut queue, place, slots, table, target, width, fresh)?;
+impl OpenRow {
+    /// Queues the places with which the row of a target begins, by what is fresh; its slots are those of the table, and no place waits yet.
+    pub(crate) fn queue_begun(
+        &mut self,
+        table: &Table,
+        target: PointId,
+        fresh: &[Items<Edge>],
+    ) -> Result<(), AllocError>
+        requires row { IsFirstRow table.now target self.old.slots.items self.old.width }
+        requires fresh { AreFresh table.now fresh.now }
+        requires none { self.old.queue ≡ [] }
+        ensures queue { OnOk result (IsQueued (begun table.now target fresh.now) self.new.slots.items self.new.queue) }
+        ensures row { OnOk result (IsSameButForQueue self.old self.new) }
+    {
+        for place in 0..self.slots.len() {
+            self.queue_if_begun(place, table, target, fresh)?;
+        }
+        Ok(())
     }
-    Ok(queue)
-}
 
-/// Puts a place into the queue, if the row begins with its slot.
-fn queue_begun_slot(
-    queue: &mut Queue,
-    place: usize,
-    slots: &[Slot],
-    table: &Table,
-    target: PointId,
-    width: usize,
-    fresh: &[Items<Edge>],
-) -> Result<(), AllocError>
-    requires row { IsFirstRow table.now target slots.now width }
-    requires target { target.0 < table.now.shape.points }
-    requires place { place < length slots.now }
-    requires count { length fresh.now ≡ table.now.shape.points }
-    requires fresh { AreOfTable table.now fresh.now }
-    requires before { IsBegunTo table.now target fresh.now place queue.old }
-    ensures { OnOk result (IsBegunTo table.now target fresh.now (place + 1) queue.new) }
-{
-    let slot = &slots[place];
-    let at = Column {
-        width,
-        column: place % width,
-    };
-    if is_begun_with(slots, table, target, slot, at, fresh) {
-        queue_slot(queue, place, slot)?;
+    /// Puts a place into the queue, if the row begins with its slot.
+    fn queue_if_begun(
+        &mut self,
+        place: usize,
+        table: &Table,
+        target: PointId,
+        fresh: &[Items<Edge>],
+    ) -> Result<(), AllocError>
+        requires row { IsBeginning table.now target fresh.now place self.old }
+        requires place { place < length self.old.slots.items }
+        ensures queue { OnOk result (IsBegunTo table.now target fresh.now (place + 1) self.new.queue) }
+        ensures row { OnOk result (IsSameButForQueue self.old self.new) }
+    {
+        if self.begins_at(place, table, target, fresh) {
+            queue_slot(&mut self.queue, place, &self.slots[place])?;
+        }
+        Ok(())
     }
-    Ok(())
-}
 
-/// Whether a row begins with a slot, as `begins_with` says it of its edge; the table is read by the slots.
-fn is_begun_with(
-    slots: &[Slot],
-    table: &Table,
-    target: PointId,
-    slot: &Slot,
-    at: Column,
-    fresh: &[Items<Edge>],
-) -> bool
-    requires row { IsFirstRow table.now target slots.now at.width }
-    requires target { target.0 < table.now.shape.points }
-    requires from { slot.now.from.0 < table.now.shape.points }
-    requires held { (weight : ℤ) → slot.now.weight ≡ Some weight → HasEdge table.now (edge_in target slot.now weight) }
-    requires column { HasColumn table.now.shape target slot.now.label at.column }
-    requires count { length fresh.now ≡ table.now.shape.points }
-    requires fresh { AreOfTable table.now fresh.now }
-    ensures { result ≡ is_begun_with table.now target fresh.now slot.now }
-{
-    match slot.weight {
-        None => false,
-        Some(weight) => {
-            let firsts = fresh[slot.from.0 as usize].as_slice();
-            weight < 0 && passes_any(slots, table, &edge_in(target, slot), at, firsts)
+    /// Whether the row begins with the slot at a place, as `begins_with` says it of its edge; the table is read by the slots.
+    fn begins_at(&self, place: usize, table: &Table, target: PointId, fresh: &[Items<Edge>]) -> bool
+        requires row { IsFirstRow table.now target self.now.slots.items self.now.width }
+        requires fresh { AreFresh table.now fresh.now }
+        requires place { place < length self.now.slots.items }
+        ensures { result ≡ begun table.now target fresh.now place }
+    {
+        let slot = &self.slots[place];
+        match slot.weight {
+            None => false,
+            Some(weight) => {
+                let firsts = fresh[slot.from.0 as usize].as_slice();
+                let column = place % self.width;
+                weight < 0 && self.passes_any(table, &edge_in(target, slot), column, firsts)
+            }
         }
     }
-}
 
-fn passes_any(slots: &[Slot], table: &Table, edge: &Edge, at: Column, firsts: &[Edge]) -> bool
-    requires row { IsFirstRow table.now edge.now.to slots.now at.width }
-    requires edge { HasEdge table.now edge.now }
-    requires column { HasColumn table.now.shape edge.now.to edge.now.label at.column }
-    requires firsts { All (HasEdge table.now) firsts.now }
-    ensures { result ≡ list_any (improves table.now edge.now) firsts.now }
-{
-    firsts
-        .iter()
-        .any(|first| passes(slots, table, edge, at, first))
-}
+    fn passes_any(&self, table: &Table, edge: &Edge, column: usize, firsts: &[Edge]) -> bool
+        requires edge { IsInFirstRow table.now self.now edge.now column }
+        requires firsts { All (HasEdge table.now) firsts.now }
+        ensures { result ≡ list_any (improves table.now edge.now) firsts.now }
+    {
+        firsts
+            .iter()
+            .any(|first| self.passes(table, edge, column, first))
+    }
 
-/// Whether the way over an edge and one of a row is less than what the table has, by the slots of the row.
-fn passes(slots: &[Slot], table: &Table, edge: &Edge, at: Column, first: &Edge) -> bool
-    requires row { IsFirstRow table.now edge.now.to slots.now at.width }
-    requires edge { HasEdge table.now edge.now }
-    requires column { HasColumn table.now.shape edge.now.to edge.now.label at.column }
-    requires first { HasEdge table.now first.now }
-    ensures { result ≡ improves table.now edge.now first.now }
-{
-    let _ = table;
-    let place = place_of(at.width, first.from, at.column);
-    has_above(&slots[place], joined_weight(first, edge))
+    /// Whether the way over an edge and one of the row is less than what the table has, by the slots of the row.
+    fn passes(&self, table: &Table, edge: &Edge, column: usize, first: &Edge) -> bool
+        requires edge { IsInFirstRow table.now self.now edge.now column }
+        requires first { HasEdge table.now first.now }
+        ensures { result ≡ improves table.now edge.now first.now }
+    {
+        let _ = table;
+        let place = place_of(self.width, first.from, column);
+        self.has_above(place, joined_weight(first, edge))
+    }
 }

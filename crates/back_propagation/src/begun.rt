@@ -4,14 +4,13 @@ ghost use Rattle.net_model.specs.Network.{IsPlan, IsPoint};
 ghost use Rattle.closure_model.specs.ReferenceRow.{first_slots, reference_row, offered, from_first, IsRowOf, HasWeightsWithin, IsWithin};
 ghost use Rattle.closure_model.specs.Tables.{IsFor, IsGraph};
 ghost use Rattle.closure_model.specs.FreshEdges.{fresh_at, AreOfTable, IsMetBut};
-ghost use Rattle.back_propagation.specs.Begun.{begun, what_follows, IsToldRow};
-ghost use Rattle.back_propagation.specs.Offering.{IsRowAgainst, IsOfRow};
-ghost use Rattle.back_propagation.specs.Queued.{IsQueued, KeepsQueued};
+ghost use Rattle.back_propagation.specs.Begun.{begun, what_follows, AreFresh, IsToldRow};
+ghost use Rattle.back_propagation.specs.OpenRows.{IsBegunRow, IsOffering, HasOffered};
 
-use crate::beginning::{begins, queue_begun};
-use crate::offers::{Column, offer_after_first, offer_consequences};
+use crate::beginning::begins;
+use crate::open_row::{Against, OpenRow};
 use crate::queue::Queue;
-use crate::settling::{NewRow, next_live, push_fallen, settled};
+use crate::settling::{NewRow, push_fallen};
 use crate::slots::{edge_in, first_slots};
 use closure_model::rows::{Made, Slot};
 use labelled_graph::Table;
@@ -41,7 +40,7 @@ pub fn row_after(
     // The proof reads here that the table and the network are sound.
     let _ = table.weight(target, target);
     let _ = net.points();
-    let made = made_after(alloc, table, net, target, fresh)?;
+    let made = made_after(alloc, Against { table, net }, target, fresh)?;
     Ok(NewRow {
         target,
         made: Items::new(made),
@@ -51,16 +50,15 @@ pub fn row_after(
 /// The edges of the slots that fall; none, and nothing is made, where the row begins with nothing.
 fn made_after(
     alloc: Global,
-    table: &Table,
-    net: &Network,
+    against: Against<'_>,
     target: PointId,
     fresh: &[Items<Edge>],
 ) -> Result<Vec<Made>, AllocError>
-    requires { IsToldRow net.now table.now target fresh.now }
-    ensures { IfOk result (λ made. made.items ≡ reference_row net.now table.now target) }
+    requires { IsToldRow against.net.now against.table.now target fresh.now }
+    ensures { IfOk result (λ made. made.items ≡ reference_row against.entry.net.now against.entry.table.now target) }
 {
-    if begins(table, target, fresh) {
-        made_begun(alloc, table, net, target, fresh)
+    if begins(against.table, target, fresh) {
+        made_begun(alloc, against, target, fresh)
     } else {
         Ok(Vec::new(alloc))
     }
@@ -69,65 +67,23 @@ fn made_after(
 /// The edges of the slots that fall, where the row may begin with something.
 fn made_begun(
     alloc: Global,
-    table: &Table,
-    net: &Network,
+    against: Against<'_>,
     target: PointId,
     fresh: &[Items<Edge>],
 ) -> Result<Vec<Made>, AllocError>
-    requires { IsToldRow net.now table.now target fresh.now }
-    ensures { IfOk result (λ made. made.items ≡ reference_row net.now table.now target) }
+    requires { IsToldRow against.net.now against.table.now target fresh.now }
+    ensures { IfOk result (λ made. made.items ≡ reference_row against.entry.net.now against.entry.table.now target) }
 {
-    let labels = net.links_from(alloc, target)?;
-    let points = net.points().len() as u32;
-    let width = labels.len() + 1;
-    let mut slots = first_slots(alloc, table, points, target, labels.as_slice())?;
-    let mut queue = queue_begun(alloc, slots.as_slice(), table, target, width, fresh)?;
-    settle_begun(
-        alloc,
-        slots.as_mut_slice(),
-        &mut queue,
-        table,
-        net,
-        target,
-        width,
-        fresh,
-    )
-}
-
-/// Settles the live slots of a row, and gives the edges of those that fell.
-fn settle_begun(
-    alloc: Global,
-    slots: &mut [Slot],
-    queue: &mut Queue,
-    table: &Table,
-    net: &Network,
-    target: PointId,
-    width: usize,
-    fresh: &[Items<Edge>],
-) -> Result<Vec<Made>, AllocError>
-    requires row { IsRowAgainst net.now table.now target slots.old width }
-    requires first { slots.old ≡ first_slots table.now target }
-    requires count { length fresh.now ≡ length net.now.points }
-    requires fresh { AreOfTable table.now fresh.now }
-    requires met { IsMetBut net.now table.now target fresh.now }
-    requires queue { IsQueued (begun table.now target fresh.now) slots.old queue.old }
-    ensures { IfOk result (λ made. made.items ≡ reference_row net.now table.now target) }
-{
-    let mut made = Vec::new(alloc);
-    while let Some(next) = next_live(slots, queue) {
-        let place = next.1;
-        let slot = slots[place];
-        let edge = edge_in(target, &slot);
-        push_fallen(&mut made, &slot, &edge)?;
-        slots[place] = settled(&slot);
-        let at = Column {
-            width,
-            column: place % width,
-        };
-        let fell = has_fallen(&slot);
-        offer_what_follows(slots, queue, table, net, &edge, at, fell, fresh)?;
-    }
-    Ok(made)
+    let labels = against.net.links_from(alloc, target)?;
+    let points = against.net.points().len() as u32;
+    let slots = first_slots(alloc, against.table, points, target, labels.as_slice())?;
+    let mut row = OpenRow {
+        slots,
+        queue: Queue::new(alloc),
+        width: labels.len() + 1,
+    };
+    row.queue_begun(against.table, target, fresh)?;
+    row.settle_begun(alloc, against, target, fresh)
 }
 
 fn has_fallen(slot: &Slot) -> bool
@@ -136,51 +92,67 @@ fn has_fallen(slot: &Slot) -> bool
     slot.why.is_some()
 }
 
-/// Offers what follows from an edge of a row: all of it where the edge fell, and else what follows with the fresh edges.
-fn offer_what_follows(
-    slots: &mut [Slot],
-    queue: &mut Queue,
-    table: &Table,
-    net: &Network,
-    edge: &Edge,
-    at: Column,
-    fell: bool,
-    fresh: &[Items<Edge>],
-) -> Result<(), AllocError>
-    requires row { IsRowAgainst net.now table.now edge.now.to slots.old at.width }
-    requires edge { IsOfRow net.now table.now edge.now.to edge.now at.column }
-    requires count { length fresh.now ≡ length net.now.points }
-    requires fresh { AreOfTable table.now fresh.now }
-    ensures slots { OnOk result (slots.new ≡ fold offered slots.old (what_follows net.now table.now fresh.now fell edge.now)) }
-    ensures queue { OnOk result (KeepsQueued slots.old queue.old slots.new queue.new) }
-{
-    if fell {
-        offer_consequences(slots, queue, table, net, edge, at)?;
-    } else {
-        offer_after_fresh(slots, queue, table, net, edge, at, fresh)?;
+impl OpenRow {
+    /// Settles the live slots of the row, and gives the edges of those that fell.
+    fn settle_begun(
+        &mut self,
+        alloc: Global,
+        against: Against<'_>,
+        target: PointId,
+        fresh: &[Items<Edge>],
+    ) -> Result<Vec<Made>, AllocError>
+        requires told { IsToldRow against.net.now against.table.now target fresh.now }
+        requires row { IsBegunRow against target (begun against.table.now target fresh.now) self.old }
+        ensures { IfOk result (λ made. made.items ≡ reference_row against.entry.net.now against.entry.table.now target) }
+    {
+        let mut made = Vec::new(alloc);
+        while let Some(next) = self.next_live() {
+            let column = next.1 % self.width;
+            let slot = self.settle(next.1);
+            let edge = edge_in(target, &slot);
+            push_fallen(&mut made, &slot, &edge)?;
+            let fell = has_fallen(&slot);
+            self.offer_what_follows(against, &edge, column, fell, fresh)?;
+        }
+        Ok(made)
     }
-    Ok(())
-}
 
-/// Offers what follows with a fresh edge before the edge, for each that ends where it begins.
-fn offer_after_fresh(
-    slots: &mut [Slot],
-    queue: &mut Queue,
-    table: &Table,
-    net: &Network,
-    edge: &Edge,
-    at: Column,
-    fresh: &[Items<Edge>],
-) -> Result<(), AllocError>
-    requires row { IsRowAgainst net.now table.now edge.now.to slots.old at.width }
-    requires edge { IsOfRow net.now table.now edge.now.to edge.now at.column }
-    requires count { length fresh.now ≡ length net.now.points }
-    requires fresh { AreOfTable table.now fresh.now }
-    ensures slots { OnOk result (slots.new ≡ fold offered slots.old (flat_map (from_first edge.now) (fresh_at fresh.now edge.now.from))) }
-    ensures queue { OnOk result (KeepsQueued slots.old queue.old slots.new queue.new) }
-{
-    for first in fresh[edge.from.0 as usize].as_slice() {
-        offer_after_first(slots, queue, table, net, edge, at, first)?;
+    /// Offers what follows from an edge of the row: all of it where the edge fell, and else what follows with the fresh edges.
+    fn offer_what_follows(
+        &mut self,
+        against: Against<'_>,
+        edge: &Edge,
+        column: usize,
+        fell: bool,
+        fresh: &[Items<Edge>],
+    ) -> Result<(), AllocError>
+        requires row { IsOffering against self.old edge.now column }
+        requires fresh { AreFresh against.table.now fresh.now }
+        ensures { OnOk result (HasOffered self.old self.new (what_follows against.entry.net.now against.entry.table.now fresh.now fell edge.now)) }
+    {
+        if fell {
+            self.offer_consequences(against, edge, column)?;
+        } else {
+            self.offer_after_fresh(against, edge, column, fresh)?;
+        }
+        Ok(())
     }
-    Ok(())
+
+    /// Offers what follows with a fresh edge before the edge, for each that ends where it begins.
+    fn offer_after_fresh(
+        &mut self,
+        against: Against<'_>,
+        edge: &Edge,
+        column: usize,
+        fresh: &[Items<Edge>],
+    ) -> Result<(), AllocError>
+        requires row { IsOffering against self.old edge.now column }
+        requires fresh { AreFresh against.table.now fresh.now }
+        ensures { OnOk result (HasOffered self.old self.new (flat_map (from_first edge.now) (fresh_at fresh.now edge.now.from))) }
+    {
+        for first in fresh[edge.from.0 as usize].as_slice() {
+            self.offer_after_first(against, edge, column, first)?;
+        }
+        Ok(())
+    }
 }

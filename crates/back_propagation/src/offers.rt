@@ -1,189 +1,163 @@
-ghost use Rattle.std.specs.Prelude.{◌≡◌, ◌+◌, ◌*◌, ◌<◌, ◌≤◌, ◌^◌, fold, length, true, pos, int_lt, IfSome, IfNone, OnOk, slice_set, IsTrue, ◌<ℤ◌, unsigned_abs};
+ghost use Rattle.std.specs.Prelude.{◌≡◌, ◌+◌, ◌*◌, ◌<◌, ◌≤◌, ◌^◌, ℕ, length, [], ◌∷◌, Some, pos, int_lt, IfSome, IfNone, OnOk, slice_get, IsTrue, ◌<ℤ◌, unsigned_abs};
 ghost use Rattle.std.specs.List.{flat_map};
 ghost use Rattle.net_model.specs.Edges.{IsLinkOf};
 ghost use Rattle.net_model.specs.Limits.{most_weight};
 ghost use Rattle.net_model.specs.Rules.{is_negative, joined_weight};
-ghost use Rattle.closure_model.specs.ReferenceRow.{given, has_above, taken, offered, from_removal, from_link, from_first, ordinary_into, consequences};
+ghost use Rattle.closure_model.specs.ReferenceRow.{given, has_above, taken, from_removal, from_link, from_first, ordinary_into, consequences};
 ghost use Rattle.closure_model.specs.Tables.{HasEdge};
 ghost use Rattle.labelled_graph.specs.Entries.{edge_into};
-ghost use Rattle.back_propagation.specs.Queued.{KeepsQueued};
-ghost use Rattle.back_propagation.specs.Offering.{place_of, IsSlotAt, IsRowAgainst, IsOfRow, after_entry};
+ghost use Rattle.back_propagation.specs.Offering.{place_of, IsSlotAt, after_entry};
+ghost use Rattle.back_propagation.specs.OpenRows.{IsOffering, HasOffered};
 
-use crate::queue::Queue;
+use crate::open_row::{Against, OpenRow};
 use closure_model::rows::{Made, Slot, Why};
-use labelled_graph::{Entry, Table};
+use labelled_graph::Entry;
 use net_model::{Edge, Link, LinkId, Network, PointId, Weight};
 use reduction_rules::{cross_case, lower_case, no_case, removal, upper_case};
 use std::alloc::AllocError;
 
-/// Where the slots of a row stand: `width` for each source, and that of the edge at hand in a column.
-#[derive(Clone, Copy)]
-pub(crate) struct Column {
-    pub(crate) width: usize,
-    pub(crate) column: usize,
-}
-
-/// Offers to a row what follows from an edge of it, in the order of the definition. An edge of weight 0 or more has no consequence
-/// but the removal of its label.
-pub(crate) fn offer_consequences(
-    slots: &mut [Slot],
-    queue: &mut Queue,
-    table: &Table,
-    net: &Network,
-    edge: &Edge,
-    at: Column,
-) -> Result<(), AllocError>
-    requires row { IsRowAgainst net.now table.now edge.now.to slots.old at.width }
-    requires edge { IsOfRow net.now table.now edge.now.to edge.now at.column }
-    ensures slots { OnOk result (slots.new ≡ fold offered slots.old (consequences net.now table.now edge.now)) }
-    ensures queue { OnOk result (KeepsQueued slots.old queue.old slots.new queue.new) }
-{
-    offer_removal(slots, queue, table, net, edge, at)?;
-    if is_negative(edge) {
-        offer_over_link(slots, queue, table, net, edge, at)?;
-        offer_after_firsts(slots, queue, table, net, edge, at)?;
+impl OpenRow {
+    /// Offers to the row what follows from an edge of it, in the order of the definition. An edge of weight 0 or more has no consequence
+    /// but the removal of its label.
+    pub(crate) fn offer_consequences(
+        &mut self,
+        against: Against<'_>,
+        edge: &Edge,
+        column: usize,
+    ) -> Result<(), AllocError>
+        requires { IsOffering against self.old edge.now column }
+        ensures { OnOk result (HasOffered self.old self.new (consequences against.entry.net.now against.entry.table.now edge.now)) }
+    {
+        self.offer_removal(against, edge)?;
+        if is_negative(edge) {
+            self.offer_over_link(against, edge, column)?;
+            self.offer_after_firsts(against, edge, column)?;
+        }
+        Ok(())
     }
-    Ok(())
+
+    /// Offers the edge without its label.
+    fn offer_removal(&mut self, against: Against<'_>, edge: &Edge) -> Result<(), AllocError>
+        requires { (column : ℕ) × IsOffering against self.old edge.now column }
+        ensures { OnOk result (HasOffered self.old self.new (from_removal against.entry.net.now edge.now)) }
+    {
+        let place = place_of(self.width, edge.from, 0);
+        self.offer_given(place, Why::Drop(*edge), removal(against.net, edge))?;
+        Ok(())
+    }
+
+    /// Offers what follows over the link that ends where the edge begins, if one does.
+    fn offer_over_link(
+        &mut self,
+        against: Against<'_>,
+        edge: &Edge,
+        column: usize,
+    ) -> Result<(), AllocError>
+        requires { IsOffering against self.old edge.now column }
+        ensures { OnOk result (HasOffered self.old self.new (from_link against.entry.net.now edge.now)) }
+    {
+        let net = against.net;
+        if let Some(link) = net.activation(edge.from) {
+            let place = place_of(self.width, link_of(net, link).from, column);
+            self.offer_given(place, Why::Low(link, *edge), lower_case(net, link, edge))?;
+            self.offer_given(place, Why::Cross(link, *edge), cross_case(net, link, edge))?;
+        }
+        Ok(())
+    }
+
+    /// Offers what follows with an ordinary edge of the table before the edge, for each that ends where it begins.
+    fn offer_after_firsts(
+        &mut self,
+        against: Against<'_>,
+        edge: &Edge,
+        column: usize,
+    ) -> Result<(), AllocError>
+        requires { IsOffering against self.old edge.now column }
+        ensures { OnOk result (HasOffered self.old self.new (flat_map (from_first edge.now) (ordinary_into against.entry.table.now edge.now.from))) }
+    {
+        for entry in against.table.entries(edge.from) {
+            self.offer_after_entry(against, edge, column, entry)?;
+        }
+        Ok(())
+    }
+
+    /// Offers what follows with the edge of an entry before the edge, if it is an ordinary one.
+    fn offer_after_entry(
+        &mut self,
+        against: Against<'_>,
+        edge: &Edge,
+        column: usize,
+        entry: &Entry,
+    ) -> Result<(), AllocError>
+        requires row { IsOffering against self.old edge.now column }
+        requires entry { HasEdge against.table.now (edge_into edge.now.from entry.now) }
+        ensures { OnOk result (HasOffered self.old self.new (after_entry edge.now entry.now)) }
+    {
+        if entry.is_ordinary() {
+            let first = entry.edge_into(edge.from);
+            self.offer_after_first(against, edge, column, &first)?;
+        }
+        Ok(())
+    }
+
+    /// Offers what follows with an ordinary edge of the table before the edge.
+    pub(crate) fn offer_after_first(
+        &mut self,
+        against: Against<'_>,
+        edge: &Edge,
+        column: usize,
+        first: &Edge,
+    ) -> Result<(), AllocError>
+        requires row { IsOffering against self.old edge.now column }
+        requires first { HasEdge against.table.now first.now }
+        ensures { OnOk result (HasOffered self.old self.new (from_first edge.now first.now)) }
+    {
+        let place = place_of(self.width, first.from, column);
+        if !self.has_above(place, joined_weight(first, edge)) {
+            return Ok(());
+        }
+        self.offer_given(place, Why::No(*first, *edge), no_case(first, edge))?;
+        self.offer_given(place, Why::Up(*first, *edge), upper_case(first, edge))?;
+        Ok(())
+    }
+
+    /// Offers what a rule gave, if it gave an edge.
+    fn offer_given(&mut self, place: usize, why: Why, edge: Option<Edge>) -> Result<(), AllocError>
+        requires { IfSome edge (IsSlotAt self.old.slots.items place) }
+        ensures { OnOk result (HasOffered self.old self.new (given why edge)) }
+    {
+        if let Some(edge) = edge {
+            self.offer(place, Made { edge, why })?;
+        }
+        Ok(())
+    }
+
+    /// Offers an edge to its slot, which takes it exactly where it has no weight or a greater one.
+    fn offer(&mut self, place: usize, made: Made) -> Result<(), AllocError>
+        requires { IsSlotAt self.old.slots.items place made.edge }
+        ensures { OnOk result (HasOffered self.old self.new (made ∷ [])) }
+    {
+        if self.has_above(place, made.edge.weight) {
+            self.queue.push(made.edge.weight, place)?;
+            let slot = taken(&self.slots[place], &made);
+            self.slots[place] = slot;
+        }
+        Ok(())
+    }
+
+    /// Whether the slot at a place has no weight or a greater one.
+    pub(crate) fn has_above(&self, place: usize, weight: Weight) -> bool
+        requires { place < length self.now.slots.items }
+        ensures { (slot : Slot) → slice_get self.now.slots.items place ≡ Some slot → result ≡ has_above slot weight }
+    {
+        has_above(&self.slots[place], weight)
+    }
 }
 
 fn is_negative(edge: &Edge) -> bool
     ensures { result ≡ is_negative edge.now }
 {
     edge.weight < 0
-}
-
-/// Offers the edge without its label.
-fn offer_removal(
-    slots: &mut [Slot],
-    queue: &mut Queue,
-    table: &Table,
-    net: &Network,
-    edge: &Edge,
-    at: Column,
-) -> Result<(), AllocError>
-    requires row { IsRowAgainst net.now table.now edge.now.to slots.old at.width }
-    requires edge { IsOfRow net.now table.now edge.now.to edge.now at.column }
-    ensures slots { OnOk result (slots.new ≡ fold offered slots.old (from_removal net.now edge.now)) }
-    ensures queue { OnOk result (KeepsQueued slots.old queue.old slots.new queue.new) }
-{
-    let place = place_of(at.width, edge.from, 0);
-    offer_given(slots, queue, place, Why::Drop(*edge), removal(net, edge))?;
-    Ok(())
-}
-
-/// Offers what follows over the link that ends where the edge begins, if one does.
-fn offer_over_link(
-    slots: &mut [Slot],
-    queue: &mut Queue,
-    table: &Table,
-    net: &Network,
-    edge: &Edge,
-    at: Column,
-) -> Result<(), AllocError>
-    requires row { IsRowAgainst net.now table.now edge.now.to slots.old at.width }
-    requires edge { IsOfRow net.now table.now edge.now.to edge.now at.column }
-    ensures slots { OnOk result (slots.new ≡ fold offered slots.old (from_link net.now edge.now)) }
-    ensures queue { OnOk result (KeepsQueued slots.old queue.old slots.new queue.new) }
-{
-    if let Some(link) = net.activation(edge.from) {
-        let place = place_of(at.width, link_of(net, link).from, at.column);
-        offer_given(
-            slots,
-            queue,
-            place,
-            Why::Low(link, *edge),
-            lower_case(net, link, edge),
-        )?;
-        offer_given(
-            slots,
-            queue,
-            place,
-            Why::Cross(link, *edge),
-            cross_case(net, link, edge),
-        )?;
-    }
-    Ok(())
-}
-
-/// Offers what follows with an ordinary edge of the table before the edge, for each that ends where it begins.
-fn offer_after_firsts(
-    slots: &mut [Slot],
-    queue: &mut Queue,
-    table: &Table,
-    net: &Network,
-    edge: &Edge,
-    at: Column,
-) -> Result<(), AllocError>
-    requires row { IsRowAgainst net.now table.now edge.now.to slots.old at.width }
-    requires edge { IsOfRow net.now table.now edge.now.to edge.now at.column }
-    ensures slots { OnOk result (slots.new ≡ fold offered slots.old (flat_map (from_first edge.now) (ordinary_into table.now edge.now.from))) }
-    ensures queue { OnOk result (KeepsQueued slots.old queue.old slots.new queue.new) }
-{
-    for entry in table.entries(edge.from) {
-        offer_after_entry(slots, queue, table, net, edge, at, entry)?;
-    }
-    Ok(())
-}
-
-/// Offers what follows with the edge of an entry before the edge, if it is an ordinary one.
-fn offer_after_entry(
-    slots: &mut [Slot],
-    queue: &mut Queue,
-    table: &Table,
-    net: &Network,
-    edge: &Edge,
-    at: Column,
-    entry: &Entry,
-) -> Result<(), AllocError>
-    requires row { IsRowAgainst net.now table.now edge.now.to slots.old at.width }
-    requires edge { IsOfRow net.now table.now edge.now.to edge.now at.column }
-    requires entry { HasEdge table.now (edge_into edge.now.from entry.now) }
-    ensures slots { OnOk result (slots.new ≡ fold offered slots.old (after_entry edge.now entry.now)) }
-    ensures queue { OnOk result (KeepsQueued slots.old queue.old slots.new queue.new) }
-{
-    if entry.is_ordinary() {
-        let first = entry.edge_into(edge.from);
-        offer_after_first(slots, queue, table, net, edge, at, &first)?;
-    }
-    Ok(())
-}
-
-/// Offers what follows with an ordinary edge of the table before the edge.
-pub(crate) fn offer_after_first(
-    slots: &mut [Slot],
-    queue: &mut Queue,
-    table: &Table,
-    net: &Network,
-    edge: &Edge,
-    at: Column,
-    first: &Edge,
-) -> Result<(), AllocError>
-    requires row { IsRowAgainst net.now table.now edge.now.to slots.old at.width }
-    requires edge { IsOfRow net.now table.now edge.now.to edge.now at.column }
-    requires first { HasEdge table.now first.now }
-    ensures slots { OnOk result (slots.new ≡ fold offered slots.old (from_first edge.now first.now)) }
-    ensures queue { OnOk result (KeepsQueued slots.old queue.old slots.new queue.new) }
-{
-    let place = place_of(at.width, first.from, at.column);
-    let weight = joined_weight(first, edge);
-    if !has_above(&slots[place], weight) {
-        return Ok(());
-    }
-    offer_given(
-        slots,
-        queue,
-        place,
-        Why::No(*first, *edge),
-        no_case(first, edge),
-    )?;
-    offer_given(
-        slots,
-        queue,
-        place,
-        Why::Up(*first, *edge),
-        upper_case(first, edge),
-    )?;
-    Ok(())
 }
 
 /// The weight of the way over both edges.
@@ -193,37 +167,6 @@ pub(crate) fn joined_weight(first: &Edge, second: &Edge) -> Weight
     ensures { result ≡ joined_weight first.now second.now }
 {
     first.weight.max(0) + second.weight
-}
-
-/// Offers what a rule gave, if it gave an edge.
-fn offer_given(
-    slots: &mut [Slot],
-    queue: &mut Queue,
-    place: usize,
-    why: Why,
-    edge: Option<Edge>,
-) -> Result<(), AllocError>
-    requires { IfSome edge (IsSlotAt slots.old place) }
-    ensures slots { OnOk result (slots.new ≡ fold offered slots.old (given why edge)) }
-    ensures queue { OnOk result (KeepsQueued slots.old queue.old slots.new queue.new) }
-{
-    if let Some(edge) = edge {
-        offer(slots, queue, place, Made { edge, why })?;
-    }
-    Ok(())
-}
-
-/// Offers an edge to its slot, which takes it exactly where it has no weight or a greater one.
-fn offer(slots: &mut [Slot], queue: &mut Queue, place: usize, made: Made) -> Result<(), AllocError>
-    requires { IsSlotAt slots.old place made.edge }
-    ensures slots { OnOk result (slots.new ≡ offered slots.old made) }
-    ensures queue { OnOk result (KeepsQueued slots.old queue.old slots.new queue.new) }
-{
-    if has_above(&slots[place], made.edge.weight) {
-        queue.push(made.edge.weight, place)?;
-        slots[place] = taken(&slots[place], &made);
-    }
-    Ok(())
 }
 
 fn taken(slot: &Slot, made: &Made) -> Slot
@@ -240,7 +183,7 @@ fn taken(slot: &Slot, made: &Made) -> Slot
     }
 }
 
-pub(crate) fn has_above(slot: &Slot, weight: Weight) -> bool
+fn has_above(slot: &Slot, weight: Weight) -> bool
     ensures { result ≡ has_above slot.now weight }
 {
     match slot.weight {
