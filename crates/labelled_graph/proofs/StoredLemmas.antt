@@ -84,12 +84,20 @@ sound_with_weight graph key None sound is small = IsGraph-without_key graph key 
 sound_with_weight graph key (Some w) sound is small = IsGraph-with_edge graph (edge_of key w) sound is small
 
 -- ---- one row changed
--- a row after one of its keys was changed
-pub IsChanged : (before after : TargetRow) → Key → Option ℤ → Type 0
-IsChanged before after key o = (after.to ≡ before.to) × ((q : Key) → map_of.get after.weights q ≡ cond (eq_by_cmp key_cmp q key) o (map_of.get before.weights q))
+-- a row after the change of what it has at a key
+abbrev pub IsChangedAt : Key → Option ℤ → TargetRow → TargetRow → Type 0
+IsChangedAt key o before after = (q : Key) → map_of.get after.weights q ≡ cond (eq_by_cmp key_cmp q key) o (map_of.get before.weights q)
 
-module _ (rows : List TargetRow) (activations : List PointId) (stored : AreStored rows activations) (key : Key) (is_key : IsKey (shape_with rows activations) key) (o : Option ℤ) (small : IfSome o IsWeight)
-    (before after : TargetRow) (read : before ≡ get_or rows key.to.0 before) (ends : after.to ≡ before.to) (gets : (q : Key) → map_of.get after.weights q ≡ cond (eq_by_cmp key_cmp q key) o (map_of.get before.weights q)) where
+-- Rows that store a table, and the row of a key before and after the change of what it has at that key.
+pub record RowChanged (rows : List TargetRow) (activations : List PointId) (key : Key) (o : Option ℤ) (before after : TargetRow) : Type 0 where
+  pub stored : AreStored rows activations
+  pub is_key : IsKey (shape_with rows activations) key
+  pub small : IfSome o IsWeight
+  pub read : before ≡ get_or rows key.to.0 before
+  pub ends : after.to ≡ before.to
+  pub gets : IsChangedAt key o before after
+
+module _ (rows : List TargetRow) (activations : List PointId) (key : Key) (o : Option ℤ) (before after : TargetRow) (change : RowChanged rows activations key o before after) where
   new : List TargetRow
   new = set rows key.to.0 after
 
@@ -102,9 +110,9 @@ module _ (rows : List TargetRow) (activations : List PointId) (stored : AreStore
       by : (b : Bool) → q.to.0 == key.to.0 ≡ b → at_key (set rows key.to.0 after) q ≡ cond (eq_by_cmp key_cmp q key) o (at_key rows q)
       by true is =
           let here : q.to.0 ≡ key.to.0 = eqb-true q.to.0 key.to.0 is in
-          let now : get_or (set rows key.to.0 after) q.to.0 no_row ≡ after = ap (λ k. get_or (set rows key.to.0 after) k no_row) here ∙ get_or-set_same rows key.to.0 after no_row is_key.to_point in
-          let then : get_or rows q.to.0 no_row ≡ before = ap (λ k. get_or rows k no_row) here ∙ same_read rows key.to.0 no_row before is_key.to_point ∙ sym read in
-          ap (λ (r : TargetRow). map_of.get r.weights q) now ∙ gets q ∙ ap (λ (r : TargetRow). cond (eq_by_cmp key_cmp q key) o (map_of.get r.weights q)) (sym then)
+          let now : get_or (set rows key.to.0 after) q.to.0 no_row ≡ after = ap (λ k. get_or (set rows key.to.0 after) k no_row) here ∙ get_or-set_same rows key.to.0 after no_row change.is_key.to_point in
+          let then : get_or rows q.to.0 no_row ≡ before = ap (λ k. get_or rows k no_row) here ∙ same_read rows key.to.0 no_row before change.is_key.to_point ∙ sym change.read in
+          ap (λ (r : TargetRow). map_of.get r.weights q) now ∙ change.gets q ∙ ap (λ (r : TargetRow). cond (eq_by_cmp key_cmp q key) o (map_of.get r.weights q)) (sym then)
       by false is =
           let apart : q.to.0 ≢ key.to.0 = grind (arith, nat_tests) in
           let kept : get_or (set rows key.to.0 after) q.to.0 no_row ≡ get_or rows q.to.0 no_row = grind (arith, get_or-set_other) in
@@ -114,27 +122,27 @@ module _ (rows : List TargetRow) (activations : List PointId) (stored : AreStore
   same_shape = λ i. record { points = count i; activations = activations }
 
   pub changed_graph : graph_with (set rows key.to.0 after) activations ≡ with_weight (graph_with rows activations) key o
-  changed_graph = graph_with_weight rows (set rows key.to.0 after) activations stored.sound key is_key o count changed
+  changed_graph = graph_with_weight rows (set rows key.to.0 after) activations change.stored.sound key change.is_key o count changed
 
   target_of_before : before.to ≡ key.to
-  target_of_before = same_point before.to key.to (ap (λ (r : TargetRow). r.to.0) read ∙ stored.targets key.to.0 before is_key.to_point)
+  target_of_before = same_point before.to key.to (ap (λ (r : TargetRow). r.to.0) change.read ∙ change.stored.targets key.to.0 before change.is_key.to_point)
 
   keys_of_after : (q : Key) (w : ℤ) → map_of.get after.weights q ≡ Some w → (q.to ≡ after.to) × IsKey (shape_with rows activations) q
-  keys_of_after q w has = by (eq_by_cmp key_cmp q key) refl (sym (gets q) ∙ has)
+  keys_of_after q w has = by (eq_by_cmp key_cmp q key) refl (sym (change.gets q) ∙ has)
     where
       by : (b : Bool) → eq_by_cmp key_cmp q key ≡ b → cond b o (map_of.get before.weights q) ≡ Some w → (q.to ≡ after.to) × IsKey (shape_with rows activations) q
-      by true is held = let same : q ≡ key = (key_test q key).0 is in (ap (λ (k : Key). k.to) same ∙ sym (ends ∙ target_of_before), subst (IsKey (shape_with rows activations)) (sym same) is_key)
+      by true is held = let same : q ≡ key = (key_test q key).0 is in (ap (λ (k : Key). k.to) same ∙ sym (change.ends ∙ target_of_before), subst (IsKey (shape_with rows activations)) (sym same) change.is_key)
       by false is held =
-          let held_there : map_of.get (get_or rows key.to.0 before).weights q ≡ Some w = ap (λ (r : TargetRow). map_of.get r.weights q) (sym read) ∙ held in
-          let (to, there) = stored.keys key.to.0 before is_key.to_point q w held_there in
-          (to ∙ ap (λ (r : TargetRow). r.to) (sym read) ∙ sym ends, there)
+          let held_there : map_of.get (get_or rows key.to.0 before).weights q ≡ Some w = ap (λ (r : TargetRow). map_of.get r.weights q) (sym change.read) ∙ held in
+          let (to, there) = change.stored.keys key.to.0 before change.is_key.to_point q w held_there in
+          (to ∙ ap (λ (r : TargetRow). r.to) (sym change.read) ∙ sym change.ends, there)
 
   pub changed_stored : AreStored (set rows key.to.0 after) activations
   changed_stored = record {
     targets = targets;
     keys = subst (λ s. All (λ row. (q : Key) (w : ℤ) → map_of.get row.weights q ≡ Some w → (q.to ≡ row.to) × IsKey s q) (set rows key.to.0 after)) (sym same_shape)
-        (All-set (λ (row : TargetRow). (q : Key) (w : ℤ) → map_of.get row.weights q ≡ Some w → (q.to ≡ row.to) × IsKey (shape_with rows activations) q) rows key.to.0 after keys_of_after stored.keys);
-    sound = subst IsGraph (sym changed_graph) (sound_with_weight (graph_with rows activations) key o stored.sound is_key small);
+        (All-set (λ (row : TargetRow). (q : Key) (w : ℤ) → map_of.get row.weights q ≡ Some w → (q.to ≡ row.to) × IsKey (shape_with rows activations) q) rows key.to.0 after keys_of_after change.stored.keys);
+    sound = subst IsGraph (sym changed_graph) (sound_with_weight (graph_with rows activations) key o change.stored.sound change.is_key change.small);
   }
     where
       targets : (k : ℕ) (d : TargetRow) → k < length (set rows key.to.0 after) → (get_or (set rows key.to.0 after) k d).to.0 ≡ k
@@ -143,20 +151,16 @@ module _ (rows : List TargetRow) (activations : List PointId) (stored : AreStore
           by : (b : Bool) → k == key.to.0 ≡ b → (get_or (set rows key.to.0 after) k d).to.0 ≡ k
           by true is =
               let here : k ≡ key.to.0 = eqb-true k key.to.0 is in
-              ap (λ j. (get_or (set rows key.to.0 after) j d).to.0) here ∙ ap (λ (r : TargetRow). r.to.0) (get_or-set_same rows key.to.0 after d is_key.to_point) ∙ ap (λ (p : PointId). p.0) (ends ∙ target_of_before) ∙ sym here
+              ap (λ j. (get_or (set rows key.to.0 after) j d).to.0) here ∙ ap (λ (r : TargetRow). r.to.0) (get_or-set_same rows key.to.0 after d change.is_key.to_point) ∙ ap (λ (p : PointId). p.0) (change.ends ∙ target_of_before) ∙ sym here
           by false is =
               let apart : k ≢ key.to.0 = grind (arith, nat_tests) in
               let kept : get_or (set rows key.to.0 after) k d ≡ get_or rows k d = grind (arith, get_or-set_other) in
-              ap (λ (r : TargetRow). r.to.0) kept ∙ stored.targets k d (omega (arith, count))
+              ap (λ (r : TargetRow). r.to.0) kept ∙ change.stored.targets k d (omega (arith, count))
 
 -- ---- a table, as it is seen
 -- rows and activations that store a table
 abbrev pub AreTableOf : List TargetRow → List PointId → Graph → Type 0
 AreTableOf rows activations graph = AreStored rows activations × (graph_with rows activations ≡ graph)
-
--- a row after the change of what it has at a key
-abbrev pub IsChangedAt : Key → Option ℤ → TargetRow → TargetRow → Type 0
-IsChangedAt key o before after = (q : Key) → map_of.get after.weights q ≡ cond (eq_by_cmp key_cmp q key) o (map_of.get before.weights q)
 
 -- a key of the edges that end in the target of a row
 abbrev pub key_into : TargetRow → PointId → Option LinkId → Key
@@ -220,9 +224,12 @@ module _ (rows : List TargetRow) (activations : List PointId) (stored : AreStore
   pub one_changed : (key : Key) → IsKey graph.shape key → (o : Option ℤ) → IfSome o IsWeight → (before after : TargetRow) → before ≡ get_or rows key.to.0 before → after.to ≡ before.to
       → IsChangedAt key o before after → AreTableOf (set rows key.to.0 after) activations (with_weight graph key o)
   one_changed key is o small before after read ends gets = (
-    changed_stored rows activations stored key (key_there key is) o small before after read ends gets,
-    changed_graph rows activations stored key (key_there key is) o small before after read ends gets ∙ ap (λ g. with_weight g key o) view,
+    changed_stored rows activations key o before after change,
+    changed_graph rows activations key o before after change ∙ ap (λ g. with_weight g key o) view,
   )
+    where
+      change : RowChanged rows activations key o before after
+      change = record { stored = stored; is_key = key_there key is; small = small; read = read; ends = ends; gets = gets }
 
   -- an edge of the table was set
   pub one_set : (key : Key) (w : ℤ) → IsKey graph.shape key → IsWeight w → (before after : TargetRow) → before ≡ get_or rows key.to.0 before → after ≡ record before { weights = map_of.insert before.weights key w }

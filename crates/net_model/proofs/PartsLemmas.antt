@@ -166,5 +166,8 @@ parts_build net plan numbers =
     let among : All (IsAmong net.points) net.bounds = λ k d inside. (let b = plan.bounds_sound k d inside in (b.from_point, b.to_point, numbers.bounds k d inside)) in
     let sound : All (IsSound net.points) net.links = λ k d inside. (let l = plan.links_sound k d inside in (l.from_point, l.to_point, l.apart, l.positive, l.interval, numbers.links k d inside)) in
     let links : (place : ℕ) → with_parts place (with_bounds net.points net.bounds) (map (link_part net.points) net.links) ≡ Ok net = λ place. links_built net.points net.bounds net.links net.links [] place refl plan.points_apart sound plan.links_apart plan.few_links in
-    let bounds : (place : ℕ) → with_parts place (only_points net.points) (map (bound_part net.points) net.bounds ++ map (link_part net.points) net.links) ≡ Ok net = λ place. bounds_built net.points net.bounds net.bounds [] (map (link_part net.points) net.links) (Ok net) links place refl (record { points_apart = plan.points_apart; among = among; bounds_apart = plan.bounds_apart; few = plan.few_bounds }) in
-    points_built net.points net.points [] (map (bound_part net.points) net.bounds ++ map (link_part net.points) net.links) (Ok net) bounds 0 refl plan.points_apart plan.few_points
+    let link_parts = map (link_part net.points) net.links in
+    let ready : AreBoundsAmong net.points net.bounds = record { points_apart = plan.points_apart; among = among; bounds_apart = plan.bounds_apart; few = plan.few_bounds } in
+    let bounds : (place : ℕ) → with_parts place (only_points net.points) (map (bound_part net.points) net.bounds ++ link_parts) ≡ Ok net =
+    λ place. bounds_built net.points net.bounds net.bounds [] link_parts (Ok net) links place refl ready in
+    points_built net.points net.points [] (map (bound_part net.points) net.bounds ++ link_parts) (Ok net) bounds 0 refl plan.points_apart plan.few_points

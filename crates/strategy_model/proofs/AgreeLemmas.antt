@@ -48,30 +48,37 @@ pub both : {A : Type 0} (b : Bool) (x y v w : Option A) {p q : A} → cond b x y
 both true x y v w here there = inl (here, there)
 both false x y v w here there = inr (here, there)
 
--- Two situations that differ only in the link at a place, and a moment that no completion of it comes before.
-module _ (net : Plan) (place : ℕ) (link : Link) (declared : slice_get net.links place ≡ Some link) (from_point : link.from.0 < length net.points) (ds es : List ℕ)
-    (ds_length : length ds ≡ length net.links) (es_length : length es ≡ length net.links) (elsewhere : (i : ℕ) → i ≢ place → slice_get ds i ≡ slice_get es i) (first second : List ℕ) (limit : ℕ)
-    (after_first : (d : ℕ) → slice_get ds place ≡ Some d → limit ≤ slice_index first link.from.0 + d)
-    (after_second : (e : ℕ) → slice_get es place ≡ Some e → limit ≤ slice_index second link.from.0 + e) where
+-- Two situations that differ only in the link at a place, schedules for them, and a moment that no completion of that link in
+-- them comes before.
+pub record DifferInLink (net : Plan) (place : ℕ) (link : Link) (ds es first second : List ℕ) (limit : ℕ) : Type 0 where
+  pub declared : slice_get net.links place ≡ Some link
+  pub from_point : link.from.0 < length net.points
+  pub first_length : length ds ≡ length net.links
+  pub second_length : length es ≡ length net.links
+  pub elsewhere : (i : ℕ) → i ≢ place → slice_get ds i ≡ slice_get es i
+  pub after_first : (d : ℕ) → slice_get ds place ≡ Some d → limit ≤ slice_index first link.from.0 + d
+  pub after_second : (e : ℕ) → slice_get es place ≡ Some e → limit ≤ slice_index second link.from.0 + e
+
+module _ (net : Plan) (place : ℕ) (link : Link) (ds es first second : List ℕ) (limit : ℕ) (differ : DifferInLink net place link ds es first second limit) where
   same_links : (tree : Tree) (so_far : Moments) (t : ℕ) → t < limit → play_from tree net ds so_far t ≡ Some first → play_from tree net es so_far t ≡ Some second → (i : ℕ) (other : Link) (d e : ℕ)
       → slice_get net.links i ≡ Some other → slice_get ds i ≡ Some d → slice_get es i ≡ Some e → completes so_far t other d ≡ completes so_far t other e
   same_links tree so_far t before played_first played_second i other d e its its_d its_e =
       elim (cases_eq i place) [
         | inl here ↦
-            let same : other ≡ link = same_Some other link (sym its ∙ ap (slice_get net.links) here ∙ declared) in
+            let same : other ≡ link = same_Some other link (sym its ∙ ap (slice_get net.links) here ∙ differ.declared) in
             let d_here = sym (ap (slice_get ds) here) ∙ its_d in
             let e_here = sym (ap (slice_get es) here) ∙ its_e in
-            let d_limit = after_first d d_here in
-            let e_limit = after_second e e_here in
-            let not_first : completes so_far t link d ≡ false = not_yet so_far t link d (λ a known. let kept = (goes_on net ds first tree so_far t played_first).kept link.from a from_point known in omega (arith, kept, d_limit)) in
-            let not_second : completes so_far t link e ≡ false = not_yet so_far t link e (λ a known. let kept = (goes_on net es second tree so_far t played_second).kept link.from a from_point known in omega (arith, kept, e_limit)) in
+            let d_limit = differ.after_first d d_here in
+            let e_limit = differ.after_second e e_here in
+            let not_first : completes so_far t link d ≡ false = not_yet so_far t link d (λ a known. let kept = (goes_on net ds first tree so_far t played_first).kept link.from a differ.from_point known in omega (arith, kept, d_limit)) in
+            let not_second : completes so_far t link e ≡ false = not_yet so_far t link e (λ a known. let kept = (goes_on net es second tree so_far t played_second).kept link.from a differ.from_point known in omega (arith, kept, e_limit)) in
             subst (λ (l : Link). completes so_far t l d ≡ completes so_far t l e) (sym same) (not_first ∙ sym not_second)
-        | inr apart ↦ ap (completes so_far t other) (same_Some d e (sym its_d ∙ elsewhere i apart ∙ its_e))
+        | inr apart ↦ ap (completes so_far t other) (same_Some d e (sym its_d ∙ differ.elsewhere i apart ∙ its_e))
       ]
 
   same_points_completed : (tree : Tree) (so_far : Moments) (t : ℕ) → t < limit → play_from tree net ds so_far t ≡ Some first → play_from tree net es so_far t ≡ Some second → completed net ds so_far t ≡ completed net es so_far t
   same_points_completed tree so_far t before played_first played_second =
-      filter_agree (is_completed so_far t net.links ds) (is_completed so_far t net.links es) (same_completed so_far t net.links ds es ds_length es_length (same_links tree so_far t before played_first played_second)) (points_of net)
+      filter_agree (is_completed so_far t net.links ds) (is_completed so_far t net.links es) (same_completed so_far t net.links ds es differ.first_length differ.second_length (same_links tree so_far t before played_first played_second)) (points_of net)
 
   -- a point that comes before a moment that isn't before the limit is known by then
   known_by_then : (tree : Tree) (so_far : Moments) (t : ℕ) → limit ≤ t → play_from tree net ds so_far t ≡ Some first → play_from tree net es so_far t ≡ Some second → (p : PointId) → p.0 < length net.points → slice_index first p.0 < limit → slice_index first p.0 ≡ slice_index second p.0

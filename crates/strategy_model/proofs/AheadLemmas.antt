@@ -29,15 +29,26 @@ use Rattle.strategy_model.proofs.ViolationLemmas.{size_of, bound_awaited, wait_a
 use Rattle.strategy_model.proofs.SeenLemmas.{no_later, dispatched_are_one}
 use Rattle.strategy_model.proofs.CompletenessLemmas.{closed_lists_give_strategies}
 
-module _ (net : Plan) (edges : List Edge) (order : List PointId) (instant : IsInstant net) (closed : IsClosedList net edges) (ordered : IsOrder net edges order) (situation schedule : List ℕ)
-    (is_situation : IsSituation net situation) (dispatched : IsDispatched net edges situation schedule) (strategy : Tree) (controls : Controls strategy net) (all : All (HoldsOf net strategy) edges)
-    (other : List ℕ) (played : play strategy net situation ≡ Some other) where
+-- The schedule of lower bounds and waits that a closed list of edges with an order gives in a situation, and what a strategy
+-- that controls the network, of which these edges are true, plays there.
+record DispatchedAndPlayed (net : Plan) (edges : List Edge) (order : List PointId) (situation schedule : List ℕ) (strategy : Tree) (other : List ℕ) : Type 0 where
+  pub instant : IsInstant net
+  pub closed : IsClosedList net edges
+  pub ordered : IsOrder net edges order
+  pub is_situation : IsSituation net situation
+  pub dispatched : IsDispatched net edges situation schedule
+  pub controls : Controls strategy net
+  pub all : All (HoldsOf net strategy) edges
+  pub played : play strategy net situation ≡ Some other
+
+module _ (net : Plan) (edges : List Edge) (order : List PointId) (situation schedule : List ℕ) (strategy : Tree) (other : List ℕ)
+    (both : DispatchedAndPlayed net edges order situation schedule strategy other) where
   -- a point of the play isn't held back longer by an edge whose end comes no sooner in the play
   held : (point : PointId) (edge : Edge) → HoldsBack edges point edge → moment_in schedule edge.to ≤ moment_in other edge.to → awaited net schedule edge ≤ moment_in other point
   held point edge holds later = by edge.label refl
     where
       true_edge : HoldsOf net strategy edge
-      true_edge = All-contains (HoldsOf net strategy) edges edge all holds.among
+      true_edge = All-contains (HoldsOf net strategy) edges edge both.all holds.among
 
       at : moment_in other edge.from ≡ moment_in other point
       at = ap (moment_in other) holds.begins
@@ -46,21 +57,21 @@ module _ (net : Plan) (edges : List Edge) (order : List PointId) (instant : IsIn
       by None ordinary =
           let size = size_of edge.weight (below_zero edge holds.negative) in
           let asks = bound_awaited net schedule edge ordinary in
-          let keeps : HoldsIn other edge = true_edge situation other is_situation (free net situation edge.label ordinary) played in
+          let keeps : HoldsIn other edge = true_edge situation other both.is_situation (free net situation edge.label ordinary) both.played in
           omega (arith, ints, size, asks, keeps, later, at)
       by (Some name) labelled =
           let size = size_of edge.weight (below_zero edge holds.negative) in
           let asks = wait_awaited net schedule edge name labelled in
-          let (link, declared, ends) = label_sound net edges closed edge name holds.among labelled in
+          let (link, declared, ends) = label_sound net edges both.closed edge name holds.among labelled in
           let completion = completion_is net schedule name link declared in
-          let (duration, its, fits) = duration_of net.links situation name.0 link is_situation declared in
-          let lasts = dispatched.contingent name link duration declared its in
-          let lasts_other = completion_follows_activation net strategy situation other name link duration instant played declared its in
+          let (duration, its, fits) = duration_of net.links situation name.0 link both.is_situation declared in
+          let lasts = both.dispatched.contingent name link duration declared its in
+          let lasts_other = completion_follows_activation net strategy situation other name link duration both.instant both.played declared its in
           let from : moment_in schedule edge.to ≡ moment_in schedule link.from = ap (moment_in schedule) ends in
           let from_other : moment_in other edge.to ≡ moment_in other link.from = ap (moment_in other) ends in
           elim (cases_lt (moment_in other edge.from) (moment_in other link.to)) [
             | inl before ↦
-                let keeps : HoldsIn other edge = wait_kept net strategy name link edge situation other instant controls true_edge labelled declared ends is_situation played before in
+                let keeps : HoldsIn other edge = wait_kept net strategy name link edge situation other both.instant both.controls true_edge labelled declared ends both.is_situation both.played before in
                 omega (arith, ints, size, asks, keeps, later, at)
             | inr after ↦ omega (arith, asks, completion, lasts, lasts_other, from, from_other, later, after, at)
           ]
@@ -70,19 +81,19 @@ module _ (net : Plan) (edges : List Edge) (order : List PointId) (instant : IsIn
   not_ahead zero point within is_point = absurd (omega (arith, within))
   not_ahead (suc limit) point within is_point =
       elim (kind net point is_point) [
-        | inl executable ↦ no_later net edges schedule point (moment_in other point) (dispatched.executable point executable) (λ edge holds.
-            let falls = falls_to net edges order instant.sound closed ordered point edge holds in
-            held point edge holds (not_ahead limit edge.to (omega (arith, falls, within)) (edge_sound net edges closed edge holds.among).to_point))
+        | inl executable ↦ no_later net edges schedule point (moment_in other point) (both.dispatched.executable point executable) (λ edge holds.
+            let falls = falls_to net edges order both.instant.sound both.closed both.ordered point edge holds in
+            held point edge holds (not_ahead limit edge.to (omega (arith, falls, within)) (edge_sound net edges both.closed edge holds.among).to_point))
         | inr ending ↦
             let link = ending.link in
-            let (duration, its, fits) = duration_of net.links situation ending.name.0 link is_situation ending.declared in
-            let lasts = dispatched.contingent ending.name link duration ending.declared its in
-            let lasts_other = completion_follows_activation net strategy situation other ending.name link duration instant played ending.declared its in
+            let (duration, its, fits) = duration_of net.links situation ending.name.0 link both.is_situation ending.declared in
+            let lasts = both.dispatched.contingent ending.name link duration ending.declared its in
+            let lasts_other = completion_follows_activation net strategy situation other ending.name link duration both.instant both.played ending.declared its in
             let at : moment_in schedule link.to ≡ moment_in schedule point = ap (moment_in schedule) ending.ends in
             let at_other : moment_in other link.to ≡ moment_in other point = ap (moment_in other) ending.ends in
-            let falls = falls_to_activation net edges order instant.sound closed ordered ending.name link ending.declared in
+            let falls = falls_to_activation net edges order both.instant.sound both.closed both.ordered ending.name link ending.declared in
             let same_place : rank order link.to ≡ rank order point = ap (rank order) ending.ends in
-            let rest = not_ahead limit link.from (omega (arith, falls, same_place, within)) (link_sound net instant.sound ending.name.0 link ending.declared).from_point in
+            let rest = not_ahead limit link.from (omega (arith, falls, same_place, within)) (link_sound net both.instant.sound ending.name.0 link ending.declared).from_point in
             omega (arith, lasts, lasts_other, at, at_other, rest)
       ]
 
@@ -98,7 +109,17 @@ dispatched_are_earliest net edges order situation schedule instant closed ordere
       played = played ∙ ap (λ (s : List ℕ). Some s) same;
       earliest = λ other its controls_too played_too.
           let size = played_length net situation its other [] 0 played_too in
+          let both : DispatchedAndPlayed net edges order situation schedule other its = record {
+            instant = instant;
+            closed = closed;
+            ordered = ordered;
+            is_situation = is_situation;
+            dispatched = dispatched;
+            controls = controls_too;
+            all = all other controls_too;
+            played = played_too;
+          } in
           place_by_place schedule its (dispatched.complete ∙ sym size)
-          (λ k within. not_ahead net edges order instant closed ordered situation schedule is_situation dispatched other controls_too (all other controls_too) its played_too
+          (λ k within. not_ahead net edges order situation schedule other its both
           (suc (rank order (record { 0 = k }))) (record { 0 = k }) (omega arith) (let long = dispatched.complete in omega (arith, within, long)));
     }

@@ -14,7 +14,7 @@ use Rattle.strategy_model.specs.Plays.{IsInstant, play}
 use Rattle.strategy_model.specs.Control.{IsEarliest}
 use Rattle.strategy_model.specs.Dispatch.{SameCompletions}
 use Rattle.strategy_model.specs.DispatchLaws.{EarliestSeeAlone}
-use Rattle.strategy_model.proofs.PlayLemmas.{link_sound}
+use Rattle.strategy_model.proofs.PlayLemmas.{link_sound, lasting, follow_at_first}
 use Rattle.strategy_model.proofs.AgreeLemmas.{played_length}
 use Rattle.strategy_model.proofs.CompareLemmas.{completion_follows_activation, duration_of, at_least_1}
 use Rattle.strategy_model.proofs.KindLemmas.{kind}
@@ -78,10 +78,14 @@ module _ (net : Plan) (instant : IsInstant net) (ds es first second : List ℕ) 
   agree_there zero by_m point within = (λ sooner. absurd (omega (arith, sooner)), λ sooner. absurd (omega (arith, sooner)))
   agree_there (suc k) by_m point within =
       let same_now = same_there k (omega (arith, by_m)) (agree_there k (omega (arith, by_m))) in
-      let agrees = agree_up_to net instant.sound ds es is_first.is_situation is_second.is_situation first there
-      (λ name link duration. completion_follows_activation net is_first.strategy ds first name link duration instant is_first.played)
-      (λ name link duration. completion_follows_activation net is_first.strategy es there name link duration instant played_there) k same_now is_first.strategy [] 0
-      (λ point m found. absurd (none-some m found)) is_first.played played_there point within in
+      let agrees = agree_up_to net ds es first there k (record {
+        plan = instant.sound;
+        first_situation = is_first.is_situation;
+        second_situation = is_second.is_situation;
+        first_lasting = lasting net instant.sound ds first is_first.strategy [] 0 is_first.played (follow_at_first net ds);
+        second_lasting = lasting net instant.sound es there is_first.strategy [] 0 played_there (follow_at_first net es);
+        same = same_now;
+      }) is_first.strategy [] 0 (λ point m found. absurd (none-some m found)) is_first.played played_there point within in
       (λ sooner. agrees.0 (omega (arith, sooner)), λ sooner. agrees.1 (omega (arith, sooner)))
 
   -- and the second is at no point later than that

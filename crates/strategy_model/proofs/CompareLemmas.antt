@@ -43,9 +43,15 @@ plays_agree net strategy name link first second first_play second_play instant d
     let lasting_first = lasting net instant.sound first first_play strategy [] 0 played_first (follow_at_first net first) name.0 link in
     let lasting_second = lasting net instant.sound second second_play strategy [] 0 played_second (follow_at_first net second) name.0 link in
     elim (cases_lt point.0 (length net.points)) [
-      | inl within ↦ agree_from net name.0 link declared sound.from_point first second (situation_length net.links first is_first)
-          (situation_length net.links second is_second) differ first_play second_play limit (λ d lasts. let h = lasting_first d declared lasts in omega (arith, h))
-          (λ e lasts. let h = lasting_second e declared lasts in omega (arith, h)) strategy [] 0 played_first played_second point within sooner
+      | inl within ↦ agree_from net name.0 link first second first_play second_play limit (record {
+        declared = declared;
+        from_point = sound.from_point;
+        first_length = situation_length net.links first is_first;
+        second_length = situation_length net.links second is_second;
+        elsewhere = differ;
+        after_first = λ d lasts. (let h = lasting_first d declared lasts in omega (arith, h));
+        after_second = λ e lasts. (let h = lasting_second e declared lasts in omega (arith, h));
+      }) strategy [] 0 played_first played_second point within sooner
       | inr past ↦ beyond net first_play second_play (played_length net first first_play strategy [] 0 played_first) (played_length net second second_play strategy [] 0 played_second) point past
     ]
 
@@ -112,34 +118,46 @@ at_least_1 net link duration sound fits =
     let low = fits.0 in
     omega (arith, ints, positive, low)
 
-module _ (net : Plan) (strategy : Tree) (name : LinkId) (link : Link) (instant : IsInstant net) (declared : IsLinkOf net name link) (situation other schedule other_schedule : List ℕ)
-    (is_situation : IsSituation net situation) (is_other : IsSituation net other) (differ : DifferOnlyIn name situation other) (played : play strategy net situation ≡ Some schedule)
-    (other_played : play strategy net other ≡ Some other_schedule) (duration another : ℕ) (lasts : slice_get situation name.0 ≡ Some duration) (other_lasts : slice_get other name.0 ≡ Some another)
-    (is_duration : IsDuration link duration) (is_another : IsDuration link another) where
+-- The plays of one strategy in two situations that differ only in a link, and the durations that the link takes in them.
+record PlayedInBoth (net : Plan) (strategy : Tree) (name : LinkId) (link : Link) (situation other schedule other_schedule : List ℕ) (duration another : ℕ) : Type 0 where
+  pub instant : IsInstant net
+  pub declared : IsLinkOf net name link
+  pub is_situation : IsSituation net situation
+  pub is_other : IsSituation net other
+  pub differ : DifferOnlyIn name situation other
+  pub played : play strategy net situation ≡ Some schedule
+  pub other_played : play strategy net other ≡ Some other_schedule
+  pub lasts : slice_get situation name.0 ≡ Some duration
+  pub other_lasts : slice_get other name.0 ≡ Some another
+  pub is_duration : IsDuration link duration
+  pub is_another : IsDuration link another
+
+module _ (net : Plan) (strategy : Tree) (name : LinkId) (link : Link) (situation other schedule other_schedule : List ℕ) (duration another : ℕ)
+    (both : PlayedInBoth net strategy name link situation other schedule other_schedule duration another) where
   agree : (point : PointId) → moment_in schedule point < min (moment_in schedule link.to) (moment_in other_schedule link.to) → moment_in schedule point ≡ moment_in other_schedule point
-  agree = plays_agree net strategy name link situation other schedule other_schedule instant declared is_situation is_other differ played other_played
+  agree = plays_agree net strategy name link situation other schedule other_schedule both.instant both.declared both.is_situation both.is_other both.differ both.played both.other_played
 
   agree_back : (point : PointId) → moment_in other_schedule point < min (moment_in schedule link.to) (moment_in other_schedule link.to) → moment_in schedule point ≡ moment_in other_schedule point
   agree_back point before =
-      sym (plays_agree net strategy name link other situation other_schedule schedule instant declared is_other is_situation (λ k apart. sym (differ k apart)) other_played played point (omega (arith, before)))
+      sym (plays_agree net strategy name link other situation other_schedule schedule both.instant both.declared both.is_other both.is_situation (λ k apart. sym (both.differ k apart)) both.other_played both.played point (omega (arith, before)))
 
   compared_with : Compared net strategy name link situation schedule another
   compared_with =
-      let sound = link_sound net instant.sound name.0 link declared in
-      let completes = completion_follows_activation net strategy situation schedule name link duration instant played declared lasts in
-      let other_completes = completion_follows_activation net strategy other other_schedule name link another instant other_played declared other_lasts in
-      let same_activation = activation_agrees (moment_in schedule link.from) (moment_in other_schedule link.from) duration another (at_least_1 net link duration sound is_duration)
-      (at_least_1 net link another sound is_another) (λ before. agree link.from (omega (arith, before, completes, other_completes)))
+      let sound = link_sound net both.instant.sound name.0 link both.declared in
+      let completes = completion_follows_activation net strategy situation schedule name link duration both.instant both.played both.declared both.lasts in
+      let other_completes = completion_follows_activation net strategy other other_schedule name link another both.instant both.other_played both.declared both.other_lasts in
+      let same_activation = activation_agrees (moment_in schedule link.from) (moment_in other_schedule link.from) duration another (at_least_1 net link duration sound both.is_duration)
+      (at_least_1 net link another sound both.is_another) (λ before. agree link.from (omega (arith, before, completes, other_completes)))
       (λ before. agree_back link.from (omega (arith, before, completes, other_completes))) in
       record {
         other = other;
         other_schedule = other_schedule;
-        is_situation = is_other;
-        played = other_played;
-        lasts = other_lasts;
-        elsewhere = differ;
+        is_situation = both.is_other;
+        played = both.other_played;
+        lasts = both.other_lasts;
+        elsewhere = both.differ;
         duration = duration;
-        is_duration = is_duration;
+        is_duration = both.is_duration;
         same_activation = same_activation;
         completes = completes;
         other_completes = other_completes;
@@ -154,4 +172,16 @@ compared net strategy name link situation schedule another instant controls decl
     let other = set situation name.0 another in
     let is_other : IsSituation net other = with_duration net.links situation name.0 link another is_situation declared fits in
     let (other_schedule, other_played, satisfied) = controls other is_other in
-    compared_with net strategy name link instant declared situation other schedule other_schedule is_situation is_other (λ k apart. set_elsewhere situation name.0 another k apart) played other_played duration another lasts (set_here situation name.0 another duration lasts) is_duration fits
+    compared_with net strategy name link situation other schedule other_schedule duration another (record {
+      instant = instant;
+      declared = declared;
+      is_situation = is_situation;
+      is_other = is_other;
+      differ = λ k apart. set_elsewhere situation name.0 another k apart;
+      played = played;
+      other_played = other_played;
+      lasts = lasts;
+      other_lasts = set_here situation name.0 another duration lasts;
+      is_duration = is_duration;
+      is_another = fits;
+    })

@@ -1,22 +1,19 @@
 -- What a tree plays in every situation is a dynamic execution strategy: up to a moment its plays depend on the completions
 -- up to it alone.
 use Rattle.std.proofs.Common.{◌≡◌, ℕ, ◌+◌, ◌<◌, ◌≤◌, true, cond, List, [], Option, Some, None, is_some, inl, inr, refl, sym, ap, subst, ◌∙◌, arith}
-use Rattle.std.specs.Prelude.{slice_get, ◌==◌}
+use Rattle.std.specs.Prelude.{◌==◌}
 use Rattle.std.specs.Cmp.Lexicographic.{pointwise}
 use Rattle.std.proofs.lemmas.Bool.{cases_lt, eqb-true, eq-eqb, and_parts, and_from, true≢false}
 use Rattle.std.proofs.lemmas.Option.{none-some, same_Some}
 use Rattle.std.proofs.lemmas.List.Elements.{filter_agree}
 use Rattle.net_model.specs.Network.{Plan, IsPlan, IsPoint, activation}
-use Rattle.net_model.specs.Edges.{IsLinkOf}
 use Rattle.net_model.specs.declared.ids.PointId.{PointId}
-use Rattle.net_model.specs.declared.ids.LinkId.{LinkId}
-use Rattle.net_model.specs.declared.part.Link.{Link}
 use Rattle.strategy_model.specs.Situations.{IsSituation, moment_in}
 use Rattle.strategy_model.specs.Plays.{Moments, same_point, moment_of, points_of, may_act, completed, play_from, play_cases}
 use Rattle.strategy_model.specs.Dispatch.{AgreeUpTo, SameCompletions}
 use Rattle.strategy_model.specs.DispatchLaws.{TreesAreDynamic}
 use Rattle.strategy_model.specs.declared.tree.Tree.{Tree, Leaf, Node', Row_of-Case, end_of-Case, more_of-Case}
-use Rattle.strategy_model.proofs.PlayLemmas.{and_moment, known_stays, unknown_later, new_moment, GoesOn, goes_on}
+use Rattle.strategy_model.proofs.PlayLemmas.{and_moment, known_stays, unknown_later, new_moment, GoesOn, goes_on, Lasting, lasting, follow_at_first}
 use Rattle.strategy_model.proofs.AgreeLemmas.{both, played_length}
 use Rattle.strategy_model.proofs.CompareLemmas.{completion_follows_activation}
 use Rattle.strategy_model.proofs.KindLemmas.{kind_of_any}
@@ -80,10 +77,16 @@ same_seen net first second t m same within =
         let at = eqb-true (moment_in second point) m now in
         and_from (is_some (activation net point)) (moment_in first point == m) contingent (eq-eqb (moment_in first point) m ((comes point contingent).1 (omega (arith, at, within)) ∙ at))
 
-module _ (net : Plan) (plan : IsPlan net) (ds es : List ℕ) (is_ds : IsSituation net ds) (is_es : IsSituation net es) (first second : List ℕ)
-    (first_lasting : (name : LinkId) (link : Link) (duration : ℕ) → IsLinkOf net name link → slice_get ds name.0 ≡ Some duration → moment_in first link.to ≡ moment_in first link.from + duration)
-    (second_lasting : (name : LinkId) (link : Link) (duration : ℕ) → IsLinkOf net name link → slice_get es name.0 ≡ Some duration → moment_in second link.to ≡ moment_in second link.from + duration)
-    (t : ℕ) (same : SameCompletions net t first second) where
+-- Schedules of two situations, in each of which every link lasts its duration, that have the same completions up to a moment.
+pub record CompletedAlike (net : Plan) (ds es first second : List ℕ) (t : ℕ) : Type 0 where
+  pub plan : IsPlan net
+  pub first_situation : IsSituation net ds
+  pub second_situation : IsSituation net es
+  pub first_lasting : Lasting net ds first
+  pub second_lasting : Lasting net es second
+  pub same : SameCompletions net t first second
+
+module _ (net : Plan) (ds es first second : List ℕ) (t : ℕ) (alike : CompletedAlike net ds es first second t) where
   -- after the moment everything that came by it is known
   all_known : (so_far : Moments) (m : ℕ) → t < m → GoesOn net first so_far m → GoesOn net second so_far m → (point : PointId) → IsPoint net point → AgreeUpTo t (moment_in first point) (moment_in second point)
   all_known so_far m past first_goes second_goes point within = by (moment_of so_far point) refl
@@ -107,9 +110,9 @@ module _ (net : Plan) (plan : IsPlan net) (ds es : List ℕ) (is_ds : IsSituatio
         elim (cases_lt t m) [
           | inl past ↦ all_known so_far m past first_goes second_goes point within
           | inr by_then ↦
-              let first_seen = completed_is net ds first plan is_ds first_lasting so_far m (known_in_play net first so_far m before first_goes) in
-              let second_seen = completed_is net es second plan is_es second_lasting so_far m (known_in_play net second so_far m before second_goes) in
-              let one : completed net ds so_far m ≡ completed net es so_far m = first_seen ∙ same_seen net first second t m same by_then ∙ sym second_seen in
+              let first_seen = completed_is net ds first alike.plan alike.first_situation (λ name. alike.first_lasting name.0) so_far m (known_in_play net first so_far m before first_goes) in
+              let second_seen = completed_is net es second alike.plan alike.second_situation (λ name. alike.second_lasting name.0) so_far m (known_in_play net second so_far m before second_goes) in
+              let one : completed net ds so_far m ≡ completed net es so_far m = first_seen ∙ same_seen net first second t m alike.same by_then ∙ sym second_seen in
               agree_among cases so_far m before (completed net ds so_far m) played_first (subst (λ (points : List PointId). play_cases cases net es so_far m points ≡ Some second) (sym one) played_second) point within
         ]
 
@@ -130,8 +133,12 @@ trees_are_dynamic net strategy schedule_of instant played =
     record {
       complete = λ situation is_situation. played_length net situation (schedule_of situation) strategy [] 0 (played situation is_situation);
       lasting = λ situation name link duration is_situation. completion_follows_activation net strategy situation (schedule_of situation) name link duration instant (played situation is_situation);
-      seen_alone = λ first second t is_first is_second same point executable. agree_up_to net instant.sound first second is_first is_second (schedule_of first) (schedule_of second)
-          (λ name link duration. completion_follows_activation net strategy first (schedule_of first) name link duration instant (played first is_first))
-          (λ name link duration. completion_follows_activation net strategy second (schedule_of second) name link duration instant (played second is_second)) t same strategy [] 0
-          (λ point m found. absurd (none-some m found)) (played first is_first) (played second is_second) point executable.0;
+      seen_alone = λ first second t is_first is_second same point executable. agree_up_to net first second (schedule_of first) (schedule_of second) t (record {
+        plan = instant.sound;
+        first_situation = is_first;
+        second_situation = is_second;
+        first_lasting = lasting net instant.sound first (schedule_of first) strategy [] 0 (played first is_first) (follow_at_first net first);
+        second_lasting = lasting net instant.sound second (schedule_of second) strategy [] 0 (played second is_second) (follow_at_first net second);
+        same = same;
+      }) strategy [] 0 (λ point m found. absurd (none-some m found)) (played first is_first) (played second is_second) point executable.0;
     }

@@ -1,6 +1,6 @@
 -- The play of a strategy in a situation. A strategy is a tree of decisions: what is done at a moment depends on the
 -- completions that were seen up to it, those of the moment itself included, and on nothing else (Morris, Muscettola and
--- Vidal 2001, as repaired by Hunsberger 2009; that completions of the same moment are seen is this project's own choice).
+-- Vidal 2001, as repaired by Hunsberger 2009; not that completions of the same moment are seen).
 use Rattle.std.specs.Prelude.{ℕ, ◌+◌, ◌==◌, ◌&&◌, ◌||◌, not, Bool, true, false, List, [], ◌∷◌, ◌++◌, length, map, filter, Option, Some, None, is_none, nat_lt, if◌then◌else◌}
 use Rattle.std.specs.Option.{option_map}
 use Rattle.std.specs.List.{list_any, range_with_len}
