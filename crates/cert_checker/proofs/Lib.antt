@@ -1,5 +1,6 @@
 pub mod Steps
 pub mod Passing
+pub mod Stopping
 pub mod Naming
 pub mod Inversion
 pub mod Following

@@ -1,11 +1,10 @@
 -- A refusal is of one line, by that line alone, or of the walk.
-use Rattle.std.proofs.Common.{◌≡◌, ◌⊎◌, ℕ, ℤ, pos, ◌≤ℤ◌, ◌<ℤ◌, ◌+ℤ◌, ◌-ℤ◌, ◌+◌, ◌-◌, Bool, true, false, is_none, suc, List, [], ◌∷◌, ◌++◌, length, take, Option, Some, None, Result, Ok, Err, refl, sym, ap, ◌∙◌, subst, arith, inl, inr, append_assoc, unsigned_abs}
+use Rattle.std.proofs.Common.{◌≡◌, ◌⊎◌, ℕ, ℤ, pos, ◌≤ℤ◌, ◌<ℤ◌, ◌+ℤ◌, ◌-ℤ◌, ◌+◌, ◌-◌, Bool, true, false, is_none, List, [], ◌∷◌, length, take, Option, Some, None, Result, Ok, Err, refl, sym, ap, ◌∙◌, subst, arith, inl, inr, unsigned_abs}
 use Rattle.std.specs.Prelude.{slice_get, int_lt, int_le}
 use Rattle.std.specs.Int.{int_max}
 use Rattle.std.specs.Str.{bytes_eq}
 use Rattle.std.proofs.lemmas.Int.{ints}
 use Rattle.std.proofs.lemmas.Bool.{leb-false}
-use Rattle.std.proofs.lemmas.List.{append-nil, length_push}
 use Rattle.net_model.specs.Limits.{most_weight}
 use Rattle.net_model.specs.Network.{Plan}
 use Rattle.net_model.specs.declared.part.Link.{Link}
@@ -14,7 +13,7 @@ use Rattle.cert_format.specs.declared.kind.LineKind.{LineKind}
 use Rattle.cert_format.specs.declared.kind.LineKind.TheVariants as kind
 use Rattle.cert_checker.specs.Lines.{Passes, ◌>>=◌, unless, there, line_at, link_named, bound_of, label_of, has_label_of, has_ends_of, are_ordinary, takes_label, is_negative, may_cross, goes, joins, reaches_back, names_known, in_range, at_least, bound_passes, link_passes, sum_passes, no_passes, up_passes, back_passes, low_passes, cross_passes, drop_passes, rule_passes, line_passes}
 use Rattle.cert_checker.specs.Walk.{WalkPasses, refusal, steps_known, returns_to, is_negative_walk, total_weight, walked, walk_passes}
-use Rattle.cert_checker.specs.Judgement.{at_number, lines_pass, refutation_passes, judged}
+use Rattle.cert_checker.specs.Judgement.{lines_pass, refutation_passes, judged}
 use Rattle.cert_checker.specs.Refusals.{FaultSays, IsRefusedLine, WalkSays, IsRefusedWalk}
 use Rattle.cert_checker.specs.Laws.{RefusalsAreOfOneLine}
 use Rattle.cert_checker.specs.declared.judgement.CertFault.{CertFault}
@@ -22,7 +21,7 @@ use Rattle.cert_checker.specs.declared.judgement.CertFault.TheVariants.{UnknownI
 use Rattle.cert_checker.specs.declared.judgement.Refusal.{Refusal}
 use Rattle.cert_checker.specs.declared.judgement.Judgement.TheVariants.{Refused}
 use Rattle.cert_checker.specs.declared.judgement.Claim.TheVariants.{NotControllable}
-use Rattle.cert_checker.proofs.Passing.{goes_on}
+use Rattle.cert_checker.proofs.Stopping.{stop_is}
 
 -- one test after another: the first that fails says so, or a later one
 after_test : {A B E : Type 0} (says : E → Type 0) (first : Result A E) (next : A → Result B E) (why : E) → ((w : E) → first ≡ Err w → says w) → ((x : A) → next x ≡ Err why → says why) → (first >>= next) ≡ Err why → says why
@@ -135,50 +134,6 @@ module _ (net : Plan) (earlier : List CertLine) (line : CertLine) (why : CertFau
       test (unless (names_known net line) UnknownItem) _ (unless_says says (names_known net line) UnknownItem (λ no. tt)) (λ names fails.
       test (unless (in_range line.weight) WeightRange) _ (unless_says says (in_range line.weight) WeightRange (λ beyond. leb-false (unsigned_abs line.weight) most_weight beyond)) (λ weight fails.
       rule_says line.kind fails) fails) fails
-
--- the line at which the lines of a refutation stop
-record StopsAt (net : Plan) (earlier lines : List CertLine) (refused : Refusal) : Type 0 where
-  count : ℕ
-  line : CertLine
-  place : refused.line ≡ length earlier + suc count
-  here : slice_get lines count ≡ Some line
-  before : lines_pass net earlier (take count lines) ≡ Ok tt
-  own : line_passes net (earlier ++ take count lines) line ≡ Err refused.why
-
-later_stop : (net : Plan) (earlier : List CertLine) (line : CertLine) (lines : List CertLine) (refused : Refusal) → line_passes net earlier line ≡ Ok tt → StopsAt net (earlier ++ line ∷ []) lines refused → StopsAt net earlier (line ∷ lines) refused
-later_stop net earlier line lines refused passes s =
-    let one_more = length_push earlier line in
-    let front : earlier ++ line ∷ [] ++ take s.count lines ≡ earlier ++ line ∷ take s.count lines = append_assoc earlier (line ∷ []) (take s.count lines) in
-    record {
-      count = suc s.count;
-      line = s.line;
-      place = omega (arith, s.place, one_more);
-      here = s.here;
-      before = goes_on net earlier line (take s.count lines) passes ∙ s.before;
-      own = ap (λ (ls : List CertLine). line_passes net ls s.line) (sym front) ∙ s.own;
-    }
-
-abbrev IfRefusedStopsAt : Plan → List CertLine → List CertLine → Refusal → Type 0
-IfRefusedStopsAt net earlier lines refused = lines_pass net earlier lines ≡ Err refused → StopsAt net earlier lines refused
-
-stop_by : (net : Plan) (earlier : List CertLine) (line : CertLine) (lines : List CertLine) (refused : Refusal) (passes : Passes) → line_passes net earlier line ≡ passes → IfRefusedStopsAt net (earlier ++ line ∷ []) lines refused → (at_number (length earlier + 1) passes >>= (λ _. lines_pass net (earlier ++ line ∷ []) lines)) ≡ Err refused → StopsAt net earlier (line ∷ lines) refused
-stop_by net earlier line lines refused (Ok passed) is later stops = later_stop net earlier line lines refused is (later stops)
-stop_by net earlier line lines refused (Err why) is later stops =
-    let same : refusal (length earlier + 1) why ≡ refused = cc in
-    let place : length earlier + 1 ≡ refused.line = ap (λ (r : Refusal). r.line) same in
-    record {
-      count = 0;
-      line = line;
-      place = omega (arith, place);
-      here = refl;
-      before = refl;
-      own = ap (λ (ls : List CertLine). line_passes net ls line) (append-nil earlier) ∙ is ∙ ap (λ (r : Refusal). Err r.why) same;
-    }
-
-stop_is : (net : Plan) (earlier lines : List CertLine) (refused : Refusal) → lines_pass net earlier lines ≡ Err refused → StopsAt net earlier lines refused
-stop_is net earlier [] refused stops = absurd (cc)
-stop_is net earlier (line ∷ lines) refused stops =
-    stop_by net earlier line lines refused (line_passes net earlier line) refl (stop_is net (earlier ++ line ∷ []) lines refused) stops
 
 refused_line : (net : Plan) (lines : List CertLine) (refused : Refusal) → lines_pass net [] lines ≡ Err refused → IsRefusedLine net lines refused.line refused.why
 refused_line net lines refused stops =

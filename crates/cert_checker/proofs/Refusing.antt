@@ -1,19 +1,19 @@
 -- The lines before the one at which a refutation is refused pass.
-use Rattle.std.proofs.Common.{◌≡◌, ℕ, ◌+◌, ◌-◌, zero, suc, List, [], ◌∷◌, ◌++◌, length, take, Ok, Err, refl, ap, ◌∙◌, arith}
-use Rattle.std.proofs.lemmas.List.{length_push}
+use Rattle.std.proofs.Common.{◌≡◌, ℕ, ◌+◌, ◌-◌, zero, suc, List, [], ◌∷◌, ◌++◌, take, Ok, Err, refl, ap, ◌∙◌, arith}
 use Rattle.net_model.specs.Network.{Plan}
 use Rattle.strategy_model.specs.Plays.{IsInstant}
 use Rattle.strategy_model.specs.Laws.{RulesKeepEdges, DerivationsAreTrue}
 use Rattle.cert_format.specs.declared.certificate.Certificate.{Certificate}
 use Rattle.cert_format.specs.declared.certificate.Certificate.TheVariants.{Refutation, TableProof}
 use Rattle.cert_format.specs.declared.line.CertLine.{CertLine}
-use Rattle.cert_checker.specs.Lines.{Passes, ◌>>=◌, line_passes}
-use Rattle.cert_checker.specs.Walk.{WalkPasses, refusal, walk_passes}
-use Rattle.cert_checker.specs.Judgement.{at_number, lines_pass, refutation_passes, judged, judgement_of}
+use Rattle.cert_checker.specs.Lines.{Passes, ◌>>=◌}
+use Rattle.cert_checker.specs.Walk.{WalkPasses, walk_passes}
+use Rattle.cert_checker.specs.Judgement.{lines_pass, refutation_passes, judged, judgement_of}
 use Rattle.cert_checker.specs.Truth.{AreTrue, passed_lines}
 use Rattle.cert_checker.specs.declared.judgement.Refusal.{Refusal}
 use Rattle.cert_checker.specs.declared.judgement.Claim.TheVariants.{NotControllable}
 use Rattle.cert_checker.proofs.Passing.{goes_on}
+use Rattle.cert_checker.proofs.Stopping.{stop_is}
 use Rattle.cert_checker.specs.Laws.{PassedLinesAreTrue}
 use Rattle.cert_checker.proofs.Deriving.{first_passes, lines_are_true}
 
@@ -26,38 +26,13 @@ front_passes net earlier (line ∷ lines) (suc count) pass =
     let (passes, others) = first_passes net earlier line lines pass in
     goes_on net earlier line (take count lines) passes ∙ front_passes net (earlier ++ line ∷ []) lines count others
 
--- the place of a refused line, and the lines before it
-abbrev StopsAt : Plan → List CertLine → List CertLine → Refusal → Type 0
-StopsAt net earlier lines refused = (count : ℕ) × (refused.line ≡ length earlier + suc count) × (lines_pass net earlier (take count lines) ≡ Ok tt)
-
-later_stop : (net : Plan) (earlier : List CertLine) (line : CertLine) (lines : List CertLine) (refused : Refusal) → line_passes net earlier line ≡ Ok tt → StopsAt net (earlier ++ line ∷ []) lines refused → StopsAt net earlier (line ∷ lines) refused
-later_stop net earlier line lines refused passes stop =
-    let (count, place, front) = stop in
-    let one_more = length_push earlier line in
-    (suc count, omega (arith, one_more), goes_on net earlier line (take count lines) passes ∙ front)
-
-abbrev IfRefusedStopsAt : Plan → List CertLine → List CertLine → Refusal → Type 0
-IfRefusedStopsAt net earlier lines refused = lines_pass net earlier lines ≡ Err refused → StopsAt net earlier lines refused
-
-first_or_later : (net : Plan) (earlier : List CertLine) (line : CertLine) (lines : List CertLine) (refused : Refusal) (passes : Passes) → line_passes net earlier line ≡ passes → IfRefusedStopsAt net (earlier ++ line ∷ []) lines refused → (at_number (length earlier + 1) passes >>= (λ _. lines_pass net (earlier ++ line ∷ []) lines)) ≡ Err refused → StopsAt net earlier (line ∷ lines) refused
-first_or_later net earlier line lines refused (Ok passed) is later stops = later_stop net earlier line lines refused is (later stops)
-first_or_later net earlier line lines refused (Err why) is later stops =
-    let same : refusal (length earlier + 1) why ≡ refused = cc in
-    let place : length earlier + 1 ≡ refused.line = ap (λ (r : Refusal). r.line) same in
-    (0, omega (arith, place), refl)
-
-line_stops : (net : Plan) (earlier lines : List CertLine) (refused : Refusal) → lines_pass net earlier lines ≡ Err refused → StopsAt net earlier lines refused
-line_stops net earlier [] refused stops = absurd (cc)
-line_stops net earlier (line ∷ lines) refused stops =
-    first_or_later net earlier line lines refused (line_passes net earlier line) refl (line_stops net (earlier ++ line ∷ []) lines refused) stops
-
 -- the lines before a refused one pass, or all of them where the walk is refused
 before_refused : (net : Plan) (lines : List CertLine) (walk : WalkPasses) (rules : WalkPasses) → lines_pass net [] lines ≡ rules → (refused : Refusal) → (rules >>= (λ _. walk)) ≡ Err refused → lines_pass net [] (take (refused.line - 1) lines) ≡ Ok tt
 before_refused net lines walk (Ok passed) is refused stops = front_passes net [] lines (refused.line - 1) is
 before_refused net lines walk (Err first) is refused stops =
-    let (count, place, front) = line_stops net [] lines refused (is ∙ stops) in
-    let before : refused.line - 1 ≡ count = omega arith in
-    ap (λ k. lines_pass net [] (take k lines)) before ∙ front
+    let stop = stop_is net [] lines refused (is ∙ stops) in
+    let count : refused.line - 1 ≡ stop.count = omega (arith, stop.place) in
+    ap (λ k. lines_pass net [] (take k lines)) count ∙ stop.before
 
 all_pass : (net : Plan) (lines : List CertLine) (walk : WalkPasses) (rules : WalkPasses) → lines_pass net [] lines ≡ rules → (rules >>= (λ _. walk)) ≡ Ok tt → lines_pass net [] lines ≡ Ok tt
 all_pass net lines walk (Ok passed) is passes = is

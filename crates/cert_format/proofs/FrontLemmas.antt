@@ -94,7 +94,11 @@ abbrev ReadOn : List (List ℕ) → List (List ℕ) → Progress → ℕ → Typ
 ReadOn front more q number =
     (r : Progress) (later : List CertText) → Reaches r later q → filled_words front ≡ map text_words later → read_from r number (front ++ more) ≡ read_from q (number + length front) more
 
-reaches_by : (blank : Bool) (line : List ℕ) (front more : List (List ℕ)) (p q : Progress) (n : ℕ) (said : List CertText) → are_passed_over (words line) ≡ blank → ReadOn front more q (n + 1) → Reaches p said q → cond blank (filled_words front) (words line ∷ filled_words front) ≡ map text_words said → read_from p n (line ∷ front ++ more) ≡ read_from q (n + length (line ∷ front)) more
+-- what a line, which is passed over or not, and the lines after it spell
+abbrev LineSpells : (blank : Bool) → List ℕ → List (List ℕ) → List CertText → Type 0
+LineSpells blank line front said = cond blank (filled_words front) (words line ∷ filled_words front) ≡ map text_words said
+
+reaches_by : (blank : Bool) (line : List ℕ) (front more : List (List ℕ)) (p q : Progress) (n : ℕ) (said : List CertText) → are_passed_over (words line) ≡ blank → ReadOn front more q (n + 1) → Reaches p said q → LineSpells blank line front said → read_from p n (line ∷ front ++ more) ≡ read_from q (n + length (line ∷ front)) more
 reaches_by true line front more p q number said is after reaches spelled =
     rw (blank_read p.section (words line) is) (after p said reaches spelled ∙ read_at q (number + 1 + length front) (number + length (line ∷ front)) more (omega arith))
 reaches_by false line front more p q number [] is after reaches spelled = absurd (cc)

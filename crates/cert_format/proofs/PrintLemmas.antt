@@ -22,8 +22,12 @@ entry_written out first from weight to label =
     rw (flat_map-append after_blank to (label ++ weight ∷ []), flat_map-append after_blank label (weight ∷ []))
     (simp (append_assoc, append-nil))
 
+-- the lines of a list, as they are written one after another
+abbrev all_printed : {X : Type 0} → (X → List (List ℕ)) → List X → List ℕ
+all_printed line xs = flat_map (λ x. printed_line (line x)) xs
+
 -- printed lines after those of a list
-printed_after : {X : Type 0} (line : X → List (List ℕ)) (xs : List X) (others : List (List (List ℕ))) → printed (map line xs ++ others) ≡ flat_map (λ x. printed_line (line x)) xs ++ printed others
+printed_after : {X : Type 0} (line : X → List (List ℕ)) (xs : List X) (others : List (List (List ℕ))) → printed (map line xs ++ others) ≡ all_printed line xs ++ printed others
 printed_after line xs others =
     flat_map-append printed_line (map line xs) others ∙ ap (λ front. front ++ printed others) (flat_map-map printed_line line xs)
 
@@ -35,12 +39,12 @@ regrouped : (header second rules walk end : List ℕ) → in_turn header second 
 regrouped header second rules walk end = simp (append_assoc, append-nil)
 
 -- the pieces in the order in which they are written, of two lists of lines
-printed_two : {A B : Type 0} (second : List (List ℕ)) (spell : A → List (List ℕ)) (spells : B → List (List ℕ)) (xs : List A) (ys : List B) → in_turn (printed_line header_words) (printed_line second) (flat_map (λ x. printed_line (spell x)) xs) (flat_map (λ y. printed_line (spells y)) ys) (printed_line end_words) ≡ printed (header_words ∷ second ∷ (map spell xs ++ (map spells ys ++ end_words ∷ [])))
+printed_two : {A B : Type 0} (second : List (List ℕ)) (spell : A → List (List ℕ)) (spells : B → List (List ℕ)) (xs : List A) (ys : List B) → in_turn (printed_line header_words) (printed_line second) (all_printed spell xs) (all_printed spells ys) (printed_line end_words) ≡ printed (header_words ∷ second ∷ (map spell xs ++ (map spells ys ++ end_words ∷ [])))
 printed_two second spell spells xs ys =
     let header : List ℕ = printed_line header_words in
     let next : List ℕ = printed_line second in
-    let firsts : List ℕ = flat_map (λ x. printed_line (spell x)) xs in
-    let others : List ℕ = flat_map (λ y. printed_line (spells y)) ys in
+    let firsts : List ℕ = all_printed spell xs in
+    let others : List ℕ = all_printed spells ys in
     let last : List (List (List ℕ)) = end_words ∷ [] in
     regrouped header next firsts others (printed_line end_words)
     ∙ sym (ap (λ (rest : List ℕ). header ++ (next ++ rest)) (printed_after spell xs (map spells ys ++ last) ∙ ap (λ (rest : List ℕ). firsts ++ rest) (printed_after spells ys last)))

@@ -18,7 +18,7 @@ mod whole;
 pub use certificate::Certificate;
 pub use entry::Entry;
 pub use kind::LineKind;
-pub use limits::{MOST_LINE_NUMBER, MOST_WEIGHT, limits_are_defined};
+pub use limits::{MOST_LINE_NUMBER, MOST_WRITTEN_WEIGHT, limits_are_defined};
 pub use line::CertLine;
 pub use print::print_certificate;
 pub use read::{CertText, read_cert_line};

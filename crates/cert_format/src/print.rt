@@ -18,9 +18,9 @@ use net_model::Name;
 use std::alloc::{AllocError, Global};
 use texts::push_line;
 
-/// The text of a certificate: the header, `refutation`, the rule lines and the walk in their order, and `end`, or the header,
-/// `table`, the order, the entries and `end`, with one blank between words and a line end after each line. Each weight must be below 10^18 in size. It reads back to the same
-/// certificate. `AllocError` comes only for want of memory.
+/// The text of a certificate: the header, `refutation`, the rule lines and the walk in their order, and `end`, or the header, `table`, the
+/// order, the entries and `end`, with one blank between words and a line end after each line. Each weight must be below 10^18 in size. It
+/// reads back to the same certificate. `AllocError` comes only for want of memory.
 pub fn print_certificate(alloc: Global, certificate: &Certificate) -> Result<Vec<u8>, AllocError>
     requires { HasWeights certificate.now }
     ensures text { IfOk result (λ text. text.items ≡ printed_certificate certificate.now) }

@@ -11,7 +11,7 @@ ghost use Rattle.cert_format.specs.CertificateLines.{cert_text, line_of, header_
 use crate::entry::Entry;
 use crate::keyword::Keyword;
 use crate::kind::LineKind;
-use crate::limits::{MOST_LINE_NUMBER, MOST_WEIGHT};
+use crate::limits::{MOST_LINE_NUMBER, MOST_WRITTEN_WEIGHT};
 use crate::line::CertLine;
 use net_model::{FormatKind, Name, Weight, WordFault, text};
 
@@ -323,5 +323,5 @@ fn number(word: &[u8]) -> Result<u64, FormatKind>
 fn weight_of(word: &[u8]) -> Result<Weight, FormatKind>
     ensures { result ≡ weight_of word.now }
 {
-    text::integer(word, MOST_WEIGHT)
+    text::integer(word, MOST_WRITTEN_WEIGHT)
 }

@@ -12,12 +12,12 @@ use crate::reader::CertReader;
 use net_model::{FormatFault, TextFault, WordFault, text};
 use std::alloc::Global;
 
-/// Reads the text of a certificate: the header `certificate 1`, the line `refutation`, rule lines, walk lines and the
-/// line `end`, or after the header the line `table`, lines of the order, entries and `end`, with blank lines between. Nothing after the `end` line is looked at. The fault is that of the first
-/// bad line: `NoHeader` where the first line that is not blank is not the header, `UnknownWord` also where a line of
-/// another place begins with its word, and else that of `read_cert_line`. Where the text ends before its `end` line,
-/// the fault is `NoEnd`, or `NoHeader` before the header, at the number after the last line. `OutOfMemory` comes only for
-/// want of memory. There are fewer than 2^31 bytes.
+/// Reads the text of a certificate: the header `certificate 1`, the line `refutation`, rule lines, walk lines and the line `end`, or after
+/// the header the line `table`, lines of the order, entries and `end`, with blank lines between. Nothing after the `end` line is looked at.
+/// The fault is that of the first bad line: `NoHeader` where the first line that is not blank is not the header, `UnknownWord` also where a
+/// line of another place begins with its word, and else that of `read_cert_line`. Where the text ends before its `end` line, the fault is
+/// `NoEnd`, or `NoHeader` before the header, at the number after the last line. `OutOfMemory` comes only for want of memory. There are
+/// fewer than 2^31 bytes.
 pub fn read_certificate(alloc: Global, bytes: &[u8]) -> Result<Certificate, TextFault>
     requires { length bytes.now < 2 ^ 31 }
     ensures text { SaysText result (certificate_text bytes.now) }

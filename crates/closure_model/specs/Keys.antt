@@ -1,5 +1,5 @@
 -- Keys of the labelled distance graph (Morris and Muscettola 2005, in this project's form): a key stands for all edges that
--- differ in their weight alone. The order of keys is this project's own choice.
+-- differ in their weight alone.
 use Rattle.std.specs.Prelude.{◌≡◌, ◌==◌, ℕ, ℤ, ◌<◌, List, [], ◌∷◌, length, map, filter, Option, Some, None, slice_get}
 use Rattle.std.specs.List.{enumerate_from, flat_map, range_with_len}
 use Rattle.std.specs.declared.cmp.Ordering.{Ordering}

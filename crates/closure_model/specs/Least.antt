@@ -1,5 +1,4 @@
--- The first of the least: which item of a list has the least weight, where some items have one. This project's own choice of which
--- of equal ones.
+-- The first of the least: which item of a list has the least weight, where some items have one; of equal ones the first.
 use Rattle.std.specs.Prelude.{◌≡◌, ℕ, suc, ℤ, ◌≤ℤ◌, ◌<ℤ◌, ◌<◌, int_le, List, [], ◌∷◌, slice_get, Option, Some, None, if◌then◌else◌}
 use Rattle.std.specs.Option.{option_map, option_and_then}
 

@@ -1,7 +1,6 @@
 -- The order of the points of a table, or a cycle: of the points not yet placed, the lowest is placed next that has no negative
 -- ordinary edge to a point not placed; where no more can be placed and points are left, a cycle is followed. A negative cycle
--- of ordinary edges shows that a network is not controllable (Morris and Muscettola 2005); which one is taken is this
--- project's own choice.
+-- of ordinary edges shows that a network is not controllable (Morris and Muscettola 2005).
 use Rattle.std.specs.Prelude.{◌≡◌, ◌≢◌, ◌==◌, ◌&&◌, ◌+◌, ◌-◌, ◌<◌, ◌≤◌, not, ℕ, zero, suc, pos, int_lt, Bool, true, false, List, [], ◌∷◌, ◌++◌, length, drop, Option, is_none, if◌then◌else◌}
 use Rattle.std.specs.List.{All, AllPairs, Contains, find, list_any, position_or_len, slice_index_or}
 use Rattle.std.specs.Option.{option_map_or, option_to_list}

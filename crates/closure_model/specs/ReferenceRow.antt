@@ -1,6 +1,5 @@
 -- The reference row: the least row of a target against a table. The keys of the row are settled one after another, always the one
--- of least weight (Dijkstra 1959; backwards from a target as in Morris 2014). What decides between equal weights is this project's
--- own choice.
+-- of least weight, of equal ones the first in the order of keys (Dijkstra 1959; backwards from a target as in Morris 2014).
 use Rattle.std.specs.Prelude.{◌≡◌, ◌≢◌, ◌==◌, ◌&&◌, ℕ, suc, zero, ℤ, ◌≤ℤ◌, ◌<ℤ◌, ◌≤◌, int_lt, unsigned_abs, Bool, true, false, List, [], ◌∷◌, ◌++◌, length, map, fold, slice_get, slice_set, Option, Some, None, if◌then◌else◌}
 use Rattle.std.specs.Option.{option_map, option_map_or}
 use Rattle.std.specs.List.{All, AllPairs, filter_map, flat_map}

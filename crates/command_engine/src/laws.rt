@@ -37,9 +37,9 @@ pub fn broken_runs_are_fronts<C: Command>()
         → Runs C.machine start input whole end → WantsMemory C.machine start input put pieces → IsFront put whole }
 {}
 
-/// Where a command has at most one reply, exactly this was put by a run of it over a port that tells its bytes: what a run over the input puts, where
-/// the command ended it; the answers to the whole lines taken and `error read`, where a take failed; a front of these, where a put failed; and a front
-/// of the first, where there was no memory.
+/// Where a command has at most one reply, exactly this was put by a run of it over a port that tells its bytes: what a run over the input
+/// puts, where the command ended it; the answers to the whole lines taken and `error read`, where a take failed; a front of these, where a
+/// put failed; and a front of the first, where there was no memory.
 pub fn bytes_are_exact<C: Command>()
     ensures { IsSingle C.machine → (start : C) (status : Status) (before after : Seen)
         → Serves C.machine start status before after → BytesAreExact C.machine start status before after }

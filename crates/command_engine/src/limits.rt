@@ -1,4 +1,4 @@
-//! The sizes that every command keeps. They are this project's own choice.
+//! The sizes that every command keeps.
 
 ghost use Rattle.std.specs.Prelude.{◌≡◌};
 ghost use Rattle.command_engine.specs.Limits.{most_input, least_room};

@@ -1,4 +1,4 @@
--- The table of the program's commands (this project's own choice), and what it means that words are refused.
+-- The table of the program's commands, and what it means that words are refused.
 use Rattle.std.specs.Prelude.{◌≡◌, ◌⊎◌, ◌↔◌, ◌∷◌, codes, ℕ, List, Bool, true, false}
 use Rattle.std.specs.Str.{bytes_eq}
 use Rattle.plan_port.specs.Talk.{Seen}
@@ -25,8 +25,8 @@ abbrev pub when◌these◌else◌ : Bool → Type 0 → Type 0 → Type 0
 when true these one else other = one
 when false these one else other = other
 
--- These are the words of a command after its own: of `judge` none, or `--json`; of each other command they spell its uses, as its line of the table
--- says.
+-- These are the words of a command after its own: of `judge` none, or `--json`; of each other command they spell its uses, as its line of
+-- the table says.
 abbrev pub AreOfCommand : (command : List ℕ) (words : List (List ℕ)) → Type 0
 AreOfCommand command words =
     when bytes_eq command (codes "judge") these ((judge : Judge) × (words ≡ form_words judge.form))

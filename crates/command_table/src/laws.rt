@@ -20,8 +20,8 @@ pub fn words_are_refused_outside_the_table()
     forge_is_read_exactly();
 }
 
-/// A run, whose status has its cause, ends with 2 only where the words are not in the table of commands; and there it does, unless the refusal was
-/// not put, at 6, or there was no memory, at 8.
+/// A run, whose status has its cause, ends with 2 only where the words are not in the table of commands; and there it does, unless the
+/// refusal was not put, at 6, or there was no memory, at 8.
 pub fn runs_refuse_exactly_words_outside_the_table()
     ensures { RunsRefuseExactlyWordsOutsideTheTable }
 {

@@ -1,5 +1,5 @@
 -- The words that spell flags, options and operands. No reader and no library stands here. The names of kinds of words are those of POSIX
--- (utility syntax guidelines), the spelling by `--NAME` and `--NAME=VALUE` that of GNU; what departs from them is this project's own choice.
+-- (utility syntax guidelines), the spelling by `--NAME` and `--NAME=VALUE` that of GNU.
 use Rattle.std.specs.Prelude.{◌≡◌, ◌⊎◌, ◌==◌, Bool, true, not, List, [], ◌∷◌, ◌++◌, map, Option, Some, None}
 use Rattle.std.specs.Bool.{⊤}
 use Rattle.command_words.specs.Syntax.{Syntax, Text, are_apart, dashed, is_in}

@@ -69,8 +69,8 @@ bound_in old edit new bound = if sets_bound edit bound.name then None else optio
 abbrev pub same_link_place : (old new : Plan) → Link → LinkId → Option LinkId
 same_link_place old new link place = option_and_then (λ other. if is_same_link old new link other then Some place else None) (slice_get new.links place.0)
 
--- the number that a link of the old network has in the new one: that of the link that ends in the point of the same name, where they are the
--- same and the edit does not set it
+-- the number that a link of the old network has in the new one: that of the link that ends in the point of the same name, where they are
+-- the same and the edit does not set it
 abbrev pub link_in : (old : Plan) → Edit → (new : Plan) → Link → Option LinkId
 link_in old edit new link =
     if sets_link edit (point_name old.points link.to) then None else option_and_then (λ point. option_and_then (same_link_place old new link) (activation new point)) (point_in old new link.to)

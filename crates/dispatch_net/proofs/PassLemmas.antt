@@ -2,8 +2,7 @@
 use Rattle.std.proofs.Common.{◌≡◌, ℕ, ◌+◌, ◌<◌, ℤ, List, [], ◌∷◌, ◌++◌, map, length, take, get_or, Option, Some, None, ap, sym, ◌∙◌, arith}
 use Rattle.std.specs.Prelude.{IfSome}
 use Rattle.std.specs.List.{cons_option, enumerate_from, filter_map, range_with_len}
-use Rattle.std.proofs.lemmas.Grind.{common_steps}
-use Rattle.std.proofs.lemmas.List.{take_more, map-append, length-map}
+use Rattle.std.proofs.lemmas.List.{map-append, length-map}
 use Rattle.std.proofs.lemmas.List.Elements.{filter_map-append}
 use Rattle.std.proofs.lemmas.List.FromFn.{map-range_with_len_more}
 use Rattle.net_model.specs.Network.{Plan}
@@ -13,6 +12,7 @@ use Rattle.net_model.specs.declared.part.Link.{Link}
 use Rattle.closure_model.specs.Keys.{Key, Shape, edge_of, ordinary_key, labelled_key}
 use Rattle.net_model.specs.Limits.{IsWeight}
 use Rattle.closure_model.specs.Tables.{Graph, weight_of, IsFor, IsGraph}
+use Rattle.closure_model.proofs.Lists.{numbered_more}
 use Rattle.dispatch_net.specs.Dispatchable.{with_moments}
 use Rattle.dispatch_net.specs.declared.dispatch.Conditions.{Conditions}
 
@@ -27,13 +27,6 @@ link_count net graph for = ap (λ (s : Shape). length s.activations) for ∙ len
 -- the points below a number, and one more
 points_more : (k : ℕ) → map (λ (n : ℕ). let p : PointId = record { 0 = n } in p) (range_with_len 0 (k + 1)) ≡ map (λ (n : ℕ). let p : PointId = record { 0 = n } in p) (range_with_len 0 k) ++ record { 0 = k } ∷ []
 points_more k = map-range_with_len_more (λ (n : ℕ). let p : PointId = record { 0 = n } in p) 0 k k (omega arith)
-
-numbered-push : {X : Type 0} (n m : ℕ) (xs : List X) (x : X) → m ≡ n + length xs → enumerate_from n (xs ++ x ∷ []) ≡ enumerate_from n xs ++ (m, x) ∷ []
-numbered-push n m [] x at = let same : n ≡ m = omega arith in ap (λ k. (k, x) ∷ []) same
-numbered-push n m (y ∷ xs) x at = ap (λ es. (n, y) ∷ es) (numbered-push (n + 1) m xs x (omega arith))
-
-numbered-more : {X : Type 0} (k : ℕ) (xs : List X) (d : X) → k < length xs → enumerate_from 0 (take (k + 1) xs) ≡ enumerate_from 0 (take k xs) ++ (k, get_or xs k d) ∷ []
-numbered-more k xs d inside = ap (enumerate_from 0) (take_more xs k d inside) ∙ numbered-push 0 k (take k xs) (get_or xs k d) (grind (arith, common_steps))
 
 -- the lower bounds of a point by those before a number, and its waits by the links before one
 abbrev pub bounds_before : Graph → PointId → ℕ → List (PointId × ℤ)
@@ -71,7 +64,7 @@ wait_pushed graph point k d before after w inside held pushed is =
     pushed
     ∙ (λ i. held i ++ cons_option (with_moments (record { 0 = k }) (is i)) [])
     ∙ sym (filter_map-append give (enumerate_from 0 (take k begins)) ((k, get_or begins k d) ∷ []))
-    ∙ ap (filter_map give) (sym (numbered-more k begins d inside))
+    ∙ ap (filter_map give) (sym (numbered_more k begins d inside))
 
 -- the conditions of one more point
 pub conditions_pushed : (of : PointId → Conditions) (k : ℕ) (before after : List Conditions) (new : Conditions)

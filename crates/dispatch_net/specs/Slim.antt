@@ -1,4 +1,4 @@
--- A dispatchable network without the lower bounds and waits that others imply. Which ones these are is this project's own choice.
+-- A dispatchable network without the lower bounds and waits that others imply.
 use Rattle.std.specs.Prelude.{ℤ, ◌+ℤ◌, ◌==◌, ◌&&◌, ◌||◌, int_le, not, Bool, false, List, map, filter, slice_get}
 use Rattle.std.specs.List.{list_any}
 use Rattle.std.specs.Option.{option_map_or}

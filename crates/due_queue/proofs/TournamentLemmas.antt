@@ -6,7 +6,8 @@ use Rattle.std.proofs.lemmas.Bool.{cases_lt, cases_eq}
 use Rattle.std.proofs.lemmas.List.{get_or_past, get_or-set_same, get_or-set_other, get_or-replicate, length-replicate, length-set}
 use Rattle.std.proofs.lemmas.Option.{none-some, same_Some}
 use Rattle.net_model.specs.declared.ids.PointId.{PointId}
-use Rattle.due_queue.specs.First.{due_in, IsNotAfter, IsFirstDue}
+use Rattle.net_model.specs.Moments.{moment_of}
+use Rattle.due_queue.specs.First.{IsNotAfter, IsFirstDue}
 use Rattle.due_queue.specs.Tournament.{at, entry, IsNoLater, IsFirstOf, AreFirst, AreFirstBut, IsTournament}
 
 -- ---- the order
@@ -96,9 +97,9 @@ module _ (due : List (Option ℕ)) (firsts : List (Option (ℕ × PointId))) (tr
 
   -- what a place holds is a point that is due
   abbrev IsDueIn : ℕ × PointId → Type 0
-  IsDueIn one = (one.1.0 < length due) × (due_in due one.1 ≡ Some one.0)
+  IsDueIn one = (one.1.0 < length due) × (moment_of due one.1 ≡ Some one.0)
 
-  entry_due : (point : PointId) → point.0 < length due → (moment : Option ℕ) → due_in due point ≡ moment → (one : ℕ × PointId) → entry point moment ≡ Some one → IsDueIn one
+  entry_due : (point : PointId) → point.0 < length due → (moment : Option ℕ) → moment_of due point ≡ moment → (one : ℕ × PointId) → entry point moment ≡ Some one → IsDueIn one
   entry_due point below None is one its = absurd (none-some one its)
   entry_due point below (Some m) is one its = subst IsDueIn (same_Some (m, point) one its) (below, is)
 
@@ -117,25 +118,25 @@ module _ (due : List (Option ℕ)) (firsts : List (Option (ℕ × PointId))) (tr
         let point : PointId = record { 0 = place - length due } in
         let below : point.0 < length due = omega (arith, size, inside) in
         let same : length due + point.0 ≡ place = omega (arith, leaf) in
-        entry_due point below (due_in due point) refl one (sym (tree.points point below) ∙ (ap (at firsts) same ∙ is)))
+        entry_due point below (moment_of due point) refl one (sym (tree.points point below) ∙ (ap (at firsts) same ∙ is)))
   ]
 
   -- what the top holds is due first
   pub top_is_first : (first : Option (ℕ × PointId)) → 1 < length firsts → at firsts 1 ≡ first → IsFirstDue due first
   top_is_first first some is = by first is
     where
-      before : (point : PointId) (moment : ℕ) → point.0 < length due → due_in due point ≡ Some moment → ((one : ℕ × PointId) × (at firsts 1 ≡ Some one) × IsNotAfter one (moment, point))
+      before : (point : PointId) (moment : ℕ) → point.0 < length due → moment_of due point ≡ Some moment → ((one : ℕ × PointId) × (at firsts 1 ≡ Some one) × IsNotAfter one (moment, point))
       before point moment below its =
           let size = tree.size in
           top_no_later (length due + point.0) (length due + point.0) (omega arith) (omega arith) (omega (arith, size, below)) (moment, point)
           (tree.points point below ∙ ap (entry point) its)
 
-      not_due : at firsts 1 ≡ None → (point : PointId) → point.0 < length due → (moment : Option ℕ) → due_in due point ≡ moment → moment ≡ None
+      not_due : at firsts 1 ≡ None → (point : PointId) → point.0 < length due → (moment : Option ℕ) → moment_of due point ≡ moment → moment ≡ None
       not_due none point below None its = refl
       not_due none point below (Some moment) its = let one = before point moment below its in absurd (none-some one.0 (sym none ∙ one.1))
 
       by : (first : Option (ℕ × PointId)) → at firsts 1 ≡ first → IsFirstDue due first
-      by None none = λ point below. not_due none point below (due_in due point) refl
+      by None none = λ point below. not_due none point below (moment_of due point) refl
       by (Some one) top =
           let due_one = held_due (length firsts) 1 (omega arith) (omega arith) some one top in (
             due_one.0,
@@ -193,7 +194,7 @@ module _ (due : List (Option ℕ)) (firsts : List (Option (ℕ × PointId))) (tr
   }
     where
       by : (other : PointId) → other.0 < length due → (other.0 ≡ point.0) ⊎ (other.0 ≡ point.0 → ⊥)
-          → at now (length (slice_set due point.0 moment) + other.0) ≡ entry other (due_in (slice_set due point.0 moment) other)
+          → at now (length (slice_set due point.0 moment) + other.0) ≡ entry other (moment_of (slice_set due point.0 moment) other)
       by other below is =
           let size = tree.size in
           let long = length-set due point.0 moment in
@@ -202,7 +203,7 @@ module _ (due : List (Option ℕ)) (firsts : List (Option (ℕ × PointId))) (tr
           let kept : at now (length due + other.0) ≡ at changed (length due + other.0) = leaves (length due + other.0) (omega (arith, size, whole)) in
           ap (at now) place ∙ (kept ∙ its is)
         where
-          its : (other.0 ≡ point.0) ⊎ (other.0 ≡ point.0 → ⊥) → at changed (length due + other.0) ≡ entry other (due_in (slice_set due point.0 moment) other)
+          its : (other.0 ≡ point.0) ⊎ (other.0 ≡ point.0 → ⊥) → at changed (length due + other.0) ≡ entry other (moment_of (slice_set due point.0 moment) other)
           its (inl same) =
               let equal : other ≡ point = ap (λ k. record { 0 = k }) same in
               let size = tree.size in

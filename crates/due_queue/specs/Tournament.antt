@@ -3,7 +3,8 @@ use Rattle.std.specs.Prelude.{◌≡◌, ◌≢◌, ◌⊎◌, ℕ, ◌+◌, ◌
 use Rattle.std.specs.List.{slice_index_or}
 use Rattle.std.specs.Option.{option_map}
 use Rattle.net_model.specs.declared.ids.PointId.{PointId}
-use Rattle.due_queue.specs.First.{due_in, IsNotAfter}
+use Rattle.net_model.specs.Moments.{Moments, moment_of}
+use Rattle.due_queue.specs.First.{IsNotAfter}
 
 -- what a place holds
 abbrev pub at : List (Option (ℕ × PointId)) → (place : ℕ) → Option (ℕ × PointId)
@@ -34,7 +35,7 @@ AreFirstBut below firsts =
     → IsFirstOf (at firsts (2 * place)) (at firsts (2 * place + 1)) (at firsts place)
 
 -- the tree of some points: the last places are the points
-pub record IsTournament (due : List (Option ℕ)) (firsts : List (Option (ℕ × PointId))) : Type 0 where
+pub record IsTournament (due : Moments) (firsts : List (Option (ℕ × PointId))) : Type 0 where
   pub size : length firsts ≡ 2 * length due
-  pub points : (point : PointId) → point.0 < length due → at firsts (length due + point.0) ≡ entry point (due_in due point)
+  pub points : (point : PointId) → point.0 < length due → at firsts (length due + point.0) ≡ entry point (moment_of due point)
   pub first : AreFirst firsts

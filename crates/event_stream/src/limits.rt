@@ -1,4 +1,4 @@
-//! The greatest sizes of a line of events. They are this project's own choice.
+//! The greatest sizes of a line of events.
 
 ghost use Rattle.std.specs.Prelude.{◌≡◌};
 ghost use Rattle.net_model.specs.Limits.{most_moment};

@@ -59,7 +59,7 @@ impl EventReader {
     /// every other answer leaves them as they were. The fault is the first one: `UnknownWord` of the first word;
     /// `WordCount` where `at` has no moment, or `done` has a word after it; then of the words from left to right: of the
     /// moment `BadNumber`, also where it has a `-`, and `NumberLimit` above 4,000,000,000,000; of each name `BadName`, and then
-    /// `UnknownName` where no point of the network has it. It takes no memory. The form is this project's own choice.
+    /// `UnknownName` where no point of the network has it. It takes no memory.
     pub fn read(&mut self, line: &[u8], net: &Network) -> Result<Event, FormatKind>
         requires { length line.now ≤ most_line }
         ensures reads { Answers (event_line net.now (words line.now)) self.old result self.new }

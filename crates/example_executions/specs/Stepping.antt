@@ -1,7 +1,8 @@
 -- Parts of an execution that is stepped through moment by moment.
 use Rattle.std.specs.Prelude.{◌≡◌, ℕ, ◌+◌, ◌<◌, ◌≤◌, List, [], Option, Some, None, Result, Ok, Err}
 use Rattle.net_model.specs.declared.ids.PointId.{PointId}
-use Rattle.execution_model.specs.Execution.{Moments, Setting, acts_at}
+use Rattle.net_model.specs.Moments.{Moments}
+use Rattle.execution_model.specs.Execution.{Setting, acts_at}
 use Rattle.execution_model.specs.Feeding.{Execution, next_moment, completions_taken, none_overdue, taken, after_feed, IsNextDue}
 use Rattle.execution_model.specs.declared.feeding.Why.{Why}
 

@@ -3,7 +3,8 @@
 ghost use Rattle.std.specs.Prelude.{◌≡◌, IfOk, map, length, []};
 ghost use Rattle.std.specs.List.{list_all, range_with_len};
 ghost use Rattle.dispatch_net.specs.Dispatchable.{conditions_at};
-ghost use Rattle.execution_model.specs.Execution.{moment_of, has_gone_by, link_to, meets_bound, meets_wait, meets, is_due, points_of};
+ghost use Rattle.net_model.specs.Moments.{moment_of};
+ghost use Rattle.execution_model.specs.Execution.{has_gone_by, link_to, meets_bound, meets_wait, meets, is_due, points_of};
 
 use dispatch_net::Dispatch;
 use net_model::{Link, LinkId, Network, PointId, Weight};

@@ -1,7 +1,8 @@
 //! An executor that steps through every moment.
 
 ghost use Rattle.std.specs.Prelude.{◌≡◌, ◌++◌, ◌-◌, IfOk, OnOk, Some, length, true, false};
-ghost use Rattle.execution_model.specs.Execution.{Moments, moment_of, acts_at, acted, acts_while};
+ghost use Rattle.net_model.specs.Moments.{Moments, moment_of};
+ghost use Rattle.execution_model.specs.Execution.{acts_at, acted, acts_while};
 ghost use Rattle.execution_model.specs.Feeding.{started, next_moment, moments_to, moments_before, refusal_of_moment, IsFed, IsWhole, IsFinished};
 ghost use Rattle.example_executions.specs.Stepping.{IsTaken, IsDueAnswerWithin, IsNextDueWithin, many_moments};
 

@@ -3,7 +3,8 @@
 ghost use Rattle.std.specs.Prelude.{◌≡◌, ◌++◌, ◌-◌, ◌∷◌, [], IfOk, OnOk, map, filter, if◌then◌else◌, Some, ◌≢◌, true, false, IsSome};
 ghost use Rattle.std.specs.List.{All};
 ghost use Rattle.execution_model.specs.Feeding.{started, last_of};
-ghost use Rattle.execution_model.specs.Execution.{moment_of, is_due, acts_at, acted, time_runs, acts_while};
+ghost use Rattle.net_model.specs.Moments.{moment_of};
+ghost use Rattle.execution_model.specs.Execution.{is_due, acts_at, acted, time_runs, acts_while};
 ghost use Rattle.execution_model.specs.declared.feeding.Act.{Act};
 
 use crate::lists::{Lists, moment_of};

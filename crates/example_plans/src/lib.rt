@@ -7,8 +7,8 @@ use plan_format::PlanReader;
 use std::alloc::Global;
 use std::test::Fail;
 
-/// The network of the lines of a plan, without its first and its last, with `|` between them. It fails where a line is no line of a plan, where a
-/// part is refused, and for want of memory.
+/// The network of the lines of a plan, without its first and its last, with `|` between them. It fails where a line is no line of a plan,
+/// where a part is refused, and for want of memory.
 pub fn network(alloc: Global, lines: &str) -> Result<Network, Fail> {
     let mut reader = PlanReader::new(alloc);
     read_lines(&mut reader, lines)?;

@@ -91,12 +91,12 @@ fn check<R: Threads + Sync + Abort>(rt: &R, alloc: Global, row: &str) -> Result<
     Ok(())
 }
 
-/// Rows: the parts of a network, its lower bounds and waits, and what is left of them; points and links go by their numbers. In order: a bound and a
-/// wait; a bound; none. A bound that two others together are beyond, that they just reach, and that they do not reach. One that is just reached over a
-/// link's shortest duration, and one only over its longest, each beside a wait that falls with a bound on the end of its link. A wait that a bound on
-/// its activation point just reaches, and one that it does not. A wait that a bound and another wait together just reach, and one that they do not.
-/// Bounds, and then waits, that are left out over others which are left out too: of another point, with the points numbered from the first on and from
-/// the last, and of the same point. A bound on the end of another link.
+/// Rows: the parts of a network, its lower bounds and waits, and what is left of them; points and links go by their numbers. In order: a
+/// bound and a wait; a bound; none. A bound that two others together are beyond, that they just reach, and that they do not reach. One that
+/// is just reached over a link's shortest duration, and one only over its longest, each beside a wait that falls with a bound on the end of
+/// its link. A wait that a bound on its activation point just reaches, and one that it does not. A wait that a bound and another wait
+/// together just reach, and one that they do not. Bounds, and then waits, that are left out over others which are left out too: of another
+/// point, with the points numbered from the first on and from the last, and of the same point. A bound on the end of another link.
 const DISPATCHES: &str =
     "point A|point C|point X|bound b X C 2|link A 3 8 C => 2 after 0 by 3|2 waits for 0 by 6| => 2 after 0 by 3|2 waits for 0 by 6|
 point A|point B|bound b B A -2 => 1 after 0 by 2| => 1 after 0 by 2|

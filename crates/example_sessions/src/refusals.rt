@@ -1,5 +1,5 @@
-//! What stands after a growth of memory is refused: a broken session that keeps its network, and is whole again after `reopen`. Nothing is refused
-//! while the gate runs; `tools/fail-each-growth` refuses one growth after the other from outside.
+//! What stands after a growth of memory is refused: a broken session that keeps its network, and is whole again after `reopen`. Nothing is
+//! refused while the gate runs; `tools/fail-each-growth` refuses one growth after the other from outside.
 
 use example_plans::{edit, network};
 use net_model::{Edit, Network};

@@ -16,8 +16,8 @@ use std::thread::Threads;
 
 /// A plan, the lines of a session, and the answers. First a loop that no single situation shows, dropped and added again; a bound whose key
 /// falls back to an older one; entries that follow from each other and go together with what both rest on; a wait that follows its link; a
-/// bound that is tightened until it breaks; two bounds of which one is dropped and added again; and the first plan, whose session is reopened as it
-/// was opened and as it was edited.
+/// bound that is tightened until it breaks; two bounds of which one is dropped and added again; and the first plan, whose session is
+/// reopened as it was opened and as it was edited.
 const SESSIONS: [(&str, &str, &str); 7] = [
     (
         "point A|point C|point D|bound b1 D C 1|bound b2 C D -1|link A 3 8 C",

@@ -10,7 +10,8 @@ use Rattle.closure_model.specs.Tables.{Graph}
 use Rattle.strategy_model.specs.Situations.{moment_in}
 use Rattle.strategy_model.proofs.KindLemmas.{kind, ending_known}
 use Rattle.dispatch_net.proofs.ExecutionLemmas.{dispatchable_length}
-use Rattle.execution_model.specs.Execution.{Moments, Setting, is_due, acts_at, acted, acts_while}
+use Rattle.net_model.specs.Moments.{Moments}
+use Rattle.execution_model.specs.Execution.{Setting, is_due, acts_at, acted, acts_while}
 use Rattle.execution_model.specs.Feeding.{Execution, next_moment, moments_to, after_feed}
 use Rattle.execution_model.specs.Streams.{Listing}
 use Rattle.execution_model.specs.Timely.{with_completed}

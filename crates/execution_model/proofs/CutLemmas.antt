@@ -27,7 +27,8 @@ use Rattle.dispatch_net.specs.Execution.{IsExecutedBy, IsFirst, bound_asks, wait
 use Rattle.dispatch_net.specs.Laws.{AreExact}
 use Rattle.dispatch_net.proofs.ExactLemmas.{lists_are_exact}
 use Rattle.dispatch_net.proofs.ExecutionLemmas.{dispatchable_length, point_count}
-use Rattle.execution_model.specs.Execution.{Moments, Setting, moment_of, has_come, has_gone_by, meets_bound, meets_wait_for, meets_wait, meets, is_due, link_to, acted}
+use Rattle.net_model.specs.Moments.{Moments, moment_of}
+use Rattle.execution_model.specs.Execution.{Setting, has_come, has_gone_by, meets_bound, meets_wait_for, meets_wait, meets, is_due, link_to, acted}
 use Rattle.execution_model.specs.Laws.{setting_of}
 use Rattle.execution_model.proofs.LinkLemmas.{executable_has_none}
 use Rattle.execution_model.proofs.MomentLemmas.{length-acted, moment_due, moment_not_due, due_from, contingent_not_due, acted_keeps}

@@ -13,7 +13,8 @@ use Rattle.closure_model.specs.Tables.{Graph}
 use Rattle.strategy_model.specs.Control.{IsEarliest}
 use Rattle.strategy_model.specs.Situations.{moment_in}
 use Rattle.dispatch_net.proofs.ExecutionLemmas.{dispatchable_length}
-use Rattle.execution_model.specs.Execution.{Moments, Setting, moment_of, time_runs, acts_while}
+use Rattle.net_model.specs.Moments.{Moments, moment_of}
+use Rattle.execution_model.specs.Execution.{Setting, time_runs, acts_while}
 use Rattle.net_model.specs.Limits.{most_moment}
 use Rattle.execution_model.specs.Feeding.{Execution, started, next_moment, taken, after_feed, first_open, IsWhole, IsFed, IsFinished}
 use Rattle.execution_model.specs.Streams.{Listing, Stream, Shows, IsFaithful, last_moment, cut_at, fixed_by}

@@ -12,7 +12,8 @@ use Rattle.net_model.specs.declared.ids.PointId.{PointId}
 use Rattle.closure_model.specs.Tables.{Graph, IsFor}
 use Rattle.strategy_model.specs.Plays.{IsInstant}
 use Rattle.dispatch_net.proofs.ExecutionLemmas.{dispatchable_length}
-use Rattle.execution_model.specs.Execution.{Moments, Setting, points_of}
+use Rattle.net_model.specs.Moments.{Moments}
+use Rattle.execution_model.specs.Execution.{Setting, points_of}
 use Rattle.net_model.specs.Limits.{most_moment}
 use Rattle.execution_model.specs.Feeding.{Execution, started, next_moment, refusal_of_moment, completed_in, taken, after_feed}
 use Rattle.execution_model.specs.Streams.{Listing}

@@ -12,7 +12,8 @@ use Rattle.strategy_model.specs.Situations.{moment_in}
 use Rattle.strategy_model.specs.Plays.{same_point}
 use Rattle.strategy_model.proofs.PlayLemmas.{link_sound}
 use Rattle.strategy_model.proofs.KindLemmas.{Ending, not_ending}
-use Rattle.execution_model.specs.Execution.{Setting, moment_of, link_to, acted, time_runs}
+use Rattle.net_model.specs.Moments.{moment_of}
+use Rattle.execution_model.specs.Execution.{Setting, link_to, acted, time_runs}
 use Rattle.execution_model.specs.Feeding.{Execution, next_moment, moments_to, moments_before}
 use Rattle.execution_model.specs.Streams.{Listing}
 use Rattle.execution_model.specs.Timely.{CompletesInTime, IsInTime, with_completed, AreInTime}

@@ -17,7 +17,8 @@ use Rattle.strategy_model.specs.Control.{IsEarliest}
 use Rattle.strategy_model.proofs.KindLemmas.{Ending}
 use Rattle.dispatch_net.proofs.ExecutionLemmas.{dispatchable_length, executions_satisfy}
 use Rattle.dispatch_net.proofs.EarliestLemmas.{closures_execute_earliest}
-use Rattle.execution_model.specs.Execution.{Moments, Setting, has_come, points_of, link_to, time_runs}
+use Rattle.net_model.specs.Moments.{Moments}
+use Rattle.execution_model.specs.Execution.{Setting, has_come, points_of, link_to, time_runs}
 use Rattle.execution_model.specs.Feeding.{Execution, started, next_moment, is_open, first_open}
 use Rattle.execution_model.specs.Streams.{Listing, IsListed, Shows, IsFaithful, last_moment}
 use Rattle.execution_model.specs.Timely.{AreInTime, fed_all}

@@ -12,7 +12,8 @@ use Rattle.net_model.specs.declared.ids.PointId.{PointId}
 use Rattle.net_model.specs.declared.part.Link.{Link}
 use Rattle.closure_model.proofs.KeyLists.{Contains-points}
 use Rattle.closure_model.proofs.Lists.{Contains-none, Contains-cases}
-use Rattle.execution_model.specs.Execution.{Moments, Setting, moment_of, points_of, link_to, meets, is_due, acts_at, acted, time_runs}
+use Rattle.net_model.specs.Moments.{Moments, moment_of}
+use Rattle.execution_model.specs.Execution.{Setting, points_of, link_to, meets, is_due, acts_at, acted, time_runs}
 use Rattle.execution_model.specs.Feeding.{completed_at}
 use Rattle.execution_model.specs.declared.feeding.Act.{Act}
 use Rattle.dispatch_net.specs.Dispatchable.{conditions_at}

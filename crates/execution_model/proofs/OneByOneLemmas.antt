@@ -12,7 +12,8 @@ use Rattle.net_model.specs.declared.ids.LinkId.{LinkId}
 use Rattle.net_model.specs.declared.part.Link.{Link}
 use Rattle.closure_model.proofs.Lists.{Contains-head, Contains-tail}
 use Rattle.dispatch_net.specs.Dispatchable.{conditions_at}
-use Rattle.execution_model.specs.Execution.{Moments, Setting, moment_of, has_come, has_gone_by, link_to, meets_bound, meets_wait_for, meets_wait, meets, is_due}
+use Rattle.net_model.specs.Moments.{Moments, moment_of}
+use Rattle.execution_model.specs.Execution.{Setting, has_come, has_gone_by, link_to, meets_bound, meets_wait_for, meets_wait, meets, is_due}
 use Rattle.execution_model.specs.Feeding.{completed_at}
 use Rattle.execution_model.proofs.MomentLemmas.{due_parts, completed_keeps, moment_of_other, moment_completed}
 use Rattle.execution_model.specs.Paced.{IsRankedNetwork, ArePaced, ActsComeOneByOne}

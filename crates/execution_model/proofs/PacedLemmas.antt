@@ -11,7 +11,8 @@ use Rattle.net_model.specs.declared.ids.LinkId.{LinkId}
 use Rattle.net_model.specs.declared.part.Link.{Link}
 use Rattle.dispatch_net.specs.declared.dispatch.Conditions.{Conditions}
 use Rattle.dispatch_net.specs.Dispatchable.{conditions_at, no_conditions}
-use Rattle.execution_model.specs.Execution.{Moments, Setting, moment_of, has_come, has_gone_by, link_to, meets_bound, meets_wait_for, meets_wait, meets, acted, time_runs, points_of}
+use Rattle.net_model.specs.Moments.{Moments, moment_of}
+use Rattle.execution_model.specs.Execution.{Setting, has_come, has_gone_by, link_to, meets_bound, meets_wait_for, meets_wait, meets, acted, time_runs, points_of}
 use Rattle.execution_model.specs.Feeding.{started, completed_at, refusal_of, completions_taken}
 use Rattle.execution_model.specs.Timely.{CompletesInTime}
 use Rattle.execution_model.specs.declared.feeding.Why.{Why}

@@ -12,7 +12,8 @@ use Rattle.closure_model.proofs.OrderLemmas.{among_from, from_among}
 use Rattle.strategy_model.proofs.PlayLemmas.{link_sound}
 use Rattle.strategy_model.proofs.KnownLemmas.{some_from_none}
 use Rattle.strategy_model.proofs.KindLemmas.{Ending, kind_of_any, ending_known}
-use Rattle.execution_model.specs.Execution.{Moments, Setting, moment_of, has_gone_by, link_to}
+use Rattle.net_model.specs.Moments.{Moments, moment_of}
+use Rattle.execution_model.specs.Execution.{Setting, has_gone_by, link_to}
 use Rattle.execution_model.proofs.LinkLemmas.{link_to_is_link, link_of_is_link_to}
 use Rattle.execution_model.proofs.MomentLemmas.{completed_all, moment_not_listed, moment_listed}
 

@@ -5,7 +5,8 @@ use Rattle.std.specs.List.{All, range_with_len}
 use Rattle.std.specs.Option.{option_map_or, option_and_then}
 use Rattle.std.proofs.lemmas.List.{length-map}
 use Rattle.net_model.specs.declared.ids.PointId.{PointId}
-use Rattle.execution_model.specs.Execution.{Moments, Setting, moment_of, points_of, is_due, acts_at, acted, time_runs, acts_while}
+use Rattle.net_model.specs.Moments.{Moments, moment_of}
+use Rattle.execution_model.specs.Execution.{Setting, points_of, is_due, acts_at, acted, time_runs, acts_while}
 use Rattle.execution_model.specs.Feeding.{Execution, next_moment, moments_to, moments_before, refusal_of, completed_at, completions_taken, is_overdue, overdue_why, first_overdue, none_overdue, completed_in, refusal_of_moment, taken, after_feed, IsFed, is_open, first_open, last_of, IsWhole, IsFinished, IsNextDue}
 use Rattle.execution_model.specs.Streams.{Listing}
 use Rattle.execution_model.specs.Timely.{fed_all}

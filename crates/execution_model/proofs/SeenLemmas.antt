@@ -14,7 +14,8 @@ use Rattle.closure_model.specs.Tables.{Graph}
 use Rattle.strategy_model.specs.Situations.{moment_in}
 use Rattle.strategy_model.proofs.PlayLemmas.{link_sound}
 use Rattle.strategy_model.proofs.KindLemmas.{Ending}
-use Rattle.execution_model.specs.Execution.{Moments, Setting, moment_of, time_runs}
+use Rattle.net_model.specs.Moments.{Moments, moment_of}
+use Rattle.execution_model.specs.Execution.{Setting, time_runs}
 use Rattle.execution_model.specs.Feeding.{Execution, next_moment, moments_to, moments_before}
 use Rattle.execution_model.specs.Streams.{Listing}
 use Rattle.execution_model.specs.Timely.{CompletesInTime, IsInTime, AreInTime}

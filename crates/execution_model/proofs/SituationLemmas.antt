@@ -14,7 +14,7 @@ use Rattle.net_model.specs.declared.part.Link.{Link}
 use Rattle.strategy_model.specs.Situations.{IsSituation, IsDuration}
 use Rattle.strategy_model.proofs.PlayLemmas.{link_sound}
 use Rattle.strategy_model.proofs.KindLemmas.{Ending}
-use Rattle.execution_model.specs.Execution.{Moments, moment_of}
+use Rattle.net_model.specs.Moments.{Moments, moment_of}
 use Rattle.execution_model.specs.Feeding.{Execution, next_moment, moments_to, moments_before}
 use Rattle.execution_model.specs.Streams.{Listing}
 use Rattle.execution_model.specs.Timely.{CompletesInTime, IsInTime, with_completed, AreInTime}

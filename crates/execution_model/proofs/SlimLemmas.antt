@@ -9,7 +9,8 @@ use Rattle.net_model.specs.declared.ids.LinkId.{LinkId}
 use Rattle.net_model.specs.declared.part.Link.{Link}
 use Rattle.dispatch_net.specs.declared.dispatch.Conditions.{Conditions}
 use Rattle.dispatch_net.specs.Dispatchable.{conditions_at}
-use Rattle.execution_model.specs.Execution.{Moments, Setting, moment_of, has_come, has_gone_by, link_to, meets_bound, meets_wait_for, meets_wait, meets}
+use Rattle.net_model.specs.Moments.{Moments, moment_of}
+use Rattle.execution_model.specs.Execution.{Setting, has_come, has_gone_by, link_to, meets_bound, meets_wait_for, meets_wait, meets}
 use Rattle.execution_model.proofs.PlaceLemmas.{gone_by, from_gone_by}
 use Rattle.dispatch_net.proofs.SlimLists.{list_passes, passes_each, any_is, kept_there, there_kept, same_point, adds_up, no_less, some_low, link_there, slim_at}
 use Rattle.dispatch_net.specs.Slim.{over_point, over_link, is_bound_implied, over_end, over_wait, is_wait_implied, slim_conditions}

@@ -14,7 +14,8 @@ use Rattle.closure_model.proofs.Lists.{Contains-none, Contains-head, Contains-ta
 use Rattle.strategy_model.specs.Situations.{moment_in}
 use Rattle.strategy_model.specs.Plays.{same_point}
 use Rattle.dispatch_net.proofs.ExecutionLemmas.{dispatchable_length}
-use Rattle.execution_model.specs.Execution.{Moments, points_of}
+use Rattle.net_model.specs.Moments.{Moments}
+use Rattle.execution_model.specs.Execution.{points_of}
 use Rattle.execution_model.specs.Feeding.{Execution, started}
 use Rattle.execution_model.specs.Streams.{Listing, IsListed, Shows, cut_at}
 use Rattle.execution_model.specs.Laws.{setting_of, going_on, ended}

@@ -5,7 +5,8 @@ use Rattle.net_model.specs.declared.ids.PointId.{PointId}
 use Rattle.closure_model.specs.Tables.{Graph}
 use Rattle.strategy_model.specs.Situations.{moment_in}
 use Rattle.strategy_model.proofs.KindLemmas.{Ending}
-use Rattle.execution_model.specs.Execution.{Moments, acted, time_runs}
+use Rattle.net_model.specs.Moments.{Moments}
+use Rattle.execution_model.specs.Execution.{acted, time_runs}
 use Rattle.execution_model.specs.Laws.{setting_of}
 use Rattle.execution_model.proofs.PlaceLemmas.{ending_point}
 use Rattle.execution_model.proofs.CutLemmas.{IsCut, IsSeen, IsRun, acts_cut}

@@ -15,7 +15,8 @@ use Rattle.net_model.specs.declared.part.Link.{Link}
 use Rattle.closure_model.specs.Orders.{is_among}
 use Rattle.closure_model.proofs.OrderLemmas.{find_some, find_none, among_from, from_among}
 use Rattle.strategy_model.specs.Plays.{same_point}
-use Rattle.execution_model.specs.Execution.{Moments, Setting, moment_of, points_of, link_to}
+use Rattle.net_model.specs.Moments.{Moments, moment_of}
+use Rattle.execution_model.specs.Execution.{Setting, points_of, link_to}
 use Rattle.net_model.specs.Limits.{most_moment}
 use Rattle.execution_model.specs.Feeding.{Execution, next_moment, moments_to, moments_before, refusal_of_duration, activated_before, refusal_of_completion, refusal_of, completed_at, completions_taken, latest_of, is_overdue, overdue_why, first_overdue, none_overdue, completed_in, refusal_of_moment, taken}
 use Rattle.execution_model.specs.Timely.{CompletesInTime, IsInTime, with_completed}

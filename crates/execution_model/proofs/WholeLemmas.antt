@@ -30,7 +30,8 @@ use Rattle.dispatch_net.specs.declared.dispatch.Conditions.{Conditions}
 use Rattle.dispatch_net.specs.Laws.{AreExact}
 use Rattle.dispatch_net.proofs.ExactLemmas.{lists_are_exact}
 use Rattle.dispatch_net.proofs.ExecutionLemmas.{point_count, dispatchable_length}
-use Rattle.execution_model.specs.Execution.{Moments, moment_of, has_come, has_gone_by, meets_bound, meets_wait_for, meets_wait, meets, is_due, acts_at}
+use Rattle.net_model.specs.Moments.{Moments, moment_of}
+use Rattle.execution_model.specs.Execution.{has_come, has_gone_by, meets_bound, meets_wait_for, meets_wait, meets, is_due, acts_at}
 use Rattle.execution_model.specs.Laws.{setting_of, NoActsLeftIsWhole}
 use Rattle.execution_model.proofs.LinkLemmas.{executable_has_none}
 use Rattle.execution_model.proofs.MomentLemmas.{all_come, due_from, no_acts_none_due}

@@ -7,7 +7,7 @@ use Rattle.strategy_model.specs.Plays.{points_of}
 use Rattle.strategy_model.specs.Situations.{moment_in}
 use Rattle.closure_model.specs.Tables.{Graph}
 use Rattle.execution_model.specs.Feeding.{Execution, started, next_moment, taken, after_feed, IsWhole}
-use Rattle.execution_model.specs.Execution.{Moments}
+use Rattle.net_model.specs.Moments.{Moments}
 use Rattle.execution_model.specs.Laws.{IsDispatchedByClosure, setting_of, going_on, ended}
 use Rattle.execution_model.specs.Streams.{Listing, Shows}
 use Rattle.execution_model.specs.Timely.{fed_all}

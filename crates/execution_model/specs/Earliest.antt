@@ -9,7 +9,7 @@ use Rattle.strategy_model.specs.Control.{Controls, IsEarliest}
 use Rattle.strategy_model.specs.Plays.{play}
 use Rattle.strategy_model.specs.Situations.{moment_in}
 use Rattle.strategy_model.specs.declared.tree.Tree.{Tree}
-use Rattle.execution_model.specs.Execution.{Moments, moment_of}
+use Rattle.net_model.specs.Moments.{Moments, moment_of}
 use Rattle.net_model.specs.Limits.{most_moment}
 use Rattle.execution_model.specs.Feeding.{Execution, started, next_moment, IsFed, IsFinished}
 use Rattle.execution_model.specs.Streams.{Listing, Stream, Shows, IsFaithful, fixed_by}

@@ -1,9 +1,9 @@
 -- How a dispatchable network is executed, moment by moment: an executable point comes at the first moment that meets its lower bounds
--- and waits (waits: Morris, Muscettola and Vidal 2001). That the completions of a moment are seen before its acts is this project's own
--- choice.
+-- and waits (waits: Morris, Muscettola and Vidal 2001). The completions of a moment are seen before its acts.
 use Rattle.std.specs.Prelude.{ℕ, ℤ, zero, suc, ◌+◌, ◌==◌, ◌&&◌, ◌||◌, nat_le, unsigned_abs, Bool, false, List, [], ◌++◌, length, map, filter, find, Option, Some, None, is_some, is_none, slice_get, if◌then◌else◌}
-use Rattle.std.specs.List.{list_all, range_with_len, slice_index_or}
+use Rattle.std.specs.List.{list_all, range_with_len}
 use Rattle.std.specs.Option.{option_map_or}
+use Rattle.net_model.specs.Moments.{Moments, moment_of}
 use Rattle.net_model.specs.declared.ids.PointId.{PointId}
 use Rattle.net_model.specs.declared.ids.LinkId.{LinkId}
 use Rattle.net_model.specs.declared.part.Link.{Link}
@@ -11,15 +11,7 @@ use Rattle.dispatch_net.specs.declared.dispatch.Conditions.{Conditions}
 use Rattle.dispatch_net.specs.Dispatchable.{conditions_at}
 use Rattle.execution_model.specs.declared.feeding.Act.{Act}
 
--- the moments so far: for each point the moment that it has by now, in the order of the points
-abbrev pub Moments : Type 0
-Moments = List (Option ℕ)
-
--- the moment that a point has so far
-abbrev pub moment_of : Moments → PointId → Option ℕ
-moment_of moments point = slice_index_or moments point.0 None
-
--- a point was executed, or has completed
+-- a point was executed, or has completed, by the moments so far: those that points have by now
 abbrev pub has_come : Moments → PointId → Bool
 has_come moments point = is_some (moment_of moments point)
 

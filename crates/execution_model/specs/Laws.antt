@@ -10,7 +10,8 @@ use Rattle.closure_model.specs.Orders.{IsOrder}
 use Rattle.strategy_model.specs.Plays.{IsInstant}
 use Rattle.strategy_model.specs.Control.{IsEarliest}
 use Rattle.dispatch_net.specs.Dispatchable.{MayDispatch, dispatchable}
-use Rattle.execution_model.specs.Execution.{Moments, Setting, moment_of, acts_at}
+use Rattle.net_model.specs.Moments.{Moments, moment_of}
+use Rattle.execution_model.specs.Execution.{Setting, acts_at}
 use Rattle.net_model.specs.Limits.{most_moment}
 use Rattle.execution_model.specs.Feeding.{Execution, started, taken, first_open, IsWhole}
 use Rattle.execution_model.specs.Streams.{Listing, Stream, Shows, IsFaithful, fixed_by, IsExecution}

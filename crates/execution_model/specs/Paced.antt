@@ -4,7 +4,8 @@ use Rattle.std.specs.List.{Contains}
 use Rattle.net_model.specs.declared.ids.PointId.{PointId}
 use Rattle.net_model.specs.declared.part.Link.{Link}
 use Rattle.dispatch_net.specs.Dispatchable.{conditions_at, no_conditions}
-use Rattle.execution_model.specs.Execution.{Moments, Setting, moment_of, link_to, meets, is_due, acts_at, acted}
+use Rattle.net_model.specs.Moments.{Moments, moment_of}
+use Rattle.execution_model.specs.Execution.{Setting, link_to, meets, is_due, acts_at, acted}
 use Rattle.execution_model.specs.Feeding.{completed_at}
 use Rattle.execution_model.specs.declared.feeding.Act.{Act}
 use Rattle.dispatch_net.specs.Ranked.{IsRanked}

@@ -1,5 +1,5 @@
 -- Streams of completions: when a stream is faithful, and what its execution is. Only schedules and strategies are spoken of here.
--- (Dynamic execution over observed completions: Morris, Muscettola and Vidal 2001; the form of the stream is this project's own choice.)
+-- (Dynamic execution over observed completions: Morris, Muscettola and Vidal 2001.)
 use Rattle.std.specs.Prelude.{◌≡◌, ◌⊎◌, ℕ, ◌<◌, ◌≤◌, nat_le, Bool, false, IsTrue, List, map, fold, Option, Some, None, if◌then◌else◌}
 use Rattle.std.specs.List.{All, AllPairs, Contains, IsDistinct}
 use Rattle.std.specs.Option.{option_map_or}
@@ -8,7 +8,7 @@ use Rattle.net_model.specs.declared.ids.PointId.{PointId}
 use Rattle.strategy_model.specs.Situations.{moment_in}
 use Rattle.strategy_model.specs.Plays.{same_point}
 use Rattle.strategy_model.specs.Control.{IsEarliest}
-use Rattle.execution_model.specs.Execution.{Moments}
+use Rattle.net_model.specs.Moments.{Moments}
 
 -- a moment, and the points that are listed as completed at it
 pub record Listing : Type 0 where

@@ -4,7 +4,8 @@ use Rattle.std.specs.List.{All, Contains, IsDistinct}
 use Rattle.net_model.specs.declared.ids.PointId.{PointId}
 use Rattle.net_model.specs.declared.part.Link.{Link}
 use Rattle.strategy_model.specs.Plays.{same_point}
-use Rattle.execution_model.specs.Execution.{Moments, Setting, moment_of, link_to}
+use Rattle.net_model.specs.Moments.{Moments, moment_of}
+use Rattle.execution_model.specs.Execution.{Setting, link_to}
 use Rattle.execution_model.specs.Feeding.{Execution, next_moment, moments_before, completed_at, taken, after_feed}
 use Rattle.execution_model.specs.Streams.{Listing}
 use Rattle.execution_model.specs.declared.feeding.Why.{Why}

@@ -88,8 +88,8 @@ pub fn slim_is_due_the_same()
     ensures { SlimIsDueTheSame }
 {}
 
-/// From the start of a network that is dispatched by a closed table with an order, whatever is fed, ended or asked comes to the same by what
-/// is left of the lists when those lower bounds and waits are left out that others imply.
+/// From the start of a network that is dispatched by a closed table with an order, whatever is fed, ended or asked comes to the same by
+/// what is left of the lists when those lower bounds and waits are left out that others imply.
 pub fn slim_feeds_are_the_same()
     ensures { SlimFeedsAreTheSame }
 {}

@@ -1,8 +1,7 @@
 -- One step of each loop over a table, over plain variables.
 use Rattle.std.proofs.Common.{◌≡◌, ℕ, ◌+◌, ◌<◌, List, [], ◌∷◌, ◌++◌, map, fold, length, take, get_or, ap, sym, subst, ◌∙◌, arith}
 use Rattle.std.specs.List.{All, enumerate_from}
-use Rattle.std.proofs.lemmas.Grind.{common_steps}
-use Rattle.std.proofs.lemmas.List.{take_more, map-append}
+use Rattle.std.proofs.lemmas.List.{map-append}
 use Rattle.std.proofs.lemmas.List.Sums.{fold-append}
 use Rattle.std.proofs.lemmas.List.FromFn.{get_or-enumerate_from, length-enumerate_from}
 use Rattle.net_model.specs.Network.{Plan, IsPlan}
@@ -13,15 +12,9 @@ use Rattle.net_model.specs.declared.part.Link.{Link}
 use Rattle.closure_model.specs.Keys.{Shape, shape_of}
 use Rattle.closure_model.specs.Tables.{Graph, lowered, no_edges, base_table}
 use Rattle.closure_model.proofs.BaseLemmas.{bound_edges_sound, link_edges_sound}
+use Rattle.closure_model.proofs.Lists.{numbered_more}
 use Rattle.closure_model.proofs.TableLemmas.{all_lowered-shape}
 use Rattle.labelled_graph.specs.Changes.{IsEdgeFor}
-
-numbered-push : {X : Type 0} (n m : ℕ) (xs : List X) (x : X) → m ≡ n + length xs → enumerate_from n (xs ++ x ∷ []) ≡ enumerate_from n xs ++ (m, x) ∷ []
-numbered-push n m [] x at = let same : n ≡ m = omega arith in ap (λ k. (k, x) ∷ []) same
-numbered-push n m (y ∷ xs) x at = ap (λ es. (n, y) ∷ es) (numbered-push (n + 1) m xs x (omega arith))
-
-numbered-more : {X : Type 0} (k : ℕ) (xs : List X) (d : X) → k < length xs → enumerate_from 0 (take (k + 1) xs) ≡ enumerate_from 0 (take k xs) ++ (k, get_or xs k d) ∷ []
-numbered-more k xs d inside = ap (enumerate_from 0) (take_more xs k d inside) ∙ numbered-push 0 k (take k xs) (get_or xs k d) (grind (arith, common_steps))
 
 -- ---- lowering
 -- an edge for the table before the loop is one for the table in it
@@ -45,7 +38,7 @@ pub links_lowered-more : (before now after : Graph) (links : List Link) (k : ℕ
 links_lowered-more before now after links k d inside held step =
     let f : ℕ × Link → Edge = λ e. link_edge (record { 0 = e.0 }) e.1 in
     let last : Edge = link_edge (record { 0 = k }) (get_or links k d) in
-    let split : map f (enumerate_from 0 (take (k + 1) links)) ≡ map f (enumerate_from 0 (take k links)) ++ last ∷ [] = ap (map f) (numbered-more k links d inside) ∙ map-append f (enumerate_from 0 (take k links)) ((k, get_or links k d) ∷ []) in
+    let split : map f (enumerate_from 0 (take (k + 1) links)) ≡ map f (enumerate_from 0 (take k links)) ++ last ∷ [] = ap (map f) (numbered_more k links d inside) ∙ map-append f (enumerate_from 0 (take k links)) ((k, get_or links k d) ∷ []) in
     step ∙ ap (λ g. lowered g last) held ∙ sym (fold-append lowered before (map f (enumerate_from 0 (take k links))) (last ∷ [])) ∙ sym (ap (fold lowered before) split)
 
 -- ---- the base table, by bounds and then by links

@@ -13,8 +13,9 @@ use Rattle.closure_model.proofs.Lists.{Contains-none}
 use Rattle.closure_model.proofs.OrderLemmas.{IsFound, find_some}
 use Rattle.net_model.specs.declared.ids.PointId.{PointId}
 use Rattle.net_model.specs.declared.part.Link.{Link}
-use Rattle.due_queue.specs.First.{due_in, IsNotAfter, IsFirstDue}
-use Rattle.execution_model.specs.Execution.{Moments, Setting, moment_of, has_come, link_to}
+use Rattle.net_model.specs.Moments.{Moments, moment_of}
+use Rattle.due_queue.specs.First.{IsNotAfter, IsFirstDue}
+use Rattle.execution_model.specs.Execution.{Setting, has_come, link_to}
 use Rattle.execution_model.specs.Feeding.{completed_at, latest_of, is_overdue, first_overdue}
 use Rattle.execution_model.proofs.MomentLemmas.{moment_completed, moment_of_other}
 use Rattle.live_executor.specs.Awaited.{AreActivated, AreActivatedBy, IsNotActivatedBy, AreLatest, IsLatestOrKept}
@@ -155,11 +156,11 @@ module _ (setting : Setting) (moments : Moments) (moment : ℕ) (latest : List (
 module _ (setting : Setting) (moments : Moments) (come : PointId) (points : List PointId) (old : List (Option ℕ)) where
   -- of the first points of a list, and of the point itself, the latest moment is found; of others it is what it was
   abbrev pub IsNoted : (i : ℕ) → (now : List (Option ℕ)) → PointId → Type 0
-  IsNoted i now other = (due_in now other ≡ latest_of setting moments other) ⊎ ((due_in now other ≡ due_in old other) × (other.0 ≢ come.0) × (times (take i points) other ≡ 0))
+  IsNoted i now other = (moment_of now other ≡ latest_of setting moments other) ⊎ ((moment_of now other ≡ moment_of old other) × (other.0 ≢ come.0) × (times (take i points) other ≡ 0))
 
   pub first_noted : come.0 < length old → has_come moments come ≡ true → (other : PointId) → IsNoted 0 (slice_set old come.0 None) other
   first_noted inside here other = elim (cases_eq other.0 come.0) [
-    | inl same ↦ inl (subst (λ (k : ℕ). due_in (slice_set old come.0 None) (record { 0 = k }) ≡ latest_of setting moments (record { 0 = k })) (sym same)
+    | inl same ↦ inl (subst (λ (k : ℕ). moment_of (slice_set old come.0 None) (record { 0 = k }) ≡ latest_of setting moments (record { 0 = k })) (sym same)
         (get_or-set_same old come.0 None None inside ∙ sym (ap (λ (b : Bool). if b then None else option_and_then (λ link. until moments link) (link_to setting come)) here)))
     | inr apart ↦ inr (get_or-set_other old come.0 other.0 None None apart, apart, refl)
   ]
@@ -167,7 +168,7 @@ module _ (setting : Setting) (moments : Moments) (come : PointId) (points : List
   pub noted_more : (i : ℕ) (d : PointId) (now : List (Option ℕ)) (latest : Option ℕ) → i < length points → (get_or points i d).0 < length now → latest ≡ latest_of setting moments (get_or points i d)
       → (other : PointId) → IsNoted i now other → IsNoted (i + 1) (slice_set now (get_or points i d).0 latest) other
   noted_more i d now latest inside within is other before = elim (cases_eq other.0 (get_or points i d).0) [
-    | inl same ↦ inl (subst (λ (k : ℕ). due_in (slice_set now (get_or points i d).0 latest) (record { 0 = k }) ≡ latest_of setting moments (record { 0 = k })) (sym same)
+    | inl same ↦ inl (subst (λ (k : ℕ). moment_of (slice_set now (get_or points i d).0 latest) (record { 0 = k }) ≡ latest_of setting moments (record { 0 = k })) (sym same)
         (get_or-set_same now (get_or points i d).0 latest None within ∙ is))
     | inr apart ↦ (let kept = get_or-set_other now (get_or points i d).0 other.0 latest None apart in
         elim before [

@@ -8,7 +8,8 @@ use Rattle.std.proofs.lemmas.List.Elements.{All-set}
 use Rattle.std.proofs.lemmas.List.Sums.{sum_by-set}
 use Rattle.std.proofs.lemmas.Option.{none-some, same_Some}
 use Rattle.net_model.specs.declared.ids.PointId.{PointId}
-use Rattle.execution_model.specs.Execution.{Moments, Setting, moment_of, is_due, acts_at, acted, time_runs, acts_while}
+use Rattle.net_model.specs.Moments.{Moments, moment_of}
+use Rattle.execution_model.specs.Execution.{Setting, is_due, acts_at, acted, time_runs, acts_while}
 use Rattle.execution_model.specs.Feeding.{completed_at}
 use Rattle.execution_model.specs.Paced.{ArePaced, IsMadeOneByOne, done, next}
 use Rattle.execution_model.specs.declared.feeding.Act.{Act}
@@ -16,7 +17,7 @@ use Rattle.execution_model.proofs.AtOnceLemmas.{one_by_one_is_at_once}
 use Rattle.execution_model.proofs.MomentLemmas.{come_not_due, due_parts, length-completed_at}
 use Rattle.execution_model.proofs.OneByOneLemmas.{acts_come_one_by_one}
 use Rattle.live_executor.specs.Course.{is_due_in, NoneDueBefore, IsLowestDue, IsFirstMoment, IsFirstBefore, IsCourseOf, AreSomeMade, HasRun, left_of}
-use Rattle.due_queue.specs.First.{due_in, IsFirstDue}
+use Rattle.due_queue.specs.First.{IsFirstDue}
 use Rattle.live_executor.specs.Due.{has_begun}
 use Rattle.live_executor.specs.Limits.{end_of_time}
 use Rattle.live_executor.specs.Sound.{KeptNetwork, made_setting, ExecutesTheSame}
@@ -36,7 +37,7 @@ module _ (due : List (Option ℕ)) where
   lowest_is t moment point first begun = (
     first.0,
     ap (λ (o : Option ℕ). has_begun o t) first.1 ∙ le-leb moment t begun,
-    λ none other less. not_begun t (due_in due other) (λ m is.
+    λ none other less. not_begun t (moment_of due other) (λ m is.
         let inside : other.0 < length due = (let low = first.0 in omega (arith, low, less)) in
         let from : t ≤ moment = none point moment first.0 first.1 in
         elim (first.2 other m inside is) [ inl sooner_one ↦ omega (arith, from, sooner_one) | inr same ↦ absurd (let no_more = same.1 in omega (arith, no_more, less)) ]),
@@ -44,10 +45,10 @@ module _ (due : List (Option ℕ)) where
 
   pub none_lowest_after : (t moment : ℕ) (point : PointId) → IsFirstDue due (Some (moment, point)) → t < moment → IsLowestDue due t None
   none_lowest_after t moment point first later = λ other inside.
-      not_begun t (due_in due other) (λ m is. elim (first.2 other m inside is) [ inl sooner_one ↦ omega (arith, later, sooner_one) | inr same ↦ (let equal = same.0 in omega (arith, later, equal)) ])
+      not_begun t (moment_of due other) (λ m is. elim (first.2 other m inside is) [ inl sooner_one ↦ omega (arith, later, sooner_one) | inr same ↦ (let equal = same.0 in omega (arith, later, equal)) ])
 
   pub none_lowest : (t : ℕ) → IsFirstDue due None → IsLowestDue due t None
-  none_lowest t none = λ other inside. not_begun t (due_in due other) (λ m is. absurd (none-some m (sym (none other inside) ∙ is)))
+  none_lowest t none = λ other inside. not_begun t (moment_of due other) (λ m is. absurd (none-some m (sym (none other inside) ∙ is)))
 
   pub first_moment : (moment : ℕ) (point : PointId) → IsFirstDue due (Some (moment, point)) → IsFirstMoment due (Some moment)
   first_moment moment point first =
@@ -69,7 +70,7 @@ module _ (setting : Setting) (now later : ℕ) (moments : Moments) (counts : Lis
     counts_count = awake.counts_count;
     due_count = awake.due_count;
     counted = awake.counted;
-    known = λ point inside. ((λ t above. (awake.known point inside).0 t (omega (arith, from, above))), by (due_in due point) (λ m is. none point m (omega (arith, inside, awake.due_count)) is));
+    known = λ point inside. ((λ t above. (awake.known point inside).0 t (omega (arith, from, above))), by (moment_of due point) (λ m is. none point m (omega (arith, inside, awake.due_count)) is));
   }
     where
       by : (o : Option ℕ) → ((m : ℕ) → o ≡ Some m → later ≤ m) → IfSome o (λ moment. later ≤ moment)
@@ -82,7 +83,7 @@ module _ (setting : Setting) (now later : ℕ) (moments : Moments) (counts : Lis
   -- no point is due before the first moment
   idle_before : (t : ℕ) → now ≤ t → t < later → NoneDueBefore due later → (point : PointId) → point.0 < length setting.dispatch → is_due setting moments t point ≡ false
   idle_before t from below none point inside =
-      (awake.known point inside).0 t from ∙ not_begun due t (due_in due point) (λ m is. let more = none point m (omega (arith, inside, awake.due_count)) is in omega (arith, below, more))
+      (awake.known point inside).0 t from ∙ not_begun due t (moment_of due point) (λ m is. let more = none point m (omega (arith, inside, awake.due_count)) is in omega (arith, below, more))
 
 -- where all have come it stays so
 pub awake_at_end : (setting : Setting) (now any : ℕ) (moments : Moments) (counts : List ℕ) (due : List (Option ℕ)) → IsAwake setting now moments counts due
@@ -98,13 +99,13 @@ awake_at_end setting now any moments counts due awake come = record {
     never : (point : PointId) → point.0 < length setting.dispatch → (t : ℕ) → is_due setting moments t point ≡ false
     never point inside t = (let (m, is) = come point (omega (arith, inside, awake.moments_count)) in come_not_due setting moments t point m is)
 
-    none : (point : PointId) → point.0 < length setting.dispatch → due_in due point ≡ None
-    none point inside = by (due_in due point) refl
+    none : (point : PointId) → point.0 < length setting.dispatch → moment_of due point ≡ None
+    none point inside = by (moment_of due point) refl
       where
-        by : (o : Option ℕ) → due_in due point ≡ o → o ≡ None
+        by : (o : Option ℕ) → moment_of due point ≡ o → o ≡ None
         by None is = refl
         by (Some d) is =
-            let begins : has_begun (due_in due point) (now + d) ≡ true = ap (λ (o : Option ℕ). has_begun o (now + d)) is ∙ le-leb d (now + d) (omega arith) in
+            let begins : has_begun (moment_of due point) (now + d) ≡ true = ap (λ (o : Option ℕ). has_begun o (now + d)) is ∙ le-leb d (now + d) (omega arith) in
             absurd (true≢false (sym begins ∙ (sym ((awake.known point inside).0 (now + d) (omega arith)) ∙ never point inside (now + d))))
 
 -- ---- the acts of a moment

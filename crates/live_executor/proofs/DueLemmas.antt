@@ -8,7 +8,8 @@ use Rattle.net_model.specs.declared.ids.LinkId.{LinkId}
 use Rattle.net_model.specs.declared.part.Link.{Link}
 use Rattle.dispatch_net.specs.Dispatchable.{conditions_at}
 use Rattle.dispatch_net.specs.declared.dispatch.Conditions.{Conditions}
-use Rattle.execution_model.specs.Execution.{Moments, Setting, moment_of, link_to, is_due, meets_bound, meets_wait}
+use Rattle.net_model.specs.Moments.{Moments, moment_of}
+use Rattle.execution_model.specs.Execution.{Setting, link_to, is_due, meets_bound, meets_wait}
 
 leb_max : (a b t : ℕ) → (leb a t && leb b t) ≡ leb (max a b) t
 leb_max a b t = grind (arith, nat_tests)

@@ -17,7 +17,8 @@ use Rattle.dispatch_net.specs.Held.{IsSlimOrWhole}
 use Rattle.dispatch_net.specs.Slim.{is_bound_implied, is_wait_implied, slim_conditions, slimmed}
 use Rattle.dispatch_net.proofs.SlimLists.{list_passes, passes_each, kept_there, slim_at}
 use Rattle.execution_model.specs.Paced.{slim_setting}
-use Rattle.execution_model.specs.Execution.{Moments, Setting, meets, moment_of, has_come, link_to, is_due, meets_bound, meets_wait, meets_wait_for, has_gone_by, points_of, acts_at, time_runs}
+use Rattle.net_model.specs.Moments.{Moments, moment_of}
+use Rattle.execution_model.specs.Execution.{Setting, meets, has_come, link_to, is_due, meets_bound, meets_wait, meets_wait_for, has_gone_by, points_of, acts_at, time_runs}
 use Rattle.execution_model.specs.Feeding.{is_open}
 use Rattle.execution_model.specs.Laws.{NoActsLeftIsWhole, setting_of}
 use Rattle.execution_model.proofs.LinkLemmas.{contingent_has_link, link_to_is_point}

@@ -6,12 +6,12 @@ use Rattle.std.proofs.lemmas.List.{get_or-replicate, length-replicate}
 use Rattle.std.proofs.lemmas.List.FromFn.{fill_by_all}
 use Rattle.std.proofs.lemmas.Simd.{map-map}
 use Rattle.net_model.specs.declared.ids.PointId.{PointId}
-use Rattle.execution_model.specs.Execution.{Moments, Setting, points_of, is_due, acts_at}
+use Rattle.net_model.specs.Moments.{Moments, moment_of}
+use Rattle.execution_model.specs.Execution.{Setting, points_of, is_due, acts_at}
 use Rattle.execution_model.specs.Feeding.{Execution, started, next_moment, IsNextDue, IsDueAnswer}
 use Rattle.execution_model.specs.declared.feeding.Act.{Act}
 use Rattle.execution_model.proofs.MomentLemmas.{no_acts_none_due, none_due_no_acts}
 use Rattle.live_executor.specs.Course.{IsCourseOf, IsFirstMoment}
-use Rattle.due_queue.specs.First.{due_in}
 use Rattle.live_executor.specs.Due.{has_begun}
 use Rattle.live_executor.specs.Sound.{KeptNetwork, made_setting, ExecutesTheSame}
 use Rattle.live_executor.proofs.CourseLemmas.{not_begun, known_none_before}
@@ -38,14 +38,14 @@ starts setting wanted moments acts same none no_acts =
 -- ---- the next due moment
 module _ (network : KeptNetwork) (same : ExecutesTheSame network) (execution : Execution) (counts : List ℕ) (due : List (Option ℕ)) (is_made : execution.setting ≡ made_setting network)
     (course : IsCourseOf network (next_moment execution) execution.moments counts due) where
-  known_at : (t : ℕ) → next_moment execution ≤ t → (point : PointId) → point.0 < length execution.setting.dispatch → is_due execution.setting execution.moments t point ≡ has_begun (due_in due point) t
+  known_at : (t : ℕ) → next_moment execution ≤ t → (point : PointId) → point.0 < length execution.setting.dispatch → is_due execution.setting execution.moments t point ≡ has_begun (moment_of due point) t
   known_at t from point inside =
       let whole : length execution.setting.dispatch ≡ length network.made = ap (λ (s : Setting). length s.dispatch) is_made in
       ap (λ (s : Setting). is_due s execution.moments t point) is_made
       ∙ (sym (due_same network same execution.moments course.paced t point)
       ∙ (course.awake.known point (omega (arith, inside, whole, course.count, course.awake.moments_count))).0 t from)
 
-  no_act : (t : ℕ) → next_moment execution ≤ t → ((point : PointId) → point.0 < length due → has_begun (due_in due point) t ≡ false) → acts_at execution.setting execution.moments t ≡ []
+  no_act : (t : ℕ) → next_moment execution ≤ t → ((point : PointId) → point.0 < length due → has_begun (moment_of due point) t ≡ false) → acts_at execution.setting execution.moments t ≡ []
   no_act t from none =
       let whole : length execution.setting.dispatch ≡ length network.made = ap (λ (s : Setting). length s.dispatch) is_made in
       none_due_no_acts execution.setting execution.moments t (λ point inside.
@@ -60,10 +60,10 @@ module _ (network : KeptNetwork) (same : ExecutesTheSame network) (execution : E
       let from : next_moment execution ≤ first =
       known_none_before network.setting (next_moment execution) first execution.moments counts due course.awake point first inside at in (
         from,
-        (λ t above below. no_act t above (λ other other_inside. not_begun due t (due_in due other) (λ m its. let later = is.0 other m other_inside its in omega (arith, below, later)))),
+        (λ t above below. no_act t above (λ other other_inside. not_begun due t (moment_of due other) (λ m its. let later = is.0 other m other_inside its in omega (arith, below, later)))),
         λ none.
             let no : is_due execution.setting execution.moments first point ≡ false = no_acts_none_due execution.setting execution.moments first none point within in
-            let yes : has_begun (due_in due point) first ≡ true = ap (λ (o : Option ℕ). has_begun o first) at ∙ le-leb first first (omega arith) in
+            let yes : has_begun (moment_of due point) first ≡ true = ap (λ (o : Option ℕ). has_begun o first) at ∙ le-leb first first (omega arith) in
             true≢false (sym yes ∙ (sym (known_at first from point within) ∙ no)),
       )
 

@@ -5,7 +5,8 @@ use Rattle.std.specs.List.{All}
 use Rattle.std.proofs.lemmas.List.Elements.{All-head, All-tail, All-weaker}
 use Rattle.std.proofs.lemmas.List.Sums.{fold-append}
 use Rattle.net_model.specs.declared.ids.PointId.{PointId}
-use Rattle.execution_model.specs.Execution.{Moments, Setting, moment_of, is_due, points_of, acts_at, acted, time_runs, acts_while}
+use Rattle.net_model.specs.Moments.{Moments, moment_of}
+use Rattle.execution_model.specs.Execution.{Setting, is_due, points_of, acts_at, acted, time_runs, acts_while}
 use Rattle.execution_model.specs.Feeding.{last_of}
 use Rattle.execution_model.specs.declared.feeding.Act.{Act}
 use Rattle.execution_model.proofs.MomentLemmas.{no_acts_same, length-acted}

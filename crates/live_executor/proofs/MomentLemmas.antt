@@ -7,7 +7,8 @@ use Rattle.std.proofs.lemmas.List.{get_or_past}
 use Rattle.std.proofs.lemmas.List.Sums.{count_by-le-length}
 use Rattle.std.proofs.lemmas.List.Elements.{All-map, All-set, All-weaker}
 use Rattle.net_model.specs.declared.ids.PointId.{PointId}
-use Rattle.execution_model.specs.Execution.{Moments, Setting, moment_of, is_due, points_of, acted, time_runs, acts_at, acts_while}
+use Rattle.net_model.specs.Moments.{Moments, moment_of}
+use Rattle.execution_model.specs.Execution.{Setting, is_due, points_of, acted, time_runs, acts_at, acts_while}
 use Rattle.net_model.specs.Limits.{most_moment}
 use Rattle.execution_model.specs.Feeding.{Execution, next_moment, refusal_of_moment, completions_taken, completed_at, refusal_of, none_overdue, first_overdue}
 use Rattle.execution_model.specs.declared.feeding.Act.{Act}

@@ -12,7 +12,8 @@ use Rattle.dispatch_net.specs.declared.dispatch.Conditions.{Conditions}
 use Rattle.dispatch_net.specs.Dispatchable.{DispatchLists}
 use Rattle.dispatch_net.specs.Ranked.{IsDispatchTable}
 use Rattle.dispatch_net.specs.Slim.{slim_conditions}
-use Rattle.execution_model.specs.Execution.{Moments, Setting, is_due, points_of, time_runs}
+use Rattle.net_model.specs.Moments.{Moments}
+use Rattle.execution_model.specs.Execution.{Setting, is_due, points_of, time_runs}
 use Rattle.execution_model.specs.Feeding.{completions_taken, first_overdue}
 use Rattle.execution_model.specs.Laws.{setting_of}
 use Rattle.execution_model.specs.Paced.{IsRankedNetwork, ArePaced, slim_setting}

@@ -6,7 +6,8 @@ use Rattle.std.proofs.lemmas.Bool.{cases_lt}
 use Rattle.std.proofs.lemmas.List.Sums.{sum_by-cons}
 use Rattle.net_model.specs.Limits.{most_size}
 use Rattle.net_model.specs.declared.ids.PointId.{PointId}
-use Rattle.execution_model.specs.Execution.{Moments, Setting, is_due, acts_at, acted, time_runs}
+use Rattle.net_model.specs.Moments.{Moments}
+use Rattle.execution_model.specs.Execution.{Setting, is_due, acts_at, acted, time_runs}
 use Rattle.execution_model.proofs.MomentLemmas.{moment_due, acted_keeps, due_parts, none_due_no_acts, no_acts_same, length-acted, length-time_runs, time_runs_keeps, time_runs_on}
 use Rattle.live_executor.specs.Course.{left_of}
 use Rattle.live_executor.specs.Limits.{AreBefore}

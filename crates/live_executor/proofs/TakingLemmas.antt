@@ -5,7 +5,8 @@ use Rattle.std.specs.Option.{option_map, option_map_or, option_and_then}
 use Rattle.std.proofs.lemmas.Bool.{le-leb}
 use Rattle.net_model.specs.declared.ids.PointId.{PointId}
 use Rattle.closure_model.proofs.OrderLemmas.{found_at, found_nowhere}
-use Rattle.execution_model.specs.Execution.{Moments, Setting}
+use Rattle.net_model.specs.Moments.{Moments}
+use Rattle.execution_model.specs.Execution.{Setting}
 use Rattle.execution_model.specs.Feeding.{latest_of, is_overdue, overdue_why, first_overdue}
 use Rattle.execution_model.specs.declared.feeding.Why.TheVariants as why
 

@@ -9,7 +9,7 @@ use Rattle.std.proofs.lemmas.List.Elements.{All-append, All-cons, All-nil}
 use Rattle.std.proofs.lemmas.List.Folds.{list_any_more, list_any-append}
 use Rattle.closure_model.specs.Orders.{is_among}
 use Rattle.net_model.specs.declared.ids.PointId.{PointId}
-use Rattle.execution_model.specs.Execution.{Moments, moment_of}
+use Rattle.net_model.specs.Moments.{Moments, moment_of}
 use Rattle.execution_model.specs.Feeding.{completed_at}
 use Rattle.execution_model.proofs.MomentLemmas.{same_moments, length-completed_at, moment_of_other}
 use Rattle.live_executor.specs.Trace.{HaveComeSince, KeepsTrace}

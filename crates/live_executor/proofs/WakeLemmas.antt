@@ -15,10 +15,10 @@ use Rattle.net_model.specs.declared.ids.LinkId.{LinkId}
 use Rattle.net_model.specs.declared.part.Link.{Link}
 use Rattle.dispatch_net.specs.declared.dispatch.Conditions.{Conditions}
 use Rattle.dispatch_net.specs.Dispatchable.{conditions_at, no_conditions}
-use Rattle.execution_model.specs.Execution.{Moments, Setting, moment_of, has_come, has_gone_by, link_to, meets_bound, meets_wait_for, meets_wait, meets, is_due}
+use Rattle.net_model.specs.Moments.{Moments, moment_of}
+use Rattle.execution_model.specs.Execution.{Setting, has_come, has_gone_by, link_to, meets_bound, meets_wait_for, meets_wait, meets, is_due}
 use Rattle.execution_model.specs.Feeding.{completed_at}
 use Rattle.execution_model.proofs.MomentLemmas.{length-completed_at, moment_completed, moment_of_other, come_not_due}
-use Rattle.due_queue.specs.First.{due_in}
 use Rattle.live_executor.specs.Due.{has_begun, PassesFrom}
 use Rattle.live_executor.specs.Waking.{is_open_bound, is_open_wait, open_count, condition_count, is_bound_after, is_wait_from, fixed_by, times, AreWoken, PassesSince, AreDueSince, IsAwake, IsFoundOrKept}
 
@@ -181,7 +181,7 @@ is_among_times (p ∷ ps) point absent = by (is_among_times ps point) (p.0 == po
     by rest true same absent counts = absurd (true≢false absent)
     by rest false differs absent counts = let none = rest absent in omega (arith, counts, none)
 
-due_set : (due : List (Option ℕ)) (point : PointId) (value : Option ℕ) (other : PointId) → other.0 ≢ point.0 → due_in (slice_set due point.0 value) other ≡ due_in due other
+due_set : (due : List (Option ℕ)) (point : PointId) (value : Option ℕ) (other : PointId) → other.0 ≢ point.0 → moment_of (slice_set due point.0 value) other ≡ moment_of due other
 due_set due point value other differs = get_or-set_other due point.0 other.0 value None differs
 
 -- a point gets its moment: it had none, and whom it wakes is known; the counts were lowered, and then those found anew that it wakes
@@ -216,20 +216,20 @@ module _ (setting : Setting) (moments : Moments) (counts lowered : List ℕ) (du
       omega (arith, falls, fell, before, fixed)
 
   -- the point itself is no longer due
-  point_known : (other : PointId) → other ≡ point → due_in last other ≡ due_in (slice_set due point.0 None) other → PassesSince moment (λ t. is_due setting come t other) (due_in last other)
+  point_known : (other : PointId) → other ≡ point → moment_of last other ≡ moment_of (slice_set due point.0 None) other → PassesSince moment (λ t. is_due setting come t other) (moment_of last other)
   point_known other same kept =
-      let none : due_in (slice_set due point.0 None) other ≡ None = ap (due_in (slice_set due point.0 None)) same ∙ get_or-set_same due point.0 None None (omega (arith, has.inside, has.awake.due_count)) in (
+      let none : moment_of (slice_set due point.0 None) other ≡ None = ap (moment_of (slice_set due point.0 None)) same ∙ get_or-set_same due point.0 None None (omega (arith, has.inside, has.awake.due_count)) in (
         (λ t from. come_not_due setting come t other moment (ap (moment_of come) same ∙ moment_completed moments moment point in_moments)
             ∙ sym (ap (λ (o : Option ℕ). has_begun o t) (kept ∙ none))),
         subst (λ (o : Option ℕ). IfSome o (λ k. moment ≤ k)) (sym (kept ∙ none)) tt,
       )
 
   -- nor does another change that has open conditions, or that the point doesn't wake
-  other_test : (other : PointId) → other.0 < length setting.dispatch → other.0 == point.0 ≡ false → due_in last other ≡ due_in (slice_set due point.0 None) other
+  other_test : (other : PointId) → other.0 < length setting.dispatch → other.0 == point.0 ≡ false → moment_of last other ≡ moment_of (slice_set due point.0 None) other
       → (slice_index lowered other.0 ≡ 0 → is_among fixes other ≡ false) → (slice_index lowered other.0 ≡ 0 → is_among ends other ≡ false)
-      → (t : ℕ) → moment ≤ t → is_due setting come t other ≡ has_begun (due_in last other) t
+      → (t : ℕ) → moment ≤ t → is_due setting come t other ≡ has_begun (moment_of last other) t
   other_test other within differs kept no_fix no_end t from =
-      let as_before : due_in last other ≡ due_in due other = kept ∙ due_set due point None other (apart setting moments moment point has.new in_moments other point differs) in
+      let as_before : moment_of last other ≡ moment_of due other = kept ∙ due_set due point None other (apart setting moments moment point has.new in_moments other point differs) in
       by (cases_order (slice_index lowered other.0) 0) ∙ ((has.awake.known other within).0 t from ∙ sym (ap (λ (o : Option ℕ). has_begun o t) as_before))
     where
       some_open : 0 < slice_index lowered other.0 → is_due setting come t other ≡ is_due setting moments t other
@@ -258,11 +258,11 @@ module _ (setting : Setting) (moments : Moments) (counts lowered : List ℕ) (du
       by (inr (inl less)) = absurd (omega (arith, less))
       by (inr (inr above)) = some_open above
 
-  other_known : (other : PointId) → other.0 < length setting.dispatch → other.0 == point.0 ≡ false → due_in last other ≡ due_in (slice_set due point.0 None) other
+  other_known : (other : PointId) → other.0 < length setting.dispatch → other.0 == point.0 ≡ false → moment_of last other ≡ moment_of (slice_set due point.0 None) other
       → (slice_index lowered other.0 ≡ 0 → is_among fixes other ≡ false) → (slice_index lowered other.0 ≡ 0 → is_among ends other ≡ false)
-      → PassesSince moment (λ t. is_due setting come t other) (due_in last other)
+      → PassesSince moment (λ t. is_due setting come t other) (moment_of last other)
   other_known other within differs kept no_fix no_end =
-      let as_before : due_in last other ≡ due_in due other = kept ∙ due_set due point None other (apart setting moments moment point has.new in_moments other point differs) in
+      let as_before : moment_of last other ≡ moment_of due other = kept ∙ due_set due point None other (apart setting moments moment point has.new in_moments other point differs) in
       (other_test other within differs kept no_fix no_end, subst (λ (o : Option ℕ). IfSome o (λ k. moment ≤ k)) (sym as_before) (has.awake.known other within).1)
 
   known : AreDueSince moment setting come last
@@ -359,8 +359,8 @@ module _ (now : ℕ) (setting : Setting) (moments : Moments) (counts : List ℕ)
           → IsFoundOrKept now setting moments counts (take (i + 1) waiters) old (slice_set before waiter.0 value) point
       by true same so_far =
           let is : waiter ≡ point = ap (λ (k : ℕ). let p : PointId = record { 0 = k } in p) (eqb-true waiter.0 point.0 same) in
-          let its : due_in (slice_set before waiter.0 value) waiter ≡ value = get_or-set_same before waiter.0 value None within in
-          inl (subst (λ (p : PointId). PassesSince now (λ t. is_due setting moments t p) (due_in (slice_set before waiter.0 value) p)) is ((λ t from. passes.0 t from ∙ sym (ap (λ (o : Option ℕ). has_begun o t) its)), subst (λ (o : Option ℕ). IfSome o (λ k. now ≤ k)) (sym its) passes.1))
+          let its : moment_of (slice_set before waiter.0 value) waiter ≡ value = get_or-set_same before waiter.0 value None within in
+          inl (subst (λ (p : PointId). PassesSince now (λ t. is_due setting moments t p) (moment_of (slice_set before waiter.0 value) p)) is ((λ t from. passes.0 t from ∙ sym (ap (λ (o : Option ℕ). has_begun o t) its)), subst (λ (o : Option ℕ). IfSome o (λ k. now ≤ k)) (sym its) passes.1))
       by false differs (inl found) =
           let apart : point.0 ≢ waiter.0 = grind (arith, nat_tests) in
           inl ((λ t from. found.0 t from ∙ sym (ap (λ (o : Option ℕ). has_begun o t) (due_set before waiter value point apart))), subst (λ (o : Option ℕ). IfSome o (λ k. now ≤ k)) (sym (due_set before waiter value point apart)) found.1)
@@ -416,13 +416,13 @@ module _ (setting : Setting) (moments : Moments) (none : moments ≡ replicate (
   AreCountedWhole counts = (point : PointId) → point.0 < length setting.dispatch → slice_index counts point.0 ≡ condition_count (conditions_at setting.dispatch point)
 
   pub awake_first : (counts : List ℕ) (due : List (Option ℕ)) → length counts ≡ length setting.dispatch → length due ≡ length counts → AreCountedWhole counts
-      → ((point : PointId) → point.0 < length setting.dispatch → PassesFrom (λ t. is_due setting moments t point) (due_in due point)) → IsAwake setting 0 moments counts due
+      → ((point : PointId) → point.0 < length setting.dispatch → PassesFrom (λ t. is_due setting moments t point) (moment_of due point)) → IsAwake setting 0 moments counts due
   awake_first counts due counts_long due_long counted found = record {
     moments_count = ap (λ (m : Moments). length m) none ∙ length-replicate (length setting.dispatch) None;
     counts_count = counts_long;
     due_count = due_long ∙ counts_long;
     counted = λ point inside. counted point inside ∙ sym (all_open (conditions_at setting.dispatch point));
-    known = λ point inside. ((λ t from. found point inside t), from_zero (due_in due point));
+    known = λ point inside. ((λ t from. found point inside t), from_zero (moment_of due point));
   }
     where
       from_zero : (o : Option ℕ) → IfSome o (λ moment. 0 ≤ moment)
@@ -440,9 +440,9 @@ module _ (counts : List ℕ) (due now : List (Option ℕ)) (i : ℕ) (its : ℕ)
         subst (λ (k : ℕ). slice_index (slice_set counts i its) k ≡ wanted (record { 0 = k })) same (get_or-set_same counts i its 0 inside ∙ is))
   ]
 
-  pub found_due : now ≡ slice_set due i (due_in now (record { 0 = i })) → passes (record { 0 = i }) (due_in now (record { 0 = i })) → ((point : PointId) → point.0 < i → passes point (due_in due point))
-      → (point : PointId) → point.0 < i + 1 → passes point (due_in now point)
+  pub found_due : now ≡ slice_set due i (moment_of now (record { 0 = i })) → passes (record { 0 = i }) (moment_of now (record { 0 = i })) → ((point : PointId) → point.0 < i → passes point (moment_of due point))
+      → (point : PointId) → point.0 < i + 1 → passes point (moment_of now point)
   found_due set is before point below = elim (cases_lt point.0 i) [
-    | inl less ↦ subst (passes point) (sym (ap (λ (ds : List (Option ℕ)). due_in ds point) set ∙ get_or-set_other due i point.0 (due_in now (record { 0 = i })) None (omega (arith, less)))) (before point less)
-    | inr past ↦ (let same : i ≡ point.0 = omega (arith, below, past) in subst (λ (k : ℕ). passes (record { 0 = k }) (due_in now (record { 0 = k }))) same is)
+    | inl less ↦ subst (passes point) (sym (ap (λ (ds : List (Option ℕ)). moment_of ds point) set ∙ get_or-set_other due i point.0 (moment_of now (record { 0 = i })) None (omega (arith, less)))) (before point less)
+    | inr past ↦ (let same : i ≡ point.0 = omega (arith, below, past) in subst (λ (k : ℕ). passes (record { 0 = k }) (moment_of now (record { 0 = k }))) same is)
   ]

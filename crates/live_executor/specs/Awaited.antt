@@ -3,8 +3,8 @@ use Rattle.std.specs.Prelude.{◌≡◌, ◌≢◌, ◌⊎◌, ℕ, ◌<◌, ◌
 use Rattle.std.specs.List.{All, Contains}
 use Rattle.net_model.specs.declared.ids.PointId.{PointId}
 use Rattle.net_model.specs.declared.part.Link.{Link}
-use Rattle.due_queue.specs.First.{due_in}
-use Rattle.execution_model.specs.Execution.{Moments, Setting}
+use Rattle.net_model.specs.Moments.{Moments, moment_of}
+use Rattle.execution_model.specs.Execution.{Setting}
 use Rattle.execution_model.specs.Feeding.{latest_of}
 use Rattle.live_executor.specs.Waking.{times}
 use Rattle.live_executor.specs.Wakes.{list_at}
@@ -24,11 +24,11 @@ abbrev pub IsNotActivatedBy : List Link → PointId → PointId → Type 0
 IsNotActivatedBy links point other = (link : Link) → Contains links link → link.from.0 ≡ point.0 → link.to.0 ≢ other.0
 
 -- the moment by which each contingent point must complete, where it is active and has not completed
-pub record AreLatest (setting : Setting) (moments : Moments) (latest : List (Option ℕ)) : Type 0 where
+pub record AreLatest (setting : Setting) (moments : Moments) (latest : Moments) : Type 0 where
   pub count : length latest ≡ length setting.dispatch
-  pub each : (point : PointId) → point.0 < length setting.dispatch → due_in latest point ≡ latest_of setting moments point
+  pub each : (point : PointId) → point.0 < length setting.dispatch → moment_of latest point ≡ latest_of setting moments point
 
 -- after a point has come: it is that moment, or as it was and then of another point, which the one does not activate
-abbrev pub IsLatestOrKept : Setting → Moments → (come : PointId) → (old new : List (Option ℕ)) → PointId → Type 0
+abbrev pub IsLatestOrKept : Setting → Moments → (come : PointId) → (old new : Moments) → PointId → Type 0
 IsLatestOrKept setting moments come old new other =
-    (due_in new other ≡ latest_of setting moments other) ⊎ ((due_in new other ≡ due_in old other) × (other.0 ≢ come.0) × IsNotActivatedBy setting.links come other)
+    (moment_of new other ≡ latest_of setting moments other) ⊎ ((moment_of new other ≡ moment_of old other) × (other.0 ≢ come.0) × IsNotActivatedBy setting.links come other)

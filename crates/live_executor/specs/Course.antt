@@ -3,10 +3,10 @@ use Rattle.std.specs.Prelude.{◌≡◌, ℕ, ◌-◌, ◌<◌, ◌≤◌, Bool,
 use Rattle.std.specs.List.{count_by}
 use Rattle.net_model.specs.Limits.{most_points}
 use Rattle.net_model.specs.declared.ids.PointId.{PointId}
-use Rattle.execution_model.specs.Execution.{Moments, time_runs, acts_while}
+use Rattle.net_model.specs.Moments.{Moments, moment_of}
+use Rattle.execution_model.specs.Execution.{time_runs, acts_while}
 use Rattle.execution_model.specs.Paced.{ArePaced, IsMadeOneByOne}
 use Rattle.execution_model.specs.declared.feeding.Act.{Act}
-use Rattle.due_queue.specs.First.{due_in}
 use Rattle.live_executor.specs.Due.{has_begun}
 use Rattle.live_executor.specs.Limits.{AreBefore, end_of_time}
 use Rattle.live_executor.specs.Sound.{KeptNetwork, made_setting}
@@ -17,33 +17,33 @@ abbrev pub left_of : Moments → ℕ
 left_of moments = count_by is_none moments
 
 -- a point is due at t
-abbrev pub is_due_in : List (Option ℕ) → (t : ℕ) → PointId → Bool
-is_due_in due t point = has_begun (due_in due point) t
+abbrev pub is_due_in : Moments → (t : ℕ) → PointId → Bool
+is_due_in due t point = has_begun (moment_of due point) t
 
 -- no point is due before a moment
-abbrev pub NoneDueBefore : List (Option ℕ) → (t : ℕ) → Type 0
-NoneDueBefore due t = (point : PointId) (moment : ℕ) → point.0 < length due → due_in due point ≡ Some moment → t ≤ moment
+abbrev pub NoneDueBefore : Moments → (t : ℕ) → Type 0
+NoneDueBefore due t = (point : PointId) (moment : ℕ) → point.0 < length due → moment_of due point ≡ Some moment → t ≤ moment
 
 -- the lowest point that is due at t, where none is due before; or none is due at t
-abbrev pub IsLowestDue : List (Option ℕ) → (t : ℕ) → Option PointId → Type 0
+abbrev pub IsLowestDue : Moments → (t : ℕ) → Option PointId → Type 0
 IsLowestDue due t None = (point : PointId) → point.0 < length due → is_due_in due t point ≡ false
 IsLowestDue due t (Some lowest) =
     (lowest.0 < length due) × (is_due_in due t lowest ≡ true)
     × (NoneDueBefore due t → (point : PointId) → point.0 < lowest.0 → is_due_in due t point ≡ false)
 
 -- the first moment at which a point is due, or that there is none
-abbrev pub IsFirstMoment : List (Option ℕ) → Option ℕ → Type 0
-IsFirstMoment due None = (point : PointId) → point.0 < length due → due_in due point ≡ None
-IsFirstMoment due (Some first) = NoneDueBefore due first × ((point : PointId) × (point.0 < length due) × (due_in due point ≡ Some first))
+abbrev pub IsFirstMoment : Moments → Option ℕ → Type 0
+IsFirstMoment due None = (point : PointId) → point.0 < length due → moment_of due point ≡ None
+IsFirstMoment due (Some first) = NoneDueBefore due first × ((point : PointId) × (point.0 < length due) × (moment_of due point ≡ Some first))
 
 -- the same before another moment
-abbrev pub IsFirstBefore : List (Option ℕ) → (until : ℕ) → Option ℕ → Type 0
+abbrev pub IsFirstBefore : Moments → (until : ℕ) → Option ℕ → Type 0
 IsFirstBefore due until None = NoneDueBefore due until
 IsFirstBefore due until (Some first) = (first < until) × IsFirstMoment due (Some first)
 
 -- what is kept of the moments so far, when a moment comes: of the points that wait, by what is kept of the network; the moments are none
 -- too late, and keep to what was made
-pub record IsCourseOf (network : KeptNetwork) (now : ℕ) (moments : Moments) (counts : List ℕ) (due : List (Option ℕ)) : Type 0 where
+pub record IsCourseOf (network : KeptNetwork) (now : ℕ) (moments : Moments) (counts : List ℕ) (due : Moments) : Type 0 where
   pub awake : IsAwake network.setting now moments counts due
   pub count : length moments ≡ length network.made
   pub early : AreBefore end_of_time moments
@@ -57,7 +57,7 @@ pub record AreSomeMade (network : KeptNetwork) (t : ℕ) (old now : Moments) (ol
   pub leads : (rest : List Act) (after : Moments) → IsMadeOneByOne (made_setting network) t now rest after → IsMadeOneByOne (made_setting network) t old (made ++ rest) after
 
 -- time has run from a moment on to some later one
-pub record HasRun (network : KeptNetwork) (from until : ℕ) (old now : Moments) (counts : List ℕ) (due : List (Option ℕ)) (old_acts now_acts : List Act) : Type 0 where
+pub record HasRun (network : KeptNetwork) (from until : ℕ) (old now : Moments) (counts : List ℕ) (due : Moments) (old_acts now_acts : List Act) : Type 0 where
   pub next : ℕ
   pub later : from ≤ next
   pub earlier : next ≤ until

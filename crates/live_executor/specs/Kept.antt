@@ -3,7 +3,7 @@ use Rattle.std.specs.Prelude.{◌≡◌, ℕ, ◌≤◌, ◌+◌, ◌*◌, lengt
 use Rattle.std.specs.Option.{option_map_or}
 use Rattle.net_model.specs.Limits.{most_size}
 use Rattle.net_model.specs.declared.ids.PointId.{PointId}
-use Rattle.execution_model.specs.Execution.{Moments}
+use Rattle.net_model.specs.Moments.{Moments}
 use Rattle.execution_model.specs.Feeding.{Execution, taken, after_feed}
 use Rattle.execution_model.specs.declared.feeding.Act.{Act}
 use Rattle.execution_model.specs.declared.feeding.Why.{Why}
@@ -16,17 +16,17 @@ use Rattle.live_executor.specs.Sound.{KeptNetwork}
 abbrev pub moment_after : Option ℕ → ℕ
 moment_after last = option_map_or (λ l. l + 1) last 0
 
--- an execution that goes on: the moments so far with what is kept of the points that wait and of those that are awaited; no moment so far is after the last one fed, and
--- the time that the points left may take is before the end of time
-pub record GoesOn (network : KeptNetwork) (moments : Moments) (counts : List ℕ) (due latest : List (Option ℕ)) (last : Option ℕ) : Type 0 where
+-- an execution that goes on: the moments so far with what is kept of the points that wait and of those that are awaited; no moment so far
+-- is after the last one fed, and the time that the points left may take is before the end of time
+pub record GoesOn (network : KeptNetwork) (moments : Moments) (counts : List ℕ) (due latest : Moments) (last : Option ℕ) : Type 0 where
   pub course : IsCourseOf network (moment_after last) moments counts due
   pub awaited : AreLatest network.setting moments latest
   pub early : AreBefore (moment_after last) moments
   pub time_left : moment_after last + most_size * left_of moments ≤ end_of_time
 
--- what an executor keeps: a moment for each point, or none, and acts, with room for one of each point; the last moment fed is before the end
--- of time, and the execution goes on where no feed was refused
-pub record IsKeptExecution (network : KeptNetwork) (moments : Moments) (counts : List ℕ) (due latest : List (Option ℕ)) (acts : List Act) (room : ℕ) (last : Option ℕ) (refused : Option Why) : Type 0 where
+-- what an executor keeps: a moment for each point, or none, and acts, with room for one of each point; the last moment fed is before the
+-- end of time, and the execution goes on where no feed was refused
+pub record IsKeptExecution (network : KeptNetwork) (moments : Moments) (counts : List ℕ) (due latest : Moments) (acts : List Act) (room : ℕ) (last : Option ℕ) (refused : Option Why) : Type 0 where
   pub count : length moments ≡ length network.made
   pub few : length acts ≤ length moments
   pub reserved : length moments ≤ room

@@ -1,7 +1,7 @@
 -- How great the moments of an execution are.
 use Rattle.std.specs.Prelude.{ℕ, ◌<◌, Option, IfSome}
 use Rattle.std.specs.List.{All}
-use Rattle.execution_model.specs.Execution.{Moments}
+use Rattle.net_model.specs.Moments.{Moments}
 
 -- a moment that no execution reaches: above the greatest that may be fed, with the greatest number of a network for each point
 abbrev pub end_of_time : ℕ

@@ -11,7 +11,8 @@ use Rattle.net_model.specs.declared.ids.PointId.{PointId}
 use Rattle.net_model.specs.declared.ids.LinkId.{LinkId}
 use Rattle.net_model.specs.declared.part.Link.{Link}
 use Rattle.dispatch_net.specs.declared.dispatch.Conditions.{Conditions}
-use Rattle.execution_model.specs.Execution.{Moments, Setting, moment_of, link_to, acts_at}
+use Rattle.net_model.specs.Moments.{Moments, moment_of}
+use Rattle.execution_model.specs.Execution.{Setting, link_to, acts_at}
 use Rattle.execution_model.specs.Paced.{IsRankedNetwork}
 use Rattle.live_executor.specs.Awaited.{AreActivated}
 use Rattle.live_executor.specs.Wakes.{WakeLists, AreWakesOf}

@@ -2,7 +2,7 @@
 use Rattle.std.specs.Prelude.{◌≡◌, true, false, List, length, None}
 use Rattle.closure_model.specs.Orders.{is_among}
 use Rattle.net_model.specs.declared.ids.PointId.{PointId}
-use Rattle.execution_model.specs.Execution.{Moments, moment_of}
+use Rattle.net_model.specs.Moments.{Moments, moment_of}
 
 -- the points that have come since some moments: they had none then, and every other point has what it had
 pub record HaveComeSince (before : Moments) (came : List PointId) (now : Moments) : Type 0 where

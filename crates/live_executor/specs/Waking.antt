@@ -1,4 +1,4 @@
--- Which points a point wakes when it gets its moment, and what is counted until then. This project's own choice.
+-- Which points a point wakes when it gets its moment, and what is counted until then.
 use Rattle.std.specs.Prelude.{◌≡◌, ◌⊎◌, ℕ, ℤ, ◌+◌, ◌<◌, ◌≤◌, ◌==◌, Bool, true, false, IfSome, List, length, Option, Some, is_none, slice_get, slice_index}
 use Rattle.std.specs.List.{Contains, count_by}
 use Rattle.std.specs.Option.{option_map_or}
@@ -8,8 +8,8 @@ use Rattle.net_model.specs.declared.ids.LinkId.{LinkId}
 use Rattle.net_model.specs.declared.part.Link.{Link}
 use Rattle.dispatch_net.specs.declared.dispatch.Conditions.{Conditions}
 use Rattle.dispatch_net.specs.Dispatchable.{conditions_at}
-use Rattle.execution_model.specs.Execution.{Moments, Setting, moment_of, is_due}
-use Rattle.due_queue.specs.First.{due_in}
+use Rattle.net_model.specs.Moments.{Moments, moment_of}
+use Rattle.execution_model.specs.Execution.{Setting, is_due}
 use Rattle.live_executor.specs.Due.{has_begun}
 
 -- a lower bound is open while its point has no moment, a wait while the activation point of its link has none
@@ -60,11 +60,11 @@ pub record AreWoken (setting : Setting) (point : PointId) (fixes ends : List Poi
 abbrev pub PassesSince : (now : ℕ) → (ℕ → Bool) → Option ℕ → Type 0
 PassesSince now test first = ((t : ℕ) → now ≤ t → test t ≡ has_begun first t) × IfSome first (λ moment. now ≤ moment)
 
-abbrev pub AreDueSince : (now : ℕ) → Setting → Moments → List (Option ℕ) → Type 0
-AreDueSince now setting moments due = (point : PointId) → point.0 < length setting.dispatch → PassesSince now (λ t. is_due setting moments t point) (due_in due point)
+abbrev pub AreDueSince : (now : ℕ) → Setting → Moments → Moments → Type 0
+AreDueSince now setting moments due = (point : PointId) → point.0 < length setting.dispatch → PassesSince now (λ t. is_due setting moments t point) (moment_of due point)
 
 -- what is kept for the points now: how many lower bounds and waits are open, and from when on each is due
-pub record IsAwake (setting : Setting) (now : ℕ) (moments : Moments) (counts : List ℕ) (due : List (Option ℕ)) : Type 0 where
+pub record IsAwake (setting : Setting) (now : ℕ) (moments : Moments) (counts : List ℕ) (due : Moments) : Type 0 where
   pub moments_count : length moments ≡ length setting.dispatch
   pub counts_count : length counts ≡ length setting.dispatch
   pub due_count : length due ≡ length setting.dispatch
@@ -72,6 +72,6 @@ pub record IsAwake (setting : Setting) (now : ℕ) (moments : Moments) (counts :
   pub known : AreDueSince now setting moments due
 
 -- after some points were woken: found from the lower bounds and waits, or as it was and then not woken or with open ones
-abbrev pub IsFoundOrKept : (now : ℕ) → Setting → Moments → (counts : List ℕ) → (waiters : List PointId) → (old new : List (Option ℕ)) → PointId → Type 0
+abbrev pub IsFoundOrKept : (now : ℕ) → Setting → Moments → (counts : List ℕ) → (waiters : List PointId) → (old new : Moments) → PointId → Type 0
 IsFoundOrKept now setting moments counts waiters old new point =
-    PassesSince now (λ t. is_due setting moments t point) (due_in new point) ⊎ ((due_in new point ≡ due_in old point) × (slice_index counts point.0 ≡ 0 → is_among waiters point ≡ false))
+    PassesSince now (λ t. is_due setting moments t point) (moment_of new point) ⊎ ((moment_of new point ≡ moment_of old point) × (slice_index counts point.0 ≡ 0 → is_among waiters point ≡ false))

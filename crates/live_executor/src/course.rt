@@ -5,7 +5,8 @@ ghost use Rattle.net_model.specs.declared.ids.PointId.{PointId};
 ghost use Rattle.net_model.specs.Limits.{most_size};
 ghost use Rattle.std.specs.List.{All};
 ghost use Rattle.std.specs.Vec.{vec_capacity};
-ghost use Rattle.execution_model.specs.Execution.{Moments, moment_of, points_of, acts_at, acted, time_runs, acts_while};
+ghost use Rattle.net_model.specs.Moments.{Moments, moment_of};
+ghost use Rattle.execution_model.specs.Execution.{points_of, acts_at, acted, time_runs, acts_while};
 ghost use Rattle.execution_model.specs.Feeding.{completed_at, is_open, last_of};
 ghost use Rattle.live_executor.specs.Awaited.{AreLatest};
 ghost use Rattle.live_executor.specs.Course.{left_of, IsCourseOf, IsLowestDue, IsFirstMoment, IsFirstBefore};
@@ -27,8 +28,8 @@ use std::mem;
 /// point.
 const END_OF_TIME: u64 = 10_000_000_000_000;
 
-/// The moments so far, what is kept of the points that wait and of those that are awaited, and since some moment the acts that were made and
-/// the points that came. There is room for an act of each point.
+/// The moments so far, what is kept of the points that wait and of those that are awaited, and since some moment the acts that were made
+/// and the points that came. There is room for an act of each point.
 #[derive(Drop)]
 pub(crate) struct Course {
     pub(crate) moments: Vec<Option<u64>>,

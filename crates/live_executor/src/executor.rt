@@ -4,7 +4,7 @@ ghost use Rattle.std.specs.Prelude.{◌≡◌, ◌+◌, ◌<◌, ◌≤◌, Ok, 
 ghost use Rattle.std.specs.List.{All};
 ghost use Rattle.std.specs.Option.{option_map_or};
 ghost use Rattle.execution_model.specs.Earliest.{FeedsEarliest, EndsEarliest};
-ghost use Rattle.execution_model.specs.Execution.{moment_of};
+ghost use Rattle.net_model.specs.Moments.{moment_of};
 ghost use Rattle.execution_model.specs.Feeding.{started, next_moment, IsFed, IsFinished, IsDueAnswer, refusal_of_moment, first_open, IsWhole};
 ghost use Rattle.live_executor.specs.Kept.{IsTaken};
 ghost use Rattle.live_executor.specs.Sound.{IsDispatchOf};

@@ -3,7 +3,7 @@
 ghost use Rattle.std.specs.Prelude.{◌≡◌, ◌<◌, length};
 ghost use Rattle.std.specs.List.{All};
 ghost use Rattle.net_model.specs.declared.ids.PointId.{PointId};
-ghost use Rattle.execution_model.specs.Execution.{Moments};
+ghost use Rattle.net_model.specs.Moments.{Moments};
 ghost use Rattle.live_executor.specs.Trace.{HaveComeSince};
 
 use net_model::PointId;

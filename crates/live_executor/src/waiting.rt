@@ -4,9 +4,9 @@ ghost use Rattle.std.specs.Prelude.{◌≡◌, ◌+◌, ◌<◌, ◌≤◌, ℕ,
 ghost use Rattle.std.specs.List.{All};
 ghost use Rattle.dispatch_net.specs.Dispatchable.{conditions_at};
 ghost use Rattle.net_model.specs.declared.ids.PointId.{PointId};
-ghost use Rattle.execution_model.specs.Execution.{moment_of, is_due};
+ghost use Rattle.net_model.specs.Moments.{moment_of};
+ghost use Rattle.execution_model.specs.Execution.{is_due};
 ghost use Rattle.execution_model.specs.Feeding.{completed_at};
-ghost use Rattle.due_queue.specs.First.{due_in};
 ghost use Rattle.live_executor.specs.Due.{has_begun, PassesFrom};
 ghost use Rattle.live_executor.specs.Limits.{AreBefore, end_of_time};
 ghost use Rattle.live_executor.specs.Waking.{times, condition_count, PassesSince, IsAwake, IsFoundOrKept};
@@ -58,8 +58,8 @@ impl Waiting {
         requires count { length self.old.counts.items ≡ length dispatched.now.setting.dispatch }
         requires early { AreBefore end_of_time moments.now }
         ensures counts { self.new.counts.items ≡ slice_set self.old.counts.items point.0 (condition_count (conditions_at dispatched.now.setting.dispatch point)) }
-        ensures due { self.new.due ≡ slice_set self.old.due point.0 (due_in self.new.due point) }
-        ensures found { PassesFrom (λ t. is_due dispatched.now.setting moments.now t point) (due_in self.new.due point) }
+        ensures due { self.new.due ≡ slice_set self.old.due point.0 (moment_of self.new.due point) }
+        ensures found { PassesFrom (λ t. is_due dispatched.now.setting moments.now t point) (moment_of self.new.due point) }
     {
         self.counts[point.0 as usize] = dispatched.condition_count(point);
         self.due.set(point, dispatched.due_from(moments, point));
@@ -84,8 +84,8 @@ impl Waiting {
         requires moments { length moments.now ≡ length dispatched.now.setting.dispatch }
         requires due { length self.old.counts.items ≡ length dispatched.now.setting.dispatch }
         requires early { AreBefore end_of_time moments.now }
-        ensures due { self.new.due ≡ slice_set self.old.due point.0 (due_in self.new.due point) }
-        ensures found { PassesSince now (λ t. is_due dispatched.now.setting moments.now t point) (due_in self.new.due point) }
+        ensures due { self.new.due ≡ slice_set self.old.due point.0 (moment_of self.new.due point) }
+        ensures found { PassesSince now (λ t. is_due dispatched.now.setting moments.now t point) (moment_of self.new.due point) }
         ensures counts { self.new.counts.items ≡ self.old.counts.items }
     {
         let first = since(dispatched.due_from(moments, point), now);

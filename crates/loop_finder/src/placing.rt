@@ -55,7 +55,7 @@ impl Marked {
 /// Finds an order of the points of a table, or a cycle of negative ordinary edges where there is one. The order places next the
 /// lowest point whose negative ordinary edges all go to placed points; where no point can be placed, the cycle is followed from the
 /// lowest point left, always to the lowest point left. `points` is how many points the table is for. `AllocError` comes only for
-/// want of memory. Which order and which cycle is found is this project's own choice.
+/// want of memory.
 pub fn order(alloc: Global, table: &Table, points: u32) -> Result<Found, AllocError>
     requires { points ≡ table.now.shape.points }
     ensures found { IfOk result (λ found. found ≡ found_in table.now) }

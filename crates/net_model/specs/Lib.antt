@@ -1,3 +1,4 @@
+pub mod Moments
 pub mod Names
 pub mod Limits
 pub mod Network

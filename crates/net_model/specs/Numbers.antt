@@ -1,4 +1,4 @@
--- Numbers in texts. This project's own choice: no sign but `-`, no zero in front, and `-0` is no number.
+-- Numbers in texts: no sign but `-`, no zero in front, and `-0` is no number.
 use Rattle.std.specs.Prelude.{ℕ, ℤ, pos, neg_ℤ, ◌+◌, ◌-◌, ◌*◌, ◌==◌, ◌&&◌, ◌||◌, Bool, false, List, [], ◌∷◌, Result, Ok, Err, fold, nat_le, nat_lt, if◌then◌else◌}
 use Rattle.std.specs.List.{list_all}
 use Rattle.std.specs.Str.{bytes_eq}

@@ -1,4 +1,4 @@
-//! The greatest counts and sizes of a network. They are this project's own choice.
+//! The greatest counts and sizes of a network.
 
 ghost use Rattle.std.specs.Prelude.{◌≡◌};
 ghost use Rattle.net_model.specs.Limits.{most_points, most_links, most_bounds, most_number, most_weight, most_moment, most_lines};

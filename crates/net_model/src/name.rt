@@ -15,7 +15,7 @@ use std::marker::Model;
 const LONGEST: usize = 32;
 
 /// The name of a point or of a bound: 1 to 32 bytes, each a letter of ASCII, a digit, `_`, `-` or `.`, and the first
-/// a letter. Contracts see it as the list of its bytes. The form of names is this project's own choice.
+/// a letter. Contracts see it as the list of its bytes.
 #[derive(Clone, Copy, Debug)]
 pub struct Name {
     bytes: [u8; LONGEST],

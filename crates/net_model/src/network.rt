@@ -1,6 +1,7 @@
 ghost use Rattle.std.specs.Prelude.{◌≡◌, ◌<◌, ◌^◌, ◌↔◌, ◌==◌, ◌≤◌, [], ◌∷◌, ◌++◌, length, fold, map, filter, max, unsigned_abs, pos, IfOk, IsTrue, MatchResult};
 ghost use Rattle.std.specs.List.{enumerate_from};
 ghost use Rattle.net_model.specs.Network.{IsPlan, IsPoint, IsContingent, IsBound, IsLink, point_named, bound_named, activation, links_from, greatest, empty, HasPlanNumbers};
+ghost use Rattle.net_model.specs.NetworkParts.{point_name};
 ghost use Rattle.net_model.specs.Limits.{most_points, most_links, most_bounds, within_limit};
 ghost use Rattle.net_model.specs.Building.{Builds, Adds, Pushes, built, with_part, with_point, with_bound, with_link, with_parts, named};
 
@@ -44,7 +45,7 @@ impl Network {
     /// from and then of its to, `LinkToItself`, `TwoLinksOnPoint`, `BadInterval`, `Limit(Number)` of its longest
     /// duration, `Limit(Links)`. A limit on a count comes exactly where the list already has its greatest length. The
     /// fault has the place of the part, from 1; there are fewer than 2^32. `OutOfMemory` comes only for want of memory,
-    /// and then nothing was made. The order of the refusals is this project's own choice.
+    /// and then nothing was made.
     pub fn build(alloc: Global, parts: &[Part]) -> Result<Network, BuildFault>
         requires { length parts.now < 2 ^ 32 }
         ensures built { Builds result (built parts.now) }
@@ -68,6 +69,14 @@ impl Network {
         ensures sound { IsPlan self.now }
     {
         self.points.as_slice()
+    }
+
+    /// The name of a point.
+    pub fn point_name(&self, point: PointId) -> &Name
+        requires { IsPoint self.now point }
+        ensures { result.now ≡ point_name self.now.points point }
+    {
+        &self.points()[point.0 as usize]
     }
 
     /// The bounds; the number of a bound is its place.

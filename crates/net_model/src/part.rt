@@ -63,7 +63,7 @@ pub enum Part {
     Link(Name, Weight, Weight, Name),
 }
 
-/// A quantity that has a limit. The limits are this project's own choice.
+/// A quantity that has a limit.
 #[derive(Clone, Copy, Debug, PartialEq, Eq, Hash)]
 pub enum Which {
     /// The number of points, at most 1,000.

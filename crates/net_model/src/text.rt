@@ -1,4 +1,4 @@
-//! The words of all texts: numbers and names. The forms are this project's own choice.
+//! The words of all texts: numbers and names.
 
 ghost use Rattle.std.specs.Prelude.{◌≡◌, ℕ, ◌∷◌, [], ◌≤◌, ◌^◌, ◌<◌, true, List, MatchResult, IfOk, SomeIff};
 ghost use Rattle.std.specs.List.{list_all};

@@ -1,14 +1,14 @@
 //! Printing a network as a plan text.
 
-ghost use Rattle.std.specs.Prelude.{◌≡◌, ◌++◌, ◌<◌, IfOk, OnOk, length};
+ghost use Rattle.std.specs.Prelude.{◌≡◌, ◌++◌, IfOk, OnOk};
 ghost use Rattle.std.specs.List.{flat_map};
 ghost use Rattle.net_model.specs.Network.{HasPlanNumbers, IsBound, IsLink};
 ghost use Rattle.texts.specs.Printing.{printed_line};
-ghost use Rattle.net_model.specs.NetworkParts.{bound_part, link_part, point_name};
+ghost use Rattle.net_model.specs.NetworkParts.{bound_part, link_part};
 ghost use Rattle.plan_format.specs.PlanParts.{part_words};
 ghost use Rattle.plan_format.specs.PlanPrinting.{ReadsBack, printed_plan};
 
-use net_model::{Bound, Link, Name, Network, Part, PointId};
+use net_model::{Bound, Link, Name, Network, Part};
 use std::alloc::{AllocError, Global};
 use texts::push_line;
 
@@ -56,8 +56,8 @@ fn push_bound(
     requires { IsBound net.now bound.now }
     ensures { OnOk result (out.new.items ≡ out.old.items ++ printed_line (part_words (bound_part net.now.points bound.now))) }
 {
-    let from = name_of(net, bound.from);
-    let to = name_of(net, bound.to);
+    let from = net.point_name(bound.from).bytes();
+    let to = net.point_name(bound.to).bytes();
     let most = bound.most.to_string(alloc)?;
     push_line(
         out,
@@ -79,17 +79,9 @@ fn push_link(alloc: Global, out: &mut Vec<u8>, net: &Network, link: &Link) -> Re
     requires { IsLink net.now link.now }
     ensures { OnOk result (out.new.items ≡ out.old.items ++ printed_line (part_words (link_part net.now.points link.now))) }
 {
-    let from = name_of(net, link.from);
-    let to = name_of(net, link.to);
+    let from = net.point_name(link.from).bytes();
+    let to = net.point_name(link.to).bytes();
     let low = link.low.to_string(alloc)?;
     let high = link.high.to_string(alloc)?;
     push_line(out, b"link", &[from, low.as_bytes(), high.as_bytes(), to])
-}
-
-/// The name of a point of a network.
-fn name_of(net: &Network, point: PointId) -> &[u8]
-    requires { point.0 < length net.now.points }
-    ensures { result.now ≡ point_name net.now.points point }
-{
-    net.points()[point.0 as usize].bytes()
 }

@@ -12,7 +12,8 @@ use Rattle.plan_json.specs.declared.place.Place.{Place}
 use Rattle.plan_json.specs.declared.place.PartList.{PartList}
 use Rattle.plan_json.specs.declared.place.PartList.TheVariants as list
 
--- a fault of a document, with its member and place: the form of the document or of an item, a text that is no name, a number beyond the limit
+-- a fault of a document, with its member and place: the form of the document or of an item, a text that is no name, a number beyond the
+-- limit
 pub data Fault : Type 0 where
   shape : Member → ℕ → Fault
   bad_name : Member → ℕ → Fault

@@ -1,4 +1,4 @@
--- What the bytes of a document say. This project's own choice; what a JSON text is (RFC 8259) is read as `serde_json` reads it.
+-- What the bytes of a document say. What a JSON text is (RFC 8259) is read as `serde_json` reads it.
 use Rattle.std.specs.Prelude.{◌≡◌, ℕ, List, ◌++◌, Option, Some, None, option_map, Result, Ok, Err, if◌then◌else◌}
 use Rattle.std.specs.List.{All}
 use Rattle.std.specs.Str.{is_utf8}

@@ -1,7 +1,7 @@
 //! Writing a network as a document.
 
-ghost use Rattle.std.specs.Prelude.{◌≡◌, ◌<◌, IfOk, length, map};
-ghost use Rattle.net_model.specs.Network.{HasPlanNumbers, IsBound, IsLink};
+ghost use Rattle.std.specs.Prelude.{◌≡◌, IfOk, map};
+ghost use Rattle.net_model.specs.Network.{HasPlanNumbers, IsBound, IsLink, IsPoint};
 ghost use Rattle.net_model.specs.NetworkParts.{point_name};
 ghost use Rattle.serde_json.specs.Data.{string};
 ghost use Rattle.serde_json.specs.View.{view};
@@ -11,9 +11,9 @@ use net_model::{Bound, Link, Name, Network, PointId};
 use serde_json::{Value, json};
 use std::alloc::{AllocError, Global};
 
-/// The document of a network, in the pretty layout of `serde_json`: an object of `bounds`, `links`, `points` and `stnu`, with the members of
-/// each item in alphabetical order, and no line end after it. It reads back to the same three lists. The numbers of the network are at most
-/// 1,000,000,000 in size, as those of a built network are. `AllocError` comes only for want of memory.
+/// The document of a network, in the pretty layout of `serde_json`: an object of `bounds`, `links`, `points` and `stnu`, with the members
+/// of each item in alphabetical order, and no line end after it. It reads back to the same three lists. The numbers of the network are at
+/// most 1,000,000,000 in size, as those of a built network are. `AllocError` comes only for want of memory.
 #[tactic(auto, using(crate::proofs::WritingLemmas::text_is, crate::proofs::WritingLemmas::reads_back))]
 pub fn to_json(alloc: Global, net: &Network) -> Result<Vec<u8>, AllocError>
     requires { HasPlanNumbers net.now }
@@ -89,10 +89,10 @@ fn link_data(alloc: Global, net: &Network, link: &Link) -> Result<Value, AllocEr
 }
 
 fn point_text(net: &Network, point: PointId) -> &str
-    requires { point.0 < length net.now.points }
+    requires { IsPoint net.now point }
     ensures { result.now ≡ point_name net.now.points point }
 {
-    text_of(&net.points()[point.0 as usize])
+    text_of(net.point_name(point))
 }
 
 /// The text of a name.

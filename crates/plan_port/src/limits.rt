@@ -1,4 +1,4 @@
-//! The greatest sizes of what comes over a port. They are this project's own choice.
+//! The greatest sizes of what comes over a port.
 ghost use Rattle.std.specs.Prelude.{◌≡◌};
 ghost use Rattle.texts.specs.Limits.{most_line};
 ghost use Rattle.plan_port.specs.Limits.{most_read};

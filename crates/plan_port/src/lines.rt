@@ -25,8 +25,8 @@ pub enum Line {
     TooMuch(u64),
     /// A take failed before the next line was decided.
     ReadFault,
-    /// There was no memory for more of the line. It never comes for lines of at most `MOST_LINE` bytes. What was taken is kept, and the same
-    /// line goes on.
+    /// There was no memory for more of the line. It never comes for lines of at most `MOST_LINE` bytes. What was taken is kept, and the
+    /// same line goes on.
     OutOfMemory,
 }
 
@@ -75,8 +75,8 @@ fn judge(size: u64, is_closed: bool, longest: u64, room: u64) -> Verdict
     }
 }
 
-/// A reader of the lines of an input. It has place for `MOST_LINE` bytes and one more, reserved when it is made, and takes more memory for a
-/// line that may be longer, and is.
+/// A reader of the lines of an input. It has place for `MOST_LINE` bytes and one more, reserved when it is made, and takes more memory for
+/// a line that may be longer, and is.
 #[derive(Drop)]
 pub struct LineReader {
     window: Window,

@@ -43,7 +43,8 @@ IsOpen session = IsSome session.opened
 abbrev pub IsBroken : State → Type 0
 IsBroken session = session.opened ≡ None
 
--- how the rounds ended says what holds of the table: it is the closure and has this order, or this is a cycle of its negative ordinary edges
+-- how the rounds ended says what holds of the table: it is the closure and has this order, or this is a cycle of its negative ordinary
+-- edges
 abbrev pub EndsWell : Plan → Support → Ending → Type 0
 EndsWell net support (closed order) = IsClosure net support.table × IsOrder support.table order
 EndsWell net support (looped cycle) = IsCycle support.table cycle
@@ -108,8 +109,8 @@ AnswersEdit before edit (Err (fault.Edit cause)) after = IsOpen before × (edite
 AnswersEdit before edit (Err fault.OutOfMemory) after = IsOpen before × (after ≡ record { net = before.net; opened = None })
 AnswersEdit before edit (Err fault.Broken) after = IsBroken before × (after ≡ before)
 
--- What `reopen` answers, and what the session is then: as one that is opened on its network; after want of memory it keeps the network and is
--- broken.
+-- What `reopen` answers, and what the session is then: as one that is opened on its network; after want of memory it keeps the network and
+-- is broken.
 abbrev pub AnswersReopening : State → Result (Unit {0}) AllocError → State → Type 0
 AnswersReopening before (Ok done) after = IsOpenedOn before.net after
 AnswersReopening before (Err error) after = after ≡ record { net = before.net; opened = None }

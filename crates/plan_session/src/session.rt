@@ -21,9 +21,9 @@ use std::thread::Threads;
 use support_records::Store;
 use table_proofs::laws::certificates_are_one;
 
-/// A plan under edits: the network as it stands, and its derivations, of which an edit withdraws what rests on what it takes away. Contracts
-/// see it as the network, and the derivations with how the last rounds ended, unless the session is broken. No answer depends on the number
-/// of workers, and contracts do not see it.
+/// A plan under edits: the network as it stands, and its derivations, of which an edit withdraws what rests on what it takes away.
+/// Contracts see it as the network, and the derivations with how the last rounds ended, unless the session is broken. No answer depends on
+/// the number of workers, and contracts do not see it.
 #[derive(Debug, Drop)]
 pub struct Session {
     net: Network,
@@ -69,10 +69,10 @@ impl Session {
         })
     }
 
-    /// Edits the network: the derivations that rest on nothing taken away are kept, those of what is new come after them, and rounds are made
-    /// from there. `Edit` comes exactly where the session is not broken and the edit is refused, and then nothing changes. `OutOfMemory`
-    /// comes only for want of memory; then the session keeps its old network and is broken. `Broken` comes exactly where the session is
-    /// broken, and then nothing changes.
+    /// Edits the network: the derivations that rest on nothing taken away are kept, those of what is new come after them, and rounds are
+    /// made from there. `Edit` comes exactly where the session is not broken and the edit is refused, and then nothing changes.
+    /// `OutOfMemory` comes only for want of memory; then the session keeps its old network and is broken. `Broken` comes exactly where the
+    /// session is broken, and then nothing changes.
     pub fn apply<R: Threads + Sync, G: Gate>(
         &mut self,
         rt: &R,
@@ -127,7 +127,8 @@ impl Session {
     }
 
     /// Makes the session anew from its network: rounds are made from the base, as `open` makes them, and whatever was opened is dropped
-    /// first. A broken session is whole again. `AllocError` comes only for want of memory; then the session keeps its network and is broken.
+    /// first. A broken session is whole again. `AllocError` comes only for want of memory; then the session keeps its network and is
+    /// broken.
     pub fn reopen<R: Threads + Sync, G: Gate>(
         &mut self,
         rt: &R,
@@ -159,9 +160,9 @@ impl Session {
         }
     }
 
-    /// The certificate that decides the network as it stands: its table proof, where some strategy controls it, else that of its refutation by
-    /// the rounds from its base. It is a function of the network, whatever edits led to it, and the judge accepts it. `Broken` comes exactly
-    /// where the session is broken. `OutOfMemory` comes only for want of memory, and the session is as it was.
+    /// The certificate that decides the network as it stands: its table proof, where some strategy controls it, else that of its refutation
+    /// by the rounds from its base. It is a function of the network, whatever edits led to it, and the judge accepts it. `Broken` comes
+    /// exactly where the session is broken. `OutOfMemory` comes only for want of memory, and the session is as it was.
     pub fn certificate<R: Threads + Sync>(
         &self,
         rt: &R,
@@ -208,7 +209,8 @@ impl Session {
         }
     }
 
-    /// The dispatchable network of the closure of the network as it stands, which is controllable. `AllocError` comes only for want of memory.
+    /// The dispatchable network of the closure of the network as it stands, which is controllable. `AllocError` comes only for want of
+    /// memory.
     pub fn dispatch(&self, alloc: Global) -> Result<Dispatch, AllocError>
         requires open { IsOpen self.now }
         requires controllable { IsControllable self.now.net }

@@ -20,8 +20,8 @@ pub record IsCertificateOf (net : Plan) (cert : Certificate) : Type 0 where
   pub refutation : IsRefutationOf net nodes lines walk
   pub is : cert ≡ certificate_by net nodes lines walk
 
--- a certificate refutes a network: no strategy controls it, the certificate is that of its refutation, the judge accepts it, and its weights
--- can be printed
+-- a certificate refutes a network: no strategy controls it, the certificate is that of its refutation, the judge accepts it, and its
+-- weights can be printed
 pub record Refutes (net : Plan) (cert : Certificate) : Type 0 where
   pub never : ¬ IsControllable net
   pub of : IsCertificateOf net cert

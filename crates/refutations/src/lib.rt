@@ -6,5 +6,5 @@ mod lines;
 mod names;
 mod refuting;
 
-pub use names::{link_name, point_name};
+pub use names::link_name;
 pub use refuting::refutation;

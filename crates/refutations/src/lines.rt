@@ -8,7 +8,7 @@ ghost use Rattle.cert_format.specs.Kind.{has_label};
 ghost use Rattle.refutations.specs.Certifying.{kind_of, label_name, only_if, line_by, lines_by};
 ghost use Rattle.refutations.specs.Making.{IsItemOf, AreInOrder, CanBeLine, CanBeLines};
 
-use crate::names::{bound_name, link_name, point_name};
+use crate::names::{bound_name, link_name};
 use cert_format::{CertLine, LineKind};
 use derivation_dag::{Dag, Node, NodeId, Rule};
 use net_model::{LinkId, Name, Network};
@@ -46,8 +46,8 @@ fn push_line(
     let label = label_of(net, &kind, node.edge.label);
     made.push(CertLine {
         kind,
-        from: point_name(net, node.edge.from),
-        to: point_name(net, node.edge.to),
+        from: *net.point_name(node.edge.from),
+        to: *net.point_name(node.edge.to),
         label,
         weight: node.edge.weight,
     })?;

@@ -10,7 +10,7 @@ use Rattle.net_model.specs.declared.ids.PointId.{PointId}
 use Rattle.net_model.specs.declared.part.Link.{Link}
 use Rattle.closure_model.proofs.Lists.{Contains-head, Contains-tail, Contains-none, Contains-cases}
 use Rattle.strategy_model.specs.Plays.{same_point}
-use Rattle.execution_model.specs.Execution.{Moments, moment_of}
+use Rattle.net_model.specs.Moments.{Moments, moment_of}
 use Rattle.situation_player.specs.Playing.{lasting_in, lastings_of, completion, sooner, first_completion, completes_at, completing_at}
 use Rattle.situation_player.specs.declared.playing.Lasting.{Lasting}
 

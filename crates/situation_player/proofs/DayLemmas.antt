@@ -21,7 +21,8 @@ use Rattle.strategy_model.proofs.CompareLemmas.{completion_follows_activation, d
 use Rattle.strategy_model.proofs.KindLemmas.{Ending}
 use Rattle.strategy_model.proofs.PlayLemmas.{link_sound}
 use Rattle.dispatch_net.proofs.ExecutionLemmas.{dispatchable_length}
-use Rattle.execution_model.specs.Execution.{Moments, Setting, moment_of, acts_at, acted, time_runs}
+use Rattle.net_model.specs.Moments.{Moments, moment_of}
+use Rattle.execution_model.specs.Execution.{Setting, acts_at, acted, time_runs}
 use Rattle.execution_model.specs.Feeding.{Execution, next_moment, IsNextDue}
 use Rattle.execution_model.specs.Streams.{Listing}
 use Rattle.execution_model.specs.Laws.{setting_of, IsDispatchedByClosure}

@@ -2,7 +2,7 @@ pub mod NumberedLemmas
 pub mod LateLemmas
 pub mod CompletionLemmas
 pub mod DayLemmas
-pub mod UnderwayLemmas
+pub mod FollowingLemmas
 pub mod TaskLemmas
 pub mod NameLemmas
 pub mod PartLemmas

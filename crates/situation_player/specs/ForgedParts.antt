@@ -1,4 +1,4 @@
--- The parts of a forged network (this project's own choice): tasks one after another, each with a watch near its end, up to a deadline.
+-- The parts of a forged network: tasks one after another, each with a watch near its end, up to a deadline.
 use Rattle.std.specs.Prelude.{ℕ, Bool, false, pos, ◌+◌, ◌-◌, ◌-ℤ◌, List, [], ◌∷◌, ◌++◌, length, take, map, sum, codes}
 use Rattle.std.specs.Fmt.{decimal}
 use Rattle.net_model.specs.Names.{is_letter}

@@ -1,5 +1,4 @@
--- Situations by number (this project's own choice): the number is read link by link, from the first on, in the base that is the count of
--- the link's durations.
+-- Situations by number: the number is read link by link, from the first on, in the base that is the count of the link's durations.
 use Rattle.std.specs.Prelude.{ℕ, ◌+◌, ◌-◌, ◌/◌, ◌%◌, List, [], ◌∷◌, unsigned_abs}
 use Rattle.net_model.specs.declared.part.Link.{Link}
 

@@ -7,7 +7,7 @@ use Rattle.net_model.specs.declared.ids.PointId.{PointId}
 use Rattle.net_model.specs.declared.part.Link.{Link}
 use Rattle.closure_model.specs.Tables.{Graph}
 use Rattle.strategy_model.specs.Control.{IsEarliest}
-use Rattle.execution_model.specs.Execution.{Moments, moment_of}
+use Rattle.net_model.specs.Moments.{Moments, moment_of}
 use Rattle.execution_model.specs.Feeding.{Execution, started, IsDueAnswer}
 use Rattle.execution_model.specs.Streams.{Listing, Shows}
 use Rattle.execution_model.specs.Timely.{fed_all}
@@ -60,8 +60,8 @@ pub record IsTimed (points : ℕ) (moments : Moments) (lasting : Lasting) : Type
   pub to_point : lasting.to.0 < points
   pub fits : IfSome (moment_of moments lasting.from) (λ activated. activated + lasting.duration < 2 ^ 64)
 
--- an execution is underway in a situation: what was fed so far shows the completions of the earliest schedule
-pub record IsUnderway (net : Plan) (situation : List ℕ) (execution : Execution) : Type 0 where
+-- an execution follows a situation: what was fed so far shows the completions of the earliest schedule
+pub record FollowsSituation (net : Plan) (situation : List ℕ) (execution : Execution) : Type 0 where
   pub table : Graph
   pub order : List PointId
   pub by_closure : IsDispatchedByClosure net table order

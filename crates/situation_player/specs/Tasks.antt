@@ -1,4 +1,4 @@
--- The tasks that are drawn for a forged network (this project's own choice).
+-- The tasks that are drawn for a forged network.
 use Rattle.std.specs.Prelude.{ℕ, ◌+◌, ◌*◌, ◌≤◌, ◌<◌, List, map}
 use Rattle.std.specs.List.{range_with_len}
 use Rattle.situation_player.specs.Generator.{state_after, drawn}

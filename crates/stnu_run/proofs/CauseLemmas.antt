@@ -8,7 +8,8 @@ use Rattle.std.proofs.lemmas.List.FromFn.{get_or-range_with_len, length-range_wi
 use Rattle.net_model.specs.Network.{Plan, IsPoint}
 use Rattle.net_model.specs.declared.ids.PointId.{PointId}
 use Rattle.net_model.specs.declared.part.Link.{Link}
-use Rattle.execution_model.specs.Execution.{Moments, Setting, moment_of, points_of, link_to, is_due, acts_at, acted, acts_while}
+use Rattle.net_model.specs.Moments.{Moments, moment_of}
+use Rattle.execution_model.specs.Execution.{Setting, points_of, link_to, is_due, acts_at, acted, acts_while}
 use Rattle.net_model.specs.Limits.{most_moment}
 use Rattle.execution_model.specs.Feeding.{Execution, next_moment, moments_to, moments_before, refusal_of_duration, activated_before, refusal_of_completion, refusal_of, completed_at}
 use Rattle.execution_model.specs.Feeding.{completions_taken, latest_of, is_overdue, overdue_why, first_overdue, none_overdue, completed_in, refusal_of_moment, taken, after_feed, is_open}

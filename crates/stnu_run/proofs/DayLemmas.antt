@@ -11,7 +11,8 @@ use Rattle.dispatch_net.proofs.ExecutionLemmas.{dispatchable_length}
 use Rattle.event_stream.specs.EventText.{EventLine, blank, completed, done, IsLine}
 use Rattle.event_stream.specs.Laws.{OneReading}
 use Rattle.execution_model.specs.Acts.{scheduled, ActsAreEarliest, LastActsAreEarliest}
-use Rattle.execution_model.specs.Execution.{Moments, moment_of, time_runs}
+use Rattle.net_model.specs.Moments.{Moments, moment_of}
+use Rattle.execution_model.specs.Execution.{time_runs}
 use Rattle.net_model.specs.Limits.{most_moment}
 use Rattle.execution_model.specs.Feeding.{Execution, started, next_moment, taken, after_feed, first_open, IsWhole}
 use Rattle.execution_model.specs.Laws.{setting_of, IsDispatchedByClosure, going_on, ended, AreWithinLimit, FaithfulStreamsAreTaken, DoneWhereNoneIsOpen, EndsAreEarliest}

@@ -20,7 +20,8 @@ use Rattle.dispatch_net.specs.Dispatchable.{conditions_at}
 use Rattle.dispatch_net.specs.declared.dispatch.Conditions.{Conditions}
 use Rattle.dispatch_net.proofs.ExecutionLemmas.{dispatchable_length}
 use Rattle.execution_model.specs.Acts.{scheduled, scheduled_at}
-use Rattle.execution_model.specs.Execution.{Moments, Setting, moment_of, has_come, has_gone_by, meets_bound, meets_wait_for, meets_wait, meets, is_due}
+use Rattle.net_model.specs.Moments.{Moments, moment_of}
+use Rattle.execution_model.specs.Execution.{Setting, has_come, has_gone_by, meets_bound, meets_wait_for, meets_wait, meets, is_due}
 use Rattle.execution_model.specs.Execution.{acts_at, acted, time_runs, acts_while}
 use Rattle.execution_model.specs.Feeding.{Execution, started, next_moment, taken, after_feed, IsDueAnswer, IsNextDue}
 use Rattle.execution_model.specs.Laws.{setting_of, IsDispatchedByClosure, going_on}

@@ -10,7 +10,7 @@ use Rattle.texts.specs.Limits.{most_line}
 use Rattle.plan_port.specs.Lines.{Comes, TooLong, TooMuch, coming}
 use Rattle.event_stream.specs.EventText.{EventLine, blank, completed, done, IsLine, IsFaultOf}
 use Rattle.event_stream.specs.Laws.{OneReading}
-use Rattle.execution_model.specs.Execution.{Moments}
+use Rattle.net_model.specs.Moments.{Moments}
 use Rattle.execution_model.specs.Feeding.{Execution, taken, after_feed, IsFed, first_open, IsFinished, IsWhole, IsDueAnswer}
 use Rattle.execution_model.specs.declared.feeding.Fed.{Fed}
 use Rattle.execution_model.specs.declared.feeding.Fed.TheVariants as fed

@@ -8,7 +8,8 @@ use Rattle.net_model.specs.declared.format.FormatKind.{FormatKind}
 use Rattle.event_stream.specs.EventText.{completed, said, kept, IsLine, IsFaultOf}
 use Rattle.event_stream.specs.declared.event.Event.{Event}
 use Rattle.event_stream.specs.declared.event.Event.TheVariants.{Blank, At, Done}
-use Rattle.execution_model.specs.Execution.{Moments, Setting}
+use Rattle.net_model.specs.Moments.{Moments}
+use Rattle.execution_model.specs.Execution.{Setting}
 use Rattle.execution_model.specs.Feeding.{Execution, next_moment, taken, after_feed, IsFed, first_open, IsWhole, IsFinished}
 use Rattle.execution_model.specs.declared.feeding.Act.{Act}
 use Rattle.execution_model.specs.declared.feeding.Why.{Why}

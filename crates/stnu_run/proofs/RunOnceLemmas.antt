@@ -12,7 +12,8 @@ use Rattle.closure_model.proofs.LawProofs.{closure_is_one}
 use Rattle.cert_format.specs.declared.certificate.Certificate.{Certificate}
 use Rattle.event_stream.specs.EventText.{EventLine, blank, completed, done}
 use Rattle.event_stream.specs.Laws.{OneReading}
-use Rattle.execution_model.specs.Execution.{Moments, Setting, moment_of, is_due, acts_at, acted, time_runs, acts_while}
+use Rattle.net_model.specs.Moments.{Moments, moment_of}
+use Rattle.execution_model.specs.Execution.{Setting, is_due, acts_at, acted, time_runs, acts_while}
 use Rattle.execution_model.specs.Feeding.{Execution, started, next_moment, taken, after_feed, IsFed, first_open, IsWhole, IsFinished, IsNextDue, IsDueAnswer, last_of}
 use Rattle.execution_model.specs.Laws.{setting_of}
 use Rattle.execution_model.specs.declared.feeding.Act.{Act}

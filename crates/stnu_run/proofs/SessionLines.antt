@@ -144,7 +144,8 @@ pub record OverSteps (standing : Standing) (told : List Step) (net : Plan) (rest
   pub all : put ≡ said ++ more
   pub later : RunOver session_machine (at_edit last number room) rest more end
 
--- how a run ends after lines that tell steps: at `end`, by a fault of what comes next, or after the execution of the network as it stands was begun
+-- how a run ends after lines that tell steps: at `end`, by a fault of what comes next, or after the execution of the network as it stands
+-- was begun
 pub data HowEnds (last : Standing) (number room : ℕ) (rest : List InputLine) (put : List ℕ) (end : End) : Type 0 where
   at_end : (line : InputLine) (others : List InputLine) → rest ≡ line ∷ others → coming most_line room line ≡ Comes → IsLine step.End line.text → put ≡ [] → end ≡ ends.Done → HowEnds last number room rest put end
   by_fault : (fault : Fault) → IsStepFault (number + 1) room rest fault → put ≡ fault_line fault → end ≡ fault_end fault → HowEnds last number room rest put end

@@ -22,14 +22,14 @@ IsAnswer ends.Fault = ⊥
 IsAnswer ends.Limit = ⊥
 IsAnswer ends.EventRefused = ⊥
 
--- What in an input a run of a command ends by. `refused`: this is the first refusal of the input, by which the run ends so, and which this line
--- tells. `whole`: the input is in the grammar and within the limits, and no part or event of it is refused.
+-- What in an input a run of a command ends by. `refused`: this is the first refusal of the input, by which the run ends so, and which this
+-- line tells. `whole`: the input is in the grammar and within the limits, and no part or event of it is refused.
 pub record Causes : Type 1 where
   pub refused : (input : List ℕ) → End → (line : List ℕ) → Type 0
   pub whole : (input : List ℕ) → Type 0
 
--- A run ends by the causes in its input. `refused`: where the input has a first refusal, the run ends as that says. `only`: it ends by an answer, or
--- by a first refusal of the input, whose line is put last. `whole`: where the input is whole, it ends by an answer.
+-- A run ends by the causes in its input. `refused`: where the input has a first refusal, the run ends as that says. `only`: it ends by an
+-- answer, or by a first refusal of the input, whose line is put last. `whole`: where the input is whole, it ends by an answer.
 pub record EndsByCause (causes : Causes) (input put : List ℕ) (end : End) : Type 0 where
   pub refused : (other : End) (line : List ℕ) → causes.refused input other line → end ≡ other
   pub only : IsAnswer end ⊎ ((line : List ℕ) × causes.refused input end line × PutsLast line put)

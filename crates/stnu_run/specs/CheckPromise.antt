@@ -20,10 +20,10 @@ use Rattle.stnu_run.specs.declared.checking.CheckFlags.{CheckFlags}
 abbrev pub PutsVerdict : CheckFlags → Plan → List ℕ → End → Type 0
 PutsVerdict flags net put end = PutsDecided net (PutsYes flags.proof net put end) put end
 
--- What `check` promises, of a plan of the form that its flags say. `checks`: it puts the verdict of the network that the input declares, or the
--- first refusal of the input. `controllable`: where it puts first that a network is controllable, the network that the input declares is.
--- `proves`: where a proof is wanted, what it puts after that is the text of a certificate that proves it. `refutes`: where it puts that a network
--- is not controllable, the network that the input declares is not.
+-- What `check` promises, of a plan of the form that its flags say. `checks`: it puts the verdict of the network that the input declares, or
+-- the first refusal of the input. `controllable`: where it puts first that a network is controllable, the network that the input declares
+-- is. `proves`: where a proof is wanted, what it puts after that is the text of a certificate that proves it. `refutes`: where it puts that
+-- a network is not controllable, the network that the input declares is not.
 pub record CheckPromise (flags : CheckFlags) (input put : List ℕ) (end : End) : Type 0 where
   pub checks : AnswersText (plan_in flags.form) refusing (PutsVerdict flags) input put end
   pub controllable : (more : List ℕ) → put ≡ controllable_line ++ more → (net : Plan) (rest : List (List ℕ)) → (plan_in flags.form).declares (lines input) net rest → IsControllable net

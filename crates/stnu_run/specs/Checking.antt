@@ -12,8 +12,8 @@ use Rattle.stnu_run.specs.Verdict.{PutsControllable, PutsProved, PutsRefuted, De
 use Rattle.stnu_run.specs.Workers.{has_workers, workers_name}
 use Rattle.stnu_run.specs.declared.checking.CheckFlags.{CheckFlags}
 
--- It is put that a network is controllable, and then, where a proof is wanted, the certificate that proves it: its table proof, which the judge
--- accepts.
+-- It is put that a network is controllable, and then, where a proof is wanted, the certificate that proves it: its table proof, which the
+-- judge accepts.
 abbrev pub PutsYes : (proof : Bool) → Plan → List ℕ → End → Type 0
 PutsYes false net put end = PutsControllable put end
 PutsYes true net put end = (cert : Certificate) × Proves net cert × PutsProved cert put end

@@ -28,13 +28,13 @@ ListLines net (line ∷ lines) listings =
     ⊎ ((moment : ℕ) × (points : List PointId) × (others : List Listing) × IsLine net (completed moment points) line
     × (listings ≡ record { moment = moment; points = points } ∷ others) × ListLines net lines others)
 
--- What opens an execution, which each command says for itself: these lines, with others after them, open the execution of this network, and these
--- bytes are put before.
+-- What opens an execution, which each command says for itself: these lines, with others after them, open the execution of this network, and
+-- these bytes are put before.
 abbrev pub Opening : Type 1
 Opening = (used rest : List InputLine) → Plan → (before : List ℕ) → Type 0
 
--- An input of which lines open the execution of a network, and lines of events after them, which all come within the limits, list a stream that
--- goes on.
+-- An input of which lines open the execution of a network, and lines of events after them, which all come within the limits, list a stream
+-- that goes on.
 pub record IsUnderway (opens : Opening) (input : List InputLine) (net : Plan) (listings : List Listing) : Type 0 where
   pub used : List InputLine
   pub events : List InputLine
@@ -88,8 +88,8 @@ PutsListings net schedule before (listing ∷ others) put =
     × (put ≡ acts_text net (scheduled net schedule (moment_after before) (suc listing.moment - moment_after before)) ++ (due_line due ++ more))
     × PutsListings net schedule (before ++ listing ∷ []) others more
 
--- what is put for a stream so far by a schedule, after what was put before: that the network is controllable, the first due moment, and then the
--- acts of the schedule up to each listing
+-- what is put for a stream so far by a schedule, after what was put before: that the network is controllable, the first due moment, and
+-- then the acts of the schedule up to each listing
 pub record PutsSoFar (net : Plan) (schedule before : List ℕ) (listings : List Listing) (put : List ℕ) : Type 0 where
   pub first : Option ℕ
   pub said : List ℕ
@@ -98,8 +98,8 @@ pub record PutsSoFar (net : Plan) (schedule before : List ℕ) (listings : List 
   pub listed : PutsListings net schedule [] listings said
   pub all : put ≡ before ++ (controllable_line ++ (due_line first ++ (said ++ more)))
 
--- what is put for a whole day by a schedule, after what was put before: that the network is controllable, the acts of the schedule up to each
--- listing, those that remain after the last one, and that the execution is complete
+-- what is put for a whole day by a schedule, after what was put before: that the network is controllable, the acts of the schedule up to
+-- each listing, those that remain after the last one, and that the execution is complete
 pub record PutsDay (net : Plan) (schedule before : List ℕ) (listings : List Listing) (put : List ℕ) (end : End) : Type 0 where
   pub first : Option ℕ
   pub said : List ℕ

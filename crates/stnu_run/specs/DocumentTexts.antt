@@ -41,8 +41,8 @@ told (shape member place) = json.Shape member place
 told (bad_name member place) = json.BadName member place
 told (number_limit member place) = json.NumberLimit member place
 
--- The fault of a document by what its bytes say: they have no reading, or it is that of the document; or a part is refused, told by its place
--- among the parts.
+-- The fault of a document by what its bytes say: they have no reading, or it is that of the document; or a part is refused, told by its
+-- place among the parts.
 abbrev pub IsDocumentFault : Option (Result (List Part) Wrong) → Fault → Type 0
 IsDocumentFault None fault = fault ≡ Document json.NotJson
 IsDocumentFault (Some (Err wrong)) fault = fault ≡ Document (told wrong)
@@ -59,8 +59,8 @@ pub record DeclaresDocument (lines : List (List ℕ)) (net : Plan) (rest : List 
   pub says : declared (bytes_of document) ≡ Some (Ok parts)
   pub builds : built parts ≡ Ok net
 
--- The fault of a document of which these lines came, and what comes next: the line that ends it, and the document has the fault; or none, since
--- the line is too long, or the input too much by it, or ended.
+-- The fault of a document of which these lines came, and what comes next: the line that ends it, and the document has the fault; or none,
+-- since the line is too long, or the input too much by it, or ended.
 abbrev pub RefusesDocument : (past : ℕ) → List (List ℕ) → Next → Fault → Type 0
 RefusesDocument past lines (Line line) fault = IsEndLine line × IsDocumentFault (declared (bytes_of lines)) fault
 RefusesDocument past lines (NoLine LongStop) fault = fault ≡ DocumentTooLong (number_after past lines)

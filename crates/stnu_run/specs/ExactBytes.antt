@@ -15,8 +15,8 @@ abbrev pub AnswersWholeLines : Program → (taken said : List ℕ) → Type 0
 AnswersWholeLines (serves machine start promise) taken said = Answered machine start taken said
 AnswersWholeLines (tells answers) taken said = ⊥
 
--- these bytes are the answers to the first lines of an input, and a part of the reply to what comes then, or nothing of that; or, without an
--- input, a front of the answer
+-- these bytes are the answers to the first lines of an input, and a part of the reply to what comes then, or nothing of that; or, without
+-- an input, a front of the answer
 abbrev pub BeginsReplies : Program → (input put : List ℕ) → Type 0
 BeginsReplies (serves machine start promise) input put = AnswersFirst machine start input put ⊎ WithinReply machine start input put
 BeginsReplies (tells answers) input put = (put ≡ []) ⊎ ((all : List ℕ) × (end : TellingEnd) × answers all end × IsFront put all)
@@ -26,8 +26,8 @@ pub record IsFrontOfDefined (program : Program) (input put : List ℕ) : Type 0 
   pub replies : BeginsReplies program input put
   pub defined : (all : List ℕ) (status : Status) → Defines program input all status → IsFront put all
 
--- What is to be put where a take failed: the answers to the whole lines taken, which are a front of what the program puts for the input, and
--- then the line `error read`. Of the input `untaken` was never taken.
+-- What is to be put where a take failed: the answers to the whole lines taken, which are a front of what the program puts for the input,
+-- and then the line `error read`. Of the input `untaken` was never taken.
 pub record IsToPutAfterTake (program : Program) (input untaken wanted : List ℕ) : Type 0 where
   pub taken : List ℕ
   pub said : List ℕ
@@ -37,8 +37,8 @@ pub record IsToPutAfterTake (program : Program) (input untaken wanted : List ℕ
   pub all : wanted ≡ said ++ read_fault_line
 
 -- What a run put for an input, by its exit status. `defined`: where no call failed and memory was not refused, the bytes and the status are
--- those that the program defines. `failed_take`: at 5 just this was put. `failed_put`: at 6 a front of what the program defines was put, or of what
--- is to be put where a take failed before. `no_memory`: at 8 a front of what the program defines.
+-- those that the program defines. `failed_take`: at 5 just this was put. `failed_put`: at 6 a front of what the program defines was put, or
+-- of what is to be put where a take failed before. `no_memory`: at 8 a front of what the program defines.
 pub record PutsExactly (program : Program) (status : Status) (input untaken put : List ℕ) : Type 0 where
   pub defined : ¬ (status.0 ≡ 5) → ¬ (status.0 ≡ 6) → ¬ (status.0 ≡ 8) → Defines program input put status
   pub failed_take : status.0 ≡ 5 → IsToPutAfterTake program input untaken put

@@ -83,7 +83,8 @@ size_of (TableProof order entries) = length entries
 abbrev pub greatest_of : List ℕ → ℕ
 greatest_of moments = fold max 0 moments
 
--- a moment is the last one of the longest day of a network: the greatest of the earliest schedule where each link lasts its longest duration
+-- a moment is the last one of the longest day of a network: the greatest of the earliest schedule where each link lasts its longest
+-- duration
 pub record IsLastMoment (net : Plan) (last : ℕ) : Type 0 where
   pub schedule : List ℕ
   pub earliest : IsEarliest net (situation_of Longest net) schedule
@@ -98,8 +99,8 @@ judged_line (Refused line why) = printed_line (codes "refused" ∷ [])
 abbrev pub Adds : (List ℕ → Type 0) → (before after : List ℕ) → Type 0
 Adds Is before after = (more : List ℕ) × (after ≡ before ++ more) × Is more
 
--- It is told that a network is controllable, and it is: how many edges its closure has, the last moment of its longest day, and what the judge says
--- of its table proof, which it accepts.
+-- It is told that a network is controllable, and it is: how many edges its closure has, the last moment of its longest day, and what the
+-- judge says of its table proof, which it accepts.
 pub record TellsControllable (net : Plan) (more : List ℕ) (end : TellingEnd) : Type 0 where
   pub cert : Certificate
   pub proves : Proves net cert
@@ -108,7 +109,8 @@ pub record TellsControllable (net : Plan) (more : List ℕ) (end : TellingEnd) :
   pub is : more ≡ controllable_text (length (edges_of proves.of.table)) last ++ judged_line (judgement_of net cert)
   pub told : end ≡ ends.Told
 
--- It is told that a network is not controllable, and it is not: how many lines its refutation has, and what the judge says of that, which it accepts.
+-- It is told that a network is not controllable, and it is not: how many lines its refutation has, and what the judge says of that, which
+-- it accepts.
 pub record TellsRefuted (net : Plan) (more : List ℕ) (end : TellingEnd) : Type 0 where
   pub cert : Certificate
   pub refutes : Refutes net cert
@@ -119,7 +121,8 @@ pub record TellsRefuted (net : Plan) (more : List ℕ) (end : TellingEnd) : Type
 abbrev pub TellsVerdict : Plan → List ℕ → TellingEnd → Type 0
 TellsVerdict net more end = TellsControllable net more end ⊎ TellsRefuted net more end
 
--- What `forge` tells: of the network that is built of the parts that are forged, how many points, links and bounds it has, and then its verdict.
+-- What `forge` tells: of the network that is built of the parts that are forged, how many points, links and bounds it has, and then its
+-- verdict.
 pub record TellsForged (words : ForgeWords) (put : List ℕ) (end : TellingEnd) : Type 0 where
   pub net : Plan
   pub forged : built (forged_parts words.number words.tasks) ≡ Ok net

@@ -21,9 +21,9 @@ use Rattle.stnu_run.specs.declared.plan_input.PlanForm.{PlanForm}
 abbrev pub PutsJudgement : Plan × Certificate → List ℕ → End → Type 0
 PutsJudgement value put end = (put ≡ judgement_line (judgement_of value.0 value.1)) × (end ≡ judgement_end (judgement_of value.0 value.1))
 
--- What `judge` promises, of a plan of this form. `judges`: it puts the judgement of the network and the certificate that the input declares, or
--- the first refusal of the input. `excludes` and `controls`: where it puts that a certificate is accepted, no strategy controls the network
--- that the input declares, or one does, as it says.
+-- What `judge` promises, of a plan of this form. `judges`: it puts the judgement of the network and the certificate that the input
+-- declares, or the first refusal of the input. `excludes` and `controls`: where it puts that a certificate is accepted, no strategy
+-- controls the network that the input declares, or one does, as it says.
 pub record JudgePromise (form : PlanForm) (input put : List ℕ) (end : End) : Type 0 where
   pub judges : AnswersText (judge_grammar form) refusing PutsJudgement input put end
   pub excludes : put ≡ printed_line (codes "accepted not controllable" ∷ []) → (net : Plan) (rest : List (List ℕ)) → (plan_in form).declares (lines input) net rest → ¬ IsControllable net

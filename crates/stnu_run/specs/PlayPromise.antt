@@ -20,18 +20,18 @@ use Rattle.stnu_run.specs.declared.which.Which.{Which}
 abbrev pub PutsPlay : PlayWords → Plan → List ℕ → End → Type 0
 PutsPlay words net put end = PutsDecided net (PutsTimes words.which net put end) put end
 
--- These are the lines of the earliest schedule of a situation: a strategy that controls the network plays it there, no such strategy plays any
--- point sooner, and it keeps every bound.
+-- These are the lines of the earliest schedule of a situation: a strategy that controls the network plays it there, no such strategy plays
+-- any point sooner, and it keeps every bound.
 pub record AreEarliestTimes (which : Which) (net : Plan) (text : List ℕ) : Type 0 where
   pub schedule : List ℕ
   pub earliest : IsEarliest net (situation_of which net) schedule
   pub satisfies : Satisfies net schedule
   pub is : text ≡ times_text net schedule
 
--- What `play` promises, of a plan of the form that its words say. `plays`: it puts the verdict of the network that the input declares, and the day of
--- it that is asked, or the first refusal of the input. `controllable`, `times`: where it puts first that a network is controllable, the network that
--- the input declares is, and what it puts after that are the moments of its points in the earliest schedule of that situation. `refutes`: where it
--- puts that a network is not controllable, the network that the input declares is not.
+-- What `play` promises, of a plan of the form that its words say. `plays`: it puts the verdict of the network that the input declares, and
+-- the day of it that is asked, or the first refusal of the input. `controllable`, `times`: where it puts first that a network is
+-- controllable, the network that the input declares is, and what it puts after that are the moments of its points in the earliest schedule
+-- of that situation. `refutes`: where it puts that a network is not controllable, the network that the input declares is not.
 pub record PlayPromise (words : PlayWords) (input put : List ℕ) (end : End) : Type 0 where
   pub plays : AnswersText (plan_in words.form) refusing (PutsPlay words) input put end
   pub controllable : (more : List ℕ) → put ≡ controllable_line ++ more → (net : Plan) (rest : List (List ℕ)) → (plan_in words.form).declares (lines input) net rest → IsControllable net

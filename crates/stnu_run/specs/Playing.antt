@@ -29,16 +29,16 @@ time_line net schedule point = printed_line (codes "time" ∷ point_name net.poi
 abbrev pub times_text : Plan → List ℕ → List ℕ
 times_text net schedule = flat_map (time_line net schedule) (points_of net)
 
--- It is put that a network is controllable, and then the moment of each point in the earliest schedule of a situation: a strategy that controls
--- the network plays it there, and no such strategy plays any point sooner.
+-- It is put that a network is controllable, and then the moment of each point in the earliest schedule of a situation: a strategy that
+-- controls the network plays it there, and no such strategy plays any point sooner.
 pub record PutsTimes (which : Which) (net : Plan) (put : List ℕ) (end : End) : Type 0 where
   pub schedule : List ℕ
   pub earliest : IsEarliest net (situation_of which net) schedule
   pub is : put ≡ controllable_line ++ times_text net schedule
   pub done : end ≡ Done
 
--- The answer to a network is its verdict: that it is controllable, with the day that is asked, or that it is not, and the certificate that refutes
--- it. The form in which the plan is given decides nothing of it, and of the number of workers nothing is seen.
+-- The answer to a network is its verdict: that it is controllable, with the day that is asked, or that it is not, and the certificate that
+-- refutes it. The form in which the plan is given decides nothing of it, and of the number of workers nothing is seen.
 abbrev pub play_answers : PlayWords → Plan → List ℕ → End → Type 0
 play_answers words net put end = Decides net (PutsTimes words.which net put end) (λ cert. PutsRefuted cert put end)
 

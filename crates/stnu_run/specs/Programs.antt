@@ -18,8 +18,8 @@ use Rattle.stnu_run.specs.declared.telling.TellingEnd.{TellingEnd}
 use Rattle.stnu_run.specs.declared.telling.TellingEnd.TheVariants.{Told, Refuted, WordsRefused}
 
 -- What a command promises, in the subject's words. `ended`: of an input, the bytes put for it, and how the command ended the run.
--- `without_memory`: of an input and the bytes put for it, where some were and then the run ended for want of memory. `causes`: what in an input
--- a run ends by.
+-- `without_memory`: of an input and the bytes put for it, where some were and then the run ended for want of memory. `causes`: what in an
+-- input a run ends by.
 pub record Promise : Type 1 where
   pub ended : (input put : List ℕ) → End → Type 0
   pub without_memory : (input put : List ℕ) → Type 0
@@ -102,8 +102,8 @@ KeepsPromise (serves machine start promise) status before after =
     → WhereBothTold before after (λ was is input untaken. (put : List ℕ) → is.put ≡ was.put ++ put → promise.ended input put end)
 KeepsPromise (tells answers) status before after = Unit {0}
 
--- Over a port that tells its bytes, where a run ended for want of memory nothing was put, or what was put is as the command promises for that.
--- Without an input nothing was taken or put then.
+-- Over a port that tells its bytes, where a run ended for want of memory nothing was put, or what was put is as the command promises for
+-- that. Without an input nothing was taken or put then.
 abbrev pub KeepsWithoutMemory : Program → Status → (before after : Seen) → Type 0
 KeepsWithoutMemory (serves machine start promise) status before after =
     status.0 ≡ 8 → WhereBothTold before after (λ was is input untaken. (put : List ℕ) → is.put ≡ was.put ++ put → (put ≡ []) ⊎ promise.without_memory input put)

@@ -22,8 +22,8 @@ abbrev pub program_asked : {A : Type 0} → (A → Program) → Option A → Pro
 program_asked program (Some asked) = program asked
 program_asked program None = refuses_words
 
--- What the words after that of a command ask of it, by its syntax and what its arguments ask. Nothing is asked where the words are not those of
--- the command, or a value is none that it takes.
+-- What the words after that of a command ask of it, by its syntax and what its arguments ask. Nothing is asked where the words are not
+-- those of the command, or a value is none that it takes.
 abbrev pub asked_by : {A : Type 0} → Syntax → (Arguments → Option A) → List Text → Option A
 asked_by command asked words = option_and_then asked (arguments_of command words)
 

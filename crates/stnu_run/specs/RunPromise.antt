@@ -36,10 +36,10 @@ OpensExecution net put end =
 abbrev pub plan_opens : PlanForm → Opening
 plan_opens form used rest net before = DeclaresBy (plan_in form) used rest net × (before ≡ [])
 
--- What `run` promises, of a plan of this form. `opens`: it opens the execution of the network that the input declares, or puts the first refusal of the input.
--- `execution`: what is promised of an execution that is opened so. `completes`: only for a controllable network and a faithful stream that is done
--- does it end as whole. `refused`: only where a line tells what no faithful stream does does it end by a refused event. `faults`: only where the
--- input has a first refusal, or its lines of events a fault, does it end by one.
+-- What `run` promises, of a plan of this form. `opens`: it opens the execution of the network that the input declares, or puts the first
+-- refusal of the input. `execution`: what is promised of an execution that is opened so. `completes`: only for a controllable network and a
+-- faithful stream that is done does it end as whole. `refused`: only where a line tells what no faithful stream does does it end by a
+-- refused event. `faults`: only where the input has a first refusal, or its lines of events a fault, does it end by one.
 pub record RunPromise (form : PlanForm) (input put : List ℕ) (end : End) : Type 0 where
   pub opens : AnswersText (plan_in form) refusing OpensExecution input put end
   pub execution : ExecutionPromise (plan_opens form) (input_lines input) put end
@@ -48,8 +48,8 @@ pub record RunPromise (form : PlanForm) (input put : List ℕ) (end : End) : Typ
   pub faults : (end ≡ ends.Fault) ⊎ (end ≡ ends.Limit)
       → (fault : Fault) × (IsFirstRefusal (plan_in form) (input_lines input) fault ⊎ HasEventFault (plan_opens form) (input_lines input) fault)
 
--- What in an input a run of `run` ends by: the first refusal of its plan, or that of its lines of events. It is whole where it declares a network
--- within the limits and, if that is controllable, lists a faithful stream that is done.
+-- What in an input a run of `run` ends by: the first refusal of its plan, or that of its lines of events. It is whole where it declares a
+-- network within the limits and, if that is controllable, lists a faithful stream that is done.
 abbrev pub run_causes : PlanForm → Causes
 run_causes form = record {
   refused = λ input end line. IsTextRefused (plan_in form) input end line ⊎ IsDayRefused (plan_opens form) input end line;

@@ -25,8 +25,8 @@ use Rattle.stnu_run.specs.Verdict.{controllable_line, PutsRefuted, Decides}
 use Rattle.stnu_run.specs.Workers.{has_workers, workers_name}
 use Rattle.stnu_run.specs.declared.plan_input.PlanForm.{PlanForm}
 
--- the beginning of an execution: it is put that the network is controllable, and the first due moment; and it is executed by the lower bounds
--- and waits of its closure
+-- the beginning of an execution: it is put that the network is controllable, and the first due moment; and it is executed by the lower
+-- bounds and waits of its closure
 pub record BeginsExecution (net : Plan) (answer : List ℕ) (onward : Onward Course) : Type 0 where
   pub table : Graph
   pub order : List PointId
@@ -44,8 +44,8 @@ PutsBegun execution put = (due : Option ℕ) × IsDueAnswer execution due × (pu
 abbrev pub EndsRefuted : Certificate → List ℕ → Onward Course → Type 0
 EndsRefuted cert put onward = (end : End) × PutsRefuted cert put end × (onward ≡ Ends end)
 
--- By the verdict of the network its execution begins, or the certificate of its refutation is put. The form in which the plan is given decides
--- nothing of it.
+-- By the verdict of the network its execution begins, or the certificate of its refutation is put. The form in which the plan is given
+-- decides nothing of it.
 abbrev pub run_begins : PlanForm → Plan → List ℕ → Onward Course → Type 0
 run_begins form net answer onward = Decides net (BeginsExecution net answer onward) (λ cert. EndsRefuted cert answer onward)
 

@@ -91,7 +91,8 @@ abbrev pub PutsReady : Plan → List ℕ → End → Type 0
 PutsReady net put end = (more : List ℕ) × (put ≡ ready_line ++ more)
 
 module _ (form : PlanForm) where
-  -- An input that declares a network, and lines after the plan, which all come within the limits and tell these steps; at last the network stands so.
+  -- An input that declares a network, and lines after the plan, which all come within the limits and tell these steps; at last the network
+  -- stands so.
   pub record IsEdited (input : List InputLine) (first net : Plan) (steps : List Step) : Type 0 where
     pub plan : List InputLine
     pub edits : List InputLine
@@ -141,12 +142,13 @@ module _ (form : PlanForm) where
   abbrev pub IsWholeSession : List InputLine → Type 0
   IsWholeSession input = (first : Plan) × (net : Plan) × (steps : List Step) × IsNext input first net steps step.End
 
-  -- What `session` promises. `opens`: it puts that the session is ready for the network that the input declares, or the first refusal of the input.
-  -- `says`: each line is answered by the network as it stands after the accepted edits before it, whatever comes after. `closes`: at `end` it ends
-  -- as done, and has put no more than these answers. `execution`: what is promised of an execution that `go` opens, of the network as it stands.
-  -- `faulty`: it ends by a fault, with its line, where its lines have one. `completes`: only at `end`, or after a faithful stream of a controllable
-  -- network that is done, does it end as done. `refused`: only where a line of events tells what no faithful stream does does it end by a refused
-  -- event. `faults`: only where the input has a first refusal, or its lines a fault, does it end by one. `never_refuted`: in no other way does it end.
+  -- What `session` promises. `opens`: it puts that the session is ready for the network that the input declares, or the first refusal of
+  -- the input. `says`: each line is answered by the network as it stands after the accepted edits before it, whatever comes after.
+  -- `closes`: at `end` it ends as done, and has put no more than these answers. `execution`: what is promised of an execution that `go`
+  -- opens, of the network as it stands. `faulty`: it ends by a fault, with its line, where its lines have one. `completes`: only at `end`,
+  -- or after a faithful stream of a controllable network that is done, does it end as done. `refused`: only where a line of events tells
+  -- what no faithful stream does does it end by a refused event. `faults`: only where the input has a first refusal, or its lines a fault,
+  -- does it end by one. `never_refuted`: in no other way does it end.
   pub record SessionPromise (input put : List ℕ) (end : End) : Type 0 where
     pub opens : AnswersText (plan_in form) refusing PutsReady input put end
     pub says : (first net : Plan) (steps : List Step) → IsEdited (input_lines input) first net steps → SaysFirst first steps put
@@ -178,8 +180,8 @@ pub record IsStepRefused (form : PlanForm) (input : List ℕ) (end : End) (line 
   pub ends_so : end ≡ fault_end fault
   pub told : line ≡ fault_line fault
 
--- What in an input a run of `session` ends by: the first refusal of its plan, of its lines, or of its lines of events. It is whole where it is a session
--- up to `end`, or lists a faithful stream that is done after a `go`.
+-- What in an input a run of `session` ends by: the first refusal of its plan, of its lines, or of its lines of events. It is whole where it
+-- is a session up to `end`, or lists a faithful stream that is done after a `go`.
 abbrev pub session_causes : PlanForm → Causes
 session_causes form = record {
   refused = λ input end line. IsTextRefused (plan_in form) input end line ⊎ (IsStepRefused form input end line ⊎ IsDayRefused (session_opens form) input end line);

@@ -157,7 +157,8 @@ pub record OpensOn (net : Plan) (standing : Standing) : Type 0 where
   pub opened : IsOpenedOn net standing.session
   pub unreported : standing.report ≡ None
 
--- A session of the network of the plan is opened, and it is put that it is ready. The form in which the plan is given decides nothing of it.
+-- A session of the network of the plan is opened, and it is put that it is ready. The form in which the plan is given decides nothing of
+-- it.
 abbrev pub session_begins : PlanForm → Plan → List ℕ → Onward InSession → Type 0
 session_begins form net answer onward = (standing : Standing) × OpensOn net standing × (answer ≡ ready_line) × (onward ≡ Goes (Editing standing))
 

@@ -24,8 +24,8 @@ abbrev pub shown_plan : PlanForm → Plan → List ℕ
 shown_plan Text net = printed_plan net
 shown_plan Json net = document_text (document_of net) ++ 10 ∷ printed_line end_words
 
--- The plan of a network is put in this form, and the run is done. `again`: what is put, read as an input of this form, declares the same network, and
--- nothing stands after it.
+-- The plan of a network is put in this form, and the run is done. `again`: what is put, read as an input of this form, declares the same
+-- network, and nothing stands after it.
 pub record PutsPlan (form : PlanForm) (net : Plan) (put : List ℕ) (end : End) : Type 0 where
   pub is : put ≡ shown_plan form net
   pub again : (plan_in form).declares (lines put) net []
@@ -35,8 +35,8 @@ pub record PutsPlan (form : PlanForm) (net : Plan) (put : List ℕ) (end : End) 
 abbrev pub show_answers : Show → Plan → List ℕ → End → Type 0
 show_answers show net put end = PutsPlan show.print net put end
 
--- What `show` promises: it puts the plan of the network that the input declares, and that is read again as the same three lists; or the first refusal
--- of the input.
+-- What `show` promises: it puts the plan of the network that the input declares, and that is read again as the same three lists; or the
+-- first refusal of the input.
 abbrev pub ShowPromise : Show → (input put : List ℕ) → End → Type 0
 ShowPromise show input put end = AnswersText (plan_in show.form) refusing (PutsPlan show.print) input put end
 

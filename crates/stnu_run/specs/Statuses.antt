@@ -27,10 +27,11 @@ IsWhole (tells answers) input = Unit {0}
 abbrev pub TellsRefusal : Program → (input : List ℕ) → End → (put : List ℕ) → Type 0
 TellsRefusal program input end put = (line : List ℕ) × IsRefused program input end line × PutsLast line put
 
--- The exit status of a run in which no call failed, and for which there was memory, by its input. `defined`: it and the bytes are those that the
--- program defines. `fault`: at 3 the first refusal of the input is a fault of its format, its document or its plan; `limit`: at 4 a quantity or number
--- beyond its limit; `event`: at 7 an event, or `done` with an open point; each is told by the line that is put last. `refused`: where the input has a first
--- refusal, the status is the one of that. `whole`: where the words are those of a command and the input is whole, it is 0 or 1.
+-- The exit status of a run in which no call failed, and for which there was memory, by its input. `defined`: it and the bytes are those
+-- that the program defines. `fault`: at 3 the first refusal of the input is a fault of its format, its document or its plan; `limit`: at 4
+-- a quantity or number beyond its limit; `event`: at 7 an event, or `done` with an open point; each is told by the line that is put last.
+-- `refused`: where the input has a first refusal, the status is the one of that. `whole`: where the words are those of a command and the
+-- input is whole, it is 0 or 1.
 pub record HasCauseInInput (program : Program) (status : Status) (input put : List ℕ) : Type 0 where
   pub defined : Defines program input put status
   pub fault : status.0 ≡ 3 → TellsRefusal program input Fault put
@@ -39,9 +40,9 @@ pub record HasCauseInInput (program : Program) (status : Status) (input put : Li
   pub refused : (end : End) (line : List ℕ) → IsRefused program input end line → status.0 ≡ end_number end
   pub whole : ¬ IsRefusal program → IsWhole program input → (status.0 ≡ 0) ⊎ (status.0 ≡ 1)
 
--- The exit status of a run has its cause. `calls`: 5 and 6 come only where a take, or a put, failed, the last one. `words`: 2 comes only where the words
--- are those of no command; `no_words`: where they are, it is 2, or the refusal was not put. `input`: where the port tells its bytes, at every status but 5, 6
--- and 8, the status has its cause in the input.
+-- The exit status of a run has its cause. `calls`: 5 and 6 come only where a take, or a put, failed, the last one. `words`: 2 comes only
+-- where the words are those of no command; `no_words`: where they are, it is 2, or the refusal was not put. `input`: where the port tells
+-- its bytes, at every status but 5, 6 and 8, the status has its cause in the input.
 pub record StatusHasCause (program : Program) (status : Status) (before after : Seen) : Type 0 where
   pub calls : HasCauses program status before after
   pub words : status.0 ≡ 2 → IsRefusal program

@@ -40,8 +40,8 @@ PutsRefuted cert put end = (put ≡ refuted_line ++ printed_certificate cert) ×
 abbrev pub Decides : Plan → Type 0 → (Certificate → Type 0) → Type 0
 Decides net Yes No = (IsControllable net × Yes) ⊎ ((cert : Certificate) × Refutes net cert × No cert)
 
--- The verdict of a network is put: that it is controllable, and it is, and then this is so; or that it is not, and it is not, and a certificate that
--- the judge accepts.
+-- The verdict of a network is put: that it is controllable, and it is, and then this is so; or that it is not, and it is not, and a
+-- certificate that the judge accepts.
 abbrev pub PutsDecided : Plan → (Yes : Type 0) → List ℕ → End → Type 0
 PutsDecided net Yes put end =
     (IsControllable net × Yes)

@@ -54,8 +54,8 @@ pub record DifferInWorkers (uses others : List Use) : Type 0 where
   pub options : (name : Text) → bytes_eq workers_name name ≡ false → text_given name uses ≡ text_given name others
   pub operands : operand_texts uses ≡ operand_texts others
 
--- How many workers there are decides nothing of what words ask of this command. `sound`: its syntax is. `no_flag`: it has no flag of that name.
--- `same`: uses that differ in the number of workers alone ask the same.
+-- How many workers there are decides nothing of what words ask of this command. `sound`: its syntax is. `no_flag`: it has no flag of that
+-- name. `same`: uses that differ in the number of workers alone ask the same.
 pub record WorkersDecideNothing {A : Type 0} (command : Syntax) (asked : Arguments → Option A) : Type 0 where
   pub sound : ◌≡◌ {A = Bool} (is_sound command) true
   pub no_flag : is_in workers_name command.flags ≡ false

@@ -21,8 +21,8 @@ use std::thread::Threads;
 use table_closing::Closed;
 use table_proofs::table_proof;
 
-/// Whether a network is controllable: the command `check` reads a plan, and puts `controllable` where a strategy controls its network,
-/// else `not controllable` and a certificate which `judge` accepts. Where a proof is wanted, a certificate which `judge` accepts stands after
+/// Whether a network is controllable: the command `check` reads a plan, and puts `controllable` where a strategy controls its network, else
+/// `not controllable` and a certificate which `judge` accepts. Where a proof is wanted, a certificate which `judge` accepts stands after
 /// `controllable` too. It ends with 0 in the first case, and with 1 in the second.
 #[derive(Drop)]
 pub struct Check {

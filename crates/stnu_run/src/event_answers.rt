@@ -191,5 +191,5 @@ fn name_of(net: &Network, point: PointId) -> &[u8]
     ensures text { result.now ≡ point_name net.now.points point }
     ensures size { length result.now ≤ 32 }
 {
-    net.points()[point.0 as usize].bytes()
+    net.point_name(point).bytes()
 }

@@ -30,9 +30,9 @@ use strategy_model::laws::at_most_one_earliest;
 /// The greatest number out of which a network is forged.
 const MOST_NUMBER: u32 = 2_147_483_647;
 
-/// A network out of a number: the command `forge` forges it, and tells how many points, links and bounds it has. Where a strategy controls it,
-/// it tells that, how many entries its table proof has and the last moment of its longest day, else that none does and how many lines its
-/// refutation has; and then what `judge` says of that certificate. It ends with 0 in the first case, and with 1 in the second.
+/// A network out of a number: the command `forge` forges it, and tells how many points, links and bounds it has. Where a strategy controls
+/// it, it tells that, how many entries its table proof has and the last moment of its longest day, else that none does and how many lines
+/// its refutation has; and then what `judge` says of that certificate. It ends with 0 in the first case, and with 1 in the second.
 #[derive(Drop)]
 pub struct Forge {
     words: ForgeWords,
@@ -175,8 +175,8 @@ fn certificate_of<R: Threads + Sync>(
     }
 }
 
-/// Puts that the network of a session is controllable, how many entries its table proof has, the last moment of its longest day, and what the
-/// judge says of the proof.
+/// Puts that the network of a session is controllable, how many entries its table proof has, the last moment of its longest day, and what
+/// the judge says of the proof.
 fn tell_controllable<R: Threads + Sync>(
     rt: &R,
     alloc: Global,

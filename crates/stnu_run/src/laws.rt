@@ -40,8 +40,8 @@ pub fn defined_run_is_one()
     words_are_lawful();
 }
 
-/// Whatever the words are, their program defines at most one pair for an input, its command has at most one reply to each line, and each run of it
-/// ends by the causes in its input.
+/// Whatever the words are, their program defines at most one pair for an input, its command has at most one reply to each line, and each
+/// run of it ends by the causes in its input.
 pub(crate) fn words_are_lawful()
     ensures one { (words : List (List ℕ)) → DefinesOne (program_of words) }
     ensures causes { (words : List (List ℕ)) → RunsEndByCause (program_of words) }
@@ -54,44 +54,45 @@ pub fn judge_is_read_exactly()
     ensures { (words : List (List ℕ)) (judge : Judge) → asked_by judge_syntax judge_asked words ≡ Some judge ↔ words ≡ form_words judge.form }
 {}
 
-/// The words after `check` are its own exactly where they spell its uses, and the number of workers, where it is given, is one from 1 to 64. The
-/// plan is a document exactly where `--json` is given, and a proof is wanted exactly where `--proof` is.
+/// The words after `check` are its own exactly where they spell its uses, and the number of workers, where it is given, is one from 1 to
+/// 64. The plan is a document exactly where `--json` is given, and a proof is wanted exactly where `--proof` is.
 pub fn check_is_read_exactly()
     ensures { (words : List (List ℕ)) (flags : CheckFlags) → asked_by check_syntax check_asked words ≡ Some flags ↔ SayCheckFlags check_syntax flags words }
 {}
 
-/// The words after `run` are its own exactly where they spell its uses, and the number of workers, where it is given, is one from 1 to 64. The
-/// plan is a document exactly where `--json` is given.
+/// The words after `run` are its own exactly where they spell its uses, and the number of workers, where it is given, is one from 1 to 64.
+/// The plan is a document exactly where `--json` is given.
 pub fn run_is_read_exactly()
     ensures { (words : List (List ℕ)) (form : PlanForm) → asked_by run_syntax run_asked words ≡ Some form ↔ SayFormAndWorkers run_syntax form words }
 {}
 
-/// The words after `session` are its own exactly where they spell its uses, and the number of workers, where it is given, is one from 1 to 64. The
-/// plan is a document exactly where `--json` is given.
+/// The words after `session` are its own exactly where they spell its uses, and the number of workers, where it is given, is one from 1 to
+/// 64. The plan is a document exactly where `--json` is given.
 pub fn session_is_read_exactly()
     ensures { (words : List (List ℕ)) (form : PlanForm) → asked_by session_syntax session_asked words ≡ Some form ↔ SayFormAndWorkers session_syntax form words }
 {}
 
-/// The words after `show` are its own exactly where they spell its uses. The plan is read as a document exactly where `--json` is given, and put as
-/// one exactly where `--print-json` is.
+/// The words after `show` are its own exactly where they spell its uses. The plan is read as a document exactly where `--json` is given,
+/// and put as one exactly where `--print-json` is.
 pub fn show_is_read_exactly()
     ensures { (words : List (List ℕ)) (show : Show) → asked_by show_syntax show_asked words ≡ Some show ↔ SayForms show_syntax show words }
 {}
 
-/// The words after `play` are its own exactly where they spell its uses, and the operand names a situation: `longest`, `shortest`, or a number of at most
-/// 18446744073709551615; and the number of workers, where it is given, is one from 1 to 64. The plan is a document exactly where `--json` is given.
+/// The words after `play` are its own exactly where they spell its uses, and the operand names a situation: `longest`, `shortest`, or a
+/// number of at most 18446744073709551615; and the number of workers, where it is given, is one from 1 to 64. The plan is a document
+/// exactly where `--json` is given.
 pub fn play_is_read_exactly()
     ensures { (words : List (List ℕ)) (said : PlayWords) → asked_by play_syntax play_asked words ≡ Some said ↔ SayPlay play_syntax said words }
 {}
 
-/// The words after `forge` are its own exactly where they spell its uses, and the operands are a number of at most 2147483647 and a count of tasks from
-/// 1 to 333; and the number of workers, where it is given, is one from 1 to 64.
+/// The words after `forge` are its own exactly where they spell its uses, and the operands are a number of at most 2147483647 and a count
+/// of tasks from 1 to 333; and the number of workers, where it is given, is one from 1 to 64.
 pub fn forge_is_read_exactly()
     ensures { (words : List (List ℕ)) (said : ForgeWords) → asked_by forge_syntax forge_asked words ≡ Some said ↔ SayForge forge_syntax said words }
 {}
 
-/// The number of workers changes nothing, in either spelling, and wherever it stands after the word of a command: the defined run of words with
-/// it is that of the words with another number, and, where words with it are not refused, that of the words without it.
+/// The number of workers changes nothing, in either spelling, and wherever it stands after the word of a command: the defined run of words
+/// with it is that of the words with another number, and, where words with it are not refused, that of the words without it.
 pub fn workers_change_nothing()
     ensures other { (program command : List ℕ) (front spelled others back : List (List ℕ)) (count number : ℕ)
         → SpellsWorkers count spelled → SpellsWorkers number others
@@ -103,8 +104,8 @@ pub fn workers_change_nothing()
     each_is_lawful();
 }
 
-/// Whatever the command is, for an input it defines at most one pair of bytes and status, each run ends by the causes in its input, and the number of workers changes nothing: one line
-/// for each command of the program.
+/// Whatever the command is, for an input it defines at most one pair of bytes and status, each run ends by the causes in its input, and the
+/// number of workers changes nothing: one line for each command of the program.
 fn each_is_lawful()
     ensures one { (command : List ℕ) (words : List (List ℕ)) → DefinesOne (program_named command words) }
     ensures causes { (command : List ℕ) (words : List (List ℕ)) → RunsEndByCause (program_named command words) }

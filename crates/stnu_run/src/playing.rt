@@ -31,8 +31,8 @@ use strategy_model::Schedule;
 use strategy_model::laws::at_most_one_earliest;
 use table_closing::Closed;
 
-/// A day of a plan: the command `play` reads a plan, and puts `controllable` where a strategy controls its network, and then for each point in
-/// order a line with its moment in the earliest schedule of the situation that is asked; else `not controllable` and a certificate which
+/// A day of a plan: the command `play` reads a plan, and puts `controllable` where a strategy controls its network, and then for each point
+/// in order a line with its moment in the earliest schedule of the situation that is asked; else `not controllable` and a certificate which
 /// `judge` accepts. It ends with 0 in the first case, and with 1 in the second.
 #[derive(Drop)]
 pub struct Play {

@@ -31,7 +31,8 @@ pub trait Request: Drop {
         ensures { WorkersDecideNothing syntax asked };
 }
 
-/// What the words after that of a command ask of it, or `None` where they are not the command's. `AllocError` comes only for want of memory.
+/// What the words after that of a command ask of it, or `None` where they are not the command's. `AllocError` comes only for want of
+/// memory.
 pub fn request_in<Q: Request>(alloc: Global, words: &[String]) -> Result<Option<Q>, AllocError>
     ensures { IfOk result (λ request. request ≡ asked_by Q.syntax Q.asked (map string_bytes words.now)) }
 {

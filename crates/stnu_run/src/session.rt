@@ -1,4 +1,5 @@
-//! The command `session`: a plan, then edits of its network and questions about it, and after `go` the execution of the network as it stands.
+//! The command `session`: a plan, then edits of its network and questions about it, and after `go` the execution of the network as it
+//! stands.
 
 ghost use Rattle.std.specs.Prelude.{◌≡◌, [], IfOk};
 ghost use Rattle.command_engine.specs.Machine.{HasRoom};
@@ -29,10 +30,10 @@ use std::alloc::{AllocError, Global};
 use std::marker::Model;
 use std::thread::Threads;
 
-/// A session of a plan: the command `session` reads a plan, and puts `ready`. Then it answers each line by the network as it stands after the
-/// accepted edits before it: an edit by `ok`, or by `refused` and the cause, and then nothing changed; and each question. It goes on until
-/// the line `end`, at which it ends with 0, or until `go` where some strategy controls the network: from then on the network is executed over
-/// lines of events, as `run` does.
+/// A session of a plan: the command `session` reads a plan, and puts `ready`. Then it answers each line by the network as it stands after
+/// the accepted edits before it: an edit by `ok`, or by `refused` and the cause, and then nothing changed; and each question. It goes on
+/// until the line `end`, at which it ends with 0, or until `go` where some strategy controls the network: from then on the network is
+/// executed over lines of events, as `run` does.
 #[derive(Drop)]
 pub struct OpenSession {
     form: PlanForm,

@@ -22,8 +22,8 @@ pub enum Which {
 }
 
 impl Which {
-    /// The situation that a word names: `longest`, `shortest`, or a number of at most 18446744073709551615. `None` where there is no word, or it
-    /// names none.
+    /// The situation that a word names: `longest`, `shortest`, or a number of at most 18446744073709551615. `None` where there is no word,
+    /// or it names none.
     pub(crate) fn given(word: Option<&str>) -> Option<Which>
         ensures { result ≡ which_given (option_map (λ text. text.now) word.entry) }
     {

@@ -3,7 +3,7 @@
 ghost use Rattle.std.specs.Prelude.{◌≡◌, option_map, IfOk};
 ghost use Rattle.plan_session.specs.Sessions.{IsOpenedOn};
 ghost use Rattle.table_closing.specs.Closing.{ClosesTo};
-ghost use Rattle.stnu_run.specs.Workers.{has_workers};
+ghost use Rattle.stnu_run.specs.Workers.{workers_of};
 
 use crate::counts::count_within;
 use net_model::Network;
@@ -17,29 +17,29 @@ use table_closing::{Closed, close};
 /// How many workers there may be.
 const MOST_WORKERS: u32 = 64;
 
-/// The workers that make the rows of a round and test a closed table, from 1 to 64. Contracts do not see how many they are: no answer
-/// depends on it.
+/// The workers that make the rows of a round and test a closed table, from 1 to 64. Contracts see them as their number; what they open and
+/// close does not depend on it.
 #[derive(Drop)]
 pub struct Workers {
     count: u32,
 }
 
 impl Model for Workers {
-    ghost use Rattle.std.specs.Prelude.{◌≤◌};
+    ghost use Rattle.std.specs.Prelude.{ℕ, ◌≤◌};
     ghost use Rattle.stnu_run.specs.Workers.{most_workers};
 
-    ghost Value = { Unit {0} };
+    ghost Value = { ℕ };
 
-    ghost view = { λ workers. tt };
+    ghost view = { λ workers. workers.count };
 
     ghost invariant = { λ workers. (1 ≤ workers.count) × (workers.count ≤ most_workers) };
 }
 
 impl Workers {
-    /// So many workers as the value of the option `--workers` says, or one where it is not given; `None` where the value is no number from 1 to
-    /// 64.
+    /// So many workers as the value of the option `--workers` says, or one where it is not given; `None` where the value is no number from
+    /// 1 to 64.
     pub(crate) fn of(value: Option<&str>) -> Option<Workers>
-        ensures { result ≡ has_workers (option_map (λ text. text.now) value.entry) }
+        ensures { result ≡ workers_of (option_map (λ text. text.now) value.entry) }
     {
         match value {
             None => Some(Workers { count: 1 }),

@@ -1,5 +1,5 @@
--- Rounds are a history: in each round the workers first read the table, and then each edge that falls is offered in its turn, by the worker of
--- its row, which before that reads the premise that stands in the row.
+-- Rounds are a history: in each round the workers first read the table, and then each edge that falls is offered in its turn, by the worker
+-- of its row, which before that reads the premise that stands in the row.
 use Rattle.std.proofs.Common.{◌≡◌, ℕ, List, [], ◌∷◌, ◌++◌, map, fold, refl, ap, sym, subst, ◌∙◌, append_assoc, append-nil}
 use Rattle.std.specs.List.{AllByRecursion, Contains, flat_map}
 use Rattle.std.proofs.lemmas.List.Elements.{Contains-append_right}

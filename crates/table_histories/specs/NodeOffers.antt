@@ -1,5 +1,5 @@
--- The history of one round, node by node: each new node comes by its own rule, from the edges of its own premises, which the worker of its row
--- read.
+-- The history of one round, node by node: each new node comes by its own rule, from the edges of its own premises, which the worker of its
+-- row read.
 use Rattle.std.specs.Prelude.{◌≡◌, ℕ, List, [], ◌∷◌, ◌++◌, Some}
 use Rattle.std.specs.List.{Contains}
 use Rattle.net_model.specs.Network.{Plan, IsPlan}
@@ -37,7 +37,8 @@ HasReadPremises first past worker (by_rule.Low name second) = IsReadPremise past
 HasReadPremises first past worker (by_rule.Cross name second) = IsReadPremise past worker past.support.table second
 HasReadPremises first past worker (by_rule.Drop premise) = IsReadPremise past worker past.support.table premise
 
--- a node comes by its own rule: the rule gives its edge from its premises, whose edges the worker of its row read, and the edge lowers its key
+-- a node comes by its own rule: the rule gives its edge from its premises, whose edges the worker of its row read, and the edge lowers its
+-- key
 pub record ComesByItsRule (net : Plan) (first : Graph) (past : RoundPast) (node : Node) : Type 0 where
   pub given : IsGiven net past.support.nodes node
   pub read : HasReadPremises first past node.edge.to.0 node.rule
@@ -61,8 +62,8 @@ pub record IsRoundHistory (net : Plan) (before after : Support) : Type 0 where
 abbrev pub NodesComeByTheirRules : Type 0
 NodesComeByTheirRules = (net : Plan) (support : Support) → IsPlan net → StandsOn net support → IsRoundHistory net support (after_round net support)
 
--- A history of one round is a history of its table with the same reads: each node that comes is a step in which the worker of its row offers
--- its edge.
+-- A history of one round is a history of its table with the same reads: each node that comes is a step in which the worker of its row
+-- offers its edge.
 abbrev pub RoundHistoriesAreHistories : Type 0
 RoundHistoriesAreHistories =
     (net : Plan) (first : Support) (past : RoundPast) → RoundHistory net first past → (are : AreHistory net first past.support) × (are.read ≡ past.read)

@@ -11,7 +11,7 @@ ghost use Rattle.table_proofs.specs.Proving.{entry_of};
 use cert_format::Entry;
 use labelled_graph::Table;
 use net_model::{Edge, Network, PointId};
-use refutations::{link_name, point_name};
+use refutations::link_name;
 use std::alloc::{AllocError, Global};
 
 /// The edges of a closure as entries, in the order of their keys.
@@ -54,11 +54,11 @@ fn push_edge(entries: &mut Vec<Entry>, net: &Network, edge: &Edge) -> Result<(),
     requires { IsEdge net.now edge.now }
     ensures { OnOk result (entries.new.items ≡ entries.old.items ++ entry_of net.now edge.now ∷ []) }
 {
-    let from = point_name(net, edge.from);
+    let from = *net.point_name(edge.from);
     match edge.label {
         None => entries.push(Entry {
             from,
-            to: Some(point_name(net, edge.to)),
+            to: Some(*net.point_name(edge.to)),
             label: None,
             weight: edge.weight,
         })?,

@@ -6,7 +6,6 @@ ghost use Rattle.net_model.specs.Network.{IsPoint};
 ghost use Rattle.net_model.specs.NetworkParts.{point_name};
 
 use net_model::{Name, Network, PointId};
-use refutations::point_name;
 use std::alloc::{AllocError, Global};
 
 /// The names of points, in their order.
@@ -20,7 +19,7 @@ pub(crate) fn point_names(
 {
     let mut names = Vec::new(alloc);
     for point in points {
-        names.push(point_name(net, *point))?;
+        names.push(*net.point_name(*point))?;
     }
     Ok(names)
 }

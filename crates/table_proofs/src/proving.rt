@@ -16,7 +16,8 @@ use std::alloc::{AllocError, Global};
 
 /// The table proof of a network, by its closure and an order of the points of that: its order lines are the points in that order, and its
 /// entries are the edges of the closure, by the number of the point in which they end, then by that of the point in which they begin, the
-/// ordinary one before the labelled ones, and those by the number of their link. The judge accepts it. `AllocError` comes only for want of memory.
+/// ordinary one before the labelled ones, and those by the number of their link. The judge accepts it. `AllocError` comes only for want of
+/// memory.
 pub fn table_proof(
     alloc: Global,
     net: &Network,

@@ -1,4 +1,4 @@
-//! The greatest size of a line. It is this project's own choice.
+//! The greatest size of a line.
 
 ghost use Rattle.std.specs.Prelude.{◌≡◌};
 ghost use Rattle.texts.specs.Limits.{most_line};

@@ -1,4 +1,4 @@
-//! Lines of texts. The forms are this project's own choice.
+//! Lines of texts.
 
 ghost use Rattle.std.specs.Prelude.{◌≡◌, ℕ, ◌+◌, ◌-◌, ◌<◌, ◌≤◌, ◌∷◌, [], length, take, drop, slice_index, MatchOption, IfSome};
 ghost use Rattle.texts.specs.Lines.{lines, lines_after, size_of_lines};

@@ -69,7 +69,8 @@ module _ (size : Size) where
       subst (λ (m : Standing). Joins (IsLed size) id m other its (both_of m its) Spent) (sym live)
       (subst (λ (w : Standing). Joins (IsLed size) id (Live view) other w (both_of (Live view) w) Spent) (sym there) (join_live id other view joining some_out))
 
--- where some history led to a state in which the first seat, with no other out, was told that there is nothing left, it holds each number once
+-- where some history led to a state in which the first seat, with no other out, was told that there is nothing left, it holds each number
+-- once
 pub closes : (size : Size) (seat : SeatSeen) (id : ℕ) (me : Standing) (view : View) → me ≡ Live view → view ≡ seat.view → seat.view.drawer ≡ 0 → seat.view.out ≡ 0 → 0 < seat.view.nones
     → (s : State (Unit {0}) Standing) → IsLed size s → get_elem? s.views id ≡ some me → EachOnce size.targets seat.view.held
 closes size seat id me view live is first out told s led at =

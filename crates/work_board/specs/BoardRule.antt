@@ -35,8 +35,8 @@ abbrev pub OfLive : (View → Type 0) → Standing → Type 0
 OfLive Holds (Live view) = Holds view
 OfLive Holds Spent = Unit {0}
 
--- what each live seat knows: the count of targets; it was told at most once that there is nothing left, and once more for each seat joined into
--- it; and only the first seat has split, joins, or may split
+-- what each live seat knows: the count of targets; it was told at most once that there is nothing left, and once more for each seat joined
+-- into it; and only the first seat has split, joins, or may split
 pub record IsSeat (size : Size) (next : ℕ) (view : View) : Type 0 where
   pub targets : view.targets ≡ size.targets
   pub told_once : view.nones ≤ view.joined + 1

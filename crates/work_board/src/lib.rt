@@ -1,5 +1,5 @@
 //! A board of numbered targets that several workers draw from: each number is drawn once, by one atomic step. A worker holds a seat, and
-//! nobody waits for anybody. The rule of the board, with the histories that it is about, is this project's own choice.
+//! nobody waits for anybody.
 #![tactic(auto)]
 
 mod board;

@@ -1,12 +1,12 @@
 use Rattle.std.proofs.Common.{◌≡◌, ◌-◌, suc}
 use Rattle.net_model.specs.Limits.{most_moment}
 use Rattle.execution_model.specs.Feeding.{next_moment}
-use Rattle.situation_player.specs.Playing.{IsUnderway, lastings_of}
+use Rattle.situation_player.specs.Playing.{FollowsSituation, lastings_of}
 use Rattle.situation_player.proofs.playing.play_out.Given as goal
 
 abbrev pub invariant-loop-moment : goal.invariant-loop-moment
 invariant-loop-moment l = record {
-  underway : IsUnderway l.net l.situation.items l.executor;
+  follows : FollowsSituation l.net l.situation.items l.executor;
   lastings : l.lastings.items ≡ lastings_of l.net.links l.situation.items;
 }
 

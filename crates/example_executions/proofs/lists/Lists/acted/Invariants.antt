@@ -1,6 +1,7 @@
 use Rattle.std.proofs.Common.{◌≡◌, map, take, Some}
 use Rattle.std.specs.Prelude.{if◌then◌else◌}
-use Rattle.execution_model.specs.Execution.{is_due, moment_of}
+use Rattle.net_model.specs.Moments.{moment_of}
+use Rattle.execution_model.specs.Execution.{is_due}
 use Rattle.example_executions.proofs.lists.Lists.acted.Given as goal
 
 abbrev pub invariant-loop-point : goal.invariant-loop-point

@@ -1,6 +1,7 @@
 -- Each turn makes the acts of one moment.
 use Rattle.std.proofs.Common.{◌≡◌, ◌++◌, ap, ◌∙◌}
-use Rattle.execution_model.specs.Execution.{Moments, acts_at, acted}
+use Rattle.net_model.specs.Moments.{Moments}
+use Rattle.execution_model.specs.Execution.{acts_at, acted}
 use Rattle.example_executions.proofs.TimeFacts.{run_on, acts_on}
 use Rattle.example_executions.proofs.lists.Lists.run.Goals as goal
 

@@ -3,7 +3,8 @@ use Rattle.std.proofs.Common.{◌≡◌, ◌++◌, ◌-◌, length, arith, refl,
 use Rattle.std.specs.Prelude.{IsSome}
 use Rattle.std.specs.List.{All}
 use Rattle.execution_model.proofs.MomentLemmas.{length-points}
-use Rattle.execution_model.specs.Execution.{Moments, time_runs, acts_while}
+use Rattle.net_model.specs.Moments.{Moments}
+use Rattle.execution_model.specs.Execution.{time_runs, acts_while}
 use Rattle.execution_model.specs.Feeding.{Execution, next_moment, last_of, IsWhole}
 use Rattle.example_executions.proofs.TimeFacts.{whole_by}
 use Rattle.example_executions.proofs.slow.SlowExecutor.run_whole.Goals as goal

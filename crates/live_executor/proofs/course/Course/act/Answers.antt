@@ -1,5 +1,5 @@
 use Rattle.std.proofs.Common.{arith, sym, subst}
-use Rattle.execution_model.specs.Execution.{Moments}
+use Rattle.net_model.specs.Moments.{Moments}
 use Rattle.live_executor.specs.Course.{AreSomeMade, IsCourseOf}
 use Rattle.live_executor.specs.Waking.{IsAwake}
 use Rattle.live_executor.proofs.CourseLemmas.{none_made, lowest_inside, lowest_new, one_act_more, course_more, course_next, acts_made}

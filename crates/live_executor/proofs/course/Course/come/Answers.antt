@@ -1,6 +1,6 @@
 use Rattle.std.proofs.Common.{◌≡◌, ◌∙◌, ◌++◌, length, take, drop, ap, sym, subst, arith}
 use Rattle.std.proofs.lemmas.List.{take-append-le, take_all}
-use Rattle.execution_model.specs.Execution.{Moments}
+use Rattle.net_model.specs.Moments.{Moments}
 use Rattle.execution_model.specs.Feeding.{completed_at}
 use Rattle.execution_model.proofs.MomentLemmas.{length-completed_at}
 use Rattle.live_executor.specs.Awaited.{AreLatest, IsLatestOrKept}

@@ -5,7 +5,7 @@ use Rattle.std.specs.Prelude.{Some, Err, IfSome, List}
 use Rattle.std.proofs.lemmas.List.{drop_more}
 use Rattle.std.proofs.lemmas.List.Elements.{All-set}
 use Rattle.net_model.specs.declared.ids.PointId.{PointId}
-use Rattle.execution_model.specs.Execution.{Moments}
+use Rattle.net_model.specs.Moments.{Moments}
 use Rattle.execution_model.specs.Feeding.{completed_at, completions_taken}
 use Rattle.execution_model.specs.declared.feeding.Why.{Why}
 use Rattle.execution_model.proofs.MomentLemmas.{length-completed_at}

@@ -1,5 +1,5 @@
 use Rattle.std.proofs.Common.{◌<◌, sym, subst}
-use Rattle.execution_model.specs.Execution.{Moments}
+use Rattle.net_model.specs.Moments.{Moments}
 use Rattle.live_executor.specs.Course.{left_of}
 use Rattle.live_executor.proofs.CourseLemmas.{not_run, course_at, fewer_left, run_on, run_ends}
 use Rattle.live_executor.proofs.course.Course.run.Goals as goal

@@ -2,7 +2,8 @@ use Rattle.std.proofs.Common.{◌-◌, ◌∙◌, ap, sym, subst, arith}
 use Rattle.std.specs.Prelude.{IsSome, find}
 use Rattle.std.specs.List.{All}
 use Rattle.net_model.specs.Limits.{most_size}
-use Rattle.execution_model.specs.Execution.{Moments, time_runs}
+use Rattle.net_model.specs.Moments.{Moments}
+use Rattle.execution_model.specs.Execution.{time_runs}
 use Rattle.execution_model.specs.Feeding.{is_open}
 use Rattle.execution_model.proofs.MomentLemmas.{length-time_runs}
 use Rattle.live_executor.specs.Course.{left_of}

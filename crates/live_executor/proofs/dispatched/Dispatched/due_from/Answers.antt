@@ -2,7 +2,8 @@ use Rattle.std.proofs.Common.{◌≡◌, ◌∙◌, ℕ, Some, ap, false, sym, s
 use Rattle.std.specs.Prelude.{is_some}
 use Rattle.dispatch_net.specs.Dispatchable.{conditions_at}
 use Rattle.dispatch_net.specs.declared.dispatch.Conditions.{Conditions}
-use Rattle.execution_model.specs.Execution.{moment_of, link_to, is_due}
+use Rattle.net_model.specs.Moments.{moment_of}
+use Rattle.execution_model.specs.Execution.{link_to, is_due}
 use Rattle.live_executor.specs.Due.{PassesFrom}
 use Rattle.live_executor.specs.Sound.{KeptNetwork}
 use Rattle.live_executor.proofs.DueLemmas.{MayBeDue, due_from_both}

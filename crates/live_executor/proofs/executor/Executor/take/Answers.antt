@@ -1,5 +1,5 @@
 use Rattle.std.proofs.Common.{◌≡◌, ◌≤◌, ◌∙◌, None, ap, sym, subst, length, arith}
-use Rattle.execution_model.specs.Execution.{Moments}
+use Rattle.net_model.specs.Moments.{Moments}
 use Rattle.execution_model.specs.Feeding.{Execution, next_moment}
 use Rattle.live_executor.specs.Kept.{moment_after}
 use Rattle.live_executor.specs.Limits.{AreBefore}

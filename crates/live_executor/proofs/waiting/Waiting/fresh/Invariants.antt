@@ -3,7 +3,7 @@ use Rattle.std.specs.Prelude.{slice_index}
 use Rattle.net_model.specs.declared.ids.PointId.{PointId}
 use Rattle.dispatch_net.specs.Dispatchable.{conditions_at}
 use Rattle.execution_model.specs.Execution.{is_due}
-use Rattle.due_queue.specs.First.{due_in}
+use Rattle.net_model.specs.Moments.{moment_of}
 use Rattle.live_executor.specs.Due.{PassesFrom}
 use Rattle.live_executor.specs.Waking.{condition_count}
 use Rattle.live_executor.proofs.waiting.Waiting.fresh.Given as goal
@@ -12,5 +12,5 @@ abbrev pub invariant-loop-point : goal.invariant-loop-point
 invariant-loop-point l = record {
   count : length l.waiting.counts.items ≡ length l.dispatched.setting.dispatch;
   counted : (point : PointId) → point.0 < l.point → slice_index l.waiting.counts.items point.0 ≡ condition_count (conditions_at l.dispatched.setting.dispatch point);
-  found : (point : PointId) → point.0 < l.point → PassesFrom (λ t. is_due l.dispatched.setting l.moments t point) (due_in l.waiting.due point);
+  found : (point : PointId) → point.0 < l.point → PassesFrom (λ t. is_due l.dispatched.setting l.moments t point) (moment_of l.waiting.due point);
 }

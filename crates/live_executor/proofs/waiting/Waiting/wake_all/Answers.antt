@@ -2,7 +2,7 @@ use Rattle.std.proofs.Common.{◌≡◌, ◌≢◌, ◌<◌, ◌∙◌, sym, ap,
 use Rattle.std.specs.Prelude.{slice_index}
 use Rattle.std.proofs.lemmas.List.{get_or_default}
 use Rattle.net_model.specs.declared.ids.PointId.{PointId}
-use Rattle.due_queue.specs.First.{due_in}
+use Rattle.net_model.specs.Moments.{moment_of}
 use Rattle.live_executor.specs.Waking.{IsFoundOrKept}
 use Rattle.live_executor.proofs.WakeLemmas.{left_more, found_more}
 use Rattle.live_executor.proofs.waiting.Waiting.wake_all.Goals as goal
@@ -31,7 +31,7 @@ loop-waiter-preserved c =
                 subst (λ (now : List (Option ℕ)). IsFoundOrKept c.args.now setting c.args.moments.now counts more old now point)
                 (sym (ap (λ s. s.due) w.self-is ∙ e.due))
                 (found_more c.args.now setting c.args.moments.now counts c.args.waiters.now old before.due c.loop-waiter.waiter-index c.loop-waiter-test.true d
-                (due_in w.wake.new.self.due (get_or c.args.waiters.now c.loop-waiter.waiter-index d)) (omega (arith, within, due_long)) e.found point (i.each point));
+                (moment_of w.wake.new.self.due (get_or c.args.waiters.now c.loop-waiter.waiter-index d)) (omega (arith, within, due_long)) e.found point (i.each point));
             counts = ap (λ s. s.counts.items) w.self-is ∙ (e.counts ∙ i.counts);
           })
       | else-index-eq0 w ↦ (

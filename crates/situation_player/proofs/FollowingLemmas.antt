@@ -1,4 +1,4 @@
--- An execution that is underway in a situation: at its start, after a feed, and where no moment is next.
+-- An execution that follows a situation: at its start, after a feed, and where no moment is next.
 use Rattle.std.proofs.Common.{◌≡◌, ℕ, ◌+◌, ◌<◌, ◌≤◌, List, [], ◌∷◌, ◌++◌, length, map, get_or, drop, Option, Some, None, Result, Ok, Err, refl, ap, sym, subst, ◌∙◌, arith}
 use Rattle.std.specs.Prelude.{IsSome, IfOk}
 use Rattle.std.specs.List.{All, Contains}
@@ -13,7 +13,8 @@ use Rattle.strategy_model.specs.Control.{IsEarliest}
 use Rattle.strategy_model.specs.Situations.{IsSituation}
 use Rattle.dispatch_net.proofs.EarliestLemmas.{closures_execute_earliest}
 use Rattle.dispatch_net.proofs.ExecutionLemmas.{dispatchable_length, executions_satisfy}
-use Rattle.execution_model.specs.Execution.{Moments, Setting}
+use Rattle.net_model.specs.Moments.{Moments}
+use Rattle.execution_model.specs.Execution.{Setting}
 use Rattle.net_model.specs.Limits.{most_moment}
 use Rattle.execution_model.specs.Feeding.{Execution, started, next_moment, taken, after_feed, first_open, IsFed, IsWhole, IsFinished}
 use Rattle.execution_model.specs.Streams.{Listing, Shows}
@@ -33,7 +34,7 @@ use Rattle.execution_model.proofs.LawLemmas.{run_of, fed_keeps, fed_end}
 use Rattle.execution_model.proofs.StreamLemmas.{shows_next, next_shows, shows_done, listed_before_end}
 use Rattle.execution_model.proofs.TimelyLemmas.{taken_in_time}
 use Rattle.execution_model.proofs.PlaceLemmas.{contingent_ending, ending_point}
-use Rattle.situation_player.specs.Playing.{IsStartedByClosure, IsUnderway, IsTimed, IsNextMoment, lastings_of, completing_at}
+use Rattle.situation_player.specs.Playing.{IsStartedByClosure, FollowsSituation, IsTimed, IsNextMoment, lastings_of, completing_at}
 use Rattle.situation_player.specs.declared.playing.Lasting.{Lasting}
 use Rattle.situation_player.proofs.CompletionLemmas.{completing_is}
 use Rattle.situation_player.proofs.DayLemmas.{next_one, is_next, within_limit, all_before, timed}
@@ -70,8 +71,8 @@ setting_stays : (execution : Execution) (answer : Finished) (after : Execution) 
 setting_stays execution answer after is_finished = stays execution answer after execution.refused is_finished
 
 -- ---- the start
-pub underway_start : (net : Plan) (situation : List ℕ) (execution : Execution) → IsStartedByClosure net execution → IsSituation net situation → IsUnderway net situation execution
-underway_start net situation execution is fits =
+pub following_start : (net : Plan) (situation : List ℕ) (execution : Execution) → IsStartedByClosure net execution → IsSituation net situation → FollowsSituation net situation execution
+following_start net situation execution is fits =
     let by = is.by_closure in
     let graph = closures_are_graphs net is.table by.instant.sound by.closure in
     let closed : IsClosed net is.table = (closure_is_closed net is.table by.closure).0 in
@@ -105,7 +106,7 @@ fed_more (first ∷ others) listing execution middle moments fed took =
     by rest (Ok ms) went = rest (after_feed execution first.moment ms) went
     by rest (Err cause) went = absurd (err_ok middle cause went)
 
-module _ (net : Plan) (situation : List ℕ) (execution : Execution) (is : IsUnderway net situation execution) where
+module _ (net : Plan) (situation : List ℕ) (execution : Execution) (is : FollowsSituation net situation execution) where
   run : IsRun net is.table is.schedule
   run = run_of net is.table is.order is.by_closure situation is.schedule is.earliest
 
@@ -180,10 +181,10 @@ module _ (net : Plan) (situation : List ℕ) (execution : Execution) (is : IsUnd
       fed_it : (answer : Fed) (after : Execution) → IsFed execution m points answer after → after ≡ after_feed execution m (with_completed execution m points)
       fed_it answer after is_fed = (subst (FedBy answer after) took (subst (FedWhere answer after) unrefused is_fed)).1
 
-      -- after a feed it is underway still, at a later moment
-      pub underway_fed : (answer : Fed) (after : Execution) → IsFed execution m points answer after
-          → IsUnderway net situation after × (next_moment execution ≤ m) × (m ≤ most_moment) × (next_moment after ≡ m + 1)
-      underway_fed answer after is_fed =
+      -- after a feed it follows it still, at a later moment
+      pub following_fed : (answer : Fed) (after : Execution) → IsFed execution m points answer after
+          → FollowsSituation net situation after × (next_moment execution ≤ m) × (m ≤ most_moment) × (next_moment after ≡ m + 1)
+      following_fed answer after is_fed =
           let same = fed_it answer after is_fed in (
             record {
               table = is.table;
@@ -203,8 +204,8 @@ module _ (net : Plan) (situation : List ℕ) (execution : Execution) (is : IsUnd
           )
 
     -- where no moment is next, the end makes the whole of the earliest schedule
-    pub underway_ended : next ≡ None → (answer : Finished) (after : Execution) → EndsEarliest execution answer after → after.moments ≡ map Some is.schedule
-    underway_ended none answer after ends =
+    pub following_ended : next ≡ None → (answer : Finished) (after : Execution) → EndsEarliest execution answer after → after.moments ≡ map Some is.schedule
+    following_ended none answer after ends =
         let before = all_before net is.table is.order is.by_closure situation is.schedule is.earliest execution keeps unrefused next is_next_moment none in
         let shows : Shows net (ended is.listings) is.schedule =
         shows_done net is.schedule is.listings is.shows (λ point contingent.
@@ -216,16 +217,16 @@ module _ (net : Plan) (situation : List ℕ) (execution : Execution) (is : IsUnd
         kept.moments
 
 -- ---- what the code of a day hands over
-module _ (net : Plan) (situation : List ℕ) (execution : Execution) (is : IsUnderway net situation execution) (shown : List Lasting) (all : shown ≡ lastings_of net.links situation)
+module _ (net : Plan) (situation : List ℕ) (execution : Execution) (is : FollowsSituation net situation execution) (shown : List Lasting) (all : shown ≡ lastings_of net.links situation)
     (next : Option ℕ) (is_next_moment : IsNextMoment execution shown next) where
   next_of_all : IsNextMoment execution (lastings_of net.links situation) next
   next_of_all = subst (λ (ls : List Lasting). IsNextMoment execution ls next) all is_next_moment
 
-  pub underway_step : (m : ℕ) → next ≡ Some m → (listed : List PointId) (others : List Lasting) → others ≡ lastings_of net.links situation → listed ≡ completing_at execution.moments m others
+  pub following_step : (m : ℕ) → next ≡ Some m → (listed : List PointId) (others : List Lasting) → others ≡ lastings_of net.links situation → listed ≡ completing_at execution.moments m others
       → (answer : Fed) (after : Execution) → IsFed execution m listed answer after
-      → IsUnderway net situation after × (next_moment execution ≤ m) × (m ≤ most_moment) × (next_moment after ≡ m + 1)
-  underway_step m there listed others same completing answer after is_fed =
-      underway_fed net situation execution is next next_of_all m there answer after
+      → FollowsSituation net situation after × (next_moment execution ≤ m) × (m ≤ most_moment) × (next_moment after ≡ m + 1)
+  following_step m there listed others same completing answer after is_fed =
+      following_fed net situation execution is next next_of_all m there answer after
       (subst (λ (ps : List PointId). IsFed execution m ps answer after) (completing ∙ ap (completing_at execution.moments m) same) is_fed)
 
   -- the whole of the earliest schedule
@@ -236,11 +237,11 @@ module _ (net : Plan) (situation : List ℕ) (execution : Execution) (is : IsUnd
     pub points : length after.setting.dispatch ≡ length net.points
     pub complete : length schedule ≡ length net.points
 
-  pub underway_over : next ≡ None → (answer : Finished) (after : Execution) → IsFinished execution answer after → EndsEarliest execution answer after → IsOver after
-  underway_over none answer after is_finished ends = record {
+  pub following_over : next ≡ None → (answer : Finished) (after : Execution) → IsFinished execution answer after → EndsEarliest execution answer after → IsOver after
+  following_over none answer after is_finished ends = record {
     schedule = is.schedule;
     earliest = is.earliest;
-    moments = underway_ended net situation execution is next next_of_all none answer after ends;
+    moments = following_ended net situation execution is next next_of_all none answer after ends;
     points = ap (λ (s : Setting). length s.dispatch) (setting_stays execution answer after is_finished) ∙ (as_many net situation execution is).1;
     complete = (run net situation execution is).executed.complete;
   }
