@@ -36,7 +36,7 @@ fn days_are_as_slow(rt: HostRuntime) -> Result<(), Fail> {
     Ok(())
 }
 
-/// One stream of a drawn day of 20 to 60 points. Gives why it was refused.
+/// One stream of a drawn day of 22 to 61 points. Gives why it was refused.
 fn try_day(
     rt: &(impl Abort + Threads + Sync),
     alloc: Global,

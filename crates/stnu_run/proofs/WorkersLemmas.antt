@@ -16,10 +16,11 @@ use Rattle.stnu_run.specs.Counts.{count_within}
 use Rattle.stnu_run.specs.Checking.{check_asked, check_syntax, proof_name}
 use Rattle.stnu_run.specs.Judging.{judge_asked, judge_syntax}
 use Rattle.stnu_run.specs.PlanInput.{form_by, json_name}
+use Rattle.stnu_run.specs.PlanWords.{asked_form, plan_words}
 use Rattle.stnu_run.specs.Requests.{asked_by}
 use Rattle.stnu_run.specs.Showing.{show_asked, show_syntax}
 use Rattle.stnu_run.specs.WordLaws.{SayCheckFlags, SayFormAndWorkers, SayForms, form_words}
-use Rattle.stnu_run.specs.Workers.{most_workers, workers_name, workers_of, has_workers, SpellsWorkers, SayWithWorkers, SaysCount, HasWorkers, DifferInWorkers, WorkersDecideNothing}
+use Rattle.stnu_run.specs.Workers.{most_workers, workers_name, workers_of, SpellsWorkers, SayWithWorkers, SaysCount, HasWorkers, DifferInWorkers, WorkersDecideNothing}
 use Rattle.stnu_run.specs.declared.checking.CheckFlags.{CheckFlags}
 use Rattle.stnu_run.specs.declared.judging.Judge.{Judge}
 use Rattle.stnu_run.specs.declared.showing.Show.{Show}
@@ -34,21 +35,13 @@ use Rattle.stnu_run.proofs.UseLemmas.{given_without, text_without, text_absent, 
 few_workers : most_workers < 2 ^ 64
 few_workers = search rules
 
--- that a number was found
-abbrev is_found : Option ℕ → Option (Unit {0})
-is_found found = option_map (λ count. tt) found
+says_count : (value : Option Text) (count : ℕ) → workers_of value ≡ Some count → SaysCount value
+says_count None count is = tt
+says_count (Some word) count is = let all = count_is most_workers few_workers word count is in (count, all.0, all.1, all.2)
 
-says_count : (value : Option Text) → has_workers value ≡ Some tt → SaysCount value
-says_count None is = tt
-says_count (Some word) is = by (count_within most_workers word) refl is
-  where
-    by : (found : Option ℕ) → count_within most_workers word ≡ found → is_found found ≡ Some tt → SaysCount (Some word)
-    by None same i = absurd cc
-    by (Some count) same i = let all = count_is most_workers few_workers word count same in (count, all.0, all.1, all.2)
-
-count_said : (value : Option Text) → SaysCount value → has_workers value ≡ Some tt
-count_said None says = refl
-count_said (Some word) (count, is, least, most) = ap (λ (w : Text). has_workers (Some w)) is ∙ ap is_found (count_read most_workers few_workers count least most)
+count_said : (value : Option Text) → SaysCount value → (count : ℕ) × (workers_of value ≡ Some count)
+count_said None says = (1, refl)
+count_said (Some word) (count, is, least, most) = (count, ap (λ (w : Text). workers_of (Some w)) is ∙ count_read most_workers few_workers count least most)
 
 -- a number does not begin with a hyphen
 no_hyphen : (bytes : Text) (number : ℕ) → natural_of most_workers (45 ∷ bytes) ≡ Ok number → ⊥
@@ -144,13 +137,13 @@ module _ {A : Type 0} (command : Syntax) (asked : Arguments → Option A) (law :
       ∙ (sym (law.same _ _ (differ_other place.before place.after none count number spells.0 spells.1 spells_other.0 spells_other.1)) ∙ asked_placed)
 
 -- ---- a command that takes a number of workers, and asks what its other words say, where they say anything
-abbrev where_workers : {A : Type 0} → Option A → Option (Unit {0}) → Option A
+abbrev where_workers : {A : Type 0} → Option A → Option ℕ → Option A
 where_workers request workers = option_and_then (λ w. request) workers
 
 module _ {A : Type 0} (command : Syntax) (sound : is_sound command ≡ true) (asked : Arguments → Option A) (said : List Use → Option A)
-    (is_said : (uses : List Use) → asked (arguments_by command uses) ≡ where_workers (said uses) (has_workers (text_given workers_name uses))) where
+    (is_said : (uses : List Use) → asked (arguments_by command uses) ≡ where_workers (said uses) (workers_of (text_given workers_name uses))) where
   said_where : (uses : List Use) → HasWorkers uses → asked (arguments_by command uses) ≡ said uses
-  said_where uses (count, is) = is_said uses ∙ ap (λ (found : Option ℕ). where_workers (said uses) (is_found found)) is
+  said_where uses (count, is) = is_said uses ∙ ap (where_workers (said uses)) is
 
   -- the number of workers decides nothing, where the other words decide what is said
   pub decide_nothing_said : is_in workers_name command.flags ≡ false → ((uses others : List Use) → DifferInWorkers uses others → said uses ≡ said others) → WorkersDecideNothing command asked
@@ -164,33 +157,33 @@ module _ {A : Type 0} (command : Syntax) (sound : is_sound command ≡ true) (as
   pub said_by_uses : (words : List Text) (request : A) → asked_by command asked words ≡ Some request ↔ ((say : SayWithWorkers command words) × (said say.uses ≡ Some request))
   said_by_uses words request = (to, from)
     where
-      by : (uses : List Use) → Says command words uses → (found : Option (Unit {0})) → has_workers (text_given workers_name uses) ≡ found → where_workers (said uses) found ≡ Some request
+      by : (uses : List Use) → Says command words uses → (found : Option ℕ) → workers_of (text_given workers_name uses) ≡ found → where_workers (said uses) found ≡ Some request
           → (say : SayWithWorkers command words) × (said say.uses ≡ Some request)
       by uses says None same is = absurd cc
-      by uses says (Some tt) same is = (record { uses = uses; says = says; workers = says_count (text_given workers_name uses) same }, is)
+      by uses says (Some count) same is = (record { uses = uses; says = says; workers = says_count (text_given workers_name uses) count same }, is)
 
       to : asked_by command asked words ≡ Some request → (say : SayWithWorkers command words) × (said say.uses ≡ Some request)
       to is =
           let means = meant command sound asked words request is in
-          by means.0 means.1 (has_workers (text_given workers_name means.0)) refl (sym (is_said means.0) ∙ means.2)
+          by means.0 means.1 (workers_of (text_given workers_name means.0)) refl (sym (is_said means.0) ∙ means.2)
 
       from : (say : SayWithWorkers command words) × (said say.uses ≡ Some request) → asked_by command asked words ≡ Some request
       from (say, given) =
           asks command sound asked words say.uses say.says
-          ∙ (is_said say.uses ∙ (ap (where_workers (said say.uses)) (count_said (text_given workers_name say.uses) say.workers) ∙ given))
+          ∙ (is_said say.uses ∙ (ap (where_workers (said say.uses)) (count_said (text_given workers_name say.uses) say.workers).1 ∙ given))
 
 -- ---- a command that takes a number of workers, and asks what its flags say
-abbrev with_workers : {A : Type 0} → A → Option (Unit {0}) → Option A
+abbrev with_workers : {A : Type 0} → A → Option ℕ → Option A
 with_workers request workers = option_map (λ w. request) workers
 
-said_always : {A : Type 0} (request : A) (workers : Option (Unit {0})) → with_workers request workers ≡ where_workers (Some request) workers
+said_always : {A : Type 0} (request : A) (workers : Option ℕ) → with_workers request workers ≡ where_workers (Some request) workers
 said_always request None = refl
 said_always request (Some w) = refl
 
 module _ {A : Type 0} (command : Syntax) (sound : is_sound command ≡ true) (asked : Arguments → Option A) (told : List Use → A)
-    (is_told : (uses : List Use) → asked (arguments_by command uses) ≡ with_workers (told uses) (has_workers (text_given workers_name uses))) where
-  is_said : (uses : List Use) → asked (arguments_by command uses) ≡ where_workers (Some (told uses)) (has_workers (text_given workers_name uses))
-  is_said uses = is_told uses ∙ said_always (told uses) (has_workers (text_given workers_name uses))
+    (is_told : (uses : List Use) → asked (arguments_by command uses) ≡ with_workers (told uses) (workers_of (text_given workers_name uses))) where
+  is_said : (uses : List Use) → asked (arguments_by command uses) ≡ where_workers (Some (told uses)) (workers_of (text_given workers_name uses))
+  is_said uses = is_told uses ∙ said_always (told uses) (workers_of (text_given workers_name uses))
 
   -- the number of workers decides nothing, where the flags decide what is told
   decide_nothing : is_in workers_name command.flags ≡ false → ((uses others : List Use) → DifferInWorkers uses others → told uses ≡ told others) → WorkersDecideNothing command asked
@@ -203,12 +196,6 @@ module _ {A : Type 0} (command : Syntax) (sound : is_sound command ≡ true) (as
       (λ is. let said = exactly.0 is in (said.0, let some = said.1 in let one : told said.0.uses ≡ request = cc in one), λ say. exactly.1 (say.0, ap Some say.1))
 
 -- ---- a command that takes the form of the plan, and a number of workers
-abbrev pub plan_words : Syntax
-plan_words = record { flags = json_name ∷ []; options = workers_name ∷ []; operands = [] }
-
-abbrev pub asked_form : Arguments → Option PlanForm
-asked_form arguments = option_map (λ workers. form_by (flag_at 0 arguments)) (has_workers (option_at 0 arguments))
-
 abbrev told_form : List Use → PlanForm
 told_form uses = form_by (is_given json_name uses)
 

@@ -9,7 +9,7 @@ use Rattle.command_words.specs.Syntax.{Syntax}
 use Rattle.command_engine.specs.declared.endings.End.{End}
 use Rattle.stnu_run.specs.PlanInput.{form_by, json_name}
 use Rattle.stnu_run.specs.Verdict.{PutsControllable, PutsProved, PutsRefuted, Decides}
-use Rattle.stnu_run.specs.Workers.{has_workers, workers_name}
+use Rattle.stnu_run.specs.Workers.{workers_of, workers_name}
 use Rattle.stnu_run.specs.declared.checking.CheckFlags.{CheckFlags}
 
 -- It is put that a network is controllable, and then, where a proof is wanted, the certificate that proves it: its table proof, which the
@@ -33,4 +33,4 @@ check_syntax = record { flags = json_name ∷ proof_name ∷ []; options = worke
 
 abbrev pub check_asked : Arguments → Option CheckFlags
 check_asked arguments =
-    option_map (λ workers. record { form = form_by (flag_at 0 arguments); proof = flag_at 1 arguments }) (has_workers (option_at 0 arguments))
+    option_map (λ workers. record { form = form_by (flag_at 0 arguments); proof = flag_at 1 arguments }) (workers_of (option_at 0 arguments))

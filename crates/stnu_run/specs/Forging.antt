@@ -21,7 +21,7 @@ use Rattle.stnu_run.specs.Counts.{count_within, number_within}
 use Rattle.stnu_run.specs.Programs.{Program, tells}
 use Rattle.stnu_run.specs.Verdict.{controllable_line, refuted_line}
 use Rattle.stnu_run.specs.Which.{situation_of}
-use Rattle.stnu_run.specs.Workers.{has_workers, workers_name}
+use Rattle.stnu_run.specs.Workers.{workers_of, workers_name}
 use Rattle.stnu_run.specs.declared.forging.ForgeWords.{ForgeWords}
 use Rattle.stnu_run.specs.declared.telling.TellingEnd.{TellingEnd}
 use Rattle.stnu_run.specs.declared.telling.TellingEnd.TheVariants as ends
@@ -54,7 +54,7 @@ forge_syntax = record { flags = []; options = workers_name ∷ []; operands = co
 
 abbrev pub forge_asked : Arguments → Option ForgeWords
 forge_asked arguments =
-    option_and_then (λ workers. forge_words (number_given (operand_at 0 arguments)) (tasks_given (operand_at 1 arguments))) (has_workers (option_at 0 arguments))
+    option_and_then (λ workers. forge_words (number_given (operand_at 0 arguments)) (tasks_given (operand_at 1 arguments))) (workers_of (option_at 0 arguments))
 
 -- ---- what is told
 

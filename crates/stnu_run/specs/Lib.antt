@@ -4,6 +4,7 @@ pub mod ExactBytes
 pub mod Causes
 pub mod Statuses
 pub mod PlanText
+pub mod PlanWords
 pub mod CertificateTexts
 pub mod Judging
 pub mod ToRead

@@ -17,7 +17,7 @@ use Rattle.command_engine.specs.declared.endings.End.TheVariants.{Done}
 use Rattle.stnu_run.specs.PlanInput.{form_by, json_name}
 use Rattle.stnu_run.specs.Verdict.{controllable_line, PutsRefuted, Decides}
 use Rattle.stnu_run.specs.Which.{situation_of, which_given}
-use Rattle.stnu_run.specs.Workers.{has_workers, workers_name}
+use Rattle.stnu_run.specs.Workers.{workers_of, workers_name}
 use Rattle.stnu_run.specs.declared.playing.PlayWords.{PlayWords}
 use Rattle.stnu_run.specs.declared.which.Which.{Which}
 
@@ -49,4 +49,4 @@ play_syntax = record { flags = json_name ∷ []; options = workers_name ∷ []; 
 abbrev pub play_asked : Arguments → Option PlayWords
 play_asked arguments =
     option_and_then (λ workers. option_map (λ which. record { form = form_by (flag_at 0 arguments); which = which }) (which_given (operand_at 0 arguments)))
-    (has_workers (option_at 0 arguments))
+    (workers_of (option_at 0 arguments))

@@ -1,13 +1,12 @@
 -- The command `run`: a plan, and after it lines of events, over which its network is executed.
 use Rattle.std.specs.Prelude.{◌≡◌, ℕ, List, [], ◌∷◌, ◌++◌, Option}
-use Rattle.std.specs.Option.{option_map}
 use Rattle.net_model.specs.Network.{Plan}
 use Rattle.net_model.specs.declared.ids.PointId.{PointId}
 use Rattle.closure_model.specs.Tables.{Graph}
 use Rattle.cert_format.specs.declared.certificate.Certificate.{Certificate}
 use Rattle.execution_model.specs.Feeding.{Execution, started, IsDueAnswer}
 use Rattle.execution_model.specs.Laws.{setting_of, IsDispatchedByClosure}
-use Rattle.command_words.specs.Arguments.{Arguments, flag_at, option_at}
+use Rattle.command_words.specs.Arguments.{Arguments}
 use Rattle.command_words.specs.Syntax.{Syntax}
 use Rattle.command_engine.specs.Machine.{Machine}
 use Rattle.command_engine.specs.Phases.{text_then_phase_machine}
@@ -20,9 +19,9 @@ use Rattle.stnu_run.specs.Course.{Course}
 use Rattle.stnu_run.specs.EventAnswers.{due_line}
 use Rattle.stnu_run.specs.Executing.{executing_machine}
 use Rattle.stnu_run.specs.Faults.{refusing}
-use Rattle.stnu_run.specs.PlanInput.{PlanInput, form_by, input_begun, input_reader, json_name}
+use Rattle.stnu_run.specs.PlanInput.{PlanInput, input_begun, input_reader}
+use Rattle.stnu_run.specs.PlanWords.{asked_form, plan_words}
 use Rattle.stnu_run.specs.Verdict.{controllable_line, PutsRefuted, Decides}
-use Rattle.stnu_run.specs.Workers.{has_workers, workers_name}
 use Rattle.stnu_run.specs.declared.plan_input.PlanForm.{PlanForm}
 
 -- the beginning of an execution: it is put that the network is controllable, and the first due moment; and it is executed by the lower
@@ -51,10 +50,10 @@ run_begins form net answer onward = Decides net (BeginsExecution net answer onwa
 
 -- `run` takes the form of the plan, and a number of workers, which decides nothing of what is asked
 abbrev pub run_syntax : Syntax
-run_syntax = record { flags = json_name ∷ []; options = workers_name ∷ []; operands = [] }
+run_syntax = plan_words
 
 abbrev pub run_asked : Arguments → Option PlanForm
-run_asked arguments = option_map (λ workers. form_by (flag_at 0 arguments)) (has_workers (option_at 0 arguments))
+run_asked = asked_form
 
 -- how far the input of `run` was read; of how it begins nothing is seen but the form of the plan
 abbrev pub Running : Type 0

@@ -35,12 +35,12 @@ use Rattle.command_engine.specs.declared.phases.TextThenPhase.{TextThenPhase}
 use Rattle.command_engine.specs.declared.phases.TextThenPhase.TheVariants.{Reading}
 use Rattle.stnu_run.specs.Executing.{executing_machine}
 use Rattle.stnu_run.specs.Faults.{refusing, fault_line, fault_end, stop_fault}
-use Rattle.stnu_run.specs.PlanInput.{PlanInput, form_by, input_begun, input_reader, json_name}
+use Rattle.stnu_run.specs.PlanInput.{PlanInput, input_begun, input_reader}
+use Rattle.stnu_run.specs.PlanWords.{asked_form, plan_words}
 use Rattle.stnu_run.specs.Running.{BeginsExecution}
 use Rattle.stnu_run.specs.SessionAnswers.{ready_line, ok_line, refused_line, report_line, table_text}
 use Rattle.stnu_run.specs.Standing.{Standing}
 use Rattle.stnu_run.specs.Verdict.{controllable_line, refuted_line}
-use Rattle.stnu_run.specs.Workers.{has_workers, workers_name}
 use Rattle.stnu_run.specs.declared.faults.Fault.TheVariants.{Format}
 use Rattle.stnu_run.specs.declared.plan_input.PlanForm.{PlanForm}
 use Rattle.stnu_run.specs.declared.session.InSession.{InSession}
@@ -164,10 +164,10 @@ session_begins form net answer onward = (standing : Standing) × OpensOn net sta
 
 -- `session` takes the form of the plan, and a number of workers, which decides nothing of what is asked
 abbrev pub session_syntax : Syntax
-session_syntax = record { flags = json_name ∷ []; options = workers_name ∷ []; operands = [] }
+session_syntax = plan_words
 
 abbrev pub session_asked : Arguments → Option PlanForm
-session_asked arguments = option_map (λ workers. form_by (flag_at 0 arguments)) (has_workers (option_at 0 arguments))
+session_asked = asked_form
 
 -- how far the input of `session` was read; of how it begins nothing is seen but the form of the plan
 abbrev pub SessionCommand : Type 0

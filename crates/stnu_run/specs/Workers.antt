@@ -1,7 +1,6 @@
 -- The number of workers, as words say it: the option `--workers`.
 use Rattle.std.specs.Prelude.{◌≡◌, ◌⊎◌, ℕ, ◌≤◌, Bool, true, false, List, [], ◌∷◌, ◌++◌, Option, Some, None, codes}
 use Rattle.std.specs.Fmt.{decimal}
-use Rattle.std.specs.Option.{option_map}
 use Rattle.std.specs.Str.{bytes_eq}
 use Rattle.work_board.specs.Limits.{most_seats}
 use Rattle.command_words.specs.Arguments.{Arguments, arguments_by, is_given, text_given, operand_texts}
@@ -21,10 +20,6 @@ workers_name = codes "workers"
 abbrev pub workers_of : Option Text → Option ℕ
 workers_of None = Some 1
 workers_of (Some word) = count_within most_workers word
-
--- that there are workers, by the value of the option; nothing is seen of how many
-abbrev pub has_workers : Option Text → Option (Unit {0})
-has_workers value = option_map (λ count. tt) (workers_of value)
 
 -- so many workers are spelled in two ways: by the name of the option and then the number, or by both as one word with `=` between
 abbrev pub SpellsWorkers : ℕ → List Text → Type 0

@@ -23,11 +23,12 @@ use std::thread::Threads;
 
 /// Does all that the program does: reads the input of the command that the words name over a port, and puts its answers. The first word is
 /// the program's name; the second is the word of a command. The words that it takes stand after it, in any order and each at most once: all
-/// but `forge` take `--json`, by which the plan is a JSON document, ended by a line `end`; `show` takes `--print-json`, by which it puts
-/// one; `play` takes which situation it plays, `forge` a number and a count of tasks; `check`, `play`, `run`, `session` and `forge` take
-/// `--workers N`, or `--workers=N`, with N from 1 to 64. So many workers, by default 1, make the rows of each round; how many decides
-/// nothing of what is put. Each line is answered before more of the input is taken, and nothing after the line that ends the command's
-/// input is looked at. What a command reads and puts is told beside it.
+/// but `forge` take `--json`, by which the plan is a JSON document, ended by a line `end`; `check` takes `--proof`, by which it puts a
+/// certificate also where the plan can be kept; `show` takes `--print-json`, by which it puts a document; `play` takes which situation it
+/// plays, `forge` a number and a count of tasks; `check`, `play`, `run`, `session` and `forge` take `--workers N`, or `--workers=N`, with N
+/// from 1 to 64. So many workers, by default 1, make the rows of each round; how many decides nothing of what is put. Each line is answered
+/// before more of the input is taken, and nothing after the line that ends the command's input is looked at. What a command reads and puts
+/// is told beside it.
 ///
 /// The run ends at its first refusal, with one line and a status that say which: `error words` (2), `error format`, `error json` and `error
 /// plan` (3), `error limit` (4). It ends with 5 where a read failed, after the line `error read`, with 6 where a write failed, and with 8

@@ -1,0 +1,14 @@
+-- The words of a command that takes the form of the plan and a number of workers alone, which decides nothing of what is asked.
+use Rattle.std.specs.Prelude.{[], ◌∷◌, Option}
+use Rattle.std.specs.Option.{option_map}
+use Rattle.command_words.specs.Arguments.{Arguments, flag_at, option_at}
+use Rattle.command_words.specs.Syntax.{Syntax}
+use Rattle.stnu_run.specs.PlanInput.{form_by, json_name}
+use Rattle.stnu_run.specs.Workers.{workers_of, workers_name}
+use Rattle.stnu_run.specs.declared.plan_input.PlanForm.{PlanForm}
+
+abbrev pub plan_words : Syntax
+plan_words = record { flags = json_name ∷ []; options = workers_name ∷ []; operands = [] }
+
+abbrev pub asked_form : Arguments → Option PlanForm
+asked_form arguments = option_map (λ workers. form_by (flag_at 0 arguments)) (workers_of (option_at 0 arguments))
