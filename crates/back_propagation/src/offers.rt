@@ -9,7 +9,7 @@ ghost use Rattle.labelled_graph.specs.Entries.{edge_into};
 ghost use Rattle.back_propagation.specs.Offering.{place_of, IsSlotAt, after_entry};
 ghost use Rattle.back_propagation.specs.OpenRows.{IsOffering, HasOffered};
 
-use crate::open_row::{Against, OpenRow};
+use crate::open_row::{Basis, OpenRow};
 use closure_model::rows::{Made, Slot, Why};
 use labelled_graph::Entry;
 use net_model::{Edge, Link, LinkId, Network, PointId, Weight};
@@ -21,42 +21,41 @@ impl OpenRow {
     /// but the removal of its label.
     pub(crate) fn offer_consequences(
         &mut self,
-        against: Against<'_>,
+        basis: Basis<'_>,
         edge: &Edge,
         column: usize,
     ) -> Result<(), AllocError>
-        requires { IsOffering against self.old edge.now column }
-        ensures { OnOk result (HasOffered self.old self.new (consequences against.entry.net.now against.entry.table.now edge.now)) }
+        requires { IsOffering basis self.old edge.now column }
+        ensures { OnOk result (HasOffered self.old self.new (consequences basis.entry.net.now basis.entry.table.now edge.now)) }
     {
-        self.offer_removal(against, edge)?;
+        self.offer_removal(basis, edge)?;
         if is_negative(edge) {
-            self.offer_over_link(against, edge, column)?;
-            self.offer_after_firsts(against, edge, column)?;
+            self.offer_over_link(basis, edge, column)?;
+            self.offer_after_firsts(basis, edge, column)?;
         }
         Ok(())
     }
 
     /// Offers the edge without its label.
-    fn offer_removal(&mut self, against: Against<'_>, edge: &Edge) -> Result<(), AllocError>
-        requires { (column : ℕ) × IsOffering against self.old edge.now column }
-        ensures { OnOk result (HasOffered self.old self.new (from_removal against.entry.net.now edge.now)) }
+    fn offer_removal(&mut self, basis: Basis<'_>, edge: &Edge) -> Result<(), AllocError>
+        requires { (column : ℕ) × IsOffering basis self.old edge.now column }
+        ensures { OnOk result (HasOffered self.old self.new (from_removal basis.entry.net.now edge.now)) }
     {
         let place = place_of(self.width, edge.from, 0);
-        self.offer_given(place, Why::Drop(*edge), removal(against.net, edge))?;
-        Ok(())
+        self.offer_given(place, Why::Drop(*edge), removal(basis.net, edge))
     }
 
     /// Offers what follows over the link that ends where the edge begins, if one does.
     fn offer_over_link(
         &mut self,
-        against: Against<'_>,
+        basis: Basis<'_>,
         edge: &Edge,
         column: usize,
     ) -> Result<(), AllocError>
-        requires { IsOffering against self.old edge.now column }
-        ensures { OnOk result (HasOffered self.old self.new (from_link against.entry.net.now edge.now)) }
+        requires { IsOffering basis self.old edge.now column }
+        ensures { OnOk result (HasOffered self.old self.new (from_link basis.entry.net.now edge.now)) }
     {
-        let net = against.net;
+        let net = basis.net;
         if let Some(link) = net.activation(edge.from) {
             let place = place_of(self.width, link_of(net, link).from, column);
             self.offer_given(place, Why::Low(link, *edge), lower_case(net, link, edge))?;
@@ -68,15 +67,15 @@ impl OpenRow {
     /// Offers what follows with an ordinary edge of the table before the edge, for each that ends where it begins.
     fn offer_after_firsts(
         &mut self,
-        against: Against<'_>,
+        basis: Basis<'_>,
         edge: &Edge,
         column: usize,
     ) -> Result<(), AllocError>
-        requires { IsOffering against self.old edge.now column }
-        ensures { OnOk result (HasOffered self.old self.new (flat_map (from_first edge.now) (ordinary_into against.entry.table.now edge.now.from))) }
+        requires { IsOffering basis self.old edge.now column }
+        ensures { OnOk result (HasOffered self.old self.new (flat_map (from_first edge.now) (ordinary_into basis.entry.table.now edge.now.from))) }
     {
-        for entry in against.table.entries(edge.from) {
-            self.offer_after_entry(against, edge, column, entry)?;
+        for entry in basis.table.entries(edge.from) {
+            self.offer_after_entry(basis, edge, column, entry)?;
         }
         Ok(())
     }
@@ -84,18 +83,18 @@ impl OpenRow {
     /// Offers what follows with the edge of an entry before the edge, if it is an ordinary one.
     fn offer_after_entry(
         &mut self,
-        against: Against<'_>,
+        basis: Basis<'_>,
         edge: &Edge,
         column: usize,
         entry: &Entry,
     ) -> Result<(), AllocError>
-        requires row { IsOffering against self.old edge.now column }
-        requires entry { HasEdge against.table.now (edge_into edge.now.from entry.now) }
+        requires row { IsOffering basis self.old edge.now column }
+        requires entry { HasEdge basis.table.now (edge_into edge.now.from entry.now) }
         ensures { OnOk result (HasOffered self.old self.new (after_entry edge.now entry.now)) }
     {
         if entry.is_ordinary() {
             let first = entry.edge_into(edge.from);
-            self.offer_after_first(against, edge, column, &first)?;
+            self.offer_after_first(basis, edge, column, &first)?;
         }
         Ok(())
     }
@@ -103,13 +102,13 @@ impl OpenRow {
     /// Offers what follows with an ordinary edge of the table before the edge.
     pub(crate) fn offer_after_first(
         &mut self,
-        against: Against<'_>,
+        basis: Basis<'_>,
         edge: &Edge,
         column: usize,
         first: &Edge,
     ) -> Result<(), AllocError>
-        requires row { IsOffering against self.old edge.now column }
-        requires first { HasEdge against.table.now first.now }
+        requires row { IsOffering basis self.old edge.now column }
+        requires first { HasEdge basis.table.now first.now }
         ensures { OnOk result (HasOffered self.old self.new (from_first edge.now first.now)) }
     {
         let place = place_of(self.width, first.from, column);
@@ -117,8 +116,7 @@ impl OpenRow {
             return Ok(());
         }
         self.offer_given(place, Why::No(*first, *edge), no_case(first, edge))?;
-        self.offer_given(place, Why::Up(*first, *edge), upper_case(first, edge))?;
-        Ok(())
+        self.offer_given(place, Why::Up(*first, *edge), upper_case(first, edge))
     }
 
     /// Offers what a rule gave, if it gave an edge.

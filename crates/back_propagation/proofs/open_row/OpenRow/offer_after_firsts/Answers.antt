@@ -16,10 +16,10 @@ loop-entry-init c = offers_nothing c.args.self.now
 
 pub offer_after_entry-requires-clause-row : goal.offer_after_entry-requires-clause-row
 offer_after_entry-requires-clause-row c =
-    still_offering c.args.against c.args.self.now c.loop-entry.self c.args.edge.now c.args.column (flat_map (after_entry c.args.edge.now) (take c.loop-entry.entry-index c.entries-entry-items.result.now)) c.loop-entry.invariant c.requires
+    still_offering c.args.basis c.args.self.now c.loop-entry.self c.args.edge.now c.args.column (flat_map (after_entry c.args.edge.now) (take c.loop-entry.entry-index c.entries-entry-items.result.now)) c.loop-entry.invariant c.requires
 
 pub offer_after_entry-requires-clause-entry : goal.offer_after_entry-requires-clause-entry
-offer_after_entry-requires-clause-entry c = entry_held c.args.against.table.now c.args.edge.now.from c.entries-entry-items.result.now c.loop-entry.entry-index no_entry c.entries-entry-items.ensures.row c.loop-entry-test.true
+offer_after_entry-requires-clause-entry c = entry_held c.args.basis.table.now c.args.edge.now.from c.entries-entry-items.result.now c.loop-entry.entry-index no_entry c.entries-entry-items.ensures.row c.loop-entry-test.true
 
 pub loop-entry-preserved : goal.loop-entry-preserved
 loop-entry-preserved c =
@@ -27,5 +27,5 @@ loop-entry-preserved c =
 
 pub returns : goal.returns
 returns c =
-    subst (HasOffered c.args.self.now c.loop-entry.self) (entries_all c.args.against.table.now c.args.edge.now c.entries-entry-items.result.now c.entries-entry-items.ensures.ordinary)
+    subst (HasOffered c.args.self.now c.loop-entry.self) (entries_all c.args.basis.table.now c.args.edge.now c.entries-entry-items.result.now c.entries-entry-items.ensures.ordinary)
     (offers_all (after_entry c.args.edge.now) c.entries-entry-items.result.now c.loop-entry.entry-index c.args.self.now c.loop-entry.self c.loop-entry-test.false c.loop-entry.invariant)
