@@ -6,7 +6,7 @@ use Rattle.std.proofs.lemmas.Bool.{cases_lt, cases_eq}
 use Rattle.std.proofs.lemmas.List.{get_or_past, get_or-set_same, get_or-set_other, get_or-replicate, length-replicate, length-set}
 use Rattle.std.proofs.lemmas.Option.{none-some, same_Some}
 use Rattle.net_model.specs.declared.ids.PointId.{PointId}
-use Rattle.net_model.specs.Moments.{moment_of}
+use Rattle.net_model.specs.Moments.{Moments, moment_of}
 use Rattle.due_queue.specs.First.{IsNotAfter, IsFirstDue}
 use Rattle.due_queue.specs.Tournament.{at, entry, IsNoLater, IsFirstOf, AreFirst, AreFirstBut, IsTournament}
 
@@ -71,7 +71,7 @@ found_above firsts below place first some inside above others is other more with
 
 -- ---- the top
 
-module _ (due : List (Option ℕ)) (firsts : List (Option (ℕ × PointId))) (tree : IsTournament due firsts) where
+module _ (due : Moments) (firsts : List (Option (ℕ × PointId))) (tree : IsTournament due firsts) where
   half_no_later : (place : ℕ) → 2 ≤ place → place < length firsts → IsNoLater (at firsts (place / 2)) (at firsts place)
   half_no_later place deep inside =
       let half : ℕ = place / 2 in
@@ -147,7 +147,7 @@ module _ (due : List (Option ℕ)) (firsts : List (Option (ℕ × PointId))) (tr
           )
 
 -- of no point nothing is due
-pub none_first : (due : List (Option ℕ)) → length due ≡ 0 → IsFirstDue due None
+pub none_first : (due : Moments) → length due ≡ 0 → IsFirstDue due None
 none_first due none point below = absurd (omega (arith, none, below))
 
 -- ---- the tree of points of which none is due, and one whose points change
@@ -167,7 +167,7 @@ none_due points =
       first = λ place some inside. rw (nothing (2 * place), nothing (2 * place + 1), nothing place) (first_of_none None);
     }
 
-module _ (due : List (Option ℕ)) (firsts : List (Option (ℕ × PointId))) (tree : IsTournament due firsts) (point : PointId) (moment : Option ℕ) (inside : point.0 < length due) where
+module _ (due : Moments) (firsts : List (Option (ℕ × PointId))) (tree : IsTournament due firsts) (point : PointId) (moment : Option ℕ) (inside : point.0 < length due) where
   abbrev leaf : ℕ
   leaf = length due + point.0
 

@@ -18,10 +18,10 @@ pub struct DueQueue {
 }
 
 impl Model for DueQueue {
-    ghost use Rattle.std.specs.Prelude.{List, Option, ℕ};
+    ghost use Rattle.net_model.specs.Moments.{Moments};
     ghost use Rattle.due_queue.specs.Tournament.{IsTournament};
 
-    ghost Value = { List (Option ℕ) };
+    ghost Value = { Moments };
 
     ghost view = { λ queue. queue.due.items };
 

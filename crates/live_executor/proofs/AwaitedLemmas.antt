@@ -125,7 +125,7 @@ module _ (setting : Setting) (moments : Moments) (moment : ℕ) (point : PointId
           ap (λ (o : Option ℕ). option_map (λ a. a + unsigned_abs link.high) o) (sym (moment_of_other moments moment point link.from not_from))
 
   -- so the latest moments are known after the point has come
-  pub latest_after : (old new : List (Option ℕ)) → AreLatest setting moments old → length new ≡ length old
+  pub latest_after : (old new : Moments) → AreLatest setting moments old → length new ≡ length old
       → ((other : PointId) → IsLatestOrKept setting come point old new other) → AreLatest setting come new
   latest_after old new before count found = record {
     count = count ∙ before.count;
@@ -136,7 +136,7 @@ module _ (setting : Setting) (moments : Moments) (moment : ℕ) (point : PointId
   }
 
 -- ---- none is overdue before the first of the latest moments
-module _ (setting : Setting) (moments : Moments) (moment : ℕ) (latest : List (Option ℕ)) (are : AreLatest setting moments latest) where
+module _ (setting : Setting) (moments : Moments) (moment : ℕ) (latest : Moments) (are : AreLatest setting moments latest) where
   by_latest : (o : Option ℕ) → ((l : ℕ) → o ≡ Some l → moment < l) → option_map_or (λ l. nat_le l moment) o false ≡ false
   by_latest None later = refl
   by_latest (Some l) later = (let more = later l refl in let no : nat_le l moment ≡ false = grind (arith, nat_tests) in no)
@@ -153,9 +153,9 @@ module _ (setting : Setting) (moments : Moments) (moment : ℕ) (latest : List (
       by_latest (latest_of setting moments point) (λ l its. absurd (none-some l (sym (none point (omega (arith, inside, are.count))) ∙ (are.each point inside ∙ its))))
 
 -- ---- the latest moments found one after another
-module _ (setting : Setting) (moments : Moments) (come : PointId) (points : List PointId) (old : List (Option ℕ)) where
+module _ (setting : Setting) (moments : Moments) (come : PointId) (points : List PointId) (old : Moments) where
   -- of the first points of a list, and of the point itself, the latest moment is found; of others it is what it was
-  abbrev pub IsNoted : (i : ℕ) → (now : List (Option ℕ)) → PointId → Type 0
+  abbrev pub IsNoted : (i : ℕ) → (now : Moments) → PointId → Type 0
   IsNoted i now other = (moment_of now other ≡ latest_of setting moments other) ⊎ ((moment_of now other ≡ moment_of old other) × (other.0 ≢ come.0) × (times (take i points) other ≡ 0))
 
   pub first_noted : come.0 < length old → has_come moments come ≡ true → (other : PointId) → IsNoted 0 (slice_set old come.0 None) other
@@ -165,7 +165,7 @@ module _ (setting : Setting) (moments : Moments) (come : PointId) (points : List
     | inr apart ↦ inr (get_or-set_other old come.0 other.0 None None apart, apart, refl)
   ]
 
-  pub noted_more : (i : ℕ) (d : PointId) (now : List (Option ℕ)) (latest : Option ℕ) → i < length points → (get_or points i d).0 < length now → latest ≡ latest_of setting moments (get_or points i d)
+  pub noted_more : (i : ℕ) (d : PointId) (now : Moments) (latest : Option ℕ) → i < length points → (get_or points i d).0 < length now → latest ≡ latest_of setting moments (get_or points i d)
       → (other : PointId) → IsNoted i now other → IsNoted (i + 1) (slice_set now (get_or points i d).0 latest) other
   noted_more i d now latest inside within is other before = elim (cases_eq other.0 (get_or points i d).0) [
     | inl same ↦ inl (subst (λ (k : ℕ). moment_of (slice_set now (get_or points i d).0 latest) (record { 0 = k }) ≡ latest_of setting moments (record { 0 = k })) (sym same)
@@ -177,7 +177,7 @@ module _ (setting : Setting) (moments : Moments) (come : PointId) (points : List
         ])
   ]
 
-  pub all_noted : AreActivatedBy setting.links come points → (now : List (Option ℕ)) (other : PointId) → IsNoted (length points) now other → IsLatestOrKept setting moments come old now other
+  pub all_noted : AreActivatedBy setting.links come points → (now : Moments) (other : PointId) → IsNoted (length points) now other → IsLatestOrKept setting moments come old now other
   all_noted activated now other noted = elim noted [
     | inl found ↦ inl found
     | inr was ↦ inr (

@@ -16,7 +16,7 @@ use Rattle.execution_model.specs.declared.feeding.Act.{Act}
 use Rattle.execution_model.proofs.AtOnceLemmas.{one_by_one_is_at_once}
 use Rattle.execution_model.proofs.MomentLemmas.{come_not_due, due_parts, length-completed_at}
 use Rattle.execution_model.proofs.OneByOneLemmas.{acts_come_one_by_one}
-use Rattle.live_executor.specs.Course.{is_due_in, NoneDueBefore, IsLowestDue, IsFirstMoment, IsFirstBefore, IsCourseOf, AreSomeMade, HasRun, left_of}
+use Rattle.live_executor.specs.Course.{has_fallen_due, NoneDueBefore, IsLowestDue, IsFirstMoment, IsFirstBefore, IsCourseOf, AreSomeMade, HasRun, left_of}
 use Rattle.due_queue.specs.First.{IsFirstDue}
 use Rattle.live_executor.specs.Due.{has_begun}
 use Rattle.live_executor.specs.Limits.{end_of_time}
@@ -27,7 +27,7 @@ use Rattle.live_executor.proofs.SettleLemmas.{left_acted}
 use Rattle.live_executor.proofs.TimeLemmas.{IsIdle, leaps, rests}
 
 -- ---- what is due first
-module _ (due : List (Option ℕ)) where
+module _ (due : Moments) where
   -- what is due later has not begun
   pub not_begun : (t : ℕ) (o : Option ℕ) → ((m : ℕ) → o ≡ Some m → t < m) → has_begun o t ≡ false
   not_begun t None later = refl
@@ -63,7 +63,7 @@ left_completed moments t point inside new =
     omega (arith, set, before)
 
 -- ---- when none is due before a later moment
-module _ (setting : Setting) (now later : ℕ) (moments : Moments) (counts : List ℕ) (due : List (Option ℕ)) (awake : IsAwake setting now moments counts due) where
+module _ (setting : Setting) (now later : ℕ) (moments : Moments) (counts : List ℕ) (due : Moments) (awake : IsAwake setting now moments counts due) where
   pub awake_later : now ≤ later → NoneDueBefore due later → IsAwake setting later moments counts due
   awake_later from none = record {
     moments_count = awake.moments_count;
@@ -86,7 +86,7 @@ module _ (setting : Setting) (now later : ℕ) (moments : Moments) (counts : Lis
       (awake.known point inside).0 t from ∙ not_begun due t (moment_of due point) (λ m is. let more = none point m (omega (arith, inside, awake.due_count)) is in omega (arith, below, more))
 
 -- where all have come it stays so
-pub awake_at_end : (setting : Setting) (now any : ℕ) (moments : Moments) (counts : List ℕ) (due : List (Option ℕ)) → IsAwake setting now moments counts due
+pub awake_at_end : (setting : Setting) (now any : ℕ) (moments : Moments) (counts : List ℕ) (due : Moments) → IsAwake setting now moments counts due
     → ((point : PointId) → point.0 < length moments → (m : ℕ) × (moment_of moments point ≡ Some m)) → IsAwake setting any moments counts due
 awake_at_end setting now any moments counts due awake come = record {
   moments_count = awake.moments_count;
@@ -109,11 +109,11 @@ awake_at_end setting now any moments counts due awake come = record {
             absurd (true≢false (sym begins ∙ (sym ((awake.known point inside).0 (now + d) (omega arith)) ∙ never point inside (now + d))))
 
 -- ---- the acts of a moment
-module _ (network : KeptNetwork) (same : ExecutesTheSame network) (t : ℕ) (moments : Moments) (counts : List ℕ) (due : List (Option ℕ)) (course : IsCourseOf network t moments counts due) where
+module _ (network : KeptNetwork) (same : ExecutesTheSame network) (t : ℕ) (moments : Moments) (counts : List ℕ) (due : Moments) (course : IsCourseOf network t moments counts due) where
   abbrev made : Setting
   made = made_setting network
 
-  known_due : (point : PointId) → point.0 < length moments → is_due made moments t point ≡ is_due_in due t point
+  known_due : (point : PointId) → point.0 < length moments → is_due made moments t point ≡ has_fallen_due due t point
   known_due point inside = sym (due_same network same moments course.paced t point) ∙ (course.awake.known point (omega (arith, inside, course.awake.moments_count))).0 t (omega arith)
 
   module _ (point : PointId) (lowest : IsLowestDue due t (Some point)) where
@@ -141,7 +141,7 @@ module _ (network : KeptNetwork) (same : ExecutesTheSame network) (t : ℕ) (mom
         lower : (other : PointId) → other.0 < point.0 → is_due made moments t other ≡ false
         lower other less = known_due other (omega (arith, less, lowest_inside)) ∙ lowest.2 (known_none_before network.setting t t moments counts due course.awake) other less
 
-    pub course_more : (counts_after : List ℕ) (due_after : List (Option ℕ)) → t < end_of_time → IsAwake network.setting t (completed_at moments t point) counts_after due_after
+    pub course_more : (counts_after : List ℕ) (due_after : Moments) → t < end_of_time → IsAwake network.setting t (completed_at moments t point) counts_after due_after
         → IsCourseOf network t (completed_at moments t point) counts_after due_after
     course_more counts_after due_after below awake = record {
       awake = awake;
@@ -180,7 +180,7 @@ none_made network t old old_acts = record { made = []; acts = sym (append-nil ol
 
 -- ---- time
 module _ (network : KeptNetwork) (same : ExecutesTheSame network) (from until : ℕ) (old : Moments) (old_acts : List Act) where
-  pub not_run : (counts : List ℕ) (due : List (Option ℕ)) → from ≤ until → IsCourseOf network from old counts due → HasRun network from until old old counts due old_acts old_acts
+  pub not_run : (counts : List ℕ) (due : Moments) → from ≤ until → IsCourseOf network from old counts due → HasRun network from until old old counts due old_acts old_acts
   not_run counts due range course =
       let zero_time : from - from ≡ 0 = omega arith in
       record {
@@ -192,7 +192,7 @@ module _ (network : KeptNetwork) (same : ExecutesTheSame network) (from until : 
         course = course;
       }
 
-  module _ (moments : Moments) (counts : List ℕ) (due : List (Option ℕ)) (acts : List Act) (run : HasRun network from until old moments counts due old_acts acts) where
+  module _ (moments : Moments) (counts : List ℕ) (due : Moments) (acts : List Act) (run : HasRun network from until old moments counts due old_acts acts) where
     idle : (later : ℕ) → NoneDueBefore due later → (u : ℕ) → run.next ≤ u → u < later → IsIdle (made_setting network) moments u
     idle later none u above below point inside =
         sym (due_same network same moments run.course.paced u point)
@@ -218,11 +218,11 @@ module _ (network : KeptNetwork) (same : ExecutesTheSame network) (from until : 
       fewer_left =
           let (point, inside, is) = its_first.1 in
           let within : point.0 < length moments = omega (arith, inside, run.course.awake.due_count, run.course.awake.moments_count) in
-          let begins : is_due_in due moment point ≡ true = ap (λ (o : Option ℕ). has_begun o moment) is ∙ le-leb moment moment (omega arith) in
+          let begins : has_fallen_due due moment point ≡ true = ap (λ (o : Option ℕ). has_begun o moment) is ∙ le-leb moment moment (omega arith) in
           left_acted (made_setting network) moments moment point run.course.count (omega (arith, within, run.course.count))
           (known_due network same moment moments counts due course_at point within ∙ begins)
 
-      pub run_on : (now : Moments) (now_acts : List Act) (counts_after : List ℕ) (due_after : List (Option ℕ)) → now ≡ acted (made_setting network) moments moment
+      pub run_on : (now : Moments) (now_acts : List Act) (counts_after : List ℕ) (due_after : Moments) → now ≡ acted (made_setting network) moments moment
           → now_acts ≡ acts ++ acts_at (made_setting network) moments moment → IsCourseOf network (moment + 1) now counts_after due_after
           → HasRun network from until old now counts_after due_after old_acts now_acts
       run_on now now_acts counts_after due_after is acts_are course =

@@ -36,7 +36,7 @@ starts setting wanted moments acts same none no_acts =
     ap (λ (m : Moments). made m acts) (none ∙ none_come setting) ∙ ap (made (map none_at (points_of setting))) no_acts ∙ ap started same
 
 -- ---- the next due moment
-module _ (network : KeptNetwork) (same : ExecutesTheSame network) (execution : Execution) (counts : List ℕ) (due : List (Option ℕ)) (is_made : execution.setting ≡ made_setting network)
+module _ (network : KeptNetwork) (same : ExecutesTheSame network) (execution : Execution) (counts : List ℕ) (due : Moments) (is_made : execution.setting ≡ made_setting network)
     (course : IsCourseOf network (next_moment execution) execution.moments counts due) where
   known_at : (t : ℕ) → next_moment execution ≤ t → (point : PointId) → point.0 < length execution.setting.dispatch → is_due execution.setting execution.moments t point ≡ has_begun (moment_of due point) t
   known_at t from point inside =

@@ -97,7 +97,7 @@ pub record HasRunOut (network : KeptNetwork) (old : Moments) (from : ℕ) (now :
   pub come : All IsSome now
 
 -- at the end the execution goes on
-pub goes_at_end : (network : KeptNetwork) (old now : Moments) (last : Option ℕ) (from : ℕ) (counts : List ℕ) (due latest : List (Option ℕ)) (acts : List Act) → IsAtLast network old last from
+pub goes_at_end : (network : KeptNetwork) (old now : Moments) (last : Option ℕ) (from : ℕ) (counts : List ℕ) (due latest : Moments) (acts : List Act) → IsAtLast network old last from
     → HasRunOut network old from now acts → IsCourseOf network end_of_time now counts due → AreLatest network.setting now latest → GoesOn network now counts due latest (last_of last acts)
 goes_at_end network old now last from counts due latest acts at_last out course awaited =
     let first = at_last.first in

@@ -105,7 +105,7 @@ module _ (setting : Setting) (first : Moments) (from moment : ℕ) (listed : Lis
   tried_before is = by_result (completed setting (time_runs setting first from (moment - from)) moment listed) taken_before is
 
   -- after it the execution goes on
-  pub goes_after : (network : KeptNetwork) (counts : List ℕ) (due latest : List (Option ℕ)) → moment ≤ most_moment → IsTried setting first from moment listed (Ok tt) moments acts
+  pub goes_after : (network : KeptNetwork) (counts : List ℕ) (due latest : Moments) → moment ≤ most_moment → IsTried setting first from moment listed (Ok tt) moments acts
       → IsCourseOf network (moment + 1) moments counts due → AreLatest network.setting moments latest → GoesOn network moments counts due latest (Some moment)
   goes_after network counts due latest within is course awaited = record {
     course = course;

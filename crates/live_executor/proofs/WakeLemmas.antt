@@ -181,11 +181,11 @@ is_among_times (p ∷ ps) point absent = by (is_among_times ps point) (p.0 == po
     by rest true same absent counts = absurd (true≢false absent)
     by rest false differs absent counts = let none = rest absent in omega (arith, counts, none)
 
-due_set : (due : List (Option ℕ)) (point : PointId) (value : Option ℕ) (other : PointId) → other.0 ≢ point.0 → moment_of (slice_set due point.0 value) other ≡ moment_of due other
+due_set : (due : Moments) (point : PointId) (value : Option ℕ) (other : PointId) → other.0 ≢ point.0 → moment_of (slice_set due point.0 value) other ≡ moment_of due other
 due_set due point value other differs = get_or-set_other due point.0 other.0 value None differs
 
 -- a point gets its moment: it had none, and whom it wakes is known; the counts were lowered, and then those found anew that it wakes
-pub record HasWoken (setting : Setting) (moments : Moments) (counts lowered : List ℕ) (due woken last : List (Option ℕ)) (fixes ends : List PointId) (point : PointId) (moment : ℕ) : Type 0 where
+pub record HasWoken (setting : Setting) (moments : Moments) (counts lowered : List ℕ) (due woken last : Moments) (fixes ends : List PointId) (point : PointId) (moment : ℕ) : Type 0 where
   pub awake : IsAwake setting moment moments counts due
   pub wakes : AreWoken setting point fixes ends
   pub new : moment_of moments point ≡ None
@@ -196,7 +196,7 @@ pub record HasWoken (setting : Setting) (moments : Moments) (counts lowered : Li
   pub second : (other : PointId) → IsFoundOrKept moment setting (completed_at moments moment point) lowered ends woken last other
   pub last_count : length last ≡ length due
 
-module _ (setting : Setting) (moments : Moments) (counts lowered : List ℕ) (due woken last : List (Option ℕ)) (fixes ends : List PointId) (point : PointId) (moment : ℕ)
+module _ (setting : Setting) (moments : Moments) (counts lowered : List ℕ) (due woken last : Moments) (fixes ends : List PointId) (point : PointId) (moment : ℕ)
     (has : HasWoken setting moments counts lowered due woken last fixes ends point moment) where
   abbrev come : Moments
   come = completed_at moments moment point
@@ -330,7 +330,7 @@ module _ (counts before now : List ℕ) (waiters : List PointId) (i : ℕ) (insi
           let so_far = each point in
           omega (arith, kept, more, so_far)
 
-module _ (now : ℕ) (setting : Setting) (moments : Moments) (counts : List ℕ) (waiters : List PointId) (old before : List (Option ℕ)) (i : ℕ) (inside : i < length waiters) (d : PointId) where
+module _ (now : ℕ) (setting : Setting) (moments : Moments) (counts : List ℕ) (waiters : List PointId) (old before : Moments) (i : ℕ) (inside : i < length waiters) (d : PointId) where
   abbrev waiter : PointId
   waiter = get_or waiters i d
 
@@ -368,7 +368,7 @@ module _ (now : ℕ) (setting : Setting) (moments : Moments) (counts : List ℕ)
           let apart : point.0 ≢ waiter.0 = grind (arith, nat_tests) in
           inr (due_set before waiter value point apart ∙ same, λ none. absent_more point (absent none) differs)
 
-pub enough_counted : (setting : Setting) (moments : Moments) (counts : List ℕ) (due : List (Option ℕ)) (point : PointId) (fixes ends : List PointId) (moment : ℕ) → IsAwake setting moment moments counts due → AreWoken setting point fixes ends
+pub enough_counted : (setting : Setting) (moments : Moments) (counts : List ℕ) (due : Moments) (point : PointId) (fixes ends : List PointId) (moment : ℕ) → IsAwake setting moment moments counts due → AreWoken setting point fixes ends
     → moment_of moments point ≡ None → point.0 < length setting.dispatch → (other : PointId) → times fixes other ≤ slice_index counts other.0
 enough_counted setting moments counts due point fixes ends moment awake wakes new inside other =
     let fixed = wakes.fixed other in
@@ -415,7 +415,7 @@ module _ (setting : Setting) (moments : Moments) (none : moments ≡ replicate (
   abbrev AreCountedWhole : List ℕ → Type 0
   AreCountedWhole counts = (point : PointId) → point.0 < length setting.dispatch → slice_index counts point.0 ≡ condition_count (conditions_at setting.dispatch point)
 
-  pub awake_first : (counts : List ℕ) (due : List (Option ℕ)) → length counts ≡ length setting.dispatch → length due ≡ length counts → AreCountedWhole counts
+  pub awake_first : (counts : List ℕ) (due : Moments) → length counts ≡ length setting.dispatch → length due ≡ length counts → AreCountedWhole counts
       → ((point : PointId) → point.0 < length setting.dispatch → PassesFrom (λ t. is_due setting moments t point) (moment_of due point)) → IsAwake setting 0 moments counts due
   awake_first counts due counts_long due_long counted found = record {
     moments_count = ap (λ (m : Moments). length m) none ∙ length-replicate (length setting.dispatch) None;
@@ -430,7 +430,7 @@ module _ (setting : Setting) (moments : Moments) (none : moments ≡ replicate (
       from_zero (Some m) = omega arith
 
 -- ---- one point more is found
-module _ (counts : List ℕ) (due now : List (Option ℕ)) (i : ℕ) (its : ℕ) (wanted : PointId → ℕ) (passes : PointId → Option ℕ → Type 0) where
+module _ (counts : List ℕ) (due now : Moments) (i : ℕ) (its : ℕ) (wanted : PointId → ℕ) (passes : PointId → Option ℕ → Type 0) where
   pub found_counts : i < length counts → its ≡ wanted (record { 0 = i }) → ((point : PointId) → point.0 < i → slice_index counts point.0 ≡ wanted point)
       → (point : PointId) → point.0 < i + 1 → slice_index (slice_set counts i its) point.0 ≡ wanted point
   found_counts inside is before point below = elim (cases_lt point.0 i) [
@@ -443,6 +443,6 @@ module _ (counts : List ℕ) (due now : List (Option ℕ)) (i : ℕ) (its : ℕ)
   pub found_due : now ≡ slice_set due i (moment_of now (record { 0 = i })) → passes (record { 0 = i }) (moment_of now (record { 0 = i })) → ((point : PointId) → point.0 < i → passes point (moment_of due point))
       → (point : PointId) → point.0 < i + 1 → passes point (moment_of now point)
   found_due set is before point below = elim (cases_lt point.0 i) [
-    | inl less ↦ subst (passes point) (sym (ap (λ (ds : List (Option ℕ)). moment_of ds point) set ∙ get_or-set_other due i point.0 (moment_of now (record { 0 = i })) None (omega (arith, less)))) (before point less)
+    | inl less ↦ subst (passes point) (sym (ap (λ (ds : Moments). moment_of ds point) set ∙ get_or-set_other due i point.0 (moment_of now (record { 0 = i })) None (omega (arith, less)))) (before point less)
     | inr past ↦ (let same : i ≡ point.0 = omega (arith, below, past) in subst (λ (k : ℕ). passes (record { 0 = k }) (moment_of now (record { 0 = k }))) same is)
   ]

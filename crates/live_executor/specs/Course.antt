@@ -16,9 +16,9 @@ use Rattle.live_executor.specs.Waking.{IsAwake}
 abbrev pub left_of : Moments → ℕ
 left_of moments = count_by is_none moments
 
--- a point is due at t
-abbrev pub is_due_in : Moments → (t : ℕ) → PointId → Bool
-is_due_in due t point = has_begun (moment_of due point) t
+-- a point has fallen due at t: the moment from which on it is due has begun
+abbrev pub has_fallen_due : Moments → (t : ℕ) → PointId → Bool
+has_fallen_due due t point = has_begun (moment_of due point) t
 
 -- no point is due before a moment
 abbrev pub NoneDueBefore : Moments → (t : ℕ) → Type 0
@@ -26,10 +26,10 @@ NoneDueBefore due t = (point : PointId) (moment : ℕ) → point.0 < length due 
 
 -- the lowest point that is due at t, where none is due before; or none is due at t
 abbrev pub IsLowestDue : Moments → (t : ℕ) → Option PointId → Type 0
-IsLowestDue due t None = (point : PointId) → point.0 < length due → is_due_in due t point ≡ false
+IsLowestDue due t None = (point : PointId) → point.0 < length due → has_fallen_due due t point ≡ false
 IsLowestDue due t (Some lowest) =
-    (lowest.0 < length due) × (is_due_in due t lowest ≡ true)
-    × (NoneDueBefore due t → (point : PointId) → point.0 < lowest.0 → is_due_in due t point ≡ false)
+    (lowest.0 < length due) × (has_fallen_due due t lowest ≡ true)
+    × (NoneDueBefore due t → (point : PointId) → point.0 < lowest.0 → has_fallen_due due t point ≡ false)
 
 -- the first moment at which a point is due, or that there is none
 abbrev pub IsFirstMoment : Moments → Option ℕ → Type 0

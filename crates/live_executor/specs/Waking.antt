@@ -60,7 +60,7 @@ pub record AreWoken (setting : Setting) (point : PointId) (fixes ends : List Poi
 abbrev pub PassesSince : (now : ℕ) → (ℕ → Bool) → Option ℕ → Type 0
 PassesSince now test first = ((t : ℕ) → now ≤ t → test t ≡ has_begun first t) × IfSome first (λ moment. now ≤ moment)
 
-abbrev pub AreDueSince : (now : ℕ) → Setting → Moments → Moments → Type 0
+abbrev pub AreDueSince : (now : ℕ) → Setting → (moments due : Moments) → Type 0
 AreDueSince now setting moments due = (point : PointId) → point.0 < length setting.dispatch → PassesSince now (λ t. is_due setting moments t point) (moment_of due point)
 
 -- what is kept for the points now: how many lower bounds and waits are open, and from when on each is due

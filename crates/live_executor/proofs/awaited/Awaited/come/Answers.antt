@@ -1,6 +1,7 @@
-use Rattle.std.proofs.Common.{◌≡◌, ◌<◌, ◌∙◌, ◌+◌, ℕ, List, Option, None, length, ap, sym, subst, get_or, arith}
+use Rattle.std.proofs.Common.{◌≡◌, ◌<◌, ◌∙◌, ◌+◌, ℕ, None, length, ap, sym, subst, get_or, arith}
 use Rattle.std.proofs.lemmas.List.{length-set}
 use Rattle.net_model.specs.declared.ids.PointId.{PointId}
+use Rattle.net_model.specs.Moments.{Moments}
 use Rattle.live_executor.proofs.AwaitedLemmas.{IsNoted, first_noted, noted_more, all_noted}
 use Rattle.live_executor.proofs.awaited.Awaited.come.Goals as goal
 
@@ -12,8 +13,8 @@ loop-other-init c =
     let points = c.activated-other-items.result.now in
     let inside : c.args.point.0 < length old = omega (arith, c.requires.point, c.requires.count) in
     record {
-      each = λ other. subst (λ (now : List (Option ℕ)). IsNoted setting moments c.args.point points old 0 now other) (sym c.set.ensures) (first_noted setting moments c.args.point points old inside c.requires.come other);
-      count = ap (λ (now : List (Option ℕ)). length now) c.set.ensures ∙ length-set old c.args.point.0 None;
+      each = λ other. subst (λ (now : Moments). IsNoted setting moments c.args.point points old 0 now other) (sym c.set.ensures) (first_noted setting moments c.args.point points old inside c.requires.come other);
+      count = ap (λ (now : Moments). length now) c.set.ensures ∙ length-set old c.args.point.0 None;
     }
 
 pub loop-other-preserved : goal.loop-other-preserved
@@ -30,9 +31,9 @@ loop-other-preserved c =
     let within : (get_or points i d).0 < length now = omega (arith, below, c.loop-other.invariant.count, c.requires.count) in
     record {
       each = λ other.
-          subst (λ (after : List (Option ℕ)). IsNoted setting moments c.args.point points old (i + 1) after other) (sym c.set-in-loop-other.ensures)
+          subst (λ (after : Moments). IsNoted setting moments c.args.point points old (i + 1) after other) (sym c.set-in-loop-other.ensures)
           (noted_more setting moments c.args.point points old i d now latest c.loop-other-test.true within c.latest_of-latest.ensures other (c.loop-other.invariant.each other));
-      count = ap (λ (after : List (Option ℕ)). length after) c.set-in-loop-other.ensures ∙ (length-set now (get_or points i d).0 latest ∙ c.loop-other.invariant.count);
+      count = ap (λ (after : Moments). length after) c.set-in-loop-other.ensures ∙ (length-set now (get_or points i d).0 latest ∙ c.loop-other.invariant.count);
     }
 
 pub returns : goal.returns

@@ -1,6 +1,7 @@
-use Rattle.std.proofs.Common.{◌≡◌, ◌∙◌, ap, length, List, Option, ℕ, sym, subst, None}
+use Rattle.std.proofs.Common.{◌≡◌, ◌∙◌, ap, length, List, ℕ, sym, subst, None}
 use Rattle.std.specs.Prelude.{slice_set}
 use Rattle.net_model.specs.declared.ids.PointId.{PointId}
+use Rattle.net_model.specs.Moments.{Moments}
 use Rattle.execution_model.specs.Feeding.{completed_at}
 use Rattle.live_executor.specs.Waking.{AreWoken, IsAwake, IsFoundOrKept}
 use Rattle.live_executor.proofs.WakeLemmas.{enough_counted, awake_after}
@@ -25,7 +26,7 @@ returns-clause-awake c =
     let last = c.wake_all-2.new.self in
     let wakes : AreWoken setting point fixes ends = record { fixed = c.fixes-fixes.ensures.fixed; ended = c.ends-ends.ensures.ended } in
     let first : (other : PointId) → IsFoundOrKept now setting after lowered.counts.items fixes (slice_set old.due point.0 None) woken.due other =
-    λ other. subst (λ (due : List (Option ℕ)). IsFoundOrKept now setting after lowered.counts.items fixes due woken.due other) (c.lower.ensures.due ∙ c.set.ensures) (c.wake_all.ensures.each other) in
+    λ other. subst (λ (due : Moments). IsFoundOrKept now setting after lowered.counts.items fixes due woken.due other) (c.lower.ensures.due ∙ c.set.ensures) (c.wake_all.ensures.each other) in
     let second : (other : PointId) → IsFoundOrKept now setting after lowered.counts.items ends woken.due last.due other =
     λ other. subst (λ (counts : List ℕ). IsFoundOrKept now setting after counts ends woken.due last.due other) c.wake_all.ensures.counts (c.wake_all-2.ensures.each other) in
     let same_counts : last.counts.items ≡ lowered.counts.items = c.wake_all-2.ensures.counts ∙ c.wake_all.ensures.counts in

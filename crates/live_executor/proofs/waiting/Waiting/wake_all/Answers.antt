@@ -1,8 +1,8 @@
-use Rattle.std.proofs.Common.{◌≡◌, ◌≢◌, ◌<◌, ◌∙◌, sym, ap, subst, arith, length, take, get_or, ◌+◌, ℕ, List, Option}
+use Rattle.std.proofs.Common.{◌≡◌, ◌≢◌, ◌<◌, ◌∙◌, sym, ap, subst, arith, length, take, get_or, ◌+◌, ℕ, List}
 use Rattle.std.specs.Prelude.{slice_index}
 use Rattle.std.proofs.lemmas.List.{get_or_default}
 use Rattle.net_model.specs.declared.ids.PointId.{PointId}
-use Rattle.net_model.specs.Moments.{moment_of}
+use Rattle.net_model.specs.Moments.{Moments, moment_of}
 use Rattle.live_executor.specs.Waking.{IsFoundOrKept}
 use Rattle.live_executor.proofs.WakeLemmas.{left_more, found_more}
 use Rattle.live_executor.proofs.waiting.Waiting.wake_all.Goals as goal
@@ -28,7 +28,7 @@ loop-waiter-preserved c =
           let due_long : length before.due ≡ length setting.dispatch = before.whole ∙ long in
           record {
             each = λ point.
-                subst (λ (now : List (Option ℕ)). IsFoundOrKept c.args.now setting c.args.moments.now counts more old now point)
+                subst (λ (now : Moments). IsFoundOrKept c.args.now setting c.args.moments.now counts more old now point)
                 (sym (ap (λ s. s.due) w.self-is ∙ e.due))
                 (found_more c.args.now setting c.args.moments.now counts c.args.waiters.now old before.due c.loop-waiter.waiter-index c.loop-waiter-test.true d
                 (moment_of w.wake.new.self.due (get_or c.args.waiters.now c.loop-waiter.waiter-index d)) (omega (arith, within, due_long)) e.found point (i.each point));
@@ -39,7 +39,7 @@ loop-waiter-preserved c =
           (λ none. w.if-index-eq0.false (is ∙ (ap (λ (cs : List ℕ). slice_index cs k) i.counts ∙ none))) in
           record {
             each = λ point.
-                subst (λ (now : List (Option ℕ)). IsFoundOrKept c.args.now setting c.args.moments.now counts more old now point)
+                subst (λ (now : Moments). IsFoundOrKept c.args.now setting c.args.moments.now counts more old now point)
                 (sym (ap (λ s. s.due) w.self-is))
                 (left_more c.args.now setting c.args.moments.now counts c.args.waiters.now old before.due c.loop-waiter.waiter-index c.loop-waiter-test.true d
                 some point (i.each point));
