@@ -22,17 +22,9 @@ use Rattle.closure_model.specs.ReferenceRow.{given, ordinary_into, from_removal,
 use Rattle.closure_model.specs.declared.rows.Made.{Made}
 use Rattle.closure_model.specs.declared.rows.Why.{Why}
 use Rattle.closure_model.specs.declared.rows.Why.TheVariants.{No, Up, Low, Cross, Drop}
-use Rattle.closure_model.proofs.Lists.{Contains-head, Contains-tail, Contains-none, Contains-cases, Contains-flat_map}
+use Rattle.closure_model.proofs.Lists.{Contains-head, Contains-tail, Contains-none, Contains-cases, Contains-flat_map, Contains-flat_map_from}
 
 -- ---- lists
-Contains-flat_map_from : {X Y : Type 0} (f : X → List Y) (xs : List X) (y : Y) → Contains (flat_map f xs) y → (x : X) × Contains xs x × Contains (f x) y
-Contains-flat_map_from f [] y inside = absurd (Contains-none y inside)
-Contains-flat_map_from f (x ∷ xs) y inside = by (Contains-flat_map_from f xs y) (Contains-append_cases (f x) (flat_map f xs) y inside)
-  where
-    by : (Contains (flat_map f xs) y → (z : _) × Contains xs z × Contains (f z) y) → Contains (f x) y ⊎ Contains (flat_map f xs) y → (z : _) × Contains (x ∷ xs) z × Contains (f z) y
-    by rest (inl here) = (x, Contains-head x xs, here)
-    by rest (inr there) = let (z, at, is) = rest there in (z, Contains-tail x xs z at, is)
-
 Contains-filter_map : {X Y : Type 0} (f : X → Option Y) (xs : List X) (x : X) (y : Y) → Contains xs x → f x ≡ Some y → Contains (filter_map f xs) y
 Contains-filter_map f [] x y inside is = absurd (Contains-none x inside)
 Contains-filter_map f (z ∷ zs) x y inside is = by (λ there. Contains-filter_map f zs x y there is) (f z) refl (Contains-cases z zs x inside)
