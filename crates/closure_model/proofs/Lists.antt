@@ -5,6 +5,7 @@ use Rattle.std.specs.List.{AllByRecursion, Contains, enumerate_from, flat_map}
 use Rattle.std.proofs.lemmas.Grind.{common_steps}
 use Rattle.std.proofs.lemmas.List.{take_more}
 use Rattle.std.proofs.lemmas.List.Elements.{Contains-append_cases, Contains-append_left, Contains-append_right}
+use Rattle.net_model.proofs.NetworkLemmas.{enumerate_from-push}
 
 pub Contains-head : {X : Type 0} (x : X) (xs : List X) → Contains (x ∷ xs) x
 Contains-head x xs = (0, omega arith, refl)
@@ -78,9 +79,5 @@ each-contained P (y ∷ ys) x (one, more) (zero, inside, at) = subst P at one
 each-contained P (y ∷ ys) x (one, more) (suc k, inside, at) = each-contained P ys x more (k, omega arith, at)
 
 -- a numbered list, and one more
-numbered_push : {X : Type 0} (n m : ℕ) (xs : List X) (x : X) → m ≡ n + length xs → enumerate_from n (xs ++ x ∷ []) ≡ enumerate_from n xs ++ (m, x) ∷ []
-numbered_push n m [] x at = let same : n ≡ m = omega arith in ap (λ k. (k, x) ∷ []) same
-numbered_push n m (y ∷ xs) x at = ap (λ es. (n, y) ∷ es) (numbered_push (n + 1) m xs x (omega arith))
-
 pub numbered_more : {X : Type 0} (k : ℕ) (xs : List X) (d : X) → k < length xs → enumerate_from 0 (take (k + 1) xs) ≡ enumerate_from 0 (take k xs) ++ (k, get_or xs k d) ∷ []
-numbered_more k xs d inside = ap (enumerate_from 0) (take_more xs k d inside) ∙ numbered_push 0 k (take k xs) (get_or xs k d) (grind (arith, common_steps))
+numbered_more k xs d inside = ap (enumerate_from 0) (take_more xs k d inside) ∙ enumerate_from-push 0 k (take k xs) (get_or xs k d) (grind (arith, common_steps))

@@ -151,7 +151,7 @@ bound_named-bad net plan text bad =
 abbrev pub beginning : ℕ → List Link → List LinkId
 beginning point links = map (λ (e : ℕ × Link). record { 0 = e.0 }) (filter (λ (e : ℕ × Link). e.1.from.0 == point) (enumerate_from 0 links))
 
-enumerate_from-push : {X : Type 0} (n m : ℕ) (xs : List X) (x : X) → m ≡ n + length xs → enumerate_from n (xs ++ x ∷ []) ≡ enumerate_from n xs ++ (m, x) ∷ []
+pub enumerate_from-push : {X : Type 0} (n m : ℕ) (xs : List X) (x : X) → m ≡ n + length xs → enumerate_from n (xs ++ x ∷ []) ≡ enumerate_from n xs ++ (m, x) ∷ []
 enumerate_from-push n m [] x at = let same : n ≡ m = omega arith in ap (λ k. (k, x) ∷ []) same
 enumerate_from-push n m (y ∷ xs) x at = ap (λ es. (n, y) ∷ es) (enumerate_from-push (n + 1) m xs x (omega arith))
 
