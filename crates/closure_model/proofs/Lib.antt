@@ -14,6 +14,7 @@ pub mod RowMaking
 pub mod RowLaw
 pub mod RowSteps
 pub mod Lists
+pub mod Numbered
 pub mod KeyOrder
 pub mod KeyLists
 pub mod Entries

@@ -1,13 +1,11 @@
 -- A list with its table: the base, one node more, and a key set back.
-use Rattle.std.proofs.Common.{◌≡◌, ℕ, ◌+◌, ◌<◌, ℤ, Bool, true, false, cond, List, [], ◌∷◌, ◌++◌, length, get_or, take, map, Option, Some, None, refl, ap, sym, ◌∙◌, subst, zero-add, append_assoc}
+use Rattle.std.proofs.Common.{◌≡◌, ℤ, Bool, true, false, cond, [], ◌∷◌, ◌++◌, get_or, Option, Some, None, refl, ap, sym, ◌∙◌, subst}
 use Rattle.std.specs.Prelude.{IfSome, IsSome}
 use Rattle.std.specs.Option.{option_map}
-use Rattle.std.specs.List.{enumerate_from}
 use Rattle.std.specs.Ordering.{eq_by_cmp}
 use Rattle.std.specs.FinMap as map_of
-use Rattle.std.proofs.lemmas.List.{take_more, map-append}
+use Rattle.std.proofs.lemmas.List.{map-append}
 use Rattle.std.proofs.lemmas.List.Elements.{All-push, All-nil, Contains-get_or}
-use Rattle.std.proofs.lemmas.List.FromFn.{length-enumerate_from, get_or-enumerate_from}
 use Rattle.std.proofs.lemmas.Option.{slice_get-map}
 use Rattle.net_model.specs.Network.{Plan, IsPlan}
 use Rattle.net_model.specs.Edges.{IsLabelled, IsEdge}
@@ -24,7 +22,6 @@ use Rattle.closure_model.proofs.TableLemmas.{weight_of-with_edge, weight_of-with
 use Rattle.closure_model.proofs.Made.{given_within}
 use Rattle.closure_model.proofs.Standing.{base_stands, base_given}
 use Rattle.std.proofs.lemmas.List.Sums.{fold-append}
-use Rattle.std.proofs.Math.Seq.{take-length}
 use Rattle.derivation_dag.specs.Supported.{IsSupported, restored}
 
 -- ---- what a table has for a key is within the limit
@@ -65,29 +62,6 @@ module _ (table : Graph) (edge : Edge) where
       let shape : back.shape ≡ table.shape = restored_shape o in
       let weights : back.weights ≡ table.weights = map_of.same_map key_total same_key back.weights table.weights (restored_weight o (sym was)) in
       λ i. record { shape = shape i; weights = weights i }
-
--- ---- the first of a list by their numbers
-module _ {X Y : Type 0} (f : ℕ × X → Y) where
-  pub numbered_more : (xs : List X) (place : ℕ) (d : X) → place < length xs → map f (take (place + 1) (enumerate_from 0 xs)) ≡ map f (take place (enumerate_from 0 xs)) ++ f (place, get_or xs place d) ∷ []
-  numbered_more xs place d within =
-      let inside : place < length (enumerate_from 0 xs) = simp length-enumerate_from within in
-      let item : get_or (enumerate_from 0 xs) place (place, d) ≡ (place, get_or xs place d) = get_or-enumerate_from 0 xs place (place, d) within ∙ ap (λ k. (k, get_or xs place d)) (zero-add place) in
-      ap (map f) (take_more (enumerate_from 0 xs) place (place, d) inside)
-      ∙ (map-append f (take place (enumerate_from 0 xs)) (get_or (enumerate_from 0 xs) place (place, d) ∷ []) ∙ ap (λ e. map f (take place (enumerate_from 0 xs)) ++ f e ∷ []) item)
-
-  -- one more of them at the end of a list
-  pub pushed_more : (start before after : List Y) (items xs : List X) (place : ℕ) (d : X) (y : Y) → items ≡ xs → place < length xs → before ≡ start ++ map f (take place (enumerate_from 0 xs))
-      → y ≡ f (place, get_or items place d) → after ≡ before ++ y ∷ [] → after ≡ start ++ map f (take (place + 1) (enumerate_from 0 xs))
-  pushed_more start before after items xs place d y same within so_far is pushed =
-      let item : y ≡ f (place, get_or xs place d) = is ∙ ap (λ (zs : List X). f (place, get_or zs place d)) same in
-      pushed ∙ (ap (λ (ys : List Y). ys ++ y ∷ []) so_far ∙ (append_assoc start (map f (take place (enumerate_from 0 xs))) (y ∷ [])
-      ∙ ap (λ (ys : List Y). start ++ ys) (ap (λ (z : Y). map f (take place (enumerate_from 0 xs)) ++ z ∷ []) item ∙ sym (numbered_more xs place d within))))
-
-  pub pushed_all : (start whole : List Y) (xs : List X) (place : ℕ) → place ≡ length xs → whole ≡ start ++ map f (take place (enumerate_from 0 xs)) → whole ≡ start ++ map f (enumerate_from 0 xs)
-  pushed_all start whole xs place all so_far =
-      let size : place ≡ length (enumerate_from 0 xs) = all ∙ sym (length-enumerate_from 0 xs) in
-      let every : take place (enumerate_from 0 xs) ≡ enumerate_from 0 xs = ap (λ n. take n (enumerate_from 0 xs)) size ∙ take-length (enumerate_from 0 xs) in
-      so_far ∙ ap (λ es. start ++ map f es) every
 
 -- ---- a list with its table
 pub lowered_is : (table : Graph) (edge : Edge) → has_at_most table edge ≡ false → lowered table edge ≡ with_edge table edge

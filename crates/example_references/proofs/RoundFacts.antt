@@ -1,11 +1,7 @@
 -- The steps of the loops of rounds.
-use Rattle.std.proofs.Common.{◌≡◌, ◌≢◌, ℕ, suc, ◌+◌, ◌<◌, ◌==◌, true, false, not, List, [], ◌∷◌, ◌++◌, length, map, fold, take, get_or, Option, Some, None, refl, ap, sym, subst, ◌∙◌, zero-add, append_assoc, arith}
-use Rattle.std.specs.List.{enumerate_from}
+use Rattle.std.proofs.Common.{◌≡◌, ◌≢◌, ℕ, suc, ◌+◌, ◌==◌, true, false, not, List, [], ◌∷◌, ◌++◌, length, fold, Option, Some, None, refl, ap, sym, subst, ◌∙◌, arith}
 use Rattle.std.specs.Option.{option_map_or}
-use Rattle.std.proofs.Math.Seq.{take-length}
 use Rattle.std.proofs.lemmas.Bool.Decides.{nat_tests}
-use Rattle.std.proofs.lemmas.List.{take_more, map-append}
-use Rattle.std.proofs.lemmas.List.FromFn.{length-enumerate_from, get_or-enumerate_from}
 use Rattle.net_model.specs.Network.{Plan}
 use Rattle.net_model.specs.declared.ids.PointId.{PointId}
 use Rattle.closure_model.specs.Derivations.{Support, with_node}
@@ -20,28 +16,6 @@ use Rattle.example_references.specs.Ends.{sought_in, sought_from}
 use Rattle.example_references.specs.Listed.{support_in}
 use Rattle.example_references.proofs.NodeFacts.{support_pushed}
 use Rattle.example_references.specs.declared.ending.Ending.TheVariants.{Closed, Looped}
-
--- ---- the first of a list by their numbers
-module _ {X Y : Type 0} (f : ℕ × X → Y) where
-  numbered_more : (xs : List X) (place : ℕ) (d : X) → place < length xs → map f (take (place + 1) (enumerate_from 0 xs)) ≡ map f (take place (enumerate_from 0 xs)) ++ f (place, get_or xs place d) ∷ []
-  numbered_more xs place d within =
-      let inside : place < length (enumerate_from 0 xs) = simp length-enumerate_from within in
-      let item : get_or (enumerate_from 0 xs) place (place, d) ≡ (place, get_or xs place d) = get_or-enumerate_from 0 xs place (place, d) within ∙ ap (λ k. (k, get_or xs place d)) (zero-add place) in
-      ap (map f) (take_more (enumerate_from 0 xs) place (place, d) inside)
-      ∙ (map-append f (take place (enumerate_from 0 xs)) (get_or (enumerate_from 0 xs) place (place, d) ∷ []) ∙ ap (λ e. map f (take place (enumerate_from 0 xs)) ++ f e ∷ []) item)
-
-  pub pushed_more : (start before after : List Y) (items xs : List X) (place : ℕ) (d : X) (y : Y) → items ≡ xs → place < length xs → before ≡ start ++ map f (take place (enumerate_from 0 xs))
-      → y ≡ f (place, get_or items place d) → after ≡ before ++ y ∷ [] → after ≡ start ++ map f (take (place + 1) (enumerate_from 0 xs))
-  pushed_more start before after items xs place d y same within so_far is pushed =
-      let item : y ≡ f (place, get_or xs place d) = is ∙ ap (λ (zs : List X). f (place, get_or zs place d)) same in
-      pushed ∙ (ap (λ (ys : List Y). ys ++ y ∷ []) so_far ∙ (append_assoc start (map f (take place (enumerate_from 0 xs))) (y ∷ [])
-      ∙ ap (λ (ys : List Y). start ++ ys) (ap (λ (z : Y). map f (take place (enumerate_from 0 xs)) ++ z ∷ []) item ∙ sym (numbered_more xs place d within))))
-
-  pub pushed_all : (start whole : List Y) (xs : List X) (place : ℕ) → place ≡ length xs → whole ≡ start ++ map f (take place (enumerate_from 0 xs)) → whole ≡ start ++ map f (enumerate_from 0 xs)
-  pushed_all start whole xs place all so_far =
-      let size : place ≡ length (enumerate_from 0 xs) = all ∙ sym (length-enumerate_from 0 xs) in
-      let every : take place (enumerate_from 0 xs) ≡ enumerate_from 0 xs = ap (λ n. take n (enumerate_from 0 xs)) size ∙ take-length (enumerate_from 0 xs) in
-      so_far ∙ ap (λ es. start ++ map f es) every
 
 -- ---- one node more
 pub one_pushed : (net : Plan) (before nodes after : List Node) (made : Made) (rule : Rule) → Some rule ≡ rule_for before nodes made.why → after ≡ nodes ++ record { rule = rule; edge = made.edge } ∷ []

@@ -1,24 +1,17 @@
 -- The nodes of what is new, one place after another, and base nodes pushed to a list.
-use Rattle.std.proofs.Common.{◌≡◌, ℕ, ◌+◌, ◌≤◌, ◌<◌, Bool, true, false, cond, List, [], ◌∷◌, ◌++◌, length, get_or, take, map, refl, ap, sym, ◌∙◌, arith, append_assoc, zero-add}
+use Rattle.std.proofs.Common.{◌≡◌, ℕ, ◌+◌, ◌≤◌, ◌<◌, Bool, true, false, cond, List, [], ◌∷◌, ◌++◌, length, get_or, take, map, refl, ap, sym, ◌∙◌, arith, append_assoc}
 use Rattle.std.specs.Prelude.{filter, if◌then◌else◌}
 use Rattle.std.specs.List.{enumerate_from, Contains, All}
-use Rattle.std.proofs.lemmas.List.{map-append, take_more}
+use Rattle.std.proofs.lemmas.List.{map-append}
 use Rattle.std.proofs.lemmas.List.Elements.{filter-append, All-take}
-use Rattle.std.proofs.lemmas.List.FromFn.{length-enumerate_from, get_or-enumerate_from}
+use Rattle.std.proofs.lemmas.List.FromFn.{length-enumerate_from}
 use Rattle.std.proofs.Math.Seq.{take-length}
 use Rattle.net_model.specs.Network.{Plan}
 use Rattle.closure_model.specs.Derivations.{IsGiven, IsDerivationList, base_nodes}
 use Rattle.closure_model.specs.declared.derivation.Node.{Node}
+use Rattle.closure_model.proofs.Numbered.{first_numbered_more}
 use Rattle.closure_model.proofs.Standing.{base_given}
 use Rattle.derivation_edits.proofs.FollowedStanding.{base_pushed}
-
--- the first items numbered, and one more
-numbered_more : {X : Type 0} (xs : List X) (place : ℕ) (d : X) → place < length xs → take (place + 1) (enumerate_from 0 xs) ≡ take place (enumerate_from 0 xs) ++ (place, get_or xs place d) ∷ []
-numbered_more {X = X} xs place d inside =
-    let within : place < length (enumerate_from 0 xs) = simp length-enumerate_from inside in
-    let at : get_or (enumerate_from 0 xs) place (0, d) ≡ (0 + place, get_or xs place d) = get_or-enumerate_from 0 xs place (0, d) inside in
-    let is : get_or (enumerate_from 0 xs) place (0, d) ≡ (place, get_or xs place d) = at ∙ ap (λ (n : ℕ). (n, get_or xs place d)) (zero-add place) in
-    take_more (enumerate_from 0 xs) place (0, d) within ∙ ap (λ (e : ℕ × X). take place (enumerate_from 0 xs) ++ e ∷ []) is
 
 one_filtered : {X : Type 0} (p : ℕ × X → Bool) (made : ℕ × X → Node) (e : ℕ × X) → map made (filter p (e ∷ [])) ≡ (if p e then made e ∷ [] else [])
 one_filtered p made e = by (p e)
@@ -39,7 +32,7 @@ module _ {X : Type 0} (p : ℕ × X → Bool) (made : ℕ × X → Node) (start 
       let e : ℕ × X = (place, get_or xs place d) in
       let at : (place, get_or listed place d) ≡ e = ap (λ (ys : List X). (place, get_or ys place d)) same in
       let step : map made (filter p (take (place + 1) (enumerate_from 0 xs))) ≡ map made (filter p (take place (enumerate_from 0 xs))) ++ (if p e then made e ∷ [] else []) =
-      ap (λ (es : List (ℕ × X)). map made (filter p es)) (numbered_more xs place d inside)
+      ap (λ (es : List (ℕ × X)). map made (filter p es)) (first_numbered_more xs place d inside)
       ∙ (ap (map made) (filter-append p (take place (enumerate_from 0 xs)) (e ∷ []))
       ∙ (map-append made (filter p (take place (enumerate_from 0 xs))) (filter p (e ∷ [])) ∙ ap (λ (ns : List Node). map made (filter p (take place (enumerate_from 0 xs))) ++ ns) (one_filtered p made e))) in
       pushed
