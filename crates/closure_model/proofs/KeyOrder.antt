@@ -1,5 +1,5 @@
 -- Keys are ordered totally, and only equal keys tie.
-use Rattle.std.proofs.Common.{◌≡◌, ℕ, List, [], ◌∷◌, Option, Some, None, refl, ap, sym, ◌∙◌}
+use Rattle.std.proofs.Common.{◌≡◌, ◌≢◌, ℕ, Bool, true, false, List, [], ◌∷◌, Option, Some, None, refl, ap, sym, ◌∙◌}
 use Rattle.std.specs.Bool.{Decides}
 use Rattle.std.specs.declared.cmp.Ordering.TheVariants.{Equal}
 use Rattle.std.specs.Ordering.{eq_by_cmp}
@@ -44,3 +44,11 @@ pub key_test : (first second : Key) → Decides (eq_by_cmp key_cmp first second)
 key_test first second =
     let decides = Equal-is (key_cmp first second) in
     (λ e. same_key first second (decides.0 e), λ e. decides.1 (ap (key_cmp first) (sym e) ∙ key_itself first))
+
+-- two keys that are not one fail it
+pub test_apart : (first second : Key) → first ≢ second → eq_by_cmp key_cmp first second ≡ false
+test_apart first second apart = by (eq_by_cmp key_cmp first second) refl
+  where
+    by : (b : Bool) → eq_by_cmp key_cmp first second ≡ b → eq_by_cmp key_cmp first second ≡ false
+    by true is = absurd (apart ((key_test first second).0 is))
+    by false is = is

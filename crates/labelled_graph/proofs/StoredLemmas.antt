@@ -1,5 +1,5 @@
 -- What the rows of a table have for a key, before and after one row is changed.
-use Rattle.std.proofs.Common.{◌≡◌, ◌≢◌, ℕ, zero, suc, ◌+◌, ◌==◌, ◌<◌, ◌≤◌, ◌^◌, ℤ, Bool, true, false, cond, not, List, [], ◌∷◌, length, map, get_or, set, get_or-set_same, get_or-set_other, length-set, take, Option, Some, None, refl, ap, sym, subst, ◌∙◌, arith}
+use Rattle.std.proofs.Common.{◌≡◌, ◌≢◌, ℕ, zero, suc, ◌+◌, ◌==◌, ◌<◌, ◌≤◌, ◌^◌, ℤ, Bool, true, false, cond, not, List, length, map, get_or, set, get_or-set_same, get_or-set_other, length-set, take, Option, Some, None, refl, ap, sym, subst, ◌∙◌, arith}
 use Rattle.std.specs.Prelude.{slice_get, IfSome, IsSome}
 use Rattle.std.specs.List.{All, range_with_len}
 use Rattle.std.specs.Ordering.{eq_by_cmp}
@@ -7,7 +7,7 @@ use Rattle.std.specs.FinMap as map_of
 use Rattle.std.proofs.lemmas.Bool.{eqb-true}
 use Rattle.std.proofs.lemmas.Bool.Decides.{nat_tests}
 use Rattle.std.proofs.lemmas.Option.{slice_get_within, get_or_from_slice_get}
-use Rattle.std.proofs.lemmas.List.{take_all}
+use Rattle.std.proofs.lemmas.List.{get_or_default, take_all}
 use Rattle.std.proofs.lemmas.List.Elements.{All-set}
 use Rattle.std.proofs.lemmas.List.FromFn.{get_or-map-range_with_len, length-map-range_with_len}
 use Rattle.net_model.specs.Network.{Plan, IsPlan}
@@ -19,7 +19,7 @@ use Rattle.net_model.specs.declared.part.Edge.{Edge}
 use Rattle.closure_model.specs.Keys.{Key, edge_of, key_cmp, Shape, shape_of, IsKey, IsLabelAt, labelled_key, ordinary_key}
 use Rattle.closure_model.specs.Tables.{Graph, weight_of, with_edge, without_key, no_edges, has_at_most, lowered, base_table, IsGraph}
 use Rattle.closure_model.proofs.BaseLemmas.{base_shape, base_sound}
-use Rattle.closure_model.proofs.KeyOrder.{key_test, key_total}
+use Rattle.closure_model.proofs.KeyOrder.{key_test, key_total, test_apart}
 use Rattle.closure_model.proofs.TableLemmas.{no_edges-has_none, weight_of-with_edge, weight_of-without_key}
 use Rattle.closure_model.proofs.Tabulated.{dense_map, get-dense_in, is_dense}
 use Rattle.closure_model.proofs.Listed.{nothing_elsewhere}
@@ -28,24 +28,11 @@ use Rattle.labelled_graph.specs.Changes.{with_weight}
 use Rattle.labelled_graph.specs.Rows.{TargetRow, no_row, empty_row}
 use Rattle.labelled_graph.specs.Stored.{shape_with, at_key, graph_with, AreStored}
 
--- a read within a list is the same whatever is read past it
-pub same_read : {X : Type 0} (xs : List X) (k : ℕ) (d e : X) → k < length xs → get_or xs k d ≡ get_or xs k e
-same_read [] k d e inside = absurd (omega arith)
-same_read (x ∷ xs) zero d e inside = refl
-same_read (x ∷ xs) (suc k) d e inside = same_read xs k d e (omega arith)
-
 -- ---- reading
 pub weight_at : (rows : List TargetRow) (activations : List PointId) (key : Key) → IsKey (shape_with rows activations) key → weight_of (graph_with rows activations) key ≡ at_key rows key
 weight_at rows activations key is = get-dense_in (shape_with rows activations) (at_key rows) key is
 
--- ---- two keys
-test_apart : (first second : Key) → first ≢ second → eq_by_cmp key_cmp first second ≡ false
-test_apart first second apart = by (eq_by_cmp key_cmp first second) refl
-  where
-    by : (b : Bool) → eq_by_cmp key_cmp first second ≡ b → eq_by_cmp key_cmp first second ≡ false
-    by true is = absurd (apart ((key_test first second).0 is))
-    by false is = is
-
+-- ---- two points
 same_point : (p q : PointId) → p.0 ≡ q.0 → p ≡ q
 same_point p q is = ap (λ (k : ℕ). record { 0 = k }) is
 
@@ -111,7 +98,7 @@ module _ (rows : List TargetRow) (activations : List PointId) (key : Key) (o : O
       by true is =
           let here : q.to.0 ≡ key.to.0 = eqb-true q.to.0 key.to.0 is in
           let now : get_or (set rows key.to.0 after) q.to.0 no_row ≡ after = ap (λ k. get_or (set rows key.to.0 after) k no_row) here ∙ get_or-set_same rows key.to.0 after no_row change.is_key.to_point in
-          let then : get_or rows q.to.0 no_row ≡ before = ap (λ k. get_or rows k no_row) here ∙ same_read rows key.to.0 no_row before change.is_key.to_point ∙ sym change.read in
+          let then : get_or rows q.to.0 no_row ≡ before = ap (λ k. get_or rows k no_row) here ∙ get_or_default rows key.to.0 no_row before change.is_key.to_point ∙ sym change.read in
           ap (λ (r : TargetRow). map_of.get r.weights q) now ∙ change.gets q ∙ ap (λ (r : TargetRow). cond (eq_by_cmp key_cmp q key) o (map_of.get r.weights q)) (sym then)
       by false is =
           let apart : q.to.0 ≢ key.to.0 = grind (arith, nat_tests) in
@@ -184,7 +171,7 @@ module _ (rows : List TargetRow) (activations : List PointId) (stored : AreStore
 
   pub row_reads : (key : Key) → IsKey graph.shape key → (row : TargetRow) → row ≡ get_or rows key.to.0 row → map_of.get row.weights key ≡ weight_of graph key
   row_reads key is row read =
-      ap (λ (r : TargetRow). map_of.get r.weights key) (read ∙ same_read rows key.to.0 row no_row (key_there key is).to_point)
+      ap (λ (r : TargetRow). map_of.get r.weights key) (read ∙ get_or_default rows key.to.0 row no_row (key_there key is).to_point)
       ∙ sym (weight_at rows activations key (key_there key is))
       ∙ ap (λ g. weight_of g key) view
 
@@ -287,7 +274,7 @@ module _ (shape : Shape) (begins : All (λ (p : PointId). p.0 < shape.points) sh
       nowhere : (k : ℕ) (d : TargetRow) → k < length (map empty_row (range_with_len 0 shape.points)) → (key : Key) (w : ℤ) → map_of.get (get_or (map empty_row (range_with_len 0 shape.points)) k d).weights key ≡ Some w → ⊥
       nowhere k d inside key w has =
           let none : map_of.get (get_or (map empty_row (range_with_len 0 shape.points)) k d).weights key ≡ None =
-          ap (λ (r : TargetRow). map_of.get r.weights key) (same_read (map empty_row (range_with_len 0 shape.points)) k d no_row inside) ∙ ap (λ (m : map_of.FinMap key_cmp ℤ). map_of.get m key) (nothing_in 0 shape.points k) ∙ map_of.get-empty key_cmp key in
+          ap (λ (r : TargetRow). map_of.get r.weights key) (get_or_default (map empty_row (range_with_len 0 shape.points)) k d no_row inside) ∙ ap (λ (m : map_of.FinMap key_cmp ℤ). map_of.get m key) (nothing_in 0 shape.points k) ∙ map_of.get-empty key_cmp key in
           absurd cc
 
       same : shape_with (map empty_row (range_with_len 0 shape.points)) shape.activations ≡ shape

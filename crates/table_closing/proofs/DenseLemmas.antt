@@ -1,5 +1,5 @@
 -- What the rows of a table have for a key, before and after one place is changed.
-use Rattle.std.proofs.Common.{◌≡◌, ◌≢◌, ℕ, zero, suc, ◌==◌, ◌<◌, ℤ, Bool, true, false, cond, List, [], ◌∷◌, length, get_or, set, get_or-set_same, get_or-set_other, length-set, replicate, ◌≤◌, map, take, Option, Some, None, refl, ap, sym, subst, ◌∙◌, arith}
+use Rattle.std.proofs.Common.{◌≡◌, ◌≢◌, ℕ, zero, suc, ◌==◌, ◌<◌, ℤ, Bool, true, false, cond, List, [], length, get_or, set, get_or-set_same, get_or-set_other, length-set, replicate, ◌≤◌, map, take, Option, Some, None, refl, ap, sym, subst, ◌∙◌, arith}
 use Rattle.std.specs.Prelude.{slice_get}
 use Rattle.std.specs.List.{All}
 use Rattle.std.specs.Ordering.{eq_by_cmp}
@@ -7,7 +7,7 @@ use Rattle.std.specs.FinMap as map_of
 use Rattle.std.proofs.lemmas.Bool.Decides.{nat_tests}
 use Rattle.std.proofs.lemmas.Option.{slice_get_within, get_or_from_slice_get}
 use Rattle.std.proofs.lemmas.List.Elements.{All-set, All-replicate}
-use Rattle.std.proofs.lemmas.List.{length-replicate, take_all}
+use Rattle.std.proofs.lemmas.List.{get_or_default, length-replicate, take_all}
 use Rattle.std.proofs.Math.ListN.{length-map}
 use Rattle.net_model.specs.Network.{Plan, IsPlan}
 use Rattle.net_model.specs.declared.part.Link.{Link}
@@ -17,7 +17,7 @@ use Rattle.net_model.specs.declared.ids.PointId.{PointId}
 use Rattle.net_model.specs.declared.ids.LinkId.{LinkId}
 use Rattle.closure_model.specs.Keys.{Key, edge_of, key_cmp, Shape, shape_of as shape_of_net, IsKey, IsLabelAt, labelled_key, ordinary_key}
 use Rattle.closure_model.specs.Tables.{Graph, weight_of, with_edge, no_edges, base_table, IsGraph}
-use Rattle.closure_model.proofs.KeyOrder.{key_test}
+use Rattle.closure_model.proofs.KeyOrder.{key_test, test_apart}
 use Rattle.closure_model.proofs.TableLemmas.{no_edges-has_none, weight_of-with_edge}
 use Rattle.closure_model.proofs.Tabulated.{dense_map, get-dense_in, is_dense}
 use Rattle.closure_model.proofs.Listed.{nothing_elsewhere}
@@ -37,13 +37,6 @@ weight_at table key is = get-dense_in (shape_of table) (at_key table) key is
 -- ---- two keys
 test_same : (first second : Key) → first ≡ second → eq_by_cmp key_cmp first second ≡ true
 test_same first second is = (key_test first second).1 is
-
-test_apart : (first second : Key) → first ≢ second → eq_by_cmp key_cmp first second ≡ false
-test_apart first second apart = by (eq_by_cmp key_cmp first second) refl
-  where
-    by : (b : Bool) → eq_by_cmp key_cmp first second ≡ b → eq_by_cmp key_cmp first second ≡ false
-    by true is = absurd (apart ((key_test first second).0 is))
-    by false is = is
 
 -- ---- a changed place of rows
 place_changed : (rows : List (List (Option ℤ))) (r p i j : ℕ) (o : Option ℤ) → r < length rows → p < length (get_or rows r []) → i ≡ r → j ≡ p → at_place (set rows r (set (get_or rows r []) p o)) i j ≡ o
@@ -254,12 +247,6 @@ module _ (old new : Inside) (dense : IsDense old) (key : Key) (is_key : IsKey (s
       rows : All (λ (row : List (Option ℤ)). length row ≡ length old.ordinary.items) (set old.labelled.items l.0 (set (get_or old.labelled.items l.0 []) key.from.0 (Some w)))
       rows = All-set (λ (row : List (Option ℤ)). length row ≡ length old.ordinary.items) old.labelled.items l.0 (set (get_or old.labelled.items l.0 []) key.from.0 (Some w)) row dense.labelled_rows
 
--- a read within a list is the same whatever is read past it
-pub same_read : {X : Type 0} (xs : List X) (k : ℕ) (d e : X) → k < length xs → get_or xs k d ≡ get_or xs k e
-same_read [] k d e inside = absurd (omega arith)
-same_read (x ∷ xs) zero d e inside = refl
-same_read (x ∷ xs) (suc k) d e inside = same_read xs k d e (omega arith)
-
 -- a dense table that is seen as a graph
 abbrev pub IsDenseOf : Inside → Graph → Type 0
 IsDenseOf table graph = IsDense table × (graph_of table ≡ graph)
@@ -299,7 +286,7 @@ module _ (old new : Inside) (graph : Graph) (key : Key) (w : ℤ) (put : IsPut o
       → new.activations.items ≡ old.activations.items → new.labelled.items ≡ old.labelled.items → new.ordinary.items ≡ set old.ordinary.items key.to.0 after → IsDenseOf new (with_edge graph (edge_of key w))
   ordinary_put before after none read written activations labelled ordinary =
       let is_key = in_old old graph key put.view put.is_key in
-      let row : before ≡ get_or old.ordinary.items key.to.0 [] = read ∙ same_read old.ordinary.items key.to.0 before [] is_key.to_point in
+      let row : before ≡ get_or old.ordinary.items key.to.0 [] = read ∙ get_or_default old.ordinary.items key.to.0 before [] is_key.to_point in
       let (dense, is) = put_ordinary old new put.dense key is_key w put.small none activations labelled (ordinary ∙ ap (set old.ordinary.items key.to.0) (written ∙ ap (λ xs. set xs key.from.0 (Some w)) row)) in
       (dense, is ∙ ap (λ g. with_edge g (edge_of key w)) put.view)
 
@@ -307,7 +294,7 @@ module _ (old new : Inside) (graph : Graph) (key : Key) (w : ℤ) (put : IsPut o
       → new.activations.items ≡ old.activations.items → new.ordinary.items ≡ old.ordinary.items → new.labelled.items ≡ set old.labelled.items l.0 after → IsDenseOf new (with_edge graph (edge_of key w))
   labelled_put l before after some read written activations ordinary labelled =
       let is_key = in_old old graph key put.view put.is_key in
-      let row : before ≡ get_or old.labelled.items l.0 [] = read ∙ same_read old.labelled.items l.0 before [] (row_of_label old graph key w put l some) in
+      let row : before ≡ get_or old.labelled.items l.0 [] = read ∙ get_or_default old.labelled.items l.0 before [] (row_of_label old graph key w put l some) in
       let (dense, is) = put_labelled old new put.dense key is_key w put.small l some activations ordinary (labelled ∙ ap (set old.labelled.items l.0) (written ∙ ap (λ xs. set xs key.from.0 (Some w)) row)) in
       (dense, is ∙ ap (λ g. with_edge g (edge_of key w)) put.view)
 
@@ -316,7 +303,7 @@ pub ordinary_read : (table : Inside) (graph : Graph) → IsDense table → graph
     → get_or row from.0 None ≡ weight_of graph (ordinary_key from to)
 ordinary_read table graph dense view from to from_point to_point row read =
     let is_key : IsKey (shape_of table) (ordinary_key from to) = in_old table graph (ordinary_key from to) view (record { to_point = to_point; from_point = from_point; labelled = tt }) in
-    ap (λ xs. get_or xs from.0 None) (read ∙ same_read table.ordinary.items to.0 row [] is_key.to_point)
+    ap (λ xs. get_or xs from.0 None) (read ∙ get_or_default table.ordinary.items to.0 row [] is_key.to_point)
     ∙ sym (weight_at table (ordinary_key from to) is_key)
     ∙ ap (λ g. weight_of g (ordinary_key from to)) view
 
@@ -328,7 +315,7 @@ labelled_read table graph dense view from to l from_point begins row read =
     let point : from.0 < length table.ordinary.items = subst (λ (g : Graph). from.0 < g.shape.points) (sym view) from_point in
     let is_key : IsKey (shape_of table) (labelled_key from to l) = record { to_point = to_point; from_point = point; labelled = begins_here } in
     let row_there : l.0 < length table.labelled.items = omega (arith, slice_get_within table.activations.items l.0 to begins_here, dense.label_count) in
-    ap (λ xs. get_or xs from.0 None) (read ∙ same_read table.labelled.items l.0 row [] row_there)
+    ap (λ xs. get_or xs from.0 None) (read ∙ get_or_default table.labelled.items l.0 row [] row_there)
     ∙ sym (weight_at table (labelled_key from to l) is_key)
     ∙ ap (λ g. weight_of g (labelled_key from to l)) view
 
