@@ -69,7 +69,7 @@ within_append listings listing within last = by listings within
         (by ls (All-tail (λ (l : Listing). l.moment ≤ most_moment) l ls all))
 
 -- feeds that are taken leave nothing refused
-refused_after : (listings : List Listing) (execution : Execution) → (after_all execution listings).refused ≡ execution.refused
+pub refused_after : (listings : List Listing) (execution : Execution) → (after_all execution listings).refused ≡ execution.refused
 refused_after [] execution = refl
 refused_after (listing ∷ others) execution = refused_after others (after_listing execution listing)
 

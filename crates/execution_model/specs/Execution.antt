@@ -11,7 +11,7 @@ use Rattle.dispatch_net.specs.declared.dispatch.Conditions.{Conditions}
 use Rattle.dispatch_net.specs.Dispatchable.{conditions_at}
 use Rattle.execution_model.specs.declared.feeding.Act.{Act}
 
--- a point was executed, or has completed, by the moments so far: those that points have by now
+-- a point has a moment: it was executed, or has completed
 abbrev pub has_come : Moments → PointId → Bool
 has_come moments point = is_some (moment_of moments point)
 

@@ -27,7 +27,8 @@ use Rattle.execution_model.specs.declared.feeding.Fed.TheVariants as fed
 use Rattle.execution_model.specs.declared.feeding.Finished.{Finished}
 use Rattle.execution_model.specs.declared.feeding.Finished.TheVariants as finished
 use Rattle.execution_model.proofs.CutLemmas.{IsRun}
-use Rattle.execution_model.proofs.FedLemmas.{after_listing, after_all, fed_on, started_of, same_ok, err_ok, fed_in_time}
+use Rattle.execution_model.proofs.EarliestLemmas.{refused_after}
+use Rattle.execution_model.proofs.FedLemmas.{fed_on, started_of, same_ok, err_ok, fed_in_time}
 use Rattle.execution_model.proofs.FittingLemmas.{IsNext, end_of, KeepsTo, feeds_in_time}
 use Rattle.execution_model.proofs.GraphLemmas.{closures_are_graphs}
 use Rattle.execution_model.proofs.LawLemmas.{run_of, fed_keeps, fed_end}
@@ -89,10 +90,6 @@ following_start net situation execution is fits =
     }
 
 -- ---- feeds
-refused_after : (listings : List Listing) (execution : Execution) → (after_all execution listings).refused ≡ execution.refused
-refused_after [] execution = refl
-refused_after (listing ∷ others) execution = refused_after others (after_listing execution listing)
-
 fed_more : (listings : List Listing) (listing : Listing) (execution middle : Execution) (moments : Moments) → fed_all execution listings ≡ Ok middle
     → taken middle listing.moment listing.points ≡ Ok moments → fed_all execution (listings ++ listing ∷ []) ≡ Ok (after_feed middle listing.moment moments)
 fed_more [] listing execution middle moments fed took =
@@ -181,7 +178,7 @@ module _ (net : Plan) (situation : List ℕ) (execution : Execution) (is : Follo
       fed_it : (answer : Fed) (after : Execution) → IsFed execution m points answer after → after ≡ after_feed execution m (with_completed execution m points)
       fed_it answer after is_fed = (subst (FedBy answer after) took (subst (FedWhere answer after) unrefused is_fed)).1
 
-      -- after a feed it follows it still, at a later moment
+      -- after a feed the execution still follows the situation, at a later moment
       pub following_fed : (answer : Fed) (after : Execution) → IsFed execution m points answer after
           → FollowsSituation net situation after × (next_moment execution ≤ m) × (m ≤ most_moment) × (next_moment after ≡ m + 1)
       following_fed answer after is_fed =
