@@ -1,5 +1,5 @@
 -- Two situations that differ in one link: the plays of one strategy agree before the sooner completion of that link.
-use Rattle.std.proofs.Common.{◌≡◌, ◌≢◌, ℕ, suc, ◌+◌, ◌<◌, ◌≤◌, Bool, true, false, cond, List, [], ◌∷◌, length, Option, Some, None, ◌⊎◌, inl, inr, refl, sym, ap, subst, ◌∙◌, arith}
+use Rattle.std.proofs.Common.{◌≡◌, ℕ, suc, ◌+◌, ◌<◌, ◌≤◌, Bool, true, false, cond, List, [], ◌∷◌, length, Option, Some, None, ◌⊎◌, inl, inr, refl, sym, ap, subst, ◌∙◌, arith}
 use Rattle.std.specs.Prelude.{slice_get, ◌==◌, ◌&&◌, ◌||◌}
 use Rattle.std.specs.List.{slice_index}
 use Rattle.std.specs.Cmp.Lexicographic.{pointwise}
@@ -7,8 +7,11 @@ use Rattle.std.proofs.lemmas.Bool.{ne_eqb, cases_lt, cases_eq}
 use Rattle.std.proofs.lemmas.Option.{none-some, same_Some}
 use Rattle.std.proofs.lemmas.List.Elements.{filter_agree}
 use Rattle.net_model.specs.Network.{Plan}
+use Rattle.net_model.specs.Edges.{IsLinkOf}
 use Rattle.net_model.specs.declared.ids.PointId.{PointId}
+use Rattle.net_model.specs.declared.ids.LinkId.{LinkId}
 use Rattle.net_model.specs.declared.part.Link.{Link}
+use Rattle.strategy_model.specs.Situations.{DifferOnlyIn}
 use Rattle.strategy_model.specs.Plays.{Moments, points_of, same_point, moment_of, may_act, completes, is_completed, completed, play_from, play_cases}
 use Rattle.strategy_model.specs.declared.tree.Tree.{Tree, Leaf, Node', Row_of-Case, end_of-Case, more_of-Case}
 use Rattle.strategy_model.proofs.MomentLemmas.{made_length}
@@ -48,22 +51,22 @@ pub both : {A : Type 0} (b : Bool) (x y v w : Option A) {p q : A} → cond b x y
 both true x y v w here there = inl (here, there)
 both false x y v w here there = inr (here, there)
 
--- Two situations that differ only in the link at a place, schedules for them, and a moment that no completion of that link in
+-- Two situations that differ only in a link, schedules for them, and a moment that no completion of that link in
 -- them comes before.
-pub record DifferInLink (net : Plan) (place : ℕ) (link : Link) (ds es first second : List ℕ) (limit : ℕ) : Type 0 where
-  pub declared : slice_get net.links place ≡ Some link
+pub record DifferInLink (net : Plan) (name : LinkId) (link : Link) (ds es first second : List ℕ) (limit : ℕ) : Type 0 where
+  pub declared : IsLinkOf net name link
   pub from_point : link.from.0 < length net.points
   pub first_length : length ds ≡ length net.links
   pub second_length : length es ≡ length net.links
-  pub elsewhere : (i : ℕ) → i ≢ place → slice_get ds i ≡ slice_get es i
-  pub after_first : (d : ℕ) → slice_get ds place ≡ Some d → limit ≤ slice_index first link.from.0 + d
-  pub after_second : (e : ℕ) → slice_get es place ≡ Some e → limit ≤ slice_index second link.from.0 + e
+  pub elsewhere : DifferOnlyIn name ds es
+  pub after_first : (d : ℕ) → slice_get ds name.0 ≡ Some d → limit ≤ slice_index first link.from.0 + d
+  pub after_second : (e : ℕ) → slice_get es name.0 ≡ Some e → limit ≤ slice_index second link.from.0 + e
 
-module _ (net : Plan) (place : ℕ) (link : Link) (ds es first second : List ℕ) (limit : ℕ) (differ : DifferInLink net place link ds es first second limit) where
+module _ (net : Plan) (name : LinkId) (link : Link) (ds es first second : List ℕ) (limit : ℕ) (differ : DifferInLink net name link ds es first second limit) where
   same_links : (tree : Tree) (so_far : Moments) (t : ℕ) → t < limit → play_from tree net ds so_far t ≡ Some first → play_from tree net es so_far t ≡ Some second → (i : ℕ) (other : Link) (d e : ℕ)
       → slice_get net.links i ≡ Some other → slice_get ds i ≡ Some d → slice_get es i ≡ Some e → completes so_far t other d ≡ completes so_far t other e
   same_links tree so_far t before played_first played_second i other d e its its_d its_e =
-      elim (cases_eq i place) [
+      elim (cases_eq i name.0) [
         | inl here ↦
             let same : other ≡ link = same_Some other link (sym its ∙ ap (slice_get net.links) here ∙ differ.declared) in
             let d_here = sym (ap (slice_get ds) here) ∙ its_d in

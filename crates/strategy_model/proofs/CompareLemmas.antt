@@ -43,7 +43,7 @@ plays_agree net strategy name link first second first_play second_play instant d
     let lasting_first = lasting net instant.sound first first_play strategy [] 0 played_first (follow_at_first net first) name.0 link in
     let lasting_second = lasting net instant.sound second second_play strategy [] 0 played_second (follow_at_first net second) name.0 link in
     elim (cases_lt point.0 (length net.points)) [
-      | inl within ↦ agree_from net name.0 link first second first_play second_play limit (record {
+      | inl within ↦ agree_from net name link first second first_play second_play limit (record {
         declared = declared;
         from_point = sound.from_point;
         first_length = situation_length net.links first is_first;
