@@ -1,6 +1,6 @@
 -- How a dispatchable network is executed, moment by moment: an executable point comes at the first moment that meets its lower bounds
 -- and waits (waits: Morris, Muscettola and Vidal 2001). The completions of a moment are seen before its acts.
-use Rattle.std.specs.Prelude.{ℕ, ℤ, zero, suc, ◌+◌, ◌==◌, ◌&&◌, ◌||◌, nat_le, unsigned_abs, Bool, false, List, [], ◌++◌, length, map, filter, find, Option, Some, None, is_some, is_none, slice_get, if◌then◌else◌}
+use Rattle.std.specs.Prelude.{ℕ, ℤ, zero, suc, ◌+◌, ◌==◌, ◌&&◌, ◌||◌, nat_le, unsigned_abs, Bool, false, List, [], ◌++◌, length, map, filter, find, Option, Some, is_some, is_none, slice_get, if◌then◌else◌}
 use Rattle.std.specs.List.{list_all, range_with_len}
 use Rattle.std.specs.Option.{option_map_or}
 use Rattle.net_model.specs.Moments.{Moments, moment_of}
