@@ -52,6 +52,6 @@ fn base_of_link(net: &Network, name: LinkId, link: &Link) -> Base
     ensures { result ≡ base_of_link net.now (name.0, link.now) }
 {
     let edge = link_edge(name, link);
-    let missing = CertFault::MissingLink(net.points()[link.to.0 as usize]);
+    let missing = CertFault::MissingLink(*net.point_name(link.to));
     Base { edge, missing }
 }
