@@ -1,4 +1,4 @@
--- Moments of points.
+-- Which points have a moment, and which one.
 use Rattle.std.specs.Prelude.{ℕ, List, Option, None}
 use Rattle.std.specs.List.{slice_index_or}
 use Rattle.net_model.specs.declared.ids.PointId.{PointId}

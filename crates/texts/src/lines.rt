@@ -1,4 +1,4 @@
-//! Lines of texts.
+//! A text is taken line by line.
 
 ghost use Rattle.std.specs.Prelude.{◌≡◌, ℕ, ◌+◌, ◌-◌, ◌<◌, ◌≤◌, ◌∷◌, [], length, take, drop, slice_index, MatchOption, IfSome};
 ghost use Rattle.texts.specs.Lines.{lines, lines_after, size_of_lines};

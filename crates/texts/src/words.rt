@@ -1,4 +1,4 @@
-//! Words of lines.
+//! A line is taken word by word.
 
 ghost use Rattle.std.specs.Prelude.{◌≡◌, ◌<◌, ◌≤◌, ◌∷◌, ◌++◌, [], false, true, length, take, drop, slice_get, MatchOption, IfSome};
 ghost use Rattle.texts.specs.Words.{are_passed_over, is_blank, is_remark, if_filled, words};
