@@ -1,5 +1,5 @@
 -- The reference round: the rows of all targets against one table, and what it adds to the list and the table that support them.
--- Morris and Muscettola 2005, in this project's form.
+-- Morris and Muscettola 2005, in this project's form; the order of making is not theirs.
 use Rattle.std.specs.Prelude.{◌==◌, ◌&&◌, ℕ, ℤ, Bool, List, fold, Option, Some, None, if◌then◌else◌}
 use Rattle.std.specs.Option.{option_map, option_map_or, option_and_then}
 use Rattle.std.specs.List.{flat_map}
