@@ -5,9 +5,10 @@ use Rattle.std.specs.Int.{int_max}
 use Rattle.std.specs.List.{Contains}
 use Rattle.std.specs.FinMap as map_of
 use Rattle.std.proofs.lemmas.Int.{ints}
+use Rattle.net_model.proofs.ApplyingLemmas.{no_case_applies, upper_case_applies, lower_case_applies, cross_case_applies, removal_applies}
 use Rattle.net_model.proofs.RuleLemmas.{no_case_gives, upper_case_gives, lower_case_gives, cross_case_gives, removal_gives}
 use Rattle.net_model.specs.Network.{Plan}
-use Rattle.net_model.specs.Rules.{Follows, joined_weight, moved_to_activation}
+use Rattle.net_model.specs.Rules.{joined_weight, moved_to_activation}
 use Rattle.net_model.specs.Rules as rules_of
 use Rattle.net_model.specs.declared.part.Edge.{Edge}
 use Rattle.closure_model.specs.Keys.{Key, key_of, edge_of}
@@ -16,7 +17,7 @@ use Rattle.closure_model.specs.Derivable.{IsDerivable, IsDerivableFor, IsLeastDe
 use Rattle.closure_model.specs.Closure.{IsClosure, HoldsDerivable}
 use Rattle.closure_model.proofs.KeyOrder.{key_total, same_key}
 use Rattle.closure_model.proofs.TableLemmas.{edge_listed, listed_edge, at_most_gives, at_most_from}
-use Rattle.closure_model.proofs.Applying.{no_case_from, upper_case_from, lower_case_from, cross_case_from, removal_from, below_zero, joined_less, moved_less, freed_less}
+use Rattle.closure_model.proofs.Applying.{below_zero, joined_less, moved_less, freed_less}
 use Rattle.closure_model.proofs.Deriving.{follows_derivable}
 
 -- an edge of the same key and no lesser weight
@@ -49,7 +50,7 @@ module _ (net : Plan) (table : Graph) (closed : IsClosed net table) where
       let second_had : Edge = edge_of (key_of second) s.weight in
       let made : Edge = record { from = first.from; to = second.to; label = None; weight = joined_weight first_had second_had } in
       let stated : Edge = record { from = first.from; to = second.to; label = None; weight = joined_weight first second } in
-      let gave' = no_case_from first_had second_had gives.first_ordinary gives.second_ordinary gives.meeting (below_zero s.weight second.weight s.less gives.negative) in
+      let gave' = no_case_applies first_had second_had gives.first_ordinary gives.second_ordinary gives.meeting (below_zero s.weight second.weight s.less gives.negative) in
       let has : HasAtMost table made = closed made (rules_of.by_no_case first_had second_had f.listed s.listed gave') in
       subst (HasAtMost table) gives.is (eased table made stated refl (joined_less f.weight first.weight s.weight second.weight f.less s.less) has)
   at_most_derivable edge (by_upper_case first second e one two gave) =
@@ -60,7 +61,7 @@ module _ (net : Plan) (table : Graph) (closed : IsClosed net table) where
       let second_had : Edge = edge_of (key_of second) s.weight in
       let made : Edge = record { from = first.from; to = second.to; label = second.label; weight = joined_weight first_had second_had } in
       let stated : Edge = record { from = first.from; to = second.to; label = second.label; weight = joined_weight first second } in
-      let gave' = upper_case_from first_had second_had gives.label gives.first_ordinary gives.second_labelled gives.meeting (below_zero s.weight second.weight s.less gives.negative) in
+      let gave' = upper_case_applies first_had second_had gives.label gives.first_ordinary gives.second_labelled gives.meeting (below_zero s.weight second.weight s.less gives.negative) in
       let has : HasAtMost table made = closed made (rules_of.by_upper_case first_had second_had f.listed s.listed gave') in
       subst (HasAtMost table) gives.is (eased table made stated refl (joined_less f.weight first.weight s.weight second.weight f.less s.less) has)
   at_most_derivable edge (by_lower_case name second e one gave) =
@@ -69,7 +70,7 @@ module _ (net : Plan) (table : Graph) (closed : IsClosed net table) where
       let second_had : Edge = edge_of (key_of second) s.weight in
       let made : Edge = moved_to_activation gives.link second_had in
       let stated : Edge = moved_to_activation gives.link second in
-      let gave' = lower_case_from net name gives.link second_had gives.declared gives.second_ordinary gives.begins (below_zero s.weight second.weight s.less gives.negative) in
+      let gave' = lower_case_applies net name gives.link second_had gives.declared gives.second_ordinary gives.begins (below_zero s.weight second.weight s.less gives.negative) in
       let has : HasAtMost table made = closed made (rules_of.by_lower_case name second_had s.listed gave') in
       subst (HasAtMost table) gives.is (eased table made stated refl (moved_less gives.link.low s.weight second.weight s.less) has)
   at_most_derivable edge (by_cross_case name second e one gave) =
@@ -78,7 +79,7 @@ module _ (net : Plan) (table : Graph) (closed : IsClosed net table) where
       let second_had : Edge = edge_of (key_of second) s.weight in
       let made : Edge = moved_to_activation gives.link second_had in
       let stated : Edge = moved_to_activation gives.link second in
-      let gave' = cross_case_from net name gives.link gives.label second_had gives.declared gives.second_labelled gives.another gives.begins (below_zero s.weight second.weight s.less gives.negative) in
+      let gave' = cross_case_applies net name gives.link second_had gives.label gives.declared gives.second_labelled gives.another gives.begins (below_zero s.weight second.weight s.less gives.negative) in
       let has : HasAtMost table made = closed made (rules_of.by_cross_case name second_had s.listed gave') in
       subst (HasAtMost table) gives.is (eased table made stated refl (moved_less gives.link.low s.weight second.weight s.less) has)
   at_most_derivable edge (by_removal premise e one gave) =
@@ -87,7 +88,7 @@ module _ (net : Plan) (table : Graph) (closed : IsClosed net table) where
       let premise_had : Edge = edge_of (key_of premise) s.weight in
       let made : Edge = record premise_had { label = None; weight = int_max s.weight (pos 0 -ℤ gives.link.low) } in
       let stated : Edge = record premise { label = None; weight = int_max premise.weight (pos 0 -ℤ gives.link.low) } in
-      let gave' = removal_from net gives.name gives.link premise_had gives.labelled gives.declared in
+      let gave' = removal_applies net premise_had gives.name gives.link gives.declared gives.labelled in
       let has : HasAtMost table made = closed made (rules_of.by_removal premise_had s.listed gave') in
       subst (HasAtMost table) gives.is (eased table made stated refl (freed_less gives.link.low s.weight premise.weight s.less) has)
 

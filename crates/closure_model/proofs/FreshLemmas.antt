@@ -13,6 +13,7 @@ use Rattle.net_model.specs.Rules.{no_case, upper_case, lower_case, cross_case, r
 use Rattle.net_model.specs.declared.ids.LinkId.{LinkId}
 use Rattle.net_model.specs.declared.ids.PointId.{PointId}
 use Rattle.net_model.specs.declared.part.Edge.{Edge}
+use Rattle.net_model.proofs.ApplyingLemmas.{no_case_applies, upper_case_applies}
 use Rattle.net_model.proofs.RuleLemmas.{NoCaseGives, UpperCaseGives, no_case_gives, upper_case_gives}
 use Rattle.closure_model.specs.FreshEdges.{fresh_at, AreOfTable, IsMetBut, WasThere, has_fallen, UnfallenWereThere, RowsAreMetAfterARound, UnstaleRowsMakeNothing}
 use Rattle.closure_model.specs.Keys.{Key, key_of, row_keys}
@@ -29,7 +30,6 @@ use Rattle.closure_model.proofs.Lists.{Contains-cases, Contains-none, Contains-m
 use Rattle.closure_model.proofs.RoundLaw.{is_same_key_of}
 use Rattle.closure_model.proofs.RowRun.{under_way_first}
 use Rattle.closure_model.proofs.RowsAfter.{now_in_row, row_met}
-use Rattle.closure_model.proofs.RuleSteps.{no_case_applies, upper_case_applies}
 use Rattle.closure_model.proofs.Slots.{some_of_map}
 use Rattle.closure_model.proofs.TableLemmas.{all_lowered-cases, at_most_from, at_most_gives}
 use Rattle.closure_model.proofs.ThinnedLemmas.{thinned_all, thinned_append, thinned_flat, given_is, heavy_all}

@@ -14,6 +14,7 @@ use Rattle.net_model.specs.declared.ids.LinkId.{LinkId}
 use Rattle.net_model.specs.declared.ids.PointId.{PointId}
 use Rattle.net_model.specs.declared.part.Edge.{Edge}
 use Rattle.net_model.specs.declared.part.Link.{Link}
+use Rattle.net_model.proofs.ApplyingLemmas.{removal_applies}
 use Rattle.net_model.proofs.RuleLemmas.{no_case_gives, upper_case_gives, lower_case_gives, cross_case_gives, removal_gives}
 use Rattle.closure_model.specs.Keys.{Key, key_of, ordinary_key, Shape, shape_of, IsLabelAt}
 use Rattle.closure_model.specs.Orders.{goes}
@@ -28,7 +29,7 @@ use Rattle.closure_model.proofs.RoundsLaw.{round_stands_after}
 use Rattle.closure_model.proofs.RowsAfter.{now_in_row, row_met, was_there}
 use Rattle.closure_model.proofs.RowDerivable.{in_row_there}
 use Rattle.closure_model.proofs.RowLaw.{row_derived, row_result}
-use Rattle.closure_model.proofs.RuleSteps.{at_weight, no_case_of_less, upper_case_of_less, lower_case_of_less, cross_case_of_less, removal_of_less, removal_applies}
+use Rattle.closure_model.proofs.RuleSteps.{at_weight, no_case_of_less, upper_case_of_less, lower_case_of_less, cross_case_of_less, removal_of_less}
 use Rattle.closure_model.proofs.TableLemmas.{at_most_from, at_most_gives, has_at_most_itself}
 use Rattle.closure_model.proofs.Weights.{lt_is, lt_true, le_then, le_then_lt, not_below}
 use Rattle.closure_model.specs.RoundLaws.{RowsNeedFallenRows}

@@ -1,18 +1,15 @@
 -- What a reduction does to the edge that it lengthens: the conclusion is at least as heavy, ends where that edge ends, and a lesser
 -- weight of the edge gives a conclusion of lesser weight.
-use Rattle.std.proofs.Common.{◌≡◌, ◌≢◌, ℕ, ℤ, pos, ◌≤ℤ◌, ◌<ℤ◌, ◌+ℤ◌, ◌-ℤ◌, ◌==◌, not, Bool, true, false, Option, Some, None, refl, ap, sym, ◌∙◌, subst, arith, is_some, is_none}
+use Rattle.std.proofs.Common.{◌≡◌, ℤ, pos, ◌≤ℤ◌, ◌+ℤ◌, ◌-ℤ◌, Option, Some, refl, ap, sym, ◌∙◌, subst, arith}
 use Rattle.std.specs.Int.{int_max}
 use Rattle.std.proofs.lemmas.Int.{ints, int_max_is}
-use Rattle.std.proofs.lemmas.Bool.{eqb-true}
 use Rattle.net_model.specs.Network.{Plan}
-use Rattle.net_model.specs.Edges.{IsLinkOf}
-use Rattle.net_model.specs.Rules.{is_ordinary, is_labelled, is_labelled_by, meet, is_negative, joined_weight, no_case, upper_case, goes_on_from, moved_to_activation, lower_case, cross_case, removal}
+use Rattle.net_model.specs.Rules.{joined_weight, no_case, upper_case, lower_case, cross_case, removal}
 use Rattle.net_model.specs.declared.ids.LinkId.{LinkId}
-use Rattle.net_model.specs.declared.ids.PointId.{PointId}
 use Rattle.net_model.specs.declared.part.Edge.{Edge}
-use Rattle.net_model.specs.declared.part.Link.{Link}
+use Rattle.net_model.proofs.ApplyingLemmas.{no_case_applies, upper_case_applies, lower_case_applies, cross_case_applies, removal_applies}
 use Rattle.net_model.proofs.RuleLemmas.{NoCaseGives, UpperCaseGives, LowerCaseGives, CrossCaseGives, RemovalGives}
-use Rattle.closure_model.proofs.Weights.{lt_true, le_then_lt}
+use Rattle.closure_model.proofs.Weights.{le_then_lt}
 
 -- ---- sums
 joined_not_less : (v u : ℤ) → u ≤ℤ (int_max v (pos 0) +ℤ u)
@@ -32,76 +29,6 @@ max_not_less z y = grind (arith, ints, int_max_is)
 
 max_falls : (z w y : ℤ) → w ≤ℤ z → int_max w y ≤ℤ int_max z y
 max_falls z w y falls = grind (arith, ints, int_max_is)
-
--- ---- tests
-same_itself : (k m : ℕ) → k ≡ m → (k == m) ≡ true
-same_itself k m same = subst (λ (n : ℕ). (k == n) ≡ true) same (itself k)
-  where
-    itself : (n : ℕ) → (n == n) ≡ true
-    itself n = grind arith
-
-ordinary_is : (edge : Edge) → edge.label ≡ None → is_ordinary edge ≡ true
-ordinary_is edge none = ap is_none none
-
-labelled_is : (edge : Edge) (label : LinkId) → edge.label ≡ Some label → is_labelled edge ≡ true
-labelled_is edge label labelled = ap is_some labelled
-
-negative_is : (edge : Edge) → edge.weight <ℤ pos 0 → is_negative edge ≡ true
-negative_is edge below = lt_true edge.weight (pos 0) below
-
-meet_is : (first second : Edge) → first.to ≡ second.from → meet first second ≡ true
-meet_is first second meeting = same_itself first.to.0 second.from.0 (ap (λ (p : PointId). p.0) meeting)
-
-goes_on_is : (link : Link) (second : Edge) → second.from ≡ link.to → second.weight <ℤ pos 0 → goes_on_from link second ≡ true
-goes_on_is link second begins below =
-    let here : (second.from.0 == link.to.0) ≡ true = same_itself second.from.0 link.to.0 (ap (λ (p : PointId). p.0) begins) in
-    let negative : is_negative second ≡ true = negative_is second below in
-    rw (here, negative) refl
-
--- ---- where a rule applies
-pub no_case_applies : (first second : Edge) → first.label ≡ None → second.label ≡ None → first.to ≡ second.from → second.weight <ℤ pos 0 → no_case first second ≡ Some (record { from = first.from; to = second.to; label = None; weight = joined_weight first second })
-unfolding no_case
-no_case_applies first second one two meeting below =
-    let first_is : is_ordinary first ≡ true = ordinary_is first one in
-    let second_is : is_ordinary second ≡ true = ordinary_is second two in
-    let met : meet first second ≡ true = meet_is first second meeting in
-    let negative : is_negative second ≡ true = negative_is second below in
-    rw (first_is, second_is, met, negative) refl
-
-pub upper_case_applies : (first second : Edge) (label : LinkId) → first.label ≡ None → second.label ≡ Some label → first.to ≡ second.from → second.weight <ℤ pos 0 → upper_case first second ≡ Some (record { from = first.from; to = second.to; label = second.label; weight = joined_weight first second })
-unfolding upper_case
-upper_case_applies first second label one two meeting below =
-    let first_is : is_ordinary first ≡ true = ordinary_is first one in
-    let second_is : is_labelled second ≡ true = labelled_is second label two in
-    let met : meet first second ≡ true = meet_is first second meeting in
-    let negative : is_negative second ≡ true = negative_is second below in
-    rw (first_is, second_is, met, negative) refl
-
-pub lower_case_applies : (net : Plan) (name : LinkId) (link : Link) (second : Edge) → IsLinkOf net name link → second.label ≡ None → second.from ≡ link.to → second.weight <ℤ pos 0 → lower_case net name second ≡ Some (moved_to_activation link second)
-unfolding lower_case
-lower_case_applies net name link second declared two begins below =
-    let second_is : is_ordinary second ≡ true = ordinary_is second two in
-    let goes : goes_on_from link second ≡ true = goes_on_is link second begins below in
-    rw (declared, second_is, goes) refl
-
-another_is : (name : LinkId) (edge : Edge) (label : LinkId) → edge.label ≡ Some label → label ≢ name → not (is_labelled_by name edge) ≡ true
-another_is name edge label labelled other = let is : is_labelled_by name edge ≡ (label.0 == name.0) = rw labelled refl in by (label.0 == name.0) refl is
-  where
-    by : (b : Bool) → (label.0 == name.0) ≡ b → is_labelled_by name edge ≡ (label.0 == name.0) → not (is_labelled_by name edge) ≡ true
-    by true equal is = absurd (other (ap (λ (k : ℕ). record { 0 = k }) (eqb-true label.0 name.0 equal)))
-    by false equal is = rw (is, equal) refl
-
-pub cross_case_applies : (net : Plan) (name : LinkId) (link : Link) (second : Edge) (label : LinkId) → IsLinkOf net name link → second.label ≡ Some label → label ≢ name → second.from ≡ link.to → second.weight <ℤ pos 0 → cross_case net name second ≡ Some (moved_to_activation link second)
-unfolding cross_case
-cross_case_applies net name link second label declared two other begins below =
-    let second_is : is_labelled second ≡ true = labelled_is second label two in
-    let another : not (is_labelled_by name second) ≡ true = another_is name second label two other in
-    let goes : goes_on_from link second ≡ true = goes_on_is link second begins below in
-    rw (declared, second_is, another, goes) refl
-
-pub removal_applies : (net : Plan) (premise : Edge) (name : LinkId) (link : Link) → IsLinkOf net name link → premise.label ≡ Some name → removal net premise ≡ Some (record premise { label = None; weight = int_max premise.weight (pos 0 -ℤ link.low) })
-unfolding removal
-removal_applies net premise name link declared labelled = rw (labelled, declared) refl
 
 -- ---- what every rule keeps: the conclusion is no lighter than the edge that it lengthens, ends where that one does, and has its
 -- label or none

@@ -6,7 +6,7 @@ use Rattle.net_model.specs.Rules.{no_case, upper_case, lower_case, cross_case, r
 use Rattle.net_model.specs.declared.ids.LinkId.{LinkId}
 use Rattle.net_model.specs.declared.part.Edge.{Edge}
 use Rattle.net_model.proofs.RuleLemmas.{no_case_gives, upper_case_gives, lower_case_gives, cross_case_gives, removal_gives}
-use Rattle.closure_model.proofs.RuleSteps.{no_case_applies, upper_case_applies, lower_case_applies, cross_case_applies, removal_applies}
+use Rattle.net_model.proofs.ApplyingLemmas.{no_case_applies, upper_case_applies, lower_case_applies, cross_case_applies, removal_applies}
 use Rattle.derivation_edits.specs.Following.{Renumbering, IsRenumbering, moved_label, moved_edge, moved_link}
 
 module _ (old new : Plan) (moves : Renumbering) (is : IsRenumbering old new moves) where

@@ -17,7 +17,7 @@ use Rattle.closure_model.proofs.Lists.{Contains-none}
 use Rattle.closure_model.proofs.TableLemmas.{edge_listed}
 use Rattle.strategy_model.proofs.OrderLemmas.{rank, falls_to, falls_to_activation}
 use Rattle.strategy_model.proofs.PlayLemmas.{link_sound}
-use Rattle.strategy_model.proofs.ClosedLemmas.{negative_holds}
+use Rattle.net_model.proofs.ApplyingLemmas.{negative_holds}
 use Rattle.strategy_model.proofs.KnownLemmas.{some_from_none}
 use Rattle.strategy_model.proofs.KindLemmas.{kind, ending_known}
 use Rattle.controllability.proofs.ClosureLemmas.{closed_tables_are_closed_lists}

@@ -7,6 +7,7 @@ pub mod ReadingLemmas
 pub mod DepartureLemmas
 pub mod PlanNumbers
 pub mod RuleLemmas
+pub mod ApplyingLemmas
 pub mod PartsLemmas
 pub mod NumberLemmas
 pub mod PlaceLemmas

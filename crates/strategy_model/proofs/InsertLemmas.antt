@@ -12,13 +12,14 @@ use Rattle.net_model.specs.Rules.{is_ordinary, is_negative}
 use Rattle.net_model.specs.declared.ids.PointId.{PointId}
 use Rattle.net_model.specs.declared.part.Edge.{Edge}
 use Rattle.net_model.proofs.RuleLemmas.{none_is}
+use Rattle.net_model.proofs.ApplyingLemmas.{negative_holds}
 use Rattle.strategy_model.specs.Plays.{same_point, points_of}
 use Rattle.strategy_model.specs.Edges.{HasNoNegativeCycle}
 use Rattle.strategy_model.specs.Dispatch.{IsClosedList, IsOrder}
 use Rattle.strategy_model.specs.DispatchLaws.{ClosedListsHaveOrders}
 use Rattle.strategy_model.proofs.MomentLemmas.{same_from_test, test_from_same, point_at}
 use Rattle.strategy_model.proofs.ExactLemmas.{below_zero}
-use Rattle.strategy_model.proofs.ClosedLemmas.{negative_holds, stands_over_both}
+use Rattle.strategy_model.proofs.ClosedLemmas.{stands_over_both}
 use Rattle.strategy_model.proofs.SituationLemmas.{Among}
 
 -- a negative ordinary edge of a list goes from one point to another

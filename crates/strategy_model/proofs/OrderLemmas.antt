@@ -13,12 +13,13 @@ use Rattle.net_model.specs.declared.ids.PointId.{PointId}
 use Rattle.net_model.specs.declared.ids.LinkId.{LinkId}
 use Rattle.net_model.specs.declared.part.Edge.{Edge}
 use Rattle.net_model.specs.declared.part.Link.{Link}
+use Rattle.net_model.proofs.ApplyingLemmas.{negative_holds}
 use Rattle.strategy_model.specs.Plays.{same_point}
 use Rattle.strategy_model.specs.Dispatch.{IsClosedList, IsOrder, HoldsBack}
 use Rattle.strategy_model.proofs.MomentLemmas.{same_from_test, test_from_same}
 use Rattle.strategy_model.proofs.PlayLemmas.{link_sound}
 use Rattle.strategy_model.proofs.ExactLemmas.{below_zero}
-use Rattle.strategy_model.proofs.ClosedLemmas.{negative_holds, stands_link, stands_removal, edge_sound, label_sound}
+use Rattle.strategy_model.proofs.ClosedLemmas.{stands_link, stands_removal, edge_sound, label_sound}
 
 -- the place of a point in an order
 abbrev pub rank : List PointId → PointId → ℕ

@@ -14,12 +14,13 @@ use Rattle.net_model.specs.Rules.{moved_to_activation}
 use Rattle.net_model.specs.declared.ids.LinkId.{LinkId}
 use Rattle.net_model.specs.declared.part.Edge.{Edge}
 use Rattle.net_model.specs.declared.part.Link.{Link}
+use Rattle.net_model.proofs.ApplyingLemmas.{negative_holds}
 use Rattle.strategy_model.specs.Situations.{IsSituation, IsDuration, moment_in}
 use Rattle.strategy_model.specs.Dispatch.{Stands, IsClosedList, HoldsBack, IsDispatched, awaited, moment_after, completion_in}
 use Rattle.strategy_model.proofs.PlayLemmas.{link_sound}
 use Rattle.strategy_model.proofs.CompareLemmas.{duration_of}
 use Rattle.strategy_model.proofs.ExactLemmas.{below_zero}
-use Rattle.strategy_model.proofs.ClosedLemmas.{negative_holds, stands_link, stands_no_case, stands_upper_case, stands_lower_case, stands_cross_case, stands_removal, edge_sound, label_sound}
+use Rattle.strategy_model.proofs.ClosedLemmas.{stands_link, stands_no_case, stands_upper_case, stands_lower_case, stands_cross_case, stands_removal, edge_sound, label_sound}
 use Rattle.strategy_model.proofs.KindLemmas.{Ending, kind}
 
 -- an edge is violated: its second point comes too late after its first, and, where it has a label, its first comes before
