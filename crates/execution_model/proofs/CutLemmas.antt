@@ -1,13 +1,12 @@
 -- The moments so far that are those of a schedule before a moment, and that one moment's completions and acts make them those before the
 -- next one.
-use Rattle.std.proofs.Common.{◌≡◌, ℕ, suc, ◌+◌, ◌≤◌, ◌<◌, ℤ, pos, Bool, true, false, List, length, map, min, Option, Some, None, is_some, is_none, inl, inr, refl, ap, sym, subst, ◌∙◌, arith}
+use Rattle.std.proofs.Common.{◌≡◌, ℕ, suc, ◌+◌, ◌≤◌, ◌<◌, ℤ, pos, true, false, List, length, map, min, Option, Some, None, is_some, is_none, inl, inr, refl, ap, sym, subst, ◌∙◌, arith}
 use Rattle.std.specs.Prelude.{slice_get, unsigned_abs, ◌<ℤ◌, ◌≤ℤ◌, ◌-ℤ◌, ◌&&◌, ◌||◌}
 use Rattle.std.specs.List.{Contains, list_all}
 use Rattle.std.specs.Option.{option_map, option_map_or}
 use Rattle.std.proofs.lemmas.Bool.{cases_lt, cases_order, and_parts, and_from, and_right, or_cases, or_left, or_right, true≢false, false_from_ne_true}
 use Rattle.std.proofs.lemmas.Int.{ints}
 use Rattle.std.proofs.lemmas.List.Elements.{All-contains, All-weaker, All-contains_itself, Contains-append_left, Contains-append_right, Contains-append_cases}
-use Rattle.std.proofs.lemmas.List.Sums.{AllPass-from_list_all, list_all-from_AllPass}
 use Rattle.std.proofs.lemmas.Option.{none-some, same_Some, slice_get-map}
 use Rattle.net_model.specs.Network.{Plan, IsPlan, IsPoint, IsExecutable}
 use Rattle.net_model.specs.Edges.{IsLinkOf}
@@ -27,6 +26,7 @@ use Rattle.dispatch_net.specs.Execution.{IsExecutedBy, IsFirst, bound_asks, wait
 use Rattle.dispatch_net.specs.Laws.{AreExact}
 use Rattle.dispatch_net.proofs.ExactLemmas.{lists_are_exact}
 use Rattle.dispatch_net.proofs.ExecutionLemmas.{dispatchable_length, point_count}
+use Rattle.dispatch_net.proofs.SlimLists.{list_passes, passes_each}
 use Rattle.net_model.specs.Moments.{Moments, moment_of}
 use Rattle.execution_model.specs.Execution.{Setting, has_come, has_gone_by, meets_bound, meets_wait_for, meets_wait, meets, is_due, link_to, acted}
 use Rattle.execution_model.specs.Laws.{setting_of}
@@ -81,13 +81,7 @@ module _ (net : Plan) (schedule : List ℕ) (moments : Moments) (t : ℕ) (cut :
         | inr above ↦ absurd (none-some m (sym (cut.unknown point within above) ∙ found))
       ]
 
--- ---- lists of conditions
-list_passes : {X : Type 0} (test : X → Bool) (xs : List X) → ((x : X) → Contains xs x → test x ≡ true) → list_all test xs ≡ true
-list_passes test xs each = list_all-from_AllPass test xs (All-weaker (Contains xs) (λ x. test x ≡ true) each xs (All-contains_itself xs))
-
-passes_each : {X : Type 0} (test : X → Bool) (xs : List X) (x : X) → list_all test xs ≡ true → Contains xs x → test x ≡ true
-passes_each test xs x all among = All-contains (λ y. test y ≡ true) xs x (AllPass-from_list_all test xs all) among
-
+-- ---- sizes
 size_low : (low : ℤ) (d : ℕ) → pos 1 ≤ℤ low → low ≤ℤ pos d → (unsigned_abs low ≤ d) × (1 ≤ unsigned_abs low)
 size_low low d positive below = (grind (arith, ints), grind (arith, ints))
 
