@@ -20,7 +20,7 @@ use Rattle.execution_model.specs.Paced.{IsRankedNetwork, ArePaced, ActsComeOneBy
 use Rattle.dispatch_net.proofs.SlimLists.{link_there}
 use Rattle.execution_model.proofs.PacedLemmas.{meets_later}
 
-all_alike : {X : Type 0} (p q : X → Bool) (xs : List X) → ((x : X) → Contains xs x → p x ≡ q x) → list_all p xs ≡ list_all q xs
+pub all_alike : {X : Type 0} (p q : X → Bool) (xs : List X) → ((x : X) → Contains xs x → p x ≡ q x) → list_all p xs ≡ list_all q xs
 all_alike p q [] each = refl
 all_alike p q (x ∷ xs) each = λ i. each x (Contains-head x xs) i && all_alike p q xs (λ y among. each y (Contains-tail x xs y among)) i
 

@@ -18,6 +18,7 @@ use Rattle.dispatch_net.specs.Dispatchable.{conditions_at, no_conditions}
 use Rattle.net_model.specs.Moments.{Moments, moment_of}
 use Rattle.execution_model.specs.Execution.{Setting, has_come, has_gone_by, link_to, meets_bound, meets_wait_for, meets_wait, meets, is_due}
 use Rattle.execution_model.specs.Feeding.{completed_at}
+use Rattle.execution_model.proofs.OneByOneLemmas.{all_alike}
 use Rattle.execution_model.proofs.MomentLemmas.{length-completed_at, moment_completed, moment_of_other, come_not_due}
 use Rattle.live_executor.specs.Due.{has_begun, PassesFrom}
 use Rattle.live_executor.specs.Waking.{is_open_bound, is_open_wait, open_count, condition_count, is_bound_after, is_wait_from, fixed_by, times, AreWoken, PassesSince, AreDueSince, IsAwake, IsFoundOrKept}
@@ -55,10 +56,6 @@ count_splits now fixed before (x ∷ xs) each =
     let c = count_cons before x xs in
     let here = each x in
     omega (arith, rest, a, b, c, here)
-
-all_alike : {X : Type 0} (p q : X → Bool) (xs : List X) → ((x : X) → Contains xs x → p x ≡ q x) → list_all p xs ≡ list_all q xs
-all_alike p q [] each = refl
-all_alike p q (x ∷ xs) each = λ i. each x (Contains-head x xs) i && all_alike p q xs (λ y among. each y (Contains-tail x xs y among)) i
 
 fails_one : {X : Type 0} (p : X → Bool) (xs : List X) (x : X) → Contains xs x → p x ≡ false → list_all p xs ≡ false
 fails_one p [] x among fails = absurd (Contains-none x among)
