@@ -31,6 +31,10 @@ use Rattle.dispatch_net.specs.Ranked.{IsDispatchTable}
 is_negative_turned : (n : ℤ) → pos 0 <ℤ n → (pos 0 -ℤ n) <ℤ pos 0
 is_negative_turned n above = grind (arith, ints)
 
+-- a link of a network has a number
+pub listed_link : (net : Plan) (link : Link) → Contains net.links link → (name : LinkId) × IsLinkOf net name link
+listed_link net link (k, inside, at) = (record { 0 = k }, slice_get_read net.links (length net.links) k link refl inside (sym at))
+
 module _ (net : Plan) (table : Graph) (order : List PointId) (is : IsDispatchTable net table order) where
   abbrev lists_at : PointId → Conditions
   lists_at point = conditions_at (dispatchable net table) point
@@ -51,13 +55,10 @@ module _ (net : Plan) (table : Graph) (order : List PointId) (is : IsDispatchTab
     bounds = λ point bound among. (bound_is point bound among).0;
     bounds_positive = λ point bound among. (bound_is point bound among).1;
     waits_positive = wait_is;
-    links_fall = λ link among. let (name, declared) = named link among in falls_to_activation net (edges_of table) order is.sound (closed_tables_are_closed_lists net table is.for_network is.graph is.closed) (order_of_edges net table order is.for_network is.ordered) name link declared;
-    links_positive = λ link among. let (name, declared) = named link among in (link_sound net is.sound name.0 link declared).positive;
+    links_fall = λ link among. let (name, declared) = listed_link net link among in falls_to_activation net (edges_of table) order is.sound (closed_tables_are_closed_lists net table is.for_network is.graph is.closed) (order_of_edges net table order is.for_network is.ordered) name link declared;
+    links_positive = λ link among. let (name, declared) = listed_link net link among in (link_sound net is.sound name.0 link declared).positive;
   }
     where
-      named : (link : Link) → Contains net.links link → (name : LinkId) × IsLinkOf net name link
-      named link (k, inside, at) = (record { 0 = k }, slice_get_read net.links (length net.links) k link refl inside (sym at))
-
       bound_is : (point : PointId) (bound : PointId × ℤ) → Contains (lists_at point).lower_bounds bound → (rank order bound.0 < rank order point) × (pos 0 <ℤ bound.1)
       bound_is point bound among =
           elim (by_kind point) [

@@ -1,12 +1,7 @@
 -- A network that is dispatched by a closed table goes down along the order.
-use Rattle.std.proofs.Common.{List, length, refl, sym}
-use Rattle.std.specs.List.{Contains}
-use Rattle.std.proofs.lemmas.Option.{slice_get_read}
+use Rattle.std.proofs.Common.{List, refl}
 use Rattle.net_model.specs.Network.{Plan}
-use Rattle.net_model.specs.Edges.{IsLinkOf}
 use Rattle.net_model.specs.declared.ids.PointId.{PointId}
-use Rattle.net_model.specs.declared.ids.LinkId.{LinkId}
-use Rattle.net_model.specs.declared.part.Link.{Link}
 use Rattle.closure_model.specs.Tables.{Graph}
 use Rattle.strategy_model.proofs.OrderLemmas.{rank}
 use Rattle.dispatch_net.specs.Ranked.{IsDispatchTable}
@@ -20,9 +15,6 @@ module _ (net : Plan) (table : Graph) (order : List PointId) (is : IsDispatchTab
   pub made_is_ranked : IsRankedNetwork (setting_of net table) (rank order)
   made_is_ranked = record {
     lists = lists.made_is_ranked net table order is;
-    one_link = λ link among. let (name, declared) = named link among in link_of_is_link_to net (setting_of net table) refl is.sound name link link.to declared refl;
+    one_link = λ link among. let (name, declared) = lists.listed_link net link among in link_of_is_link_to net (setting_of net table) refl is.sound name link link.to declared refl;
     contingent = λ point link ends. (lists_are_exact net table point is.for_network is.graph (link_to_is_point net (setting_of net table) refl is.sound point link ends)).1 (link_is_contingent net (setting_of net table) refl is.sound point link ends);
   }
-    where
-      named : (link : Link) → Contains net.links link → (name : LinkId) × IsLinkOf net name link
-      named link (k, inside, at) = (record { 0 = k }, slice_get_read net.links (length net.links) k link refl inside (sym at))
