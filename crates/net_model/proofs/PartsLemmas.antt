@@ -138,7 +138,7 @@ fresh_link done link rest apart =
     let ends : EndApart (get_or done k d) link = subst (λ (m : Link). EndApart (get_or done k d) m) here (subst (λ (l : Link). EndApart l (get_or (done ++ link ∷ rest) (length done) d)) earlier differ) in
     ne_eqb (get_or done k d).to.0 link.to.0 ends)
 
-good_interval : (low high : ℤ) → pos 1 ≤ℤ low → low ≤ℤ high → (int_lt low (pos 1) || int_lt high low) ≡ false
+pub good_interval : (low high : ℤ) → pos 1 ≤ℤ low → low ≤ℤ high → (int_lt low (pos 1) || int_lt high low) ≡ false
 good_interval low high positive interval = grind arith
 
 link_taken : (points : List (List ℕ)) (bounds : List Bound) (done : List Link) (link : Link) (rest : List Link) → IsDistinct bytes_eq points → IsSound points link → AllPairs EndApart (done ++ link ∷ rest) → length (done ++ link ∷ rest) ≤ most_links → with_part (with_links points bounds done) (link_part points link) ≡ Ok (with_links points bounds (done ++ link ∷ []))

@@ -19,6 +19,7 @@ use Rattle.net_model.specs.declared.part.Bound.{Bound}
 use Rattle.net_model.specs.declared.part.Link.{Link}
 use Rattle.net_model.specs.declared.part.Part.{Part}
 use Rattle.net_model.specs.declared.part.Part.TheVariants as part
+use Rattle.net_model.proofs.PartsLemmas.{good_interval}
 use Rattle.net_model.proofs.Positions.{None_from_fails}
 use Rattle.situation_player.specs.ForgedParts.{start_name, end_name, watch_name, task_points, task_parts, next_parts, parts_from, deadline_part, parts_of_tasks, most_tasks, forged_parts}
 use Rattle.situation_player.specs.Generator.{next_state, state_after, drawn}
@@ -27,9 +28,6 @@ use Rattle.situation_player.specs.declared.tasks.Task.{Task}
 use Rattle.situation_player.proofs.PartLemmas.{count_of}
 use Rattle.situation_player.proofs.TaskLemmas.{tasks_small, cut_low, tasks_count, cut_is}
 use Rattle.situation_player.proofs.NameLemmas.{point_rank, start_rank, end_rank, watch_rank, bound_rank, v_rank, u_rank, g_rank, h_rank}
-
-good_interval : (low high : ℤ) → pos 1 ≤ℤ low → low ≤ℤ high → (int_lt low (pos 1) || int_lt high low) ≡ false
-good_interval low high positive interval = grind arith
 
 same_ok : (a b : Plan) → ◌≡◌ {A = Result Plan BuildFault} (Ok a) (Ok b) → a ≡ b
 same_ok a b is = cc
