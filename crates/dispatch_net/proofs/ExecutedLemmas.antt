@@ -5,7 +5,7 @@ use Rattle.std.specs.List.{All, Contains}
 use Rattle.std.specs.Option.{option_map_or}
 use Rattle.std.proofs.lemmas.Bool.{cases_lt, and_parts, or_cases, eqb-true}
 use Rattle.std.proofs.lemmas.Int.{ints}
-use Rattle.std.proofs.lemmas.List.Elements.{All-contains, All-weaker, All-contains_itself, Contains-append_left, Contains-append_right, Contains-append_cases}
+use Rattle.std.proofs.lemmas.List.Elements.{All-contains, Contains-append_left, Contains-append_right, Contains-append_cases}
 use Rattle.std.proofs.lemmas.Option.{slice_get_read}
 use Rattle.net_model.specs.Network.{Plan, IsExecutable}
 use Rattle.net_model.specs.Edges.{IsLinkOf}
@@ -23,11 +23,9 @@ use Rattle.dispatch_net.specs.Execution.{IsFirst, bound_asks, wait_asks, asked_b
 use Rattle.dispatch_net.specs.Slim.{over_point, over_link, is_bound_implied, over_end, over_wait, is_wait_implied, slim_conditions, slimmed}
 use Rattle.dispatch_net.specs.Ranked.{IsRanked, IsDispatchTable}
 use Rattle.dispatch_net.specs.Laws.{SlimExecutionsAreTheSame}
+use Rattle.closure_model.proofs.BaseLemmas.{all_contained}
 use Rattle.dispatch_net.proofs.SlimLists.{any_is, kept_there, there_kept, slim_at, same_point, adds_up, no_less, some_low}
 use Rattle.dispatch_net.proofs.RankLemmas.{made_is_ranked, by_kind}
-
-each_in : {X : Type 0} (P : X → Type 0) (xs : List X) → ((x : X) → Contains xs x → P x) → All P xs
-each_in P xs each = All-weaker (Contains xs) P each xs (All-contains_itself xs)
 
 min_left : (a b u : ℕ) → a ≤ u → min a b ≤ u
 min_left a b u below = grind arith
@@ -78,7 +76,7 @@ module _ (net : Plan) (table : Graph) (order : List PointId) (is : IsDispatchTab
 
   meets_from : (c : Conditions) (u : ℕ) → ((bound : PointId × ℤ) → Contains c.lower_bounds bound → moment_in schedule bound.0 + unsigned_abs bound.1 ≤ u)
       → ((wait : LinkId × ℤ) → Contains c.waits wait → wait_asks net schedule wait ≤ u) → Meets c u
-  meets_from c u bounds waits = each_in (λ m. m ≤ u) (asked_by net schedule c) each
+  meets_from c u bounds waits = all_contained (λ m. m ≤ u) (asked_by net schedule c) each
     where
       each : (m : ℕ) → Contains (asked_by net schedule c) m → m ≤ u
       each m among =

@@ -1,11 +1,11 @@
 -- What a network is executed by is of its points and links, and not too great.
 use Rattle.std.proofs.Common.{◌≡◌, ℕ, ℤ, pos, ◌-ℤ◌, ◌<◌, ◌≤◌, ◌≤ℤ◌, Bool, true, false, List, [], ◌∷◌, cond, length, map, get_or, Option, Some, None, refl, ap, sym, subst, ◌∙◌, inl, inr, arith}
 use Rattle.std.specs.Prelude.{slice_get, unsigned_abs, is_some, find, IfSome, ◌==◌, not}
-use Rattle.std.specs.List.{All, Contains}
+use Rattle.std.specs.List.{All}
 use Rattle.std.proofs.lemmas.Int.{ints}
 use Rattle.std.proofs.lemmas.Bool.{leb-true}
 use Rattle.std.proofs.lemmas.List.{length-map, get_or_default}
-use Rattle.std.proofs.lemmas.List.Elements.{All-weaker, All-contains_itself, All-nil, All-head, All-tail, All-map, All-filter}
+use Rattle.std.proofs.lemmas.List.Elements.{All-weaker, All-nil, All-head, All-tail, All-map, All-filter}
 use Rattle.std.proofs.lemmas.Option.{slice_get_within}
 use Rattle.net_model.specs.Limits.{most_size}
 use Rattle.net_model.specs.Network.{Plan, IsLink, IsPoint, activation}
@@ -17,6 +17,7 @@ use Rattle.net_model.proofs.NetworkLemmas.{greatest-le}
 use Rattle.closure_model.specs.Keys.{Shape}
 use Rattle.closure_model.specs.Tables.{HasEdge}
 use Rattle.dispatch_net.specs.Dispatchable.{DispatchLists, no_conditions, dispatchable, conditions_at}
+use Rattle.closure_model.proofs.BaseLemmas.{all_contained}
 use Rattle.dispatch_net.specs.Laws.{AreExact}
 use Rattle.dispatch_net.specs.declared.dispatch.Conditions.{Conditions}
 use Rattle.dispatch_net.proofs.ExecutionLemmas.{dispatchable_length, point_count}
@@ -27,9 +28,6 @@ use Rattle.execution_model.specs.Execution.{Setting, link_to}
 use Rattle.live_executor.specs.Awaited.{AreActivated}
 use Rattle.live_executor.specs.Sound.{IsLowerBound, IsWait, IsLinkOf, IsSound, IsDispatchOf, IsKeptWith}
 use Rattle.live_executor.specs.Wakes.{WakeLists, AreWakesOf}
-
-each_contained : {X : Type 0} (P : X → Type 0) (xs : List X) → ((x : X) → Contains xs x → P x) → All P xs
-each_contained P xs each = All-weaker (Contains xs) P each xs (All-contains_itself xs)
 
 some_or_none : {X : Type 0} (o : Option X) (A : Type 0) → (is_some o ≡ true → A) → (is_some o ≡ false → A) → A
 some_or_none (Some x) A some none = some refl
@@ -44,7 +42,7 @@ module _ (net : Plan) (lists : DispatchLists) (of : IsDispatchOf net lists) wher
 
   bound_sound : (point : PointId) (conditions : Conditions) → AreExact of.table point conditions → All (IsLowerBound (length net.points)) conditions.lower_bounds
   bound_sound point conditions exact =
-      each_contained (IsLowerBound (length net.points)) conditions.lower_bounds (λ bound inside.
+      all_contained (IsLowerBound (length net.points)) conditions.lower_bounds (λ bound inside.
       let has = (exact.bounds bound.0 bound.1).0 inside in
       let edge : Edge = record { from = point; to = bound.0; label = None; weight = pos 0 -ℤ bound.1 } in
       let key = of.graph.keys edge has.1 in
@@ -52,7 +50,7 @@ module _ (net : Plan) (lists : DispatchLists) (of : IsDispatchOf net lists) wher
 
   wait_sound : (point : PointId) (conditions : Conditions) → AreExact of.table point conditions → All (IsWait (length net.links)) conditions.waits
   wait_sound point conditions exact =
-      each_contained (IsWait (length net.links)) conditions.waits (λ wait inside.
+      all_contained (IsWait (length net.links)) conditions.waits (λ wait inside.
       let has = (exact.waits wait.0 wait.1).0 inside in
       let edge : Edge = record { from = point; to = has.1.0; label = Some wait.0; weight = pos 0 -ℤ wait.1 } in
       let key = of.graph.keys edge has.1.1 in
