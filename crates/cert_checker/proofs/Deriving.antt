@@ -11,6 +11,7 @@ use Rattle.net_model.specs.Network.{Plan, IsPlan, point_named, link_named as lin
 use Rattle.net_model.specs.Edges.{IsEdge}
 use Rattle.net_model.specs.LooseRules.{FollowsLoosely, IsLooseDerivation}
 use Rattle.net_model.specs.declared.part.Edge.{Edge}
+use Rattle.net_model.proofs.RuleLemmas.{some_is}
 use Rattle.strategy_model.specs.Plays.{IsInstant}
 use Rattle.strategy_model.specs.Edges.{HoldsOf}
 use Rattle.strategy_model.specs.declared.tree.Tree.{Tree}
@@ -22,7 +23,7 @@ use Rattle.cert_checker.specs.Lines.{Passes, line_passes, names_known, item_know
 use Rattle.cert_checker.specs.Truth.{IsLabel, States, IsTrueOf, AreTrue}
 use Rattle.cert_checker.specs.Judgement.{at_number, lines_pass}
 use Rattle.cert_checker.proofs.Inversion.{bind_ok}
-use Rattle.cert_checker.proofs.Naming.{edge_of, point_of, point_of_known, some_is, link_known}
+use Rattle.cert_checker.proofs.Naming.{edge_of, point_of, point_of_known, link_known}
 use Rattle.cert_checker.proofs.Following.{edges_of, line_follows, names_ok}
 
 number_ok : (number : ℕ) (passes : Passes) → at_number number passes ≡ Ok tt → passes ≡ Ok tt

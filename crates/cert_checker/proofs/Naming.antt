@@ -1,5 +1,5 @@
 -- The names of a certificate: the points, links and labels that they stand for.
-use Rattle.std.proofs.Common.{◌≡◌, ℕ, ◌==◌, true, false, pos, List, [], get_or, Option, Some, None, is_some, is_none, position, refl, ap, sym, ◌∙◌, arith}
+use Rattle.std.proofs.Common.{◌≡◌, ℕ, ◌==◌, true, false, pos, List, [], get_or, Option, Some, None, is_some, position, refl, ap, sym, ◌∙◌, arith}
 use Rattle.std.specs.Prelude.{slice_get, unwrap_or}
 use Rattle.std.specs.Option.{option_map, option_map_or, option_and_then}
 use Rattle.std.specs.Str.{bytes_eq}
@@ -11,24 +11,12 @@ use Rattle.net_model.specs.declared.ids.PointId.{PointId}
 use Rattle.net_model.specs.declared.ids.LinkId.{LinkId}
 use Rattle.net_model.specs.declared.part.Edge.{Edge}
 use Rattle.net_model.specs.declared.part.Link.{Link}
+use Rattle.net_model.proofs.RuleLemmas.{some_is, two_steps}
 use Rattle.cert_format.specs.declared.line.CertLine.{CertLine}
 use Rattle.cert_checker.specs.Lines.{link_named, names_point, label_of, same_label, label_known}
 
 pub same_bytes : (x y : List ℕ) → bytes_eq x y ≡ true → x ≡ y
 same_bytes x y e = (bytes_eq-Decides x y).0 e
-
-pub none_is : {A : Type 0} (o : Option A) → is_none o ≡ true → o ≡ None
-none_is None e = refl
-none_is (Some x) e = absurd (cc)
-
-pub some_is : {A : Type 0} (o : Option A) → is_some o ≡ true → (x : A) × (o ≡ Some x)
-some_is None e = absurd (cc)
-some_is (Some x) e = (x, refl)
-
--- what `option_and_then` found came by a first and a second step
-pub two_steps : {A B : Type 0} (f : A → Option B) (o : Option A) (y : B) → option_and_then f o ≡ Some y → (x : A) × (o ≡ Some x) × (f x ≡ Some y)
-two_steps f None y e = absurd (cc)
-two_steps f (Some x) y e = (x, refl, e)
 
 -- the point of a name, or the first
 abbrev pub point_of : Plan → List ℕ → PointId

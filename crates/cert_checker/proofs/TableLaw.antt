@@ -18,6 +18,7 @@ use Rattle.net_model.specs.declared.ids.LinkId.{LinkId}
 use Rattle.net_model.specs.declared.part.Bound.{Bound}
 use Rattle.net_model.specs.declared.part.Edge.{Edge}
 use Rattle.net_model.specs.declared.part.Link.{Link}
+use Rattle.net_model.proofs.RuleLemmas.{two_steps}
 use Rattle.strategy_model.specs.Plays.{IsInstant, same_point}
 use Rattle.strategy_model.specs.Control.{IsControllable}
 use Rattle.strategy_model.specs.Dispatch.{Stands, IsClosedList, IsOrder}
@@ -37,7 +38,6 @@ use Rattle.cert_checker.specs.declared.judgement.CertFault.TheVariants.{UnknownI
 use Rattle.cert_checker.specs.declared.judgement.Judgement.TheVariants.{Accepted}
 use Rattle.cert_checker.specs.declared.judgement.Claim.TheVariants.{NotControllable, Controllable}
 use Rattle.cert_checker.proofs.Inversion.{bind_ok, there_ok, unless_ok, contains_at}
-use Rattle.cert_checker.proofs.Naming.{two_steps}
 use Rattle.cert_checker.proofs.ListLemmas.{some_passes, none_passes, holds_of, any_given, none_at, nothing_found}
 
 -- ---- the lines

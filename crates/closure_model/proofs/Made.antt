@@ -6,7 +6,7 @@ use Rattle.std.proofs.Math.Seq.{take-length}
 use Rattle.std.specs.Option.{option_and_then}
 use Rattle.std.specs.List.{All, Contains}
 use Rattle.std.proofs.lemmas.List.Elements.{All-cons, All-nil, All-contains}
-use Rattle.net_model.proofs.RuleLemmas.{no_case_gives, upper_case_gives, lower_case_gives, cross_case_gives, removal_gives}
+use Rattle.net_model.proofs.RuleLemmas.{no_case_gives, upper_case_gives, lower_case_gives, cross_case_gives, removal_gives, two_steps}
 use Rattle.net_model.specs.Network.{Plan, IsPlan}
 use Rattle.net_model.specs.Limits.{most_weight, within_size, IsWeight}
 use Rattle.std.proofs.lemmas.Int.{ints}
@@ -29,7 +29,7 @@ use Rattle.closure_model.specs.declared.derivation.NodeId.{NodeId}
 use Rattle.closure_model.specs.declared.derivation.Rule.{Rule}
 use Rattle.closure_model.specs.declared.derivation.Rule.TheVariants as by_rule
 use Rattle.closure_model.proofs.Lists.{Contains-head, Contains-tail}
-use Rattle.closure_model.proofs.Nodes.{IsPremise, premise_read, chained, mapped, push_cases, listed_at}
+use Rattle.closure_model.proofs.Nodes.{IsPremise, premise_read, mapped, push_cases, listed_at}
 
 pub data Made (net : Plan) (nodes : List Node) (limit : ℕ) (edge : Edge) : Rule → Type 0 where
   made_bound : (name : BoundId) (bound : Bound) → slice_get net.bounds name.0 ≡ Some bound → bound_edge bound ≡ edge → Made net nodes limit edge (by_rule.Bound name)
@@ -47,21 +47,21 @@ module _ (net : Plan) (nodes : List Node) (limit : ℕ) (edge : Edge) where
   made (by_rule.Link name) gave =
       let (link, declared, is) = mapped (link_edge name) (slice_get net.links name.0) edge gave in made_link name link declared is
   made (by_rule.No first second) gave =
-      let (one, read_one, then) = chained (λ (e : Edge). option_and_then (no_case e) (edge_at (take limit nodes) second)) (edge_at (take limit nodes) first) edge gave in
-      let (two, read_two, is) = chained (no_case one) (edge_at (take limit nodes) second) edge then in
+      let (one, read_one, then) = two_steps (λ (e : Edge). option_and_then (no_case e) (edge_at (take limit nodes) second)) (edge_at (take limit nodes) first) edge gave in
+      let (two, read_two, is) = two_steps (no_case one) (edge_at (take limit nodes) second) edge then in
       made_no first second one two (premise_read nodes limit first one read_one) (premise_read nodes limit second two read_two) is
   made (by_rule.Up first second) gave =
-      let (one, read_one, then) = chained (λ (e : Edge). option_and_then (upper_case e) (edge_at (take limit nodes) second)) (edge_at (take limit nodes) first) edge gave in
-      let (two, read_two, is) = chained (upper_case one) (edge_at (take limit nodes) second) edge then in
+      let (one, read_one, then) = two_steps (λ (e : Edge). option_and_then (upper_case e) (edge_at (take limit nodes) second)) (edge_at (take limit nodes) first) edge gave in
+      let (two, read_two, is) = two_steps (upper_case one) (edge_at (take limit nodes) second) edge then in
       made_up first second one two (premise_read nodes limit first one read_one) (premise_read nodes limit second two read_two) is
   made (by_rule.Low name second) gave =
-      let (two, read_two, is) = chained (lower_case net name) (edge_at (take limit nodes) second) edge gave in
+      let (two, read_two, is) = two_steps (lower_case net name) (edge_at (take limit nodes) second) edge gave in
       made_low name second two (premise_read nodes limit second two read_two) is
   made (by_rule.Cross name second) gave =
-      let (two, read_two, is) = chained (cross_case net name) (edge_at (take limit nodes) second) edge gave in
+      let (two, read_two, is) = two_steps (cross_case net name) (edge_at (take limit nodes) second) edge gave in
       made_cross name second two (premise_read nodes limit second two read_two) is
   made (by_rule.Drop premise) gave =
-      let (one, read_one, is) = chained (removal net) (edge_at (take limit nodes) premise) edge gave in
+      let (one, read_one, is) = two_steps (removal net) (edge_at (take limit nodes) premise) edge gave in
       made_drop premise one (premise_read nodes limit premise one read_one) is
 
   -- the premises stand earlier

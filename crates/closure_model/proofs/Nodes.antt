@@ -1,7 +1,7 @@
 -- Nodes of a derivation list by their numbers: in the nodes before one, and after one more.
 use Rattle.std.proofs.Common.{◌≡◌, ℕ, zero, suc, min, ◌<◌, ◌⊎◌, List, [], ◌∷◌, ◌++◌, length, get_or, take, Option, Some, None, refl, ap, sym, ◌∙◌, inl, inr, arith}
 use Rattle.std.specs.Prelude.{slice_get}
-use Rattle.std.specs.Option.{option_map, option_and_then}
+use Rattle.std.specs.Option.{option_map}
 use Rattle.std.specs.List.{Contains}
 use Rattle.std.proofs.lemmas.List.{get_or-take, length-take}
 use Rattle.std.proofs.lemmas.Option.{slice_get_read, slice_get_within, get_or_from_slice_get}
@@ -51,19 +51,12 @@ pub record IsPremise (nodes : List Node) (limit : ℕ) (id : NodeId) (edge : Edg
   pub here : node_at nodes id ≡ Some node
   pub is : node.edge ≡ edge
 
-mapped_some : {A B : Type 0} (f : A → B) (o : Option A) (y : B) → option_map f o ≡ Some y → (x : A) × (o ≡ Some x) × (f x ≡ y)
-mapped_some f None y is = absurd cc
-mapped_some f (Some x) y is = (x, refl, cc)
+pub mapped : {A B : Type 0} (f : A → B) (o : Option A) (y : B) → option_map f o ≡ Some y → (x : A) × (o ≡ Some x) × (f x ≡ y)
+mapped f None y is = absurd cc
+mapped f (Some x) y is = (x, refl, cc)
 
 pub premise_read : (nodes : List Node) (limit : ℕ) (id : NodeId) (edge : Edge) → edge_at (take limit nodes) id ≡ Some edge → IsPremise nodes limit id edge
 premise_read nodes limit id edge read =
-    let (node, there, is) = mapped_some (λ (m : Node). m.edge) (slice_get (take limit nodes) id.0) edge read in
+    let (node, there, is) = mapped (λ (m : Node). m.edge) (slice_get (take limit nodes) id.0) edge read in
     let (earlier, here) = among_first limit nodes id.0 node there in
     record { node = node; earlier = earlier; here = here; is = is }
-
-pub chained : {A B : Type 0} (f : A → Option B) (o : Option A) (y : B) → option_and_then f o ≡ Some y → (x : A) × (o ≡ Some x) × (f x ≡ Some y)
-chained f None y is = absurd cc
-chained f (Some x) y is = (x, refl, is)
-
-pub mapped : {A B : Type 0} (f : A → B) (o : Option A) (y : B) → option_map f o ≡ Some y → (x : A) × (o ≡ Some x) × (f x ≡ y)
-mapped f o y is = mapped_some f o y is

@@ -16,10 +16,10 @@ use Rattle.net_model.specs.declared.ids.LinkId.{LinkId}
 use Rattle.net_model.specs.declared.ids.PointId.{PointId}
 use Rattle.net_model.specs.declared.part.Bound.{Bound}
 use Rattle.net_model.specs.declared.part.Link.{Link}
-use Rattle.closure_model.proofs.Nodes.{chained}
 use Rattle.derivation_edits.specs.Following.{IsRenumbering, moved_bound, moved_link}
 use Rattle.derivation_edits.specs.FollowingLaws.{NamesRenumber}
 use Rattle.net_model.specs.NetworkParts.{point_name}
+use Rattle.net_model.proofs.RuleLemmas.{two_steps}
 use Rattle.derivation_edits.specs.Taken.{sets_bound, sets_link, point_in, is_point, is_same_bound, is_same_link, same_place, bound_in, same_link_place, link_in, renumbering}
 use Rattle.derivation_edits.proofs.Places.{found_passes, one_is_found, pair_at}
 
@@ -114,8 +114,8 @@ module _ (old : Plan) (edit : Edit) (new : Plan) where
   bound_in_gives bound place is =
       let rest : option_and_then (same_place old new bound) (bound_named new bound.name) ≡ Some place =
       unless (sets_bound edit bound.name) (option_and_then (same_place old new bound) (bound_named new bound.name)) place is in
-      let (found, named, rest_is) = chained (same_place old new bound) (bound_named new bound.name) place rest in
-      let (other, there, test) = chained (λ (b : Bound). if is_same_bound old new bound b then Some found else None) (slice_get new.bounds found.0) place rest_is in
+      let (found, named, rest_is) = two_steps (same_place old new bound) (bound_named new bound.name) place rest in
+      let (other, there, test) = two_steps (λ (b : Bound). if is_same_bound old new bound b then Some found else None) (slice_get new.bounds found.0) place rest_is in
       let (same, one) = tested (is_same_bound old new bound other) found place test in
       let (from, more) = both (is_point (point_in old new bound.from) other.from) (is_point (point_in old new bound.to) other.to && int_eq bound.most other.most) same in
       let (to, most) = both (is_point (point_in old new bound.to) other.to) (int_eq bound.most other.most) more in
@@ -142,9 +142,9 @@ module _ (old : Plan) (edit : Edit) (new : Plan) where
   link_in_gives link place is =
       let rest : option_and_then (λ (p : PointId). option_and_then (same_link_place old new link) (activation new p)) (point_in old new link.to) ≡ Some place =
       unless (sets_link edit (point_name old.points link.to)) (option_and_then (λ (p : PointId). option_and_then (same_link_place old new link) (activation new p)) (point_in old new link.to)) place is in
-      let (point, to, further) = chained (λ (p : PointId). option_and_then (same_link_place old new link) (activation new p)) (point_in old new link.to) place rest in
-      let (found, ends, rest_is) = chained (same_link_place old new link) (activation new point) place further in
-      let (other, there, test) = chained (λ (l : Link). if is_same_link old new link l then Some found else None) (slice_get new.links found.0) place rest_is in
+      let (point, to, further) = two_steps (λ (p : PointId). option_and_then (same_link_place old new link) (activation new p)) (point_in old new link.to) place rest in
+      let (found, ends, rest_is) = two_steps (same_link_place old new link) (activation new point) place further in
+      let (other, there, test) = two_steps (λ (l : Link). if is_same_link old new link l then Some found else None) (slice_get new.links found.0) place rest_is in
       let (same, one) = tested (is_same_link old new link other) found place test in
       let (from, more) = both (is_point (point_in old new link.from) other.from) (int_eq link.low other.low && int_eq link.high other.high) same in
       let (low, high) = both (int_eq link.low other.low) (int_eq link.high other.high) more in
@@ -195,8 +195,8 @@ module _ (old : Plan) (edit : Edit) (new : Plan) (before : IsPlan old) (after : 
   -- a point of the new network is that of one point of the old one
   pub one_point : (one two point : PointId) → point_in old new one ≡ Some point → point_in old new two ≡ Some point → one ≡ two
   one_point one two point first second =
-      let (name, here, named) = chained (point_named new) (slice_get old.points one.0) point first in
-      let (other, there, also) = chained (point_named new) (slice_get old.points two.0) point second in
+      let (name, here, named) = two_steps (point_named new) (slice_get old.points one.0) point first in
+      let (other, there, also) = two_steps (point_named new) (slice_get old.points two.0) point second in
       let names : Some name ≡ Some other = sym (named_at new after name point named) ∙ named_at new after other point also in
       let same : name ≡ other = cc in
       let ids : Some one ≡ Some two = sym (at_named old before name one here) ∙ (ap (point_named old) same ∙ at_named old before other two there) in
@@ -207,14 +207,14 @@ module _ (old : Plan) (edit : Edit) (new : Plan) (before : IsPlan old) (after : 
     where
       bounds : (id place : BoundId) (bound : Bound) → (renumbering old edit new).bounds id ≡ Some place → slice_get old.bounds id.0 ≡ Some bound → slice_get new.bounds place.0 ≡ Some (moved_bound (renumbering old edit new) bound)
       bounds id place bound moved here =
-          let (found, at, is) = chained (bound_in old edit new) (slice_get old.bounds id.0) place moved in
+          let (found, at, is) = two_steps (bound_in old edit new) (slice_get old.bounds id.0) place moved in
           let both_are : Some found ≡ Some bound = sym at ∙ here in
           let one : found ≡ bound = cc in
           bound_at bound place (bound_in_gives old edit new bound place (subst (λ (b : Bound). bound_in old edit new b ≡ Some place) one is))
 
       same_of : (id place : LinkId) (link : Link) → (renumbering old edit new).links id ≡ Some place → slice_get old.links id.0 ≡ Some link → SameLink old edit new link place
       same_of id place link moved here =
-          let (found, at, is) = chained (link_in old edit new) (slice_get old.links id.0) place moved in
+          let (found, at, is) = two_steps (link_in old edit new) (slice_get old.links id.0) place moved in
           let both_are : Some found ≡ Some link = sym at ∙ here in
           let one : found ≡ link = cc in
           link_in_gives old edit new link place (subst (λ (l : Link). link_in old edit new l ≡ Some place) one is)
@@ -224,8 +224,8 @@ module _ (old : Plan) (edit : Edit) (new : Plan) (before : IsPlan old) (after : 
 
       apart : (one two place : LinkId) → (renumbering old edit new).links one ≡ Some place → (renumbering old edit new).links two ≡ Some place → one ≡ two
       apart one two place first second =
-          let (link, here, is) = chained (link_in old edit new) (slice_get old.links one.0) place first in
-          let (other, there, also) = chained (link_in old edit new) (slice_get old.links two.0) place second in
+          let (link, here, is) = two_steps (link_in old edit new) (slice_get old.links one.0) place first in
+          let (other, there, also) = two_steps (link_in old edit new) (slice_get old.links two.0) place second in
           let same = link_in_gives old edit new link place is in
           let again = link_in_gives old edit new other place also in
           let (l, l_at, l_ends) = link_found new after same.point place same.ends in

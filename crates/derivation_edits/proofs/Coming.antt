@@ -15,9 +15,10 @@ use Rattle.net_model.specs.declared.ids.PointId.{PointId}
 use Rattle.net_model.specs.declared.part.Bound.{Bound}
 use Rattle.net_model.specs.declared.part.Link.{Link}
 use Rattle.net_model.proofs.Accepted.{Makes}
-use Rattle.closure_model.proofs.Nodes.{push_cases, chained, mapped}
+use Rattle.closure_model.proofs.Nodes.{push_cases, mapped}
 use Rattle.closure_model.proofs.Slots.{set_same, set_other}
 use Rattle.net_model.specs.NetworkParts.{point_name}
+use Rattle.net_model.proofs.RuleLemmas.{two_steps}
 use Rattle.derivation_edits.specs.TakenAway.{AddsBound, AddsLink}
 use Rattle.derivation_edits.proofs.ByNames.{at_named, bound_placed, link_placed}
 use Rattle.derivation_edits.proofs.Gaps.{stood_at}
@@ -141,7 +142,7 @@ module _ (old : Plan) (plan : IsPlan old) where
   dropped_link_gone to made k link (id, named, is) here same =
       let (j, apart, stood) = stood_at old.links id.0 k link (ap (λ (n : Plan). slice_get n.links k) (sym is) ∙ here) in
       let this : LinkId = record { 0 = j } in
-      let (point, point_is, ends) = chained (activation old) (point_named old to) id named in
+      let (point, point_is, ends) = two_steps (activation old) (point_named old to) id named in
       let points : Some point ≡ Some link.to = sym point_is ∙ at_named old plan to link.to (ap (λ (n : Plan). slice_get n.points link.to.0) (sym is) ∙ same) in
       let one : point ≡ link.to = cc in
       let both : Some id ≡ Some this = sym ends ∙ link_placed old plan point this link stood (sym one) in

@@ -12,12 +12,12 @@ use Rattle.net_model.specs.declared.ids.PointId.{PointId}
 use Rattle.net_model.specs.declared.part.Bound.{Bound}
 use Rattle.net_model.specs.declared.part.Edge.{Edge}
 use Rattle.net_model.specs.declared.part.Link.{Link}
+use Rattle.net_model.proofs.RuleLemmas.{two_steps}
 use Rattle.closure_model.specs.Derivations.{base_nodes, bound_node, link_node}
 use Rattle.closure_model.specs.declared.derivation.Node.{Node}
 use Rattle.closure_model.specs.declared.derivation.Rule.TheVariants as by_rule
 use Rattle.closure_model.proofs.Basing.{numbered_at}
 use Rattle.closure_model.proofs.Lists.{Contains-filter_from, Contains-head, Contains-tail, Contains-cases, Contains-none, Contains-map, Contains-map_from}
-use Rattle.closure_model.proofs.Nodes.{chained}
 use Rattle.derivation_edits.specs.Following.{Renumbering, IsRenumbering, moved_node, moved_bound, moved_link, IsMovedBase, AreNewBase}
 use Rattle.derivation_edits.specs.FollowingLaws.{NewBaseIsWhole}
 use Rattle.derivation_edits.specs.Taken.{new_bounds, new_links, point_in, renumbering, is_new_bound, is_new_link, new_base_nodes}
@@ -84,7 +84,7 @@ module _ (old : Plan) (edit : Edit) (new : Plan) (before : IsPlan old) (after : 
           (Contains-map bound_node (new_bounds old edit new) e (Contains-filter (λ (f : ℕ × Bound). is_new_bound old edit new f.1) (enumerate_from 0 new.bounds) e is inside)))
       by false is =
           let (place, found) = some_unless (option_and_then moves.bounds (bound_named old e.1.name)) is in
-          let (id, named, held) = chained moves.bounds (bound_named old e.1.name) place found in
+          let (id, named, held) = two_steps moves.bounds (bound_named old e.1.name) place found in
           let (bound, here, name) = bound_found old before e.1.name id named in
           let stands = renumbers.bounds id place bound held here in
           let this : BoundId = record { 0 = e.0 } in
@@ -110,10 +110,10 @@ module _ (old : Plan) (edit : Edit) (new : Plan) (before : IsPlan old) (after : 
           (Contains-map link_node (new_links old edit new) e (Contains-filter (λ (f : ℕ × Link). is_new_link old edit new f.1) (enumerate_from 0 new.links) e is inside)))
       by false is =
           let (place, found) = some_unless (option_and_then (λ (p : PointId). option_and_then moves.links (activation old p)) (point_in new old e.1.to)) is in
-          let (point, back, more) = chained (λ (p : PointId). option_and_then moves.links (activation old p)) (point_in new old e.1.to) place found in
-          let (id, ends, held) = chained moves.links (activation old point) place more in
+          let (point, back, more) = two_steps (λ (p : PointId). option_and_then moves.links (activation old p)) (point_in new old e.1.to) place found in
+          let (id, ends, held) = two_steps moves.links (activation old point) place more in
           let (link, here, to) = link_found old before point id ends in
-          let (name, name_at, named) = chained (point_named old) (slice_get new.points e.1.to.0) point back in
+          let (name, name_at, named) = two_steps (point_named old) (slice_get new.points e.1.to.0) point back in
           let forth : point_in old new point ≡ Some e.1.to = ap (option_and_then (point_named new)) (named_at old before name point named) ∙ at_named new after name e.1.to name_at in
           let ends_there : moves.points link.to ≡ e.1.to = point_moved old edit new link.to e.1.to (ap (point_in old new) to ∙ forth) in
           let stands = renumbers.links id place link held here in

@@ -17,9 +17,10 @@ use Rattle.net_model.specs.declared.part.Bound.{Bound}
 use Rattle.net_model.specs.declared.part.Link.{Link}
 use Rattle.net_model.proofs.Accepted.{Makes}
 use Rattle.net_model.proofs.NetworkLemmas.{more_points}
-use Rattle.closure_model.proofs.Nodes.{before_push, chained}
+use Rattle.closure_model.proofs.Nodes.{before_push}
 use Rattle.closure_model.proofs.Slots.{set_same, set_other}
 use Rattle.net_model.specs.NetworkParts.{point_name}
+use Rattle.net_model.proofs.RuleLemmas.{two_steps}
 use Rattle.derivation_edits.proofs.ByNames.{named_at, bound_found, link_found}
 use Rattle.derivation_edits.proofs.Gaps.{stays_at, before_last}
 
@@ -204,7 +205,7 @@ module _ (old : Plan) (plan : IsPlan old) where
       where
         by : (b : Bool) → id.0 == other.0 ≡ b → (edits.DropLink to ≡ edits.DropLink (point_name old.points link.to)) ⊎ LinkStands old made link
         by true same =
-            let (point, point_is, ends) = chained (activation old) (point_named old to) other named in
+            let (point, point_is, ends) = two_steps (activation old) (point_named old to) other named in
             let (its, at, its_to) = link_found old plan point other ends in
             let number : id.0 ≡ other.0 = eqb-true id.0 other.0 same in
             let both : Some its ≡ Some link = sym at ∙ (ap (slice_get old.links) (sym number) ∙ here) in

@@ -17,8 +17,9 @@ use Rattle.net_model.specs.declared.part.Bound.{Bound}
 use Rattle.net_model.specs.declared.part.Link.{Link}
 use Rattle.net_model.proofs.Accepted.{Makes, accepted_makes}
 use Rattle.closure_model.proofs.Basing.{at_place}
-use Rattle.closure_model.proofs.Nodes.{chained, mapped, listed_at}
+use Rattle.closure_model.proofs.Nodes.{mapped, listed_at}
 use Rattle.net_model.specs.NetworkParts.{point_name}
+use Rattle.net_model.proofs.RuleLemmas.{two_steps}
 use Rattle.derivation_edits.specs.Taken.{sets_bound, sets_link, point_in, is_point, is_same_bound, is_same_link, same_place, bound_in, same_link_place, link_in, renumbering}
 use Rattle.derivation_edits.specs.TakenAway.{unnumbered, unnumbered_link, HasPartsOf, HasEditedParts, DropsBound, SetsBound, DropsLink, SetsLink, DiffersIn, LinkDiffersIn, TakesBound, TakesLink, EditsTakeBounds, EditsTakeLinks}
 use Rattle.derivation_edits.proofs.ByNames.{SameBound, bound_in_gives, bound_found, bound_placed, SameLink, link_in_gives, link_found, link_placed, at_named, named_at, same_bytes, bytes_itself}
@@ -239,7 +240,7 @@ module _ (old : Plan) (edit : Edit) (new : Plan) (before : IsPlan old) (after : 
     -- the point of its name in the new network has that name
     same_name : (place : LinkId) (same : SameLink old edit new link place) → slice_get new.points same.point.0 ≡ Some (point_name old.points link.to)
     same_name place same =
-        let (name, at, named) = chained (point_named new) (slice_get old.points link.to.0) same.point same.to in
+        let (name, at, named) = two_steps (point_named new) (slice_get old.points link.to.0) same.point same.to in
         let names : Some name ≡ Some (point_name old.points link.to) = sym at ∙ link_name in
         named_at new after name same.point named ∙ names
 

@@ -32,7 +32,7 @@ pub some_is : {A : Type 0} (o : Option A) → is_some o ≡ true → (x : A) × 
 some_is None holds = absurd cc
 some_is (Some x) holds = (x, refl)
 
-two_steps : {A B : Type 0} (f : A → Option B) (o : Option A) (y : B) → option_and_then f o ≡ Some y → (x : A) × (o ≡ Some x) × (f x ≡ Some y)
+pub two_steps : {A B : Type 0} (f : A → Option B) (o : Option A) (y : B) → option_and_then f o ≡ Some y → (x : A) × (o ≡ Some x) × (f x ≡ Some y)
 two_steps f None y holds = absurd cc
 two_steps f (Some x) y holds = (x, refl, holds)
 
