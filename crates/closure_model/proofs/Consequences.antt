@@ -1,9 +1,9 @@
 -- The list of the consequences of an edge of a row holds what the rules give, and nothing else.
-use Rattle.std.proofs.Common.{◌≡◌, ◌≢◌, ℕ, zero, suc, ◌+◌, ◌<◌, ◌≤◌, ℤ, ◌==◌, Bool, true, false, ◌⊎◌, List, [], ◌∷◌, ◌++◌, length, map, get_or, Option, Some, None, refl, ap, sym, subst, ◌∙◌, inl, inr, arith}
+use Rattle.std.proofs.Common.{◌≡◌, ◌≢◌, ℕ, zero, suc, ◌+◌, ◌<◌, ◌≤◌, ℤ, ◌==◌, Bool, true, false, ◌⊎◌, List, [], ◌++◌, length, map, get_or, Option, Some, None, refl, ap, sym, subst, ◌∙◌, inl, inr, arith}
 use Rattle.std.specs.List.{position_or_len}
 use Rattle.std.proofs.lemmas.List.Sums.{position_or_len_is}
 use Rattle.std.specs.Option.{option_map, option_map_or}
-use Rattle.std.specs.List.{Contains, filter_map, flat_map, range_with_len}
+use Rattle.std.specs.List.{Contains, flat_map, range_with_len}
 use Rattle.std.proofs.lemmas.Bool.{eqb-true}
 use Rattle.std.proofs.lemmas.Bool.Decides.{nat_tests}
 use Rattle.std.proofs.lemmas.Option.{slice_get_within, get_or_from_slice_get}
@@ -22,30 +22,7 @@ use Rattle.closure_model.specs.ReferenceRow.{given, ordinary_into, from_removal,
 use Rattle.closure_model.specs.declared.rows.Made.{Made}
 use Rattle.closure_model.specs.declared.rows.Why.{Why}
 use Rattle.closure_model.specs.declared.rows.Why.TheVariants.{No, Up, Low, Cross, Drop}
-use Rattle.closure_model.proofs.Lists.{Contains-head, Contains-tail, Contains-none, Contains-cases, Contains-flat_map, Contains-flat_map_from}
-
--- ---- lists
-Contains-filter_map : {X Y : Type 0} (f : X → Option Y) (xs : List X) (x : X) (y : Y) → Contains xs x → f x ≡ Some y → Contains (filter_map f xs) y
-Contains-filter_map f [] x y inside is = absurd (Contains-none x inside)
-Contains-filter_map f (z ∷ zs) x y inside is = by (λ there. Contains-filter_map f zs x y there is) (f z) refl (Contains-cases z zs x inside)
-  where
-    by : (Contains zs x → Contains (filter_map f zs) y) → (o : Option _) → f z ≡ o → (z ≡ x) ⊎ Contains zs x → Contains (filter_map f (z ∷ zs)) y
-    by rest None none (inl here) = let same : f z ≡ f x = ap f here in absurd cc
-    by rest None none (inr there) = rw none (rest there)
-    by rest (Some w) some (inl here) = let same : f z ≡ f x = ap f here in let both : w ≡ y = cc in rw some (0, omega arith, both)
-    by rest (Some w) some (inr there) = rw some (Contains-tail w (filter_map f zs) y (rest there))
-
-Contains-filter_map_from : {X Y : Type 0} (f : X → Option Y) (xs : List X) (y : Y) → Contains (filter_map f xs) y → (x : X) × Contains xs x × (f x ≡ Some y)
-Contains-filter_map_from f [] y inside = absurd (Contains-none y inside)
-Contains-filter_map_from f (x ∷ xs) y inside = by (λ there. let (z, at, is) = Contains-filter_map_from f xs y there in (z, Contains-tail x xs z at, is)) (f x) refl inside
-  where
-    by : (Contains (filter_map f xs) y → (z : _) × Contains (x ∷ xs) z × (f z ≡ Some y)) → (o : Option _) → f x ≡ o → Contains (filter_map f (x ∷ xs)) y → (z : _) × Contains (x ∷ xs) z × (f z ≡ Some y)
-    by rest None none inside = rest (rw none at inside)
-    by rest (Some w) some inside = either (Contains-cases w (filter_map f xs) y (rw some at inside))
-      where
-        either : (w ≡ y) ⊎ Contains (filter_map f xs) y → (z : _) × Contains (x ∷ xs) z × (f z ≡ Some y)
-        either (inl here) = (x, Contains-head x xs, some ∙ ap Some here)
-        either (inr there) = rest there
+use Rattle.closure_model.proofs.Lists.{Contains-tail, Contains-none, Contains-flat_map, Contains-flat_map_from, Contains-filter_map, Contains-filter_map_from}
 
 -- every point of a shape stands among its points
 points_from : ℕ → ℕ → List PointId

@@ -1,9 +1,10 @@
 -- What holds of each element of a list that is made from others, and what such a list holds.
-use Rattle.std.proofs.Common.{◌≡◌, ℕ, ◌+◌, ◌<◌, zero, suc, Bool, true, false, cond, ◌⊎◌, List, [], ◌∷◌, ◌++◌, map, length, take, get_or, refl, ap, sym, ◌∙◌, subst, inl, inr, arith}
+use Rattle.std.proofs.Common.{◌≡◌, ℕ, ◌+◌, ◌<◌, zero, suc, Bool, true, false, cond, ◌⊎◌, List, [], ◌∷◌, ◌++◌, map, length, take, get_or, Option, Some, None, refl, ap, sym, ◌∙◌, subst, inl, inr, arith}
 use Rattle.std.specs.Prelude.{filter}
-use Rattle.std.specs.List.{AllByRecursion, Contains, enumerate_from, flat_map}
+use Rattle.std.specs.List.{AllByRecursion, Contains, enumerate_from, filter_map, flat_map, list_any}
 use Rattle.std.proofs.lemmas.Grind.{common_steps}
 use Rattle.std.proofs.lemmas.List.{take_more}
+use Rattle.std.proofs.lemmas.List.Folds.{Any-from_list_any, list_any-from_Any}
 use Rattle.std.proofs.lemmas.List.Elements.{Contains-append_cases, Contains-append_left, Contains-append_right}
 use Rattle.net_model.proofs.NetworkLemmas.{enumerate_from-push}
 
@@ -45,6 +46,17 @@ Contains-flat_map_from f (x ∷ xs) y inside = by (Contains-flat_map_from f xs y
     by rest (inl here) = (x, Contains-head x xs, here)
     by rest (inr there) = let (z, at, is) = rest there in (z, Contains-tail x xs z at, is)
 
+-- a filter keeps what passes, and nothing else
+pub Contains-filter : {X : Type 0} (keep : X → Bool) (xs : List X) (x : X) → Contains xs x → keep x ≡ true → Contains (filter keep xs) x
+Contains-filter keep [] x inside passes = absurd (Contains-none x inside)
+Contains-filter keep (y ∷ ys) x inside passes = by (λ there. Contains-filter keep ys x there passes) (keep y) refl (Contains-cases y ys x inside)
+  where
+    by : (Contains ys x → Contains (filter keep ys) x) → (b : Bool) → keep y ≡ b → (y ≡ x) ⊎ Contains ys x → Contains (cond b (y ∷ filter keep ys) (filter keep ys)) x
+    by rest true is (inl same) = subst (Contains (y ∷ filter keep ys)) same (Contains-head y (filter keep ys))
+    by rest true is (inr there) = Contains-tail y (filter keep ys) x (rest there)
+    by rest false is (inl same) = let clash : keep y ≡ true = ap keep same ∙ passes in absurd cc
+    by rest false is (inr there) = rest there
+
 pub Contains-filter_from : {X : Type 0} (keep : X → Bool) (xs : List X) (x : X) → Contains (filter keep xs) x → Contains xs x
 Contains-filter_from keep [] x inside = absurd (Contains-none x inside)
 Contains-filter_from keep (y ∷ ys) x inside = by (λ there. Contains-filter_from keep ys x there) (keep y) inside
@@ -56,6 +68,47 @@ Contains-filter_from keep (y ∷ ys) x inside = by (λ there. Contains-filter_fr
         either (inl is) = subst (Contains (y ∷ ys)) is (Contains-head y ys)
         either (inr there) = Contains-tail y ys x (rest there)
     by rest false inside = Contains-tail y ys x (rest inside)
+
+pub Contains-filter_passes : {X : Type 0} (keep : X → Bool) (xs : List X) (x : X) → Contains (filter keep xs) x → keep x ≡ true
+Contains-filter_passes keep [] x inside = absurd (Contains-none x inside)
+Contains-filter_passes keep (y ∷ ys) x inside = by (λ there. Contains-filter_passes keep ys x there) (keep y) refl inside
+  where
+    by : (Contains (filter keep ys) x → keep x ≡ true) → (b : Bool) → keep y ≡ b → Contains (cond b (y ∷ filter keep ys) (filter keep ys)) x → keep x ≡ true
+    by rest true is inside = either (Contains-cases y (filter keep ys) x inside)
+      where
+        either : (y ≡ x) ⊎ Contains (filter keep ys) x → keep x ≡ true
+        either (inl same) = ap keep (sym same) ∙ is
+        either (inr there) = rest there
+    by rest false is inside = rest inside
+
+pub Contains-filter_map : {X Y : Type 0} (f : X → Option Y) (xs : List X) (x : X) (y : Y) → Contains xs x → f x ≡ Some y → Contains (filter_map f xs) y
+Contains-filter_map f [] x y inside is = absurd (Contains-none x inside)
+Contains-filter_map f (z ∷ zs) x y inside is = by (λ there. Contains-filter_map f zs x y there is) (f z) refl (Contains-cases z zs x inside)
+  where
+    by : (Contains zs x → Contains (filter_map f zs) y) → (o : Option _) → f z ≡ o → (z ≡ x) ⊎ Contains zs x → Contains (filter_map f (z ∷ zs)) y
+    by rest None none (inl here) = let same : f z ≡ f x = ap f here in absurd cc
+    by rest None none (inr there) = rw none (rest there)
+    by rest (Some w) some (inl here) = let same : f z ≡ f x = ap f here in let both : w ≡ y = cc in rw some (0, omega arith, both)
+    by rest (Some w) some (inr there) = rw some (Contains-tail w (filter_map f zs) y (rest there))
+
+pub Contains-filter_map_from : {X Y : Type 0} (f : X → Option Y) (xs : List X) (y : Y) → Contains (filter_map f xs) y → (x : X) × Contains xs x × (f x ≡ Some y)
+Contains-filter_map_from f [] y inside = absurd (Contains-none y inside)
+Contains-filter_map_from f (x ∷ xs) y inside = by (λ there. let (z, at, is) = Contains-filter_map_from f xs y there in (z, Contains-tail x xs z at, is)) (f x) refl inside
+  where
+    by : (Contains (filter_map f xs) y → (z : _) × Contains (x ∷ xs) z × (f z ≡ Some y)) → (o : Option _) → f x ≡ o → Contains (filter_map f (x ∷ xs)) y → (z : _) × Contains (x ∷ xs) z × (f z ≡ Some y)
+    by rest None none inside = rest (rw none at inside)
+    by rest (Some w) some inside = either (Contains-cases w (filter_map f xs) y (rw some at inside))
+      where
+        either : (w ≡ y) ⊎ Contains (filter_map f xs) y → (z : _) × Contains (x ∷ xs) z × (f z ≡ Some y)
+        either (inl here) = (x, Contains-head x xs, some ∙ ap Some here)
+        either (inr there) = rest there
+
+-- one of a list passes a test
+pub any_is : {X : Type 0} (p : X → Bool) (xs : List X) → list_any p xs ≡ true → (x : X) × Contains xs x × (p x ≡ true)
+any_is p xs test = let (k, x, inside, at, passes) = Any-from_list_any p xs test in (x, (k, inside, at), passes)
+
+pub any_from : {X : Type 0} (p : X → Bool) (xs : List X) (x : X) → Contains xs x → p x ≡ true → list_any p xs ≡ true
+any_from p xs x (k, inside, at) passes = list_any-from_Any p xs (k, x, inside, at, passes)
 
 pub each-append : {X : Type 0} (P : X → Type 0) (xs ys : List X) → AllByRecursion P xs → AllByRecursion P ys → AllByRecursion P (xs ++ ys)
 each-append P [] ys here there = there

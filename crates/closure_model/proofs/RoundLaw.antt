@@ -32,7 +32,7 @@ use Rattle.closure_model.proofs.RowLaw.{row_result, row_is_grounded}
 use Rattle.closure_model.proofs.Slots.{same_label_is, same_label_itself, both}
 
 -- ---- the node of a key
-same_key_is : (one other : Edge) → is_same_key one other ≡ true → key_of other ≡ key_of one
+pub same_key_is : (one other : Edge) → is_same_key one other ≡ true → key_of other ≡ key_of one
 same_key_is one other same =
     let (tos, rest) = both (one.to.0 == other.to.0) (one.from.0 == other.from.0 && same_label one.label other.label) same in
     let (froms, labels) = both (one.from.0 == other.from.0) (same_label one.label other.label) rest in

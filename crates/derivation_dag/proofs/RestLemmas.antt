@@ -1,7 +1,7 @@
 -- Marks of the nodes that rest on an item: one node more.
-use Rattle.std.proofs.Common.{◌≡◌, ◌≢◌, ◌↔◌, ◌==◌, ◌||◌, ℕ, zero, suc, ◌+◌, ◌<◌, Bool, true, false, ◌⊎◌, List, [], ◌∷◌, ◌++◌, length, get_or, Some, refl, ap, sym, ◌∙◌, subst, inl, inr, arith}
+use Rattle.std.proofs.Common.{◌≡◌, ◌≢◌, ◌↔◌, ◌==◌, ℕ, zero, suc, ◌+◌, ◌<◌, Bool, true, false, ◌⊎◌, List, [], ◌∷◌, ◌++◌, length, get_or, Some, refl, ap, sym, ◌∙◌, subst, inl, inr, arith}
 use Rattle.std.specs.Prelude.{slice_get}
-use Rattle.std.specs.List.{All, Contains, list_any}
+use Rattle.std.specs.List.{All, Contains}
 use Rattle.std.proofs.lemmas.Bool.{eqb-true, eqb-false}
 use Rattle.std.proofs.lemmas.List.{length-append}
 use Rattle.std.proofs.lemmas.List.Elements.{All-contains, All-weaker}
@@ -11,27 +11,9 @@ use Rattle.closure_model.specs.Derivations.{premises_of, item_of, PremisesStandE
 use Rattle.closure_model.specs.declared.derivation.Item.{Item}
 use Rattle.closure_model.specs.declared.derivation.Node.{Node}
 use Rattle.closure_model.specs.declared.derivation.NodeId.{NodeId}
-use Rattle.closure_model.proofs.Lists.{Contains-head, Contains-tail, Contains-cases, Contains-none}
+use Rattle.closure_model.proofs.Lists.{any_is, any_from}
 use Rattle.closure_model.proofs.Made.{rests_cases, rests_by, rests_itself}
 use Rattle.derivation_dag.specs.Marks.{mark_of, IsMarked, marks_premise}
-
--- ---- one of a list passes a test
-any_from : {X : Type 0} (p : X → Bool) (xs : List X) → list_any p xs ≡ true → (x : X) × Contains xs x × (p x ≡ true)
-any_from {X = X} p [] is = absurd cc
-any_from {X = X} p (x ∷ xs) is = by (any_from p xs) (p x) refl is
-  where
-    by : (list_any p xs ≡ true → (y : X) × Contains xs y × (p y ≡ true)) → (b : Bool) → p x ≡ b → (b || list_any p xs) ≡ true → (y : X) × Contains (x ∷ xs) y × (p y ≡ true)
-    by later true here is' = (x, Contains-head x xs, here)
-    by later false here is' = let (y, there, passes) = later is' in (y, Contains-tail x xs y there, passes)
-
-any_to : {X : Type 0} (p : X → Bool) (xs : List X) (x : X) → Contains xs x → p x ≡ true → list_any p xs ≡ true
-any_to {X = X} p [] x inside passes = absurd (Contains-none x inside)
-any_to {X = X} p (y ∷ ys) x inside passes = by (λ there. any_to p ys x there passes) (Contains-cases y ys x inside) (p y) refl
-  where
-    by : (Contains ys x → list_any p ys ≡ true) → (y ≡ x) ⊎ Contains ys x → (b : Bool) → p y ≡ b → (b || list_any p ys) ≡ true
-    by later where_is true is = refl
-    by later (inl same) false is = let both : true ≡ false = sym passes ∙ (ap p (sym same) ∙ is) in absurd cc
-    by later (inr there) false is = later there
 
 -- the first nodes are marked where they rest on the item
 pub record Rested (nodes : List Node) (what : Item) (rests : List Bool) (n : ℕ) : Type 0 where
@@ -55,7 +37,7 @@ module _ (nodes : List Node) (what : Item) (rests : List Bool) (n : ℕ) (node :
   rests_from : (item_of node.rule ≡ Some what) ⊎ (marks_premise rests node.rule ≡ true) → RestsOn nodes (record { 0 = n }) what
   rests_from (inl uses) = rests_itself nodes (record { 0 = n }) node what here uses
   rests_from (inr marked) =
-      let (premise, among, is) = any_from (mark_of rests) (premises_of node.rule) marked in
+      let (premise, among, is) = any_is (mark_of rests) (premises_of node.rule) marked in
       let below : premise.0 < n = All-contains (λ (p : NodeId). p.0 < n) (premises_of node.rule) premise (earlier (record { 0 = n }) node here) among in
       rests_by nodes (record { 0 = n }) premise node what here among ((before.each premise below).0 is)
 
@@ -66,7 +48,7 @@ module _ (nodes : List Node) (what : Item) (rests : List Bool) (n : ℕ) (node :
       by (inl uses) = inl uses
       by (inr (premise, among, under)) =
           let below : premise.0 < n = All-contains (λ (p : NodeId). p.0 < n) (premises_of node.rule) premise (earlier (record { 0 = n }) node here) among in
-          inr (any_to (mark_of rests) (premises_of node.rule) premise among ((before.each premise below).1 under))
+          inr (any_from (mark_of rests) (premises_of node.rule) premise among ((before.each premise below).1 under))
 
   pub rested_more : (b : Bool) → (b ≡ true) ↔ ((item_of node.rule ≡ Some what) ⊎ (marks_premise rests node.rule ≡ true)) → Rested nodes what (rests ++ b ∷ []) (n + 1)
   rested_more b says = record {

@@ -1,5 +1,5 @@
 -- The base nodes of what is new are, with those that are kept, all base nodes of the new network.
-use Rattle.std.proofs.Common.{◌≡◌, ℕ, suc, zero, ◌+◌, Bool, true, false, ◌⊎◌, inl, inr, cond, List, [], ◌∷◌, map, filter, Option, Some, None, is_none, refl, ap, sym, ◌∙◌, subst, arith, zero-add}
+use Rattle.std.proofs.Common.{◌≡◌, ℕ, suc, zero, ◌+◌, Bool, true, false, ◌⊎◌, inl, inr, List, [], ◌∷◌, map, Option, Some, None, is_none, refl, ap, sym, ◌∙◌, subst, arith, zero-add}
 use Rattle.std.specs.Prelude.{slice_get}
 use Rattle.std.specs.Option.{option_map, option_and_then}
 use Rattle.std.specs.List.{Contains, enumerate_from}
@@ -17,7 +17,7 @@ use Rattle.closure_model.specs.Derivations.{base_nodes, bound_node, link_node}
 use Rattle.closure_model.specs.declared.derivation.Node.{Node}
 use Rattle.closure_model.specs.declared.derivation.Rule.TheVariants as by_rule
 use Rattle.closure_model.proofs.Basing.{numbered_at}
-use Rattle.closure_model.proofs.Lists.{Contains-filter_from, Contains-head, Contains-tail, Contains-cases, Contains-none, Contains-map, Contains-map_from}
+use Rattle.closure_model.proofs.Lists.{Contains-filter_from, Contains-head, Contains-tail, Contains-map, Contains-map_from, Contains-filter}
 use Rattle.derivation_edits.specs.Following.{Renumbering, IsRenumbering, moved_node, moved_bound, moved_link, IsMovedBase, AreNewBase}
 use Rattle.derivation_edits.specs.FollowingLaws.{NewBaseIsWhole}
 use Rattle.derivation_edits.specs.Taken.{new_bounds, new_links, point_in, renumbering, is_new_bound, is_new_link, new_base_nodes}
@@ -26,16 +26,6 @@ use Rattle.derivation_edits.proofs.Keeping.{with_rule}
 use Rattle.derivation_edits.proofs.KeptDerived.{link_moved}
 
 -- ---- lists
-Contains-filter : {X : Type 0} (p : X → Bool) (xs : List X) (x : X) → p x ≡ true → Contains xs x → Contains (filter p xs) x
-Contains-filter p [] x passes inside = absurd (Contains-none x inside)
-Contains-filter p (y ∷ ys) x passes inside = by (p y) refl (λ there. Contains-filter p ys x passes there) (Contains-cases y ys x inside)
-  where
-    by : (b : Bool) → p y ≡ b → (Contains ys x → Contains (filter p ys) x) → (y ≡ x) ⊎ Contains ys x → Contains (cond b (y ∷ filter p ys) (filter p ys)) x
-    by true is rest (inl here) = subst (Contains (y ∷ filter p ys)) here (Contains-head y (filter p ys))
-    by true is rest (inr there) = Contains-tail y (filter p ys) x (rest there)
-    by false is rest (inl here) = let same : p y ≡ p x = ap p here in absurd cc
-    by false is rest (inr there) = rest there
-
 numbered : {X : Type 0} (n : ℕ) (xs : List X) (k : ℕ) (x : X) → slice_get xs k ≡ Some x → Contains (enumerate_from n xs) (n + k, x)
 numbered n [] k x here = absurd cc
 numbered {X = X} n (y ∷ ys) zero x here =
@@ -81,7 +71,7 @@ module _ (old : Plan) (edit : Edit) (new : Plan) (before : IsPlan old) (after : 
       by : (b : Bool) → is_new_bound old edit new e.1 ≡ b → Contains (new_base_nodes old edit new) (bound_node e) ⊎ IsMovedBase old new moves (bound_node e)
       by true is =
           inl (Contains-append_left (map bound_node (new_bounds old edit new)) (map link_node (new_links old edit new)) (bound_node e)
-          (Contains-map bound_node (new_bounds old edit new) e (Contains-filter (λ (f : ℕ × Bound). is_new_bound old edit new f.1) (enumerate_from 0 new.bounds) e is inside)))
+          (Contains-map bound_node (new_bounds old edit new) e (Contains-filter (λ (f : ℕ × Bound). is_new_bound old edit new f.1) (enumerate_from 0 new.bounds) e inside is)))
       by false is =
           let (place, found) = some_unless (option_and_then moves.bounds (bound_named old e.1.name)) is in
           let (id, named, held) = two_steps moves.bounds (bound_named old e.1.name) place found in
@@ -107,7 +97,7 @@ module _ (old : Plan) (edit : Edit) (new : Plan) (before : IsPlan old) (after : 
       by : (b : Bool) → is_new_link old edit new e.1 ≡ b → Contains (new_base_nodes old edit new) (link_node e) ⊎ IsMovedBase old new moves (link_node e)
       by true is =
           inl (Contains-append_right (map bound_node (new_bounds old edit new)) (map link_node (new_links old edit new)) (link_node e)
-          (Contains-map link_node (new_links old edit new) e (Contains-filter (λ (f : ℕ × Link). is_new_link old edit new f.1) (enumerate_from 0 new.links) e is inside)))
+          (Contains-map link_node (new_links old edit new) e (Contains-filter (λ (f : ℕ × Link). is_new_link old edit new f.1) (enumerate_from 0 new.links) e inside is)))
       by false is =
           let (place, found) = some_unless (option_and_then (λ (p : PointId). option_and_then moves.links (activation old p)) (point_in new old e.1.to)) is in
           let (point, back, more) = two_steps (λ (p : PointId). option_and_then moves.links (activation old p)) (point_in new old e.1.to) place found in

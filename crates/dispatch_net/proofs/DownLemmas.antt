@@ -14,15 +14,15 @@ use Rattle.net_model.specs.declared.part.Link.{Link}
 use Rattle.closure_model.specs.Keys.{ordinary_key, all_points}
 use Rattle.closure_model.specs.Orders.{IsOrder, goes}
 use Rattle.closure_model.specs.Tables.{Graph, IsFor, weight_of}
-use Rattle.closure_model.proofs.Lists.{Contains-none, Contains-head, Contains-tail}
+use Rattle.closure_model.proofs.Lists.{Contains-none, Contains-head, Contains-tail, Contains-filter_from, Contains-filter_map_from}
 use Rattle.closure_model.proofs.OrderLemmas.{in_points}
 use Rattle.dispatch_net.specs.declared.dispatch.Conditions.{Conditions}
 use Rattle.dispatch_net.specs.Dispatchable.{with_moments, lower_bounds_in, waits_in, no_conditions, dispatchable, conditions_at}
 use Rattle.dispatch_net.specs.Held.{AreInOrder, AreEnds, AreHeld, AreOnOthers, GoDown}
 use Rattle.dispatch_net.specs.Slim.{over_point, over_link, is_bound_implied, over_end, over_wait, is_wait_implied, slim_conditions, slimmed}
-use Rattle.dispatch_net.proofs.HoldLemmas.{Contains-filter_map_from, given}
+use Rattle.dispatch_net.proofs.HoldLemmas.{given}
 use Rattle.dispatch_net.proofs.ExecutionLemmas.{point_count, dispatchable_length, conditions_stand}
-use Rattle.dispatch_net.proofs.SlimLists.{kept_there, slim_at}
+use Rattle.dispatch_net.proofs.SlimLists.{slim_at}
 
 -- ---- tests that read the same
 any_same : {X : Type 0} (f g : X → Bool) (xs : List X) → ((x : X) → Contains xs x → f x ≡ g x) → list_any f xs ≡ list_any g xs
@@ -198,5 +198,5 @@ slim_go_down links lists order down =
       points = λ k d inside. let at = down.points k d inside in omega (arith, at, count);
       falls = λ i d bound inside among.
           let c = conditions_at lists (get_or order i d) in
-          down.falls i d bound inside (kept_there (λ b. not (is_bound_implied links lists c b)) c.lower_bounds bound (subst (λ (k : Conditions). Contains k.lower_bounds bound) (slim_at links lists (get_or order i d)) among));
+          down.falls i d bound inside (Contains-filter_from (λ b. not (is_bound_implied links lists c b)) c.lower_bounds bound (subst (λ (k : Conditions). Contains k.lower_bounds bound) (slim_at links lists (get_or order i d)) among));
     }

@@ -13,10 +13,11 @@ use Rattle.closure_model.specs.Keys.{ordinary_key, labelled_key, all_points}
 use Rattle.closure_model.specs.Tables.{Graph, HasEdge, weight_of, IsGraph}
 use Rattle.closure_model.proofs.KeyLists.{Contains-points}
 use Rattle.closure_model.proofs.Weights.{lt_is, lt_true}
+use Rattle.closure_model.proofs.Lists.{Contains-filter_map, Contains-filter_map_from}
 use Rattle.dispatch_net.specs.Dispatchable.{with_moments, lower_bounds_in, waits_in, no_conditions, conditions_in, dispatchable}
 use Rattle.dispatch_net.specs.Held.{AreInOrder}
 use Rattle.dispatch_net.specs.Laws.{AreExact, ListsAreExact}
-use Rattle.dispatch_net.proofs.HoldLemmas.{Contains-filter_map, Contains-filter_map_from, numbered_from, gives, given}
+use Rattle.dispatch_net.proofs.HoldLemmas.{numbered_from, gives, given}
 use Rattle.dispatch_net.proofs.ExecutionLemmas.{conditions_stand, conditions_are}
 
 -- ---- numbers that rise from one on

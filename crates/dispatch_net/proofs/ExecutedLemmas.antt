@@ -13,7 +13,7 @@ use Rattle.net_model.specs.declared.ids.PointId.{PointId}
 use Rattle.net_model.specs.declared.ids.LinkId.{LinkId}
 use Rattle.net_model.specs.declared.part.Link.{Link}
 use Rattle.closure_model.specs.Tables.{Graph}
-use Rattle.closure_model.proofs.Lists.{Contains-none, Contains-map, Contains-map_from}
+use Rattle.closure_model.proofs.Lists.{Contains-none, Contains-map, Contains-map_from, Contains-filter, Contains-filter_from, any_is}
 use Rattle.strategy_model.specs.Situations.{IsSituation, moment_in}
 use Rattle.strategy_model.proofs.CompareLemmas.{duration_of}
 use Rattle.strategy_model.proofs.OrderLemmas.{rank}
@@ -24,7 +24,7 @@ use Rattle.dispatch_net.specs.Slim.{over_point, over_link, is_bound_implied, ove
 use Rattle.dispatch_net.specs.Ranked.{IsRanked, IsDispatchTable}
 use Rattle.dispatch_net.specs.Laws.{SlimExecutionsAreTheSame}
 use Rattle.closure_model.proofs.BaseLemmas.{all_contained}
-use Rattle.dispatch_net.proofs.SlimLists.{any_is, kept_there, there_kept, slim_at, same_point, adds_up, no_less, some_low}
+use Rattle.dispatch_net.proofs.SlimLists.{slim_at, same_point, adds_up, no_less, some_low}
 use Rattle.dispatch_net.proofs.RankLemmas.{made_is_ranked, by_kind}
 
 min_left : (a b u : ℕ) → a ≤ u → min a b ≤ u
@@ -129,7 +129,7 @@ module _ (net : Plan) (table : Graph) (order : List PointId) (is : IsDispatchTab
 
         by : ((other : PointId × ℤ) → Contains lists.lower_bounds other → rank order point ≤ rank order other.0 + fuel → moment_in schedule other.0 + unsigned_abs other.1 ≤ u)
             → (b : Bool) → is_bound_implied net.links made lists bound ≡ b → moment_in schedule bound.0 + unsigned_abs bound.1 ≤ u
-        by rest false no_others = bound_below slim u bound kept (there_kept (λ b. not (is_bound_implied net.links made lists b)) lists.lower_bounds bound among (ap not no_others))
+        by rest false no_others = bound_below slim u bound kept (Contains-filter (λ b. not (is_bound_implied net.links made lists b)) lists.lower_bounds bound among (ap not no_others))
         by rest true implied =
             let (other, there, holds) = any_is (λ other. over_point made bound other || over_link net.links bound other) lists.lower_bounds implied in
             let (further, meets) = over other there holds in
@@ -182,7 +182,7 @@ module _ (net : Plan) (table : Graph) (order : List PointId) (is : IsDispatchTab
             ]
 
         by : (link : Link) → slice_get net.links wait.0.0 ≡ Some link → (b : Bool) → is_wait_implied net.links made lists wait ≡ b → wait_asks net schedule wait ≤ u
-        by link declared false no_others = wait_below slim u wait kept (there_kept (λ w. not (is_wait_implied net.links made lists w)) lists.waits wait among (ap not no_others))
+        by link declared false no_others = wait_below slim u wait kept (Contains-filter (λ w. not (is_wait_implied net.links made lists w)) lists.waits wait among (ap not no_others))
         by link declared true implied =
             let (other, there, holds) = any_is (λ other. option_map_or (over_end wait.1 other) (slice_get net.links wait.0.0) false || over_wait made wait other) lists.lower_bounds implied in
             let tested : (over_end wait.1 other link || over_wait made wait other) ≡ true = ap (λ (o : Option Link). option_map_or (over_end wait.1 other) o false || over_wait made wait other) (sym declared) ∙ holds in
@@ -198,8 +198,8 @@ module _ (net : Plan) (table : Graph) (order : List PointId) (is : IsDispatchTab
     slim_from_made : Meets lists u → Meets slim u
     slim_from_made meets =
         meets_from slim u
-        (λ bound among. bound_below lists u bound meets (kept_there (λ b. not (is_bound_implied net.links made lists b)) lists.lower_bounds bound among))
-        (λ wait among. wait_below lists u wait meets (kept_there (λ w. not (is_wait_implied net.links made lists w)) lists.waits wait among))
+        (λ bound among. bound_below lists u bound meets (Contains-filter_from (λ b. not (is_bound_implied net.links made lists b)) lists.lower_bounds bound among))
+        (λ wait among. wait_below lists u wait meets (Contains-filter_from (λ w. not (is_wait_implied net.links made lists w)) lists.waits wait among))
 
   abbrev kept : List Conditions
   kept = slimmed net.links made

@@ -1,7 +1,7 @@
 -- The lower bounds and waits that a table gives a point ask for what its negative edges do.
-use Rattle.std.proofs.Common.{◌≡◌, ℕ, ◌+◌, ℤ, pos, ◌<◌, Bool, true, false, inl, inr, List, [], ◌∷◌, map, length, get_or, min, Option, Some, None, refl, ap, sym, subst, ◌∙◌, arith, zero-add}
+use Rattle.std.proofs.Common.{◌≡◌, ℕ, ◌+◌, ℤ, pos, ◌<◌, Bool, true, false, inl, inr, List, map, length, get_or, min, Option, Some, None, refl, ap, sym, subst, ◌∙◌, arith, zero-add}
 use Rattle.std.specs.Prelude.{slice_get, int_lt, unsigned_abs, ◌-ℤ◌, if◌then◌else◌}
-use Rattle.std.specs.List.{Contains, cons_option, enumerate_from, filter_map}
+use Rattle.std.specs.List.{Contains, enumerate_from}
 use Rattle.std.specs.Option.{option_map, option_map_or}
 use Rattle.std.proofs.lemmas.Int.{ints}
 use Rattle.std.proofs.lemmas.List.Elements.{Contains-append_left, Contains-append_right, Contains-append_cases}
@@ -14,7 +14,7 @@ use Rattle.net_model.specs.declared.part.Edge.{Edge}
 use Rattle.net_model.specs.declared.part.Link.{Link}
 use Rattle.closure_model.specs.Keys.{Shape, ordinary_key, labelled_key, all_points}
 use Rattle.closure_model.specs.Tables.{Graph, HasEdge, edges_of, weight_of, IsFor, IsGraph}
-use Rattle.closure_model.proofs.Lists.{Contains-none, Contains-head, Contains-tail, Contains-cases, Contains-map, Contains-map_from}
+use Rattle.closure_model.proofs.Lists.{Contains-map, Contains-map_from, Contains-filter_map, Contains-filter_map_from}
 use Rattle.closure_model.proofs.KeyLists.{Contains-points}
 use Rattle.closure_model.proofs.TableLemmas.{edge_listed, listed_edge}
 use Rattle.strategy_model.specs.Situations.{moment_in}
@@ -23,34 +23,6 @@ use Rattle.dispatch_net.specs.Dispatchable.{with_moments, lower_bounds_in, waits
 use Rattle.dispatch_net.specs.Execution.{bound_asks, wait_asks, asked_by}
 
 -- ---- lists
-module _ {X Y : Type 0} (f : X → Option Y) where
-  put_first : (ys : List Y) (y : Y) (o : Option Y) → Contains ys y → Contains (cons_option o ys) y
-  put_first ys y None inside = inside
-  put_first ys y (Some z) inside = Contains-tail z ys y inside
-
-  pub Contains-filter_map : (xs : List X) (x : X) (y : Y) → Contains xs x → f x ≡ Some y → Contains (filter_map f xs) y
-  Contains-filter_map [] x y inside is = absurd (Contains-none x inside)
-  Contains-filter_map (z ∷ zs) x y inside is =
-      elim (Contains-cases z zs x inside) [
-        | inl same ↦ subst (λ o. Contains (cons_option o (filter_map f zs)) y) (sym (ap f same ∙ is)) (Contains-head y (filter_map f zs))
-        | inr later ↦ put_first (filter_map f zs) y (f z) (Contains-filter_map zs x y later is)
-      ]
-
-  pub Contains-filter_map_from : (xs : List X) (y : Y) → Contains (filter_map f xs) y → (x : X) × Contains xs x × (f x ≡ Some y)
-  Contains-filter_map_from [] y inside = absurd (Contains-none y inside)
-  Contains-filter_map_from (z ∷ zs) y inside = by (λ there. Contains-filter_map_from zs y there) (f z) refl inside
-    where
-      further : (x : X) × Contains zs x × (f x ≡ Some y) → (x : X) × Contains (z ∷ zs) x × (f x ≡ Some y)
-      further (x, among, is) = (x, Contains-tail z zs x among, is)
-
-      by : (Contains (filter_map f zs) y → (x : X) × Contains zs x × (f x ≡ Some y)) → (o : Option Y) → f z ≡ o → Contains (cons_option o (filter_map f zs)) y → (x : X) × Contains (z ∷ zs) x × (f x ≡ Some y)
-      by rest None none there = further (rest there)
-      by rest (Some v) some there =
-          elim (Contains-cases v (filter_map f zs) y there) [
-            | inl same ↦ (z, Contains-head z zs, some ∙ ap (λ (w : Y). let o : Option Y = Some w in o) same)
-            | inr later ↦ further (rest later)
-          ]
-
 pub numbered_from : {X : Type 0} (xs : List X) (k : ℕ) (x : X) → slice_get xs k ≡ Some x → Contains (enumerate_from 0 xs) (k, x)
 numbered_from xs k x is =
     let inside : k < length xs = slice_get_within xs k x is in

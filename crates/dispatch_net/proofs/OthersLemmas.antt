@@ -7,10 +7,9 @@ use Rattle.std.proofs.lemmas.Bool.{cases_lt, true≢false, and_parts, and_from, 
 use Rattle.std.proofs.lemmas.Int.{ints}
 use Rattle.std.proofs.lemmas.List.Elements.{Contains-append_left, Contains-append_right, Contains-append_cases}
 use Rattle.net_model.specs.declared.ids.PointId.{PointId}
-use Rattle.closure_model.proofs.Lists.{Contains-none, Contains-head, Contains-cases}
+use Rattle.closure_model.proofs.Lists.{Contains-none, Contains-head, Contains-cases, any_is, any_from}
 use Rattle.dispatch_net.specs.Held.{HaveSame}
-use Rattle.dispatch_net.proofs.SlimLists.{any_is, same_point, at_least}
-use Rattle.dispatch_net.proofs.StayLemmas.{any_from}
+use Rattle.dispatch_net.proofs.SlimLists.{same_point, at_least}
 
 -- a number equals another
 is_it : ℤ → ℤ → Bool

@@ -1,35 +1,19 @@
 -- What was kept once is kept again.
 use Rattle.std.proofs.Common.{◌≡◌, ℤ, Bool, true, false, List, [], ◌∷◌, map, filter, refl, ap, sym, subst, ◌∙◌, inl, inr}
 use Rattle.std.specs.Prelude.{◌&&◌, ◌||◌, ◌==◌, not, ◌+ℤ◌, int_le, slice_get, if◌then◌else◌}
-use Rattle.std.specs.List.{Contains, list_any}
+use Rattle.std.specs.List.{Contains}
 use Rattle.std.specs.Option.{option_map_or}
 use Rattle.std.proofs.lemmas.Bool.{or_cases, or_left, or_right, true≢false}
 use Rattle.net_model.specs.declared.ids.PointId.{PointId}
 use Rattle.net_model.specs.declared.ids.LinkId.{LinkId}
 use Rattle.net_model.specs.declared.part.Link.{Link}
-use Rattle.closure_model.proofs.Lists.{Contains-none, Contains-head, Contains-tail, Contains-cases}
+use Rattle.closure_model.proofs.Lists.{Contains-head, Contains-tail, Contains-filter_from, Contains-filter_passes, any_is, any_from}
 use Rattle.dispatch_net.specs.declared.dispatch.Conditions.{Conditions}
 use Rattle.dispatch_net.specs.Dispatchable.{conditions_at}
 use Rattle.dispatch_net.specs.Held.{IsSlimOrWhole}
 use Rattle.dispatch_net.specs.Slim.{over_point, over_link, is_bound_implied, over_end, over_wait, is_wait_implied, slim_conditions, slimmed}
 use Rattle.dispatch_net.specs.Laws.{SlimStaysSlim}
-use Rattle.dispatch_net.proofs.SlimLists.{any_is, kept_there, slim_at}
-
-pub any_from : {X : Type 0} (test : X → Bool) (xs : List X) (x : X) → Contains xs x → test x ≡ true → list_any test xs ≡ true
-any_from test [] x among passes = absurd (Contains-none x among)
-any_from test (y ∷ ys) x among passes =
-    elim (Contains-cases y ys x among) [
-      | inl same ↦ or_left (test y) (list_any test ys) (ap test same ∙ passes)
-      | inr there ↦ or_right (test y) (list_any test ys) (any_from test ys x there passes)
-    ]
-
-pub kept_passes : {X : Type 0} (p : X → Bool) (xs : List X) (x : X) → Contains (filter p xs) x → p x ≡ true
-kept_passes p [] x among = absurd (Contains-none x among)
-kept_passes {X} p (y ∷ ys) x among = by (kept_passes p ys x) (p y) refl among
-  where
-    by : (Contains (filter p ys) x → p x ≡ true) → (b : Bool) → p y ≡ b → Contains (if b then y ∷ filter p ys else filter p ys) x → p x ≡ true
-    by rest true is at = elim (Contains-cases y (filter p ys) x at) [ inl same ↦ ap p (sym same) ∙ is | inr there ↦ rest there ]
-    by rest false is at = rest at
+use Rattle.dispatch_net.proofs.SlimLists.{slim_at}
 
 pub all_kept : {X : Type 0} (p : X → Bool) (xs : List X) → ((x : X) → Contains xs x → p x ≡ true) → filter p xs ≡ xs
 all_kept p [] each = refl
@@ -59,7 +43,7 @@ module _ (links : List Link) (made : List Conditions) (c : Conditions) where
       let (inner, among, passes) = any_is test (conditions_at kept other.0).lower_bounds over in
       let there = subst (λ (k : Conditions). Contains k.lower_bounds inner) at among in
       any_from test (conditions_at made other.0).lower_bounds inner
-      (kept_there (λ b. not (is_bound_implied links made (conditions_at made other.0) b)) (conditions_at made other.0).lower_bounds inner there) passes
+      (Contains-filter_from (λ b. not (is_bound_implied links made (conditions_at made other.0) b)) (conditions_at made other.0).lower_bounds inner there) passes
 
   fewer_over_wait : (wait : LinkId × ℤ) (other : PointId × ℤ) → over_wait kept wait other ≡ true → over_wait made wait other ≡ true
   fewer_over_wait wait other over =
@@ -68,13 +52,13 @@ module _ (links : List Link) (made : List Conditions) (c : Conditions) where
       let (inner, among, passes) = any_is test (conditions_at kept other.0).waits over in
       let there = subst (λ (k : Conditions). Contains k.waits inner) at among in
       any_from test (conditions_at made other.0).waits inner
-      (kept_there (λ w. not (is_wait_implied links made (conditions_at made other.0) w)) (conditions_at made other.0).waits inner there) passes
+      (Contains-filter_from (λ w. not (is_wait_implied links made (conditions_at made other.0) w)) (conditions_at made other.0).waits inner there) passes
 
   fewer_bounds : (bound : PointId × ℤ) → is_bound_implied links kept slim bound ≡ true → is_bound_implied links made c bound ≡ true
   fewer_bounds bound implied =
       let (other, among, holds) = any_is (λ other. over_point kept bound other || over_link links bound other) slim.lower_bounds implied in
       any_from (λ other. over_point made bound other || over_link links bound other) c.lower_bounds other
-      (kept_there (λ b. not (is_bound_implied links made c b)) c.lower_bounds other among)
+      (Contains-filter_from (λ b. not (is_bound_implied links made c b)) c.lower_bounds other among)
       (elim (or_cases (over_point kept bound other) (over_link links bound other) holds) [
         | inl first ↦ or_left (over_point made bound other) (over_link links bound other) (fewer_over_point bound other first)
         | inr second ↦ or_right (over_point made bound other) (over_link links bound other) second
@@ -84,7 +68,7 @@ module _ (links : List Link) (made : List Conditions) (c : Conditions) where
   fewer_waits wait implied =
       let (other, among, holds) = any_is (λ other. option_map_or (over_end wait.1 other) (slice_get links wait.0.0) false || over_wait kept wait other) slim.lower_bounds implied in
       any_from (λ other. option_map_or (over_end wait.1 other) (slice_get links wait.0.0) false || over_wait made wait other) c.lower_bounds other
-      (kept_there (λ b. not (is_bound_implied links made c b)) c.lower_bounds other among)
+      (Contains-filter_from (λ b. not (is_bound_implied links made c b)) c.lower_bounds other among)
       (elim (or_cases (option_map_or (over_end wait.1 other) (slice_get links wait.0.0) false) (over_wait kept wait other) holds) [
         | inl first ↦ or_left (option_map_or (over_end wait.1 other) (slice_get links wait.0.0) false) (over_wait made wait other) first
         | inr second ↦ or_right (option_map_or (over_end wait.1 other) (slice_get links wait.0.0) false) (over_wait made wait other) (fewer_over_wait wait other second)
@@ -96,11 +80,11 @@ module _ (links : List Link) (made : List Conditions) (c : Conditions) where
 
   bounds_stay : filter (λ bound. not (is_bound_implied links kept slim bound)) slim.lower_bounds ≡ slim.lower_bounds
   bounds_stay = all_kept (λ bound. not (is_bound_implied links kept slim bound)) slim.lower_bounds (λ bound among.
-      stays_not (is_bound_implied links made c bound) (is_bound_implied links kept slim bound) (kept_passes (λ b. not (is_bound_implied links made c b)) c.lower_bounds bound among) (fewer_bounds bound))
+      stays_not (is_bound_implied links made c bound) (is_bound_implied links kept slim bound) (Contains-filter_passes (λ b. not (is_bound_implied links made c b)) c.lower_bounds bound among) (fewer_bounds bound))
 
   waits_stay : filter (λ wait. not (is_wait_implied links kept slim wait)) slim.waits ≡ slim.waits
   waits_stay = all_kept (λ wait. not (is_wait_implied links kept slim wait)) slim.waits (λ wait among.
-      stays_not (is_wait_implied links made c wait) (is_wait_implied links kept slim wait) (kept_passes (λ w. not (is_wait_implied links made c w)) c.waits wait among) (fewer_waits wait))
+      stays_not (is_wait_implied links made c wait) (is_wait_implied links kept slim wait) (Contains-filter_passes (λ w. not (is_wait_implied links made c w)) c.waits wait among) (fewer_waits wait))
 
   conditions_stay : slim_conditions links kept slim ≡ slim
   conditions_stay = λ i. record { lower_bounds = bounds_stay i; waits = waits_stay i }

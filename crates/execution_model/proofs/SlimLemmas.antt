@@ -10,9 +10,10 @@ use Rattle.net_model.specs.declared.part.Link.{Link}
 use Rattle.dispatch_net.specs.declared.dispatch.Conditions.{Conditions}
 use Rattle.dispatch_net.specs.Dispatchable.{conditions_at}
 use Rattle.net_model.specs.Moments.{Moments, moment_of}
+use Rattle.closure_model.proofs.Lists.{Contains-filter, Contains-filter_from, any_is}
 use Rattle.execution_model.specs.Execution.{Setting, has_come, has_gone_by, link_to, meets_bound, meets_wait_for, meets_wait, meets}
 use Rattle.execution_model.proofs.PlaceLemmas.{gone_by, from_gone_by}
-use Rattle.dispatch_net.proofs.SlimLists.{list_passes, passes_each, any_is, kept_there, there_kept, same_point, adds_up, no_less, some_low, link_there, slim_at}
+use Rattle.dispatch_net.proofs.SlimLists.{list_passes, passes_each, same_point, adds_up, no_less, some_low, link_there, slim_at}
 use Rattle.dispatch_net.specs.Slim.{over_point, over_link, is_bound_implied, over_end, over_wait, is_wait_implied, slim_conditions}
 use Rattle.execution_model.specs.Paced.{IsRankedNetwork, ArePaced, SlimIsDueTheSame}
 
@@ -147,7 +148,7 @@ module _ (setting : Setting) (rank : PointId → ℕ) (moments : Moments) (ranke
 
         by : ((other : PointId × ℤ) → Contains lists.lower_bounds other → rank point ≤ rank other.0 + fuel → meets_bound moments t other ≡ true)
             → (b : Bool) → is_bound_implied setting.links made lists bound ≡ b → meets_bound moments t bound ≡ true
-        by rest false is = passes_each (meets_bound moments t) slim.lower_bounds bound kept (there_kept (λ b. not (is_bound_implied setting.links made lists b)) lists.lower_bounds bound among (ap not is))
+        by rest false is = passes_each (meets_bound moments t) slim.lower_bounds bound kept (Contains-filter (λ b. not (is_bound_implied setting.links made lists b)) lists.lower_bounds bound among (ap not is))
         by rest true is =
             let (other, there, holds) = any_is (λ other. over_point made bound other || over_link setting.links bound other) lists.lower_bounds is in
             let (further, meets) = over other there holds in
@@ -158,7 +159,7 @@ module _ (setting : Setting) (rank : PointId → ℕ) (moments : Moments) (ranke
     wait_met kept kept_waits wait among = by (is_wait_implied setting.links made lists wait) refl
       where
         by : (b : Bool) → is_wait_implied setting.links made lists wait ≡ b → meets_wait setting moments t wait ≡ true
-        by false is = passes_each (meets_wait setting moments t) slim.waits wait kept_waits (there_kept (λ w. not (is_wait_implied setting.links made lists w)) lists.waits wait among (ap not is))
+        by false is = passes_each (meets_wait setting moments t) slim.waits wait kept_waits (Contains-filter (λ w. not (is_wait_implied setting.links made lists w)) lists.waits wait among (ap not is))
         by true is =
             let (other, there, holds) = any_is (λ other. option_map_or (over_end wait.1 other) (slice_get setting.links wait.0.0) false || over_wait made wait other) lists.lower_bounds is in
             let n_above = ranked.lists.waits_positive point wait among in
@@ -188,8 +189,8 @@ module _ (setting : Setting) (rank : PointId → ℕ) (moments : Moments) (ranke
         down holds =
             let (bounds, waits) = and_parts (list_all (meets_bound moments t) lists.lower_bounds) (list_all (meets_wait setting moments t) lists.waits) holds in
             and_from (list_all (meets_bound moments t) slim.lower_bounds) (list_all (meets_wait setting moments t) slim.waits)
-            (list_passes (meets_bound moments t) slim.lower_bounds (λ bound among. passes_each (meets_bound moments t) lists.lower_bounds bound bounds (kept_there (λ b. not (is_bound_implied setting.links made lists b)) lists.lower_bounds bound among)))
-            (list_passes (meets_wait setting moments t) slim.waits (λ wait among. passes_each (meets_wait setting moments t) lists.waits wait waits (kept_there (λ w. not (is_wait_implied setting.links made lists w)) lists.waits wait among)))
+            (list_passes (meets_bound moments t) slim.lower_bounds (λ bound among. passes_each (meets_bound moments t) lists.lower_bounds bound bounds (Contains-filter_from (λ b. not (is_bound_implied setting.links made lists b)) lists.lower_bounds bound among)))
+            (list_passes (meets_wait setting moments t) slim.waits (λ wait among. passes_each (meets_wait setting moments t) lists.waits wait waits (Contains-filter_from (λ w. not (is_wait_implied setting.links made lists w)) lists.waits wait among)))
 
 pub slim_is_due_the_same : SlimIsDueTheSame
 slim_is_due_the_same setting rank moments ranked paced t point =

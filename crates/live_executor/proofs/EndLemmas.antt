@@ -15,9 +15,10 @@ use Rattle.dispatch_net.specs.declared.dispatch.Conditions.{Conditions}
 use Rattle.dispatch_net.proofs.ExecutionLemmas.{dispatchable_length}
 use Rattle.dispatch_net.specs.Held.{IsSlimOrWhole}
 use Rattle.dispatch_net.specs.Slim.{is_bound_implied, is_wait_implied, slim_conditions, slimmed}
-use Rattle.dispatch_net.proofs.SlimLists.{list_passes, passes_each, kept_there, slim_at}
+use Rattle.dispatch_net.proofs.SlimLists.{list_passes, passes_each, slim_at}
 use Rattle.execution_model.specs.Paced.{slim_setting}
 use Rattle.net_model.specs.Moments.{Moments, moment_of}
+use Rattle.closure_model.proofs.Lists.{Contains-filter_from}
 use Rattle.execution_model.specs.Execution.{Setting, meets, has_come, link_to, is_due, meets_bound, meets_wait, meets_wait_for, has_gone_by, points_of, acts_at, time_runs}
 use Rattle.execution_model.specs.Feeding.{is_open}
 use Rattle.execution_model.specs.Laws.{NoActsLeftIsWhole, setting_of}
@@ -50,8 +51,8 @@ fewer_met setting moments t all met =
     let slim = slim_conditions setting.links setting.dispatch all in
     let (bounds, waits) = and_parts (list_all (meets_bound moments t) all.lower_bounds) (list_all (meets_wait setting moments t) all.waits) met in
     and_from (list_all (meets_bound moments t) slim.lower_bounds) (list_all (meets_wait setting moments t) slim.waits)
-    (list_passes (meets_bound moments t) slim.lower_bounds (λ bound among. passes_each (meets_bound moments t) all.lower_bounds bound bounds (kept_there (λ b. not (is_bound_implied setting.links setting.dispatch all b)) all.lower_bounds bound among)))
-    (list_passes (meets_wait setting moments t) slim.waits (λ wait among. passes_each (meets_wait setting moments t) all.waits wait waits (kept_there (λ w. not (is_wait_implied setting.links setting.dispatch all w)) all.waits wait among)))
+    (list_passes (meets_bound moments t) slim.lower_bounds (λ bound among. passes_each (meets_bound moments t) all.lower_bounds bound bounds (Contains-filter_from (λ b. not (is_bound_implied setting.links setting.dispatch all b)) all.lower_bounds bound among)))
+    (list_passes (meets_wait setting moments t) slim.waits (λ wait among. passes_each (meets_wait setting moments t) all.waits wait waits (Contains-filter_from (λ w. not (is_wait_implied setting.links setting.dispatch all w)) all.waits wait among)))
 
 -- so whoever is due by what was made is due by what others do not imply
 slim_due : (setting : Setting) (moments : Moments) (t : ℕ) (point : PointId) → is_due setting moments t point ≡ true → is_due (slim_setting setting) moments t point ≡ true

@@ -1,11 +1,10 @@
 -- The edges that fell in a round, listed, are the fresh edges after it.
-use Rattle.std.proofs.Common.{◌≡◌, ◌&&◌, ◌≢◌, ◌==◌, ◌⊎◌, ℕ, suc, ◌+◌, ◌<◌, ◌≤◌, ℤ, ◌≤ℤ◌, ◌<ℤ◌, Bool, true, false, not, cond, nat_lt, List, [], ◌∷◌, ◌++◌, length, map, take, get_or, Option, Some, None, refl, ap, sym, subst, ◌∙◌, inl, inr, arith, is_none}
+use Rattle.std.proofs.Common.{◌≡◌, ◌≢◌, ◌==◌, ◌⊎◌, ℕ, suc, ◌+◌, ◌<◌, ◌≤◌, ℤ, ◌≤ℤ◌, ◌<ℤ◌, Bool, true, false, not, cond, nat_lt, List, [], ◌∷◌, ◌++◌, length, map, take, get_or, Option, Some, None, refl, ap, sym, subst, ◌∙◌, inl, inr, arith, is_none}
 use Rattle.std.specs.Prelude.{filter, slice_set}
 use Rattle.std.specs.Option.{option_map}
 use Rattle.std.specs.List.{All, AllPairs, Contains, IsDistinct, cons_option, filter_map}
 use Rattle.std.specs.List.Sorted.{IsNonDecreasingBy}
 use Rattle.std.proofs.Math.ListN.{get_or-eq_default}
-use Rattle.std.proofs.lemmas.Bool.{eqb-true}
 use Rattle.std.proofs.lemmas.Bool.Decides.{nat_tests}
 use Rattle.std.proofs.lemmas.List.{take_more, map-append, get_or-take, get_or-set_same, get_or-set_other, get_or_default, length-set, length-take-le}
 use Rattle.std.proofs.lemmas.List.Elements.{All-contains, All-from_recursion, recursion_from_All, filter-append, Contains-append_cases, Contains-append_left, Contains-append_right}
@@ -20,17 +19,17 @@ use Rattle.net_model.specs.declared.part.Edge.{Edge}
 use Rattle.closure_model.specs.FreshEdges.{fresh_at, has_fallen, AreFreshAfter}
 use Rattle.closure_model.specs.Keys.{Key, key_of, edge_of, ordinary_key, all_points}
 use Rattle.closure_model.specs.Orders.{is_among}
-use Rattle.closure_model.specs.ReferenceRow.{same_label, ordinary_into, reference_row, with_made, IsBelow, IsRowOf}
+use Rattle.closure_model.specs.ReferenceRow.{ordinary_into, reference_row, with_made, IsBelow, IsRowOf}
 use Rattle.closure_model.specs.ReferenceRound.{is_same_key, round_made}
 use Rattle.closure_model.specs.Tables.{Graph, weight_of, HasEdge, HasAtMost, IsFor, IsGraph}
 use Rattle.closure_model.specs.declared.rows.Made.{Made}
 use Rattle.closure_model.proofs.Consequences.{all_points_stand, ordinary_from, ordinary_stands}
 use Rattle.closure_model.proofs.FreshLemmas.{unfallen_were_there}
-use Rattle.closure_model.proofs.Lists.{Contains-head, Contains-tail, Contains-cases, Contains-none, Contains-map, Contains-map_from, Contains-flat_map, Contains-flat_map_from, Contains-filter_from}
+use Rattle.closure_model.proofs.Lists.{Contains-head, Contains-tail, Contains-cases, Contains-none, Contains-map, Contains-map_from, Contains-flat_map, Contains-flat_map_from, Contains-filter_from, Contains-filter, Contains-filter_passes, any_is, any_from, Contains-filter_map_from}
 use Rattle.closure_model.proofs.OrderLemmas.{among_from, from_among}
-use Rattle.closure_model.proofs.RoundLaw.{is_same_key_of}
+use Rattle.closure_model.proofs.RoundLaw.{is_same_key_of, same_key_is}
 use Rattle.closure_model.proofs.RowLaw.{row_result}
-use Rattle.closure_model.proofs.Slots.{both, same_label_is}
+use Rattle.closure_model.proofs.Slots.{both}
 use Rattle.closure_model.proofs.TableLemmas.{all_lowered-has, all_lowered-cases, at_most_gives}
 use Rattle.closure_model.proofs.Weights.{not_below, le_then_lt}
 use Rattle.back_propagation.specs.declared.settling.NewRow.{NewRow}
@@ -38,29 +37,6 @@ use Rattle.parallel_rounds.specs.Rows.{new_row}
 use Rattle.parallel_rounds.specs.Targets.{AreRising, AreRowsOfRound}
 use Rattle.parallel_rounds.specs.Telling.{ordinary_made, AreInOrder, AreListed, changed_in}
 use Rattle.parallel_rounds.proofs.Rising.{rising_tail, rising_above, all_rise, all_inside}
-use Rattle.parallel_rounds.proofs.StaleSteps.{one_of, any_of, passes_filter, stays_in_filter}
-
--- ---- lists and keys
-Contains-filter_map_from : {X Y : Type 0} (f : X → Option Y) (xs : List X) (y : Y) → Contains (filter_map f xs) y → (x : X) × Contains xs x × (f x ≡ Some y)
-Contains-filter_map_from f [] y inside = absurd (Contains-none y inside)
-Contains-filter_map_from f (x ∷ xs) y inside = by (λ there. let (z, at, is) = Contains-filter_map_from f xs y there in (z, Contains-tail x xs z at, is)) (f x) refl inside
-  where
-    by : (Contains (filter_map f xs) y → (z : _) × Contains (x ∷ xs) z × (f z ≡ Some y)) → (o : Option _) → f x ≡ o → Contains (filter_map f (x ∷ xs)) y → (z : _) × Contains (x ∷ xs) z × (f z ≡ Some y)
-    by rest None none inside = rest (rw none at inside)
-    by rest (Some w) some inside = either (Contains-cases w (filter_map f xs) y (rw some at inside))
-      where
-        either : (w ≡ y) ⊎ Contains (filter_map f xs) y → (z : _) × Contains (x ∷ xs) z × (f z ≡ Some y)
-        either (inl here) = (x, Contains-head x xs, some ∙ ap Some here)
-        either (inr there) = rest there
-
-same_key_is : (one other : Edge) → is_same_key one other ≡ true → key_of other ≡ key_of one
-same_key_is one other same =
-    let (tos, rest) = both (one.to.0 == other.to.0) (one.from.0 == other.from.0 && same_label one.label other.label) same in
-    let (froms, labels) = both (one.from.0 == other.from.0) (same_label one.label other.label) rest in
-    let to : other.to ≡ one.to = ap (λ (k : ℕ). record { 0 = k }) (sym (eqb-true one.to.0 other.to.0 tos)) in
-    let from : other.from ≡ one.from = ap (λ (k : ℕ). record { 0 = k }) (sym (eqb-true one.from.0 other.from.0 froms)) in
-    let label : other.label ≡ one.label = sym (same_label_is one.label other.label labels) in
-    λ i. record { to = to i; from = from i; label = label i }
 
 -- ---- loops
 pub changed_more : (rows : List NewRow) (i : ℕ) (row : NewRow) (items new : List PointId) → i < length rows → row ≡ get_or rows i row → items ≡ changed_in (take i rows) → new ≡ items ++ changed_in (row ∷ []) → new ≡ changed_in (take (i + 1) rows)
@@ -210,7 +186,7 @@ none_label (Some label) is = absurd cc
 ordinary_is : (made : List Made) (edge : Edge) → Contains (ordinary_made made) edge → (one : Made) × Contains made one × (one.edge ≡ edge) × (edge.label ≡ None)
 ordinary_is made edge inside =
     let (one, there, is) = Contains-map_from (λ (m : Made). m.edge) made edge (Contains-filter_from (λ (e : Edge). is_none e.label) (map (λ (m : Made). m.edge) made) edge inside) in
-    (one, there, is, none_label edge.label (passes_filter (λ (e : Edge). is_none e.label) (map (λ (m : Made). m.edge) made) edge inside))
+    (one, there, is, none_label edge.label (Contains-filter_passes (λ (e : Edge). is_none e.label) (map (λ (m : Made). m.edge) made) edge inside))
 
 -- the ordinary edges among those that fell in a row begin in different points
 distinct_made : (to : PointId) (made : List Made) → ((one : Made) → Contains made one → one.edge.to ≡ to) → AllPairs (λ (one other : Made). key_of one.edge ≢ key_of other.edge) made → IsDistinct from_same (ordinary_made made)
@@ -285,7 +261,7 @@ module _ (net : Plan) (before : Graph) (plan : IsPlan net) (fits : IsFor net bef
       (subst (λ (p : PointId). p.0 < before.shape.points) (sym ends) point, subst (λ (p : PointId). Contains (reference_row net before p) one) (sym ends) made)
 
   fallen_at : (edge : Edge) → fell edge ≡ true → (one : Made) × Contains (round_made net before) one × (key_of edge ≡ key_of one.edge)
-  fallen_at edge test = let (one, inside, passes) = one_of (λ (m : Made). is_same_key m.edge edge) (round_made net before) test in (one, inside, same_key_is one.edge edge passes)
+  fallen_at edge test = let (one, inside, passes) = any_is (λ (m : Made). is_same_key m.edge edge) (round_made net before) test in (one, inside, same_key_is one.edge edge passes)
 
   -- one key falls once in a row
   only_one : (to : PointId) (one other : Made) → Contains (reference_row net before to) one → Contains (reference_row net before to) other → key_of one.edge ≡ key_of other.edge → one ≡ other
@@ -335,18 +311,18 @@ module _ (net : Plan) (before : Graph) (plan : IsPlan net) (fits : IsFor net bef
         let (one, made, is, none) = ordinary_is (reference_row net before point) edge (Contains-permutation list (ordinary_made (reference_row net before point)) edge (IsPermutation-sym (ordinary_made (reference_row net before point)) list are.same) there) in
         let has : HasEdge now edge = subst (HasEdge now) is (fell_has one (in_round one made)) in
         let ends : edge.to ≡ point = sym (ap (λ (e : Edge). e.to) is) ∙ All-contains (λ (m : Made). m.edge.to ≡ point) (reference_row net before point) one (result point).ends made in
-        let test : fell edge ≡ true = any_of (λ (m : Made). is_same_key m.edge edge) (round_made net before) one (in_round one made) (is_same_key_of one.edge edge (ap key_of (sym is))) in
-        stays_in_filter fell (ordinary_into now point) edge (ordinary_stands now point sound_now edge has none ends) test
+        let test : fell edge ≡ true = any_from (λ (m : Made). is_same_key m.edge edge) (round_made net before) one (in_round one made) (is_same_key_of one.edge edge (ap key_of (sym is))) in
+        Contains-filter fell (ordinary_into now point) edge (ordinary_stands now point sound_now edge has none ends) test
 
     backward : (edge : Edge) → Contains (filter fell (ordinary_into now point)) edge → Contains list edge
     backward edge there =
         let (has, none, ends) = ordinary_from now point edge (Contains-filter_from fell (ordinary_into now point) edge there) in
-        let (one, made, key) = fallen_at edge (passes_filter fell (ordinary_into now point) edge there) in
+        let (one, made, key) = fallen_at edge (Contains-filter_passes fell (ordinary_into now point) edge there) in
         let same : edge ≡ one.edge = same_edge edge one.edge key has (fell_has one made) in
         let to : one.edge.to ≡ point = sym (ap (λ (e : Edge). e.to) same) ∙ ends in
         let row : Contains (reference_row net before point) one = subst (λ (p : PointId). Contains (reference_row net before p) one) to (in_its_row one made).1 in
         let label : is_none one.edge.label ≡ true = ap is_none (sym (ap (λ (e : Edge). e.label) same) ∙ none) in
-        let among : Contains (ordinary_made (reference_row net before point)) one.edge = stays_in_filter (λ (e : Edge). is_none e.label) (map (λ (m : Made). m.edge) (reference_row net before point)) one.edge (Contains-map (λ (m : Made). m.edge) (reference_row net before point) one row) label in
+        let among : Contains (ordinary_made (reference_row net before point)) one.edge = Contains-filter (λ (e : Edge). is_none e.label) (map (λ (m : Made). m.edge) (reference_row net before point)) one.edge (Contains-map (λ (m : Made). m.edge) (reference_row net before point) one row) label in
         subst (Contains list) (sym same) (Contains-permutation (ordinary_made (reference_row net before point)) list one.edge are.same among)
       where
         same_edge : (e f : Edge) → key_of e ≡ key_of f → HasEdge now e → HasEdge now f → e ≡ f
@@ -370,7 +346,7 @@ module _ (net : Plan) (before : Graph) (plan : IsPlan net) (fits : IsFor net bef
       by (edge ∷ edges) is =
           let there : Contains (filter fell (ordinary_into now point)) edge = subst (λ (l : List Edge). Contains l edge) (sym is) (Contains-head edge edges) in
           let (has, none, ends) = ordinary_from now point edge (Contains-filter_from fell (ordinary_into now point) edge there) in
-          let (one, made, key) = fallen_at edge (passes_filter fell (ordinary_into now point) edge there) in
+          let (one, made, key) = fallen_at edge (Contains-filter_passes fell (ordinary_into now point) edge there) in
           let to : one.edge.to ≡ point = sym (ap (λ (k : Key). k.to) key) ∙ ends in
           let (inside, row) = in_its_row one made in
           let here : Contains (reference_row net before point) one = subst (λ (p : PointId). Contains (reference_row net before p) one) to row in

@@ -21,7 +21,7 @@ use Rattle.closure_model.specs.ReferenceRound.{round_made, after_round}
 use Rattle.closure_model.specs.Tables.{Graph, IsFor, IsGraph, lowered}
 use Rattle.closure_model.specs.declared.rows.Made.{Made}
 use Rattle.closure_model.proofs.FreshLemmas.{rows_are_met_after_a_round}
-use Rattle.closure_model.proofs.Lists.{Contains-map, Contains-map_from, Contains-filter_from}
+use Rattle.closure_model.proofs.Lists.{Contains-map, Contains-map_from, Contains-filter_from, Contains-filter}
 use Rattle.closure_model.proofs.OrderLemmas.{among_from, from_among}
 use Rattle.closure_model.proofs.RoundClosing.{standing_fits, standing_sound}
 use Rattle.closure_model.proofs.RoundsLaw.{round_stands_after}
@@ -32,7 +32,7 @@ use Rattle.parallel_rounds.specs.Targets.{AreRising, AreRowsOfRound}
 use Rattle.parallel_rounds.specs.Telling.{IsLastRound, AreInOrder, AreListed, ordinary_made, changed_in}
 use Rattle.parallel_rounds.specs.declared.telling.LastRound.{LastRound}
 use Rattle.parallel_rounds.proofs.FreshSteps.{fresh_after}
-use Rattle.parallel_rounds.proofs.StaleSteps.{All-from_each, map_pairs, stays_in_filter, rows_make_round}
+use Rattle.parallel_rounds.proofs.StaleSteps.{All-from_each, map_pairs, rows_make_round}
 
 module _ (net : Plan) (table : Graph) (rows : List NewRow) (are : AreRowsOfRound net table rows) where
   pub rows_rise : AllPairs (λ (one other : NewRow). one.target.0 < other.target.0) rows
@@ -79,7 +79,7 @@ module _ (net : Plan) (table : Graph) (rows : List NewRow) (are : AreRowsOfRound
       there inside = subst (λ (l : List NewRow). Contains l (new_row net table point)) (sym are.rows_are) (Contains-map (new_row net table) are.targets point inside)
 
       fell : Contains are.targets point → not (length (reference_row net table point) == 0) ≡ true → ⊥
-      fell inside some = unchanged (Contains-map (λ (r : NewRow). r.target) (filter (λ (r : NewRow). not (length r.made == 0)) rows) (new_row net table point) (stays_in_filter (λ (r : NewRow). not (length r.made == 0)) rows (new_row net table point) (there inside) some))
+      fell inside some = unchanged (Contains-map (λ (r : NewRow). r.target) (filter (λ (r : NewRow). not (length r.made == 0)) rows) (new_row net table point) (Contains-filter (λ (r : NewRow). not (length r.made == 0)) rows (new_row net table point) (there inside) some))
 
       by : (b : Bool) → is_among are.targets point ≡ b → fresh_at fresh point ≡ []
       by true is =

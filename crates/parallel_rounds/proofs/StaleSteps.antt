@@ -1,11 +1,11 @@
 -- The targets that are stale, and that no row but theirs is needed.
-use Rattle.std.proofs.Common.{◌≡◌, ◌&&◌, ◌||◌, ◌==◌, nat_lt, ◌⊎◌, ℕ, zero, suc, ◌+◌, ◌<◌, ◌≤◌, pos, Bool, true, false, cond, List, [], ◌∷◌, ◌++◌, length, map, get_or, refl, ap, sym, subst, ◌∙◌, inl, inr, arith}
+use Rattle.std.proofs.Common.{◌≡◌, ◌&&◌, ◌||◌, ◌==◌, nat_lt, ◌⊎◌, ℕ, zero, suc, ◌+◌, ◌<◌, ◌≤◌, pos, Bool, true, false, List, [], ◌∷◌, ◌++◌, length, map, get_or, refl, ap, sym, subst, ◌∙◌, inl, inr, arith}
 use Rattle.std.specs.Prelude.{filter, int_lt}
 use Rattle.std.specs.List.{All, AllPairs, Contains, flat_map, list_any, range_with_len, slice_index_or}
 use Rattle.std.proofs.Math.ListN.{get_or-eq_default}
 use Rattle.std.proofs.lemmas.Bool.Decides.{nat_tests}
 use Rattle.std.proofs.lemmas.List.Elements.{All-contains, All-filter, filter-append}
-use Rattle.std.proofs.lemmas.List.Folds.{flat_map-map, Any-from_list_any, list_any-from_Any}
+use Rattle.std.proofs.lemmas.List.Folds.{flat_map-map}
 use Rattle.std.proofs.lemmas.List.{get_or_default}
 use Rattle.std.proofs.lemmas.List.FromFn.{map-range_with_len_more}
 use Rattle.std.proofs.lemmas.List.Kept.{AllPairs-filter, AllPairs-cons}
@@ -20,7 +20,7 @@ use Rattle.closure_model.specs.Tables.{Graph, IsFor, IsGraph, row_of, edges_of}
 use Rattle.closure_model.specs.declared.rows.Made.{Made}
 use Rattle.closure_model.proofs.Consequences.{all_points_stand}
 use Rattle.closure_model.proofs.FreshLemmas.{unstale_rows_make_nothing}
-use Rattle.closure_model.proofs.Lists.{Contains-head, Contains-tail, Contains-cases, Contains-none, Contains-map_from, Contains-filter_from}
+use Rattle.closure_model.proofs.Lists.{Contains-head, Contains-tail, Contains-cases, Contains-none, Contains-map_from, Contains-filter_from, Contains-filter, Contains-filter_passes, any_is, any_from}
 use Rattle.closure_model.proofs.TableLemmas.{listed_edge, edge_listed}
 use Rattle.closure_model.proofs.Weights.{lt_is, lt_true}
 use Rattle.closure_model.proofs.OrderLemmas.{among_from, from_among, both_true}
@@ -34,34 +34,6 @@ use Rattle.parallel_rounds.specs.declared.telling.LastRound.{LastRound}
 use Rattle.parallel_rounds.proofs.Rising.{rising_tail, rising_above, all_rise, all_inside}
 
 -- ---- lists
-pub passes_filter : {X : Type 0} (keep : X → Bool) (xs : List X) (x : X) → Contains (filter keep xs) x → keep x ≡ true
-passes_filter keep [] x inside = absurd (Contains-none x inside)
-passes_filter keep (y ∷ ys) x inside = by (λ there. passes_filter keep ys x there) (keep y) refl inside
-  where
-    by : (Contains (filter keep ys) x → keep x ≡ true) → (b : Bool) → keep y ≡ b → Contains (cond b (y ∷ filter keep ys) (filter keep ys)) x → keep x ≡ true
-    by rest true is inside = either (Contains-cases y (filter keep ys) x inside)
-      where
-        either : (y ≡ x) ⊎ Contains (filter keep ys) x → keep x ≡ true
-        either (inl same) = ap keep (sym same) ∙ is
-        either (inr there) = rest there
-    by rest false is inside = rest inside
-
-pub stays_in_filter : {X : Type 0} (keep : X → Bool) (xs : List X) (x : X) → Contains xs x → keep x ≡ true → Contains (filter keep xs) x
-stays_in_filter keep [] x inside passes = absurd (Contains-none x inside)
-stays_in_filter keep (y ∷ ys) x inside passes = by (λ there. stays_in_filter keep ys x there passes) (keep y) refl (Contains-cases y ys x inside)
-  where
-    by : (Contains ys x → Contains (filter keep ys) x) → (b : Bool) → keep y ≡ b → (y ≡ x) ⊎ Contains ys x → Contains (cond b (y ∷ filter keep ys) (filter keep ys)) x
-    by rest true is (inl same) = subst (Contains (y ∷ filter keep ys)) same (Contains-head y (filter keep ys))
-    by rest true is (inr there) = Contains-tail y (filter keep ys) x (rest there)
-    by rest false is (inl same) = let clash : keep y ≡ true = ap keep same ∙ passes in absurd cc
-    by rest false is (inr there) = rest there
-
-pub one_of : {X : Type 0} (p : X → Bool) (xs : List X) → list_any p xs ≡ true → (x : X) × Contains xs x × (p x ≡ true)
-one_of p xs test = let (k, x, inside, at, passes) = Any-from_list_any p xs test in (x, (k, inside, at), passes)
-
-pub any_of : {X : Type 0} (p : X → Bool) (xs : List X) (x : X) → Contains xs x → p x ≡ true → list_any p xs ≡ true
-any_of p xs x (k, inside, at) passes = list_any-from_Any p xs (k, x, inside, at, passes)
-
 pub any_mapped : {X Y : Type 0} (p : Y → Bool) (f : X → Y) (xs : List X) → list_any p (map f xs) ≡ list_any (λ x. p (f x)) xs
 any_mapped p f [] = refl
 any_mapped p f (x ∷ xs) = ap (λ (b : Bool). p (f x) || b) (any_mapped p f xs)
@@ -101,10 +73,10 @@ module _ (table : Graph) (changed : List PointId) (marks : List Bool) (are : Are
 
   stale_from : (point : PointId) → is_reached table marks point ≡ true → IsStale table changed point
   stale_from point test =
-      let (edge, inside, passes) = one_of (reaches marks) (row_of table point) test in
+      let (edge, inside, passes) = any_is (reaches marks) (row_of table point) test in
       let (negative, from) = both_true (int_lt edge.weight (pos 0)) (slice_index_or marks edge.from.0 false) passes in
       let listed = Contains-filter_from (λ (e : Edge). e.to.0 == point.0) (edges_of table) edge inside in
-      let ends = passes_filter (λ (e : Edge). e.to.0 == point.0) (edges_of table) edge inside in
+      let ends = Contains-filter_passes (λ (e : Edge). e.to.0 == point.0) (edges_of table) edge inside in
       (edge, listed_edge table edge listed, same_point edge.to point ends, lt_is edge.weight (pos 0) negative, marked edge.from from)
     where
       same_point : (one other : PointId) → (one.0 == other.0) ≡ true → one ≡ other
@@ -115,8 +87,8 @@ module _ (table : Graph) (changed : List PointId) (marks : List Bool) (are : Are
       let within : edge.from.0 < length marks = All-contains (λ (p : PointId). p.0 < length marks) changed edge.from inside from in
       let mark : slice_index_or marks edge.from.0 false ≡ true = are edge.from.0 within ∙ among_from changed edge.from from in
       let test : (edge.to.0 == point.0) ≡ true = same_number edge.to.0 point.0 (ap (λ (p : PointId). p.0) ends) in
-      let there = stays_in_filter (λ (e : Edge). e.to.0 == point.0) (edges_of table) edge (edge_listed table edge has) test in
-      any_of (reaches marks) (row_of table point) edge there (both_of (int_lt edge.weight (pos 0)) (slice_index_or marks edge.from.0 false) (lt_true edge.weight (pos 0) negative) mark)
+      let there = Contains-filter (λ (e : Edge). e.to.0 == point.0) (edges_of table) edge (edge_listed table edge has) test in
+      any_from (reaches marks) (row_of table point) edge there (both_of (int_lt edge.weight (pos 0)) (slice_index_or marks edge.from.0 false) (lt_true edge.weight (pos 0) negative) mark)
     where
       same_number : (a b : ℕ) → a ≡ b → (a == b) ≡ true
       same_number a b is = grind (arith, nat_tests)
@@ -130,9 +102,9 @@ stale_are net table changed marks points targets fits long count known are is = 
   rise = AllPairs-filter (λ (one other : PointId). one.0 < other.0) (is_reached table marks) (all_points table.shape) (all_rise table.shape);
   points = All-filter (is_reached table marks) (λ (p : PointId). p.0 < table.shape.points) (all_points table.shape) (all_inside table.shape);
   stale = All-from_each (IsStale table changed) (filter (is_reached table marks) (all_points table.shape))
-      (λ point inside. stale_from table changed marks are point (passes_filter (is_reached table marks) (all_points table.shape) point inside));
+      (λ point inside. stale_from table changed marks are point (Contains-filter_passes (is_reached table marks) (all_points table.shape) point inside));
   whole = λ point inside stale.
-      stays_in_filter (is_reached table marks) (all_points table.shape) point (all_points_stand table.shape point inside) (stale_reached table changed marks are point within stale);
+      Contains-filter (is_reached table marks) (all_points table.shape) point (all_points_stand table.shape point inside) (stale_reached table changed marks are point within stale);
 })
   where
     same : points ≡ table.shape.points

@@ -1,5 +1,5 @@
 -- Tables that are lowered to the edges of one another.
-use Rattle.std.proofs.Common.{◌≡◌, ℕ, ◌+◌, ◌<◌, ◌≤◌, ℤ, ◌==◌, ◌⊎◌, Bool, true, false, List, [], ◌∷◌, length, take, get_or, filter, cond, Option, Some, None, IfSome, refl, ap, sym, subst, ◌∙◌, inl, inr, arith}
+use Rattle.std.proofs.Common.{◌≡◌, ℕ, ◌+◌, ◌<◌, ◌≤◌, ℤ, ◌==◌, ◌⊎◌, List, [], ◌∷◌, length, take, get_or, Option, Some, None, IfSome, refl, ap, sym, subst, ◌∙◌, inl, inr, arith}
 use Rattle.std.specs.Prelude.{MatchOption, slice_get}
 use Rattle.std.specs.List.{All, Contains}
 use Rattle.std.proofs.lemmas.Bool.Decides.{nat_tests}
@@ -17,7 +17,7 @@ use Rattle.closure_model.specs.Keys.{Key, shape_of, key_of}
 use Rattle.closure_model.specs.Tables.{Graph, weight_of, HasEdge, HasAtMost, IsAtMost, base_edges, edges_of, row_of, no_edges, lowered}
 use Rattle.closure_model.proofs.BaseLemmas.{all_contained}
 use Rattle.closure_model.proofs.LawProofs.{rules_keep_derivable, closed_and_derivable_is_closure}
-use Rattle.closure_model.proofs.Lists.{Contains-cases, Contains-none, Contains-head, Contains-tail}
+use Rattle.closure_model.proofs.Lists.{Contains-cases, Contains-none, Contains-filter, Contains-filter_from}
 use Rattle.closure_model.proofs.TableLemmas.{listed_edge, edge_listed, no_edges-has_none, lowered-at_most, lowered-cases, lowered-shape, lowered-has, at_most_below, at_most_from, IsAtMost-itself, IsAtMost-trans}
 use Rattle.table_closing.proofs.GivingLemmas.{held_one, label_known, labelled_end}
 use Rattle.table_closing.proofs.WayLemmas.{derivable_is}
@@ -68,33 +68,11 @@ pub no_edges_of_derivable : (net : Plan) (table : Graph) → IsPlan net → tabl
 no_edges_of_derivable net table plan is = record { plan = plan; fits = ap (λ (g : Graph). g.shape) is; derivable = λ edge has. absurd (no_edges-has_none (shape_of net) edge (subst (λ (g : Graph). HasEdge g edge) is has)) }
 
 -- ---- rows
-filter_keeps : (test : Edge → Bool) (edges : List Edge) (edge : Edge) → Contains edges edge → test edge ≡ true → Contains (filter test edges) edge
-filter_keeps test [] edge inside holds = absurd (Contains-none edge inside)
-filter_keeps test (first ∷ edges) edge inside holds = by (λ later. filter_keeps test edges edge later holds) (test first) refl (Contains-cases first edges edge inside)
-  where
-    by : (Contains edges edge → Contains (filter test edges) edge) → (b : Bool) → test first ≡ b → (first ≡ edge) ⊎ Contains edges edge → Contains (cond b (first ∷ filter test edges) (filter test edges)) edge
-    by rest true is (inl same) = subst (Contains (first ∷ filter test edges)) same (Contains-head first (filter test edges))
-    by rest true is (inr later) = Contains-tail first (filter test edges) edge (rest later)
-    by rest false is (inl same) = let both : true ≡ false = sym holds ∙ ap test (sym same) ∙ is in absurd cc
-    by rest false is (inr later) = rest later
-
-filter_from : (test : Edge → Bool) (edges : List Edge) (edge : Edge) → Contains (filter test edges) edge → Contains edges edge
-filter_from test [] edge inside = absurd (Contains-none edge inside)
-filter_from test (first ∷ edges) edge inside = by (filter_from test edges edge) (test first) inside
-  where
-    by : (Contains (filter test edges) edge → Contains edges edge) → (b : Bool) → Contains (cond b (first ∷ filter test edges) (filter test edges)) edge → Contains (first ∷ edges) edge
-    by rest true here = at (Contains-cases first (filter test edges) edge here)
-      where
-        at : (first ≡ edge) ⊎ Contains (filter test edges) edge → Contains (first ∷ edges) edge
-        at (inl same) = subst (Contains (first ∷ edges)) same (Contains-head first edges)
-        at (inr later) = Contains-tail first edges edge (rest later)
-    by rest false here = Contains-tail first edges edge (rest here)
-
 pub in_row : (table : Graph) (to : PointId) (edge : Edge) → HasEdge table edge → edge.to.0 ≡ to.0 → Contains (row_of table to) edge
-in_row table to edge has ends = filter_keeps (λ (e : Edge). e.to.0 == to.0) (edges_of table) edge (edge_listed table edge has) (grind (arith, nat_tests))
+in_row table to edge has ends = Contains-filter (λ (e : Edge). e.to.0 == to.0) (edges_of table) edge (edge_listed table edge has) (grind (arith, nat_tests))
 
 pub row_derivable : (net : Plan) (table : Graph) (to : PointId) (row : List Edge) → row ≡ row_of table to → HoldsDerivable net table → All (IsDerivable net) row
-row_derivable net table to row is derivable = subst (All (IsDerivable net)) (sym is) (all_contained (IsDerivable net) (row_of table to) (λ edge inside. derivable edge (listed_edge table edge (filter_from (λ (e : Edge). e.to.0 == to.0) (edges_of table) edge inside))))
+row_derivable net table to row is derivable = subst (All (IsDerivable net)) (sym is) (all_contained (IsDerivable net) (row_of table to) (λ edge inside. derivable edge (listed_edge table edge (Contains-filter_from (λ (e : Edge). e.to.0 == to.0) (edges_of table) edge inside))))
 
 -- ---- one edge, row or label more
 cases_below : (k n : ℕ) → k < n + 1 → (k < n) ⊎ (k ≡ n)

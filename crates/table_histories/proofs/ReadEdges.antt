@@ -1,11 +1,11 @@
 -- The edges that a worker read: where each comes from, and what one more read adds.
-use Rattle.std.proofs.Common.{◌≡◌, ℕ, ◌==◌, Bool, true, false, cond, ◌⊎◌, inl, inr, List, [], ◌∷◌, ◌++◌, map, filter, refl, sym, subst, ◌∙◌, ap, arith}
+use Rattle.std.proofs.Common.{◌≡◌, ℕ, ◌==◌, true, List, [], ◌∷◌, ◌++◌, map, filter, sym, subst, ◌∙◌, ap, arith}
 use Rattle.std.specs.List.{All, Contains}
 use Rattle.std.proofs.lemmas.Bool.Decides.{nat_tests}
 use Rattle.std.proofs.lemmas.List.{map-append}
 use Rattle.std.proofs.lemmas.List.Elements.{All-filter, All-map, All-contains, filter-append, Contains-append_left, Contains-push}
 use Rattle.net_model.specs.declared.part.Edge.{Edge}
-use Rattle.closure_model.proofs.Lists.{Contains-head, Contains-tail, Contains-none, Contains-cases, Contains-map}
+use Rattle.closure_model.proofs.Lists.{Contains-map, Contains-filter}
 use Rattle.table_histories.specs.TableHistory.{Read, edges_read_by}
 
 -- what holds of each edge that was read holds of each that a worker read
@@ -23,21 +23,11 @@ pub read_earlier : (worker : ℕ) (read more : List Read) (edge : Edge) → Cont
 read_earlier worker read more edge inside =
     subst (λ (edges : List Edge). Contains edges edge) (sym (read_append worker read more)) (Contains-append_left (edges_read_by worker read) (edges_read_by worker more) edge inside)
 
-Contains-filter : {X : Type 0} (p : X → Bool) (xs : List X) (x : X) → p x ≡ true → Contains xs x → Contains (filter p xs) x
-Contains-filter p [] x passes inside = absurd (Contains-none x inside)
-Contains-filter p (y ∷ ys) x passes inside = by (p y) refl (λ there. Contains-filter p ys x passes there) (Contains-cases y ys x inside)
-  where
-    by : (b : Bool) → p y ≡ b → (Contains ys x → Contains (filter p ys) x) → (y ≡ x) ⊎ Contains ys x → Contains (cond b (y ∷ filter p ys) (filter p ys)) x
-    by true is rest (inl here) = subst (Contains (y ∷ filter p ys)) here (Contains-head y (filter p ys))
-    by true is rest (inr there) = Contains-tail y (filter p ys) x (rest there)
-    by false is rest (inl here) = let same : p y ≡ p x = ap p here in absurd cc
-    by false is rest (inr there) = rest there
-
 -- a read is one of its worker
 pub read_of : (read : List Read) (one : Read) → Contains read one → Contains (edges_read_by one.worker read) one.edge
 read_of read one inside =
     let own : (one.worker == one.worker) ≡ true = grind (arith, nat_tests) in
-    Contains-map (λ (r : Read). r.edge) (filter (λ (r : Read). r.worker == one.worker) read) one (Contains-filter (λ (r : Read). r.worker == one.worker) read one own inside)
+    Contains-map (λ (r : Read). r.edge) (filter (λ (r : Read). r.worker == one.worker) read) one (Contains-filter (λ (r : Read). r.worker == one.worker) read one inside own)
 
 pub read_now : (worker : ℕ) (read : List Read) (edge : Edge) → Contains (edges_read_by worker (read ++ record { worker = worker; edge = edge } ∷ [])) edge
 read_now worker read edge = let last : Read = record { worker = worker; edge = edge } in read_of (read ++ last ∷ []) last (Contains-push read last)
