@@ -12,18 +12,18 @@ use Rattle.net_model.specs.declared.ids.PointId.{PointId}
 use Rattle.net_model.specs.declared.ids.LinkId.{LinkId}
 use Rattle.net_model.specs.declared.part.Link.{Link}
 use Rattle.strategy_model.specs.Situations.{DifferOnlyIn}
-use Rattle.strategy_model.specs.Plays.{Moments, points_of, same_point, moment_of, may_act, completes, is_completed, completed, play_from, play_cases}
+use Rattle.strategy_model.specs.Plays.{PartialSchedule, points_of, same_point, moment_so_far, may_act, completes, is_completed, completed, play_from, play_cases}
 use Rattle.strategy_model.specs.declared.tree.Tree.{Tree, Leaf, Node', Row_of-Case, end_of-Case, more_of-Case}
 use Rattle.strategy_model.proofs.MomentLemmas.{made_length}
 use Rattle.strategy_model.proofs.PlayLemmas.{and_moment, along, goes_on}
 
 -- each link completes in both situations or in neither
-abbrev CompleteAlike : Moments → ℕ → List Link → List ℕ → List ℕ → Type 0
+abbrev CompleteAlike : PartialSchedule → ℕ → List Link → List ℕ → List ℕ → Type 0
 CompleteAlike so_far t links ds es =
     (i : ℕ) (link : Link) (d e : ℕ) → slice_get links i ≡ Some link → slice_get ds i ≡ Some d → slice_get es i ≡ Some e → completes so_far t link d ≡ completes so_far t link e
 
 -- then the same points are completed
-same_completed : (so_far : Moments) (t : ℕ) (links : List Link) (ds es : List ℕ) → length ds ≡ length links → length es ≡ length links → CompleteAlike so_far t links ds es → (point : PointId)
+same_completed : (so_far : PartialSchedule) (t : ℕ) (links : List Link) (ds es : List ℕ) → length ds ≡ length links → length es ≡ length links → CompleteAlike so_far t links ds es → (point : PointId)
     → is_completed so_far t links ds point ≡ is_completed so_far t links es point
 same_completed so_far t [] ds es ds_length es_length same point = refl
 same_completed so_far t (link ∷ links) [] es ds_length es_length same point = absurd (omega (arith, ds_length))
@@ -34,15 +34,15 @@ same_completed so_far t (link ∷ links) (d ∷ ds) (e ∷ es) ds_length es_leng
     ap (λ (b : Bool). (same_point link.to point && b) || is_completed so_far t links ds point) here ∙ ap (λ (b : Bool). (same_point link.to point && completes so_far t link e) || b) rest
 
 -- before a link's completion it isn't completed
-not_yet : (so_far : Moments) (t : ℕ) (link : Link) (duration : ℕ) → ((a : ℕ) → moment_of so_far link.from ≡ Some a → t < a + duration) → completes so_far t link duration ≡ false
-not_yet so_far t link duration after = go (moment_of so_far link.from) refl
+not_yet : (so_far : PartialSchedule) (t : ℕ) (link : Link) (duration : ℕ) → ((a : ℕ) → moment_so_far so_far link.from ≡ Some a → t < a + duration) → completes so_far t link duration ≡ false
+not_yet so_far t link duration after = go (moment_so_far so_far link.from) refl
   where
-    go : (o : Option ℕ) → moment_of so_far link.from ≡ o → elim o [ Some a ↦ (a + duration) == t | None ↦ false ] ≡ false
+    go : (o : Option ℕ) → moment_so_far so_far link.from ≡ o → elim o [ Some a ↦ (a + duration) == t | None ↦ false ] ≡ false
     go None is = refl
     go (Some a) is = let before = after a is in ne_eqb (a + duration) t (λ same. omega (arith, before, same))
 
 -- the length of a schedule that is played
-pub played_length : (net : Plan) (situation schedule : List ℕ) (tree : Tree) (so_far : Moments) (t : ℕ) → play_from tree net situation so_far t ≡ Some schedule → length schedule ≡ length net.points
+pub played_length : (net : Plan) (situation schedule : List ℕ) (tree : Tree) (so_far : PartialSchedule) (t : ℕ) → play_from tree net situation so_far t ≡ Some schedule → length schedule ≡ length net.points
 played_length net situation schedule =
     along net situation schedule (λ so_far t. length schedule ≡ length net.points) (λ so_far t made. made_length net so_far schedule made) (λ so_far t acts may after. after)
 
@@ -63,7 +63,7 @@ pub record DifferInLink (net : Plan) (name : LinkId) (link : Link) (ds es first 
   pub after_second : (e : ℕ) → slice_get es name.0 ≡ Some e → limit ≤ slice_index second link.from.0 + e
 
 module _ (net : Plan) (name : LinkId) (link : Link) (ds es first second : List ℕ) (limit : ℕ) (differ : DifferInLink net name link ds es first second limit) where
-  same_links : (tree : Tree) (so_far : Moments) (t : ℕ) → t < limit → play_from tree net ds so_far t ≡ Some first → play_from tree net es so_far t ≡ Some second → (i : ℕ) (other : Link) (d e : ℕ)
+  same_links : (tree : Tree) (so_far : PartialSchedule) (t : ℕ) → t < limit → play_from tree net ds so_far t ≡ Some first → play_from tree net es so_far t ≡ Some second → (i : ℕ) (other : Link) (d e : ℕ)
       → slice_get net.links i ≡ Some other → slice_get ds i ≡ Some d → slice_get es i ≡ Some e → completes so_far t other d ≡ completes so_far t other e
   same_links tree so_far t before played_first played_second i other d e its its_d its_e =
       elim (cases_eq i name.0) [
@@ -79,15 +79,15 @@ module _ (net : Plan) (name : LinkId) (link : Link) (ds es first second : List �
         | inr apart ↦ ap (completes so_far t other) (same_Some d e (sym its_d ∙ differ.elsewhere i apart ∙ its_e))
       ]
 
-  same_points_completed : (tree : Tree) (so_far : Moments) (t : ℕ) → t < limit → play_from tree net ds so_far t ≡ Some first → play_from tree net es so_far t ≡ Some second → completed net ds so_far t ≡ completed net es so_far t
+  same_points_completed : (tree : Tree) (so_far : PartialSchedule) (t : ℕ) → t < limit → play_from tree net ds so_far t ≡ Some first → play_from tree net es so_far t ≡ Some second → completed net ds so_far t ≡ completed net es so_far t
   same_points_completed tree so_far t before played_first played_second =
       filter_agree (is_completed so_far t net.links ds) (is_completed so_far t net.links es) (same_completed so_far t net.links ds es differ.first_length differ.second_length (same_links tree so_far t before played_first played_second)) (points_of net)
 
   -- a point that comes before a moment that isn't before the limit is known by then
-  known_by_then : (tree : Tree) (so_far : Moments) (t : ℕ) → limit ≤ t → play_from tree net ds so_far t ≡ Some first → play_from tree net es so_far t ≡ Some second → (p : PointId) → p.0 < length net.points → slice_index first p.0 < limit → slice_index first p.0 ≡ slice_index second p.0
-  known_by_then tree so_far t past played_first played_second p within sooner = go (moment_of so_far p) refl
+  known_by_then : (tree : Tree) (so_far : PartialSchedule) (t : ℕ) → limit ≤ t → play_from tree net ds so_far t ≡ Some first → play_from tree net es so_far t ≡ Some second → (p : PointId) → p.0 < length net.points → slice_index first p.0 < limit → slice_index first p.0 ≡ slice_index second p.0
+  known_by_then tree so_far t past played_first played_second p within sooner = go (moment_so_far so_far p) refl
     where
-      go : (o : Option ℕ) → moment_of so_far p ≡ o → slice_index first p.0 ≡ slice_index second p.0
+      go : (o : Option ℕ) → moment_so_far so_far p ≡ o → slice_index first p.0 ≡ slice_index second p.0
       go (Some m) known =
           (goes_on net ds first tree so_far t played_first).kept p m within known ∙ sym ((goes_on net es second tree so_far t played_second).kept p m within known)
       go None missing =
@@ -95,7 +95,7 @@ module _ (net : Plan) (name : LinkId) (link : Link) (ds es first second : List �
           absurd (omega (arith, later))
 
   mutual
-    pub agree_from : (tree : Tree) (so_far : Moments) (t : ℕ) → play_from tree net ds so_far t ≡ Some first → play_from tree net es so_far t ≡ Some second → (p : PointId) → p.0 < length net.points → slice_index first p.0 < limit → slice_index first p.0 ≡ slice_index second p.0
+    pub agree_from : (tree : Tree) (so_far : PartialSchedule) (t : ℕ) → play_from tree net ds so_far t ≡ Some first → play_from tree net es so_far t ≡ Some second → (p : PointId) → p.0 < length net.points → slice_index first p.0 < limit → slice_index first p.0 ≡ slice_index second p.0
     agree_from Leaf so_far t played_first played_second p within sooner =
         ap (λ (s : List ℕ). slice_index s p.0) (same_Some first second (sym played_first ∙ played_second))
     agree_from (Node' shape cases) so_far t played_first played_second p within sooner =
@@ -107,7 +107,7 @@ module _ (net : Plan) (name : LinkId) (link : Link) (ds es first second : List �
           | inr past ↦ known_by_then (Node' shape cases) so_far t past played_first played_second p within sooner
         ]
 
-    agree_cases : {m : _} (cases : Row_of-Case m) (so_far : Moments) (t : ℕ) (points : List PointId) → play_cases cases net ds so_far t points ≡ Some first → play_cases cases net es so_far t points ≡ Some second → (p : PointId) → p.0 < length net.points → slice_index first p.0 < limit → slice_index first p.0 ≡ slice_index second p.0
+    agree_cases : {m : _} (cases : Row_of-Case m) (so_far : PartialSchedule) (t : ℕ) (points : List PointId) → play_cases cases net ds so_far t points ≡ Some first → play_cases cases net es so_far t points ≡ Some second → (p : PointId) → p.0 < length net.points → slice_index first p.0 < limit → slice_index first p.0 ≡ slice_index second p.0
     agree_cases end_of-Case so_far t points played_first played_second p within sooner = absurd (none-some first played_first)
     agree_cases (more_of-Case seen acts next others) so_far t points played_first played_second p within sooner =
         let and_now = and_moment so_far t seen acts in

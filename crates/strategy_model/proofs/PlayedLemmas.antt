@@ -9,7 +9,7 @@ use Rattle.std.proofs.lemmas.List.Elements.{filter_agree}
 use Rattle.net_model.specs.Network.{Plan, IsPlan, IsPoint, activation}
 use Rattle.net_model.specs.declared.ids.PointId.{PointId}
 use Rattle.strategy_model.specs.Situations.{IsSituation, moment_in}
-use Rattle.strategy_model.specs.Plays.{Moments, same_point, moment_of, points_of, may_act, completed, play_from, play_cases}
+use Rattle.strategy_model.specs.Plays.{PartialSchedule, same_point, moment_so_far, points_of, may_act, completed, play_from, play_cases}
 use Rattle.strategy_model.specs.Dispatch.{AgreeUpTo, SameCompletions}
 use Rattle.strategy_model.specs.DispatchLaws.{TreesAreDynamic}
 use Rattle.strategy_model.specs.declared.tree.Tree.{Tree, Leaf, Node', Row_of-Case, end_of-Case, more_of-Case}
@@ -20,13 +20,13 @@ use Rattle.strategy_model.proofs.KindLemmas.{kind_of_any}
 use Rattle.strategy_model.proofs.KnownLemmas.{Known, comes_seen, seen_in, same_tests, completed_is}
 
 -- every moment so far is before t
-abbrev Before : Moments → ℕ → Type 0
-Before so_far t = (point : PointId) (m : ℕ) → moment_of so_far point ≡ Some m → m < t
+abbrev Before : PartialSchedule → ℕ → Type 0
+Before so_far t = (point : PointId) (m : ℕ) → moment_so_far so_far point ≡ Some m → m < t
 
-before_next : (so_far : Moments) (t : ℕ) (seen acts : List PointId) → Before so_far t → Before (and_moment so_far t seen acts) (t + 1)
-before_next so_far t seen acts before point m found = by (moment_of so_far point) refl
+before_next : (so_far : PartialSchedule) (t : ℕ) (seen acts : List PointId) → Before so_far t → Before (and_moment so_far t seen acts) (t + 1)
+before_next so_far t seen acts before point m found = by (moment_so_far so_far point) refl
   where
-    by : (o : Option ℕ) → moment_of so_far point ≡ o → m < t + 1
+    by : (o : Option ℕ) → moment_so_far so_far point ≡ o → m < t + 1
     by None missing =
         let now = new_moment t seen acts point m (sym (unknown_later so_far t seen acts point missing) ∙ found) in
         omega (arith, now)
@@ -36,17 +36,17 @@ before_next so_far t seen acts before point m found = by (moment_of so_far point
         omega (arith, same, early)
 
 -- the moments so far of a play are those of its schedule
-known_in_play : (net : Plan) (schedule : List ℕ) (so_far : Moments) (t : ℕ) → Before so_far t → GoesOn net schedule so_far t → Known net schedule so_far t
+known_in_play : (net : Plan) (schedule : List ℕ) (so_far : PartialSchedule) (t : ℕ) → Before so_far t → GoesOn net schedule so_far t → Known net schedule so_far t
 known_in_play net schedule so_far t before goes = record {
-  before = λ point within sooner. by_then point within sooner (moment_of so_far point) refl;
-  not_yet = λ point within later. not_by_then point within later (moment_of so_far point) refl;
+  before = λ point within sooner. by_then point within sooner (moment_so_far so_far point) refl;
+  not_yet = λ point within later. not_by_then point within later (moment_so_far so_far point) refl;
 }
   where
-    by_then : (point : PointId) → IsPoint net point → moment_in schedule point < t → (o : Option ℕ) → moment_of so_far point ≡ o → moment_of so_far point ≡ Some (moment_in schedule point)
+    by_then : (point : PointId) → IsPoint net point → moment_in schedule point < t → (o : Option ℕ) → moment_so_far so_far point ≡ o → moment_so_far so_far point ≡ Some (moment_in schedule point)
     by_then point within sooner None missing = let later = goes.later point within missing in absurd (omega (arith, later, sooner))
     by_then point within sooner (Some m) known = known ∙ ap (λ (k : ℕ). Some k) (sym (goes.kept point m within known))
 
-    not_by_then : (point : PointId) → IsPoint net point → t ≤ moment_in schedule point → (o : Option ℕ) → moment_of so_far point ≡ o → moment_of so_far point ≡ None
+    not_by_then : (point : PointId) → IsPoint net point → t ≤ moment_in schedule point → (o : Option ℕ) → moment_so_far so_far point ≡ o → moment_so_far so_far point ≡ None
     not_by_then point within later None missing = missing
     not_by_then point within later (Some m) known =
         let kept = goes.kept point m within known in
@@ -88,10 +88,10 @@ pub record CompletedAlike (net : Plan) (ds es first second : List ℕ) (t : ℕ)
 
 module _ (net : Plan) (ds es first second : List ℕ) (t : ℕ) (alike : CompletedAlike net ds es first second t) where
   -- after the moment everything that came by it is known
-  all_known : (so_far : Moments) (m : ℕ) → t < m → GoesOn net first so_far m → GoesOn net second so_far m → (point : PointId) → IsPoint net point → AgreeUpTo t (moment_in first point) (moment_in second point)
-  all_known so_far m past first_goes second_goes point within = by (moment_of so_far point) refl
+  all_known : (so_far : PartialSchedule) (m : ℕ) → t < m → GoesOn net first so_far m → GoesOn net second so_far m → (point : PointId) → IsPoint net point → AgreeUpTo t (moment_in first point) (moment_in second point)
+  all_known so_far m past first_goes second_goes point within = by (moment_so_far so_far point) refl
     where
-      by : (o : Option ℕ) → moment_of so_far point ≡ o → AgreeUpTo t (moment_in first point) (moment_in second point)
+      by : (o : Option ℕ) → moment_so_far so_far point ≡ o → AgreeUpTo t (moment_in first point) (moment_in second point)
       by (Some k) known =
           let is = first_goes.kept point k within known ∙ sym (second_goes.kept point k within known) in (λ by_then. is, λ by_then. is)
       by None missing =
@@ -100,7 +100,7 @@ module _ (net : Plan) (ds es first second : List ℕ) (t : ℕ) (alike : Complet
           (λ by_then. absurd (omega (arith, later, by_then, past)), λ by_then. absurd (omega (arith, later_too, by_then, past)))
 
   mutual
-    pub agree_up_to : (tree : Tree) (so_far : Moments) (m : ℕ) → Before so_far m → play_from tree net ds so_far m ≡ Some first → play_from tree net es so_far m ≡ Some second → (point : PointId) → IsPoint net point → AgreeUpTo t (moment_in first point) (moment_in second point)
+    pub agree_up_to : (tree : Tree) (so_far : PartialSchedule) (m : ℕ) → Before so_far m → play_from tree net ds so_far m ≡ Some first → play_from tree net es so_far m ≡ Some second → (point : PointId) → IsPoint net point → AgreeUpTo t (moment_in first point) (moment_in second point)
     agree_up_to Leaf so_far m before played_first played_second point within =
         let is : moment_in first point ≡ moment_in second point = ap (λ (s : List ℕ). moment_in s point) (same_Some first second (sym played_first ∙ played_second)) in
         (λ by_then. is, λ by_then. is)
@@ -116,7 +116,7 @@ module _ (net : Plan) (ds es first second : List ℕ) (t : ℕ) (alike : Complet
               agree_among cases so_far m before (completed net ds so_far m) played_first (subst (λ (points : List PointId). play_cases cases net es so_far m points ≡ Some second) (sym one) played_second) point within
         ]
 
-    agree_among : {n : _} (cases : Row_of-Case n) (so_far : Moments) (m : ℕ) → Before so_far m → (points : List PointId) → play_cases cases net ds so_far m points ≡ Some first → play_cases cases net es so_far m points ≡ Some second → (point : PointId) → IsPoint net point → AgreeUpTo t (moment_in first point) (moment_in second point)
+    agree_among : {n : _} (cases : Row_of-Case n) (so_far : PartialSchedule) (m : ℕ) → Before so_far m → (points : List PointId) → play_cases cases net ds so_far m points ≡ Some first → play_cases cases net es so_far m points ≡ Some second → (point : PointId) → IsPoint net point → AgreeUpTo t (moment_in first point) (moment_in second point)
     agree_among end_of-Case so_far m before points played_first played_second point within = absurd (none-some first played_first)
     agree_among (more_of-Case seen acts next others) so_far m before points played_first played_second point within =
         let and_now = and_moment so_far m seen acts in

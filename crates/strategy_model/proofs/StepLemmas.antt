@@ -14,7 +14,7 @@ use Rattle.std.proofs.lemmas.Option.{get_or_from_slice_get}
 use Rattle.net_model.specs.Network.{Plan, activation}
 use Rattle.net_model.specs.declared.ids.PointId.{PointId}
 use Rattle.net_model.specs.declared.part.Link.{Link}
-use Rattle.strategy_model.specs.Plays.{Moments, same_point, moment_of, points_of, all_some, completes, is_completed, may_act, case_for}
+use Rattle.strategy_model.specs.Plays.{PartialSchedule, same_point, moment_so_far, points_of, all_some, completes, is_completed, may_act, case_for}
 use Rattle.strategy_model.specs.declared.tree.Case.{Case}
 use Rattle.strategy_model.proofs.MomentLemmas.{point_at}
 
@@ -31,7 +31,7 @@ case_passed cases i case points within is fails =
     ap (λ (cs : List Case). case_for cs points) (next_of cases i case within is) ∙ cond-false (pointwise same_point case.seen points) (Some case) (case_for (drop (i + 1) cases) points) fails
 
 -- the next link and its duration
-module _ (so_far : Moments) (t : ℕ) (links : List Link) (durations : List ℕ) (point : PointId) (i : ℕ) (link : Link) (duration : ℕ) where
+module _ (so_far : PartialSchedule) (t : ℕ) (links : List Link) (durations : List ℕ) (point : PointId) (i : ℕ) (link : Link) (duration : ℕ) where
   pub completion_found : i < length links → i < length durations
       → link ≡ get_or links i link → duration ≡ get_or durations i duration → (same_point link.to point && completes so_far t link duration) ≡ true
       → is_completed so_far t (drop i links) (drop i durations) point ≡ true
@@ -49,20 +49,20 @@ module _ (so_far : Moments) (t : ℕ) (links : List Link) (durations : List ℕ)
       ∙ ap (λ (b : Bool). b || is_completed so_far t (drop (i + 1) links) (drop (i + 1) durations) point) fails
 
 -- whether the first of some acts may be executed
-abbrev pub may_act_first : Plan → Moments → PointId → List PointId → Bool
+abbrev pub may_act_first : Plan → PartialSchedule → PointId → List PointId → Bool
 may_act_first net so_far act rest =
-    nat_lt act.0 (length net.points) && is_none (activation net act) && is_none (moment_of so_far act) && not (list_any (same_point act) rest)
+    nat_lt act.0 (length net.points) && is_none (activation net act) && is_none (moment_so_far so_far act) && not (list_any (same_point act) rest)
 
-pub act_passed : (net : Plan) (so_far : Moments) (acts : List PointId) (i : ℕ) (act : PointId) → i < length acts → act ≡ get_or acts i act → may_act_first net so_far act (drop (i + 1) acts) ≡ true → may_act net so_far (drop i acts) ≡ may_act net so_far (drop (i + 1) acts)
+pub act_passed : (net : Plan) (so_far : PartialSchedule) (acts : List PointId) (i : ℕ) (act : PointId) → i < length acts → act ≡ get_or acts i act → may_act_first net so_far act (drop (i + 1) acts) ≡ true → may_act net so_far (drop i acts) ≡ may_act net so_far (drop (i + 1) acts)
 act_passed net so_far acts i act within is passes =
     ap (may_act net so_far) (next_of acts i act within is) ∙ ap (λ (b : Bool). b && may_act net so_far (drop (i + 1) acts)) passes
 
-pub act_refused : (net : Plan) (so_far : Moments) (acts : List PointId) (i : ℕ) (act : PointId) → i < length acts → act ≡ get_or acts i act → may_act_first net so_far act (drop (i + 1) acts) ≡ false → may_act net so_far (drop i acts) ≡ false
+pub act_refused : (net : Plan) (so_far : PartialSchedule) (acts : List PointId) (i : ℕ) (act : PointId) → i < length acts → act ≡ get_or acts i act → may_act_first net so_far act (drop (i + 1) acts) ≡ false → may_act net so_far (drop i acts) ≡ false
 act_refused net so_far acts i act within is fails =
     ap (may_act net so_far) (next_of acts i act within is) ∙ ap (λ (b : Bool). b && may_act net so_far (drop (i + 1) acts)) fails
 
 -- beyond the links or the durations nothing is completed
-pub completion_none : (so_far : Moments) (t : ℕ) (links : List Link) (durations : List ℕ) (point : PointId) (n : ℕ) → n ≡ min (length links) (length durations) → is_completed so_far t (drop n links) (drop n durations) point ≡ false
+pub completion_none : (so_far : PartialSchedule) (t : ℕ) (links : List Link) (durations : List ℕ) (point : PointId) (n : ℕ) → n ≡ min (length links) (length durations) → is_completed so_far t (drop n links) (drop n durations) point ≡ false
 completion_none so_far t links durations point n whole = go (drop n links) (drop n durations) (omega (arith, length-drop n links, length-drop n durations))
   where
     go : (ls : List Link) (ds : List ℕ) → min (length ls) (length ds) ≡ 0 → is_completed so_far t ls ds point ≡ false
@@ -81,26 +81,26 @@ next_point net k within point is =
     let size = points_length net in
     next_of (points_of net) k point (omega arith) (sym (get_or_from_slice_get (points_of net) k point point here))
 
-pub made_missing : (net : Plan) (so_far : Moments) (k : ℕ) → k < length net.points → (point : PointId) → point.0 ≡ k → moment_of so_far point ≡ None → all_some (map (moment_of so_far) (drop k (points_of net))) ≡ None
+pub made_missing : (net : Plan) (so_far : PartialSchedule) (k : ℕ) → k < length net.points → (point : PointId) → point.0 ≡ k → moment_so_far so_far point ≡ None → all_some (map (moment_so_far so_far) (drop k (points_of net))) ≡ None
 made_missing net so_far k within point is missing =
-    ap (λ (points : List PointId). all_some (map (moment_of so_far) points)) (next_point net k within point is) ∙ ap (λ (o : Option ℕ). all_some (o ∷ map (moment_of so_far) (drop (k + 1) (points_of net)))) missing
+    ap (λ (points : List PointId). all_some (map (moment_so_far so_far) points)) (next_point net k within point is) ∙ ap (λ (o : Option ℕ). all_some (o ∷ map (moment_so_far so_far) (drop (k + 1) (points_of net)))) missing
 
 after_one : (items : List ℕ) (m : ℕ) (rest : Option (List ℕ)) → option_map (λ xs. items ++ xs) (option_map (λ xs. m ∷ xs) rest) ≡ option_map (λ xs. (items ++ m ∷ []) ++ xs) rest
 after_one items m None = refl
 after_one items m (Some xs) = ap (λ (ys : List ℕ). Some ys) (sym (append_assoc items (m ∷ []) xs))
 
-pub made_more : (net : Plan) (so_far : Moments) (items : List ℕ) (k m : ℕ) → k < length net.points → (point : PointId) → point.0 ≡ k → moment_of so_far point ≡ Some m
-    → option_map (λ xs. items ++ xs) (all_some (map (moment_of so_far) (drop k (points_of net)))) ≡ option_map (λ xs. (items ++ m ∷ []) ++ xs)
-    (all_some (map (moment_of so_far) (drop (k + 1) (points_of net))))
+pub made_more : (net : Plan) (so_far : PartialSchedule) (items : List ℕ) (k m : ℕ) → k < length net.points → (point : PointId) → point.0 ≡ k → moment_so_far so_far point ≡ Some m
+    → option_map (λ xs. items ++ xs) (all_some (map (moment_so_far so_far) (drop k (points_of net)))) ≡ option_map (λ xs. (items ++ m ∷ []) ++ xs)
+    (all_some (map (moment_so_far so_far) (drop (k + 1) (points_of net))))
 made_more net so_far items k m within point is found =
-    let rest = all_some (map (moment_of so_far) (drop (k + 1) (points_of net))) in
-    ap (λ (points : List PointId). option_map (λ xs. items ++ xs) (all_some (map (moment_of so_far) points))) (next_point net k within point is) ∙ ap (λ (o : Option ℕ). option_map (λ xs. items ++ xs) (all_some (o ∷ map (moment_of so_far) (drop (k + 1) (points_of net))))) found ∙ after_one items m rest
+    let rest = all_some (map (moment_so_far so_far) (drop (k + 1) (points_of net))) in
+    ap (λ (points : List PointId). option_map (λ xs. items ++ xs) (all_some (map (moment_so_far so_far) points))) (next_point net k within point is) ∙ ap (λ (o : Option ℕ). option_map (λ xs. items ++ xs) (all_some (o ∷ map (moment_so_far so_far) (drop (k + 1) (points_of net))))) found ∙ after_one items m rest
 
-pub made_whole : (net : Plan) (so_far : Moments) (items : List ℕ) (k : ℕ) → length net.points ≤ k → option_map (λ xs. items ++ xs) (all_some (map (moment_of so_far) (drop k (points_of net)))) ≡ Some items
+pub made_whole : (net : Plan) (so_far : PartialSchedule) (items : List ℕ) (k : ℕ) → length net.points ≤ k → option_map (λ xs. items ++ xs) (all_some (map (moment_so_far so_far) (drop k (points_of net)))) ≡ Some items
 made_whole net so_far items k past =
     let size = points_length net in
     let none : drop k (points_of net) ≡ [] = drop_of_length-le (points_of net) (omega arith) in
-    ap (λ (points : List PointId). option_map (λ xs. items ++ xs) (all_some (map (moment_of so_far) points))) none ∙ ap (λ (xs : List ℕ). Some xs) (append-nil items)
+    ap (λ (points : List PointId). option_map (λ xs. items ++ xs) (all_some (map (moment_so_far so_far) points))) none ∙ ap (λ (xs : List ℕ). Some xs) (append-nil items)
 
 -- the points that are completed, by one more point
 completed_more : (test : PointId → Bool) (net : Plan) (k : ℕ) → k < length net.points → (point : PointId) → point.0 ≡ k → filter test (take (k + 1) (points_of net)) ≡ filter test (take k (points_of net)) ++ cond (test point) (point ∷ []) []

@@ -9,7 +9,7 @@ use Rattle.std.proofs.lemmas.List.{get_or_past}
 use Rattle.net_model.specs.Network.{Plan, IsPlan, IsPoint, activation}
 use Rattle.net_model.specs.declared.ids.PointId.{PointId}
 use Rattle.strategy_model.specs.Situations.{IsSituation, moment_in}
-use Rattle.strategy_model.specs.Plays.{Moments, same_point, moment_of, at_moment, points_of, may_act, case_for, play_from}
+use Rattle.strategy_model.specs.Plays.{PartialSchedule, same_point, moment_so_far, at_moment, points_of, may_act, case_for, play_from}
 use Rattle.strategy_model.specs.Dispatch.{SameCompletions, IsDynamic}
 use Rattle.strategy_model.specs.DispatchLaws.{DynamicStrategiesAreTrees}
 use Rattle.strategy_model.specs.declared.tree.Case.{Case}
@@ -111,7 +111,7 @@ seen_comes net first second t point within ending same by_then =
     let m = moment_in first point in
     let passes : comes_seen net first m point ≡ true = and_from (is_some (activation net point)) (moment_in first point == m) (some_from_none (activation net point) (ending_known net point ending)) (eq-eqb m m refl) in
     let there = given net (comes_seen net first m) 0 point within passes in
-    let here : moment_of (at_moment 0 (seen_in net second m)) point ≡ Some 0 = subst (λ (points : List PointId). moment_of (at_moment 0 points) point ≡ Some 0) (same m by_then) there in
+    let here : moment_so_far (at_moment 0 (seen_in net second m)) point ≡ Some 0 = subst (λ (points : List PointId). moment_so_far (at_moment 0 points) point ≡ Some 0) (same m by_then) there in
     let its = passes_test (comes_seen net second m) 0 (points_of net) point 0 here in
     sym (eqb-true (moment_in second point) m (and_parts (is_some (activation net point)) (moment_in second point == m) its).1)
 
@@ -163,7 +163,7 @@ module _ (net : Plan) (schedule_of : List ℕ → List ℕ) (plan : IsPlan net) 
   abbrev AllComeBefore : List ℕ → ℕ → Type 0
   AllComeBefore situation t = (point : PointId) → IsPoint net point → moment_in (schedule_of situation) point < t
 
-  plays : (moments : ℕ) (situations : List (List ℕ)) (t : ℕ) (situation : List ℕ) (so_far : Moments) → Among situations situation → AreSituations situations
+  plays : (moments : ℕ) (situations : List (List ℕ)) (t : ℕ) (situation : List ℕ) (so_far : PartialSchedule) → Among situations situation → AreSituations situations
       → SeenAlike situations t situation → Known net (schedule_of situation) so_far t → AllComeBefore situation (t + moments)
       → play_from (unfolded net schedule_of moments situations t) net situation so_far t ≡ Some (schedule_of situation)
   plays zero situations t situation so_far among all alike known past =

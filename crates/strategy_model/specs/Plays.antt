@@ -11,28 +11,28 @@ use Rattle.net_model.specs.declared.part.Link.{Link}
 use Rattle.strategy_model.specs.declared.tree.Case.{Case}
 use Rattle.strategy_model.specs.declared.tree.Tree.{Tree, Leaf, Node', Row_of-Case, end_of-Case, more_of-Case}
 
--- the moments so far: points with their moments, in the order in which they came
-abbrev pub Moments : Type 0
-Moments = List (PointId × ℕ)
+-- a partial schedule: the points that have come, with their moments, in the order in which they came
+abbrev pub PartialSchedule : Type 0
+PartialSchedule = List (PointId × ℕ)
 
 abbrev pub same_point : PointId → PointId → Bool
 same_point p q = p.0 == q.0
 
 -- the moment that a point has so far
-abbrev pub moment_of : Moments → PointId → Option ℕ
-moment_of [] point = None
-moment_of (entry ∷ entries) point = if same_point entry.0 point then Some entry.1 else moment_of entries point
+abbrev pub moment_so_far : PartialSchedule → PointId → Option ℕ
+moment_so_far [] point = None
+moment_so_far (entry ∷ entries) point = if same_point entry.0 point then Some entry.1 else moment_so_far entries point
 
 -- these points have moment t
-abbrev pub at_moment : ℕ → List PointId → Moments
+abbrev pub at_moment : ℕ → List PointId → PartialSchedule
 at_moment t points = map (λ point. (point, t)) points
 
 -- a link completes at t where its activation has a moment a with a + duration = t
-abbrev pub completes : Moments → ℕ → Link → ℕ → Bool
-completes so_far t link duration = elim (moment_of so_far link.from) [ Some a ↦ (a + duration) == t | None ↦ false ]
+abbrev pub completes : PartialSchedule → ℕ → Link → ℕ → Bool
+completes so_far t link duration = elim (moment_so_far so_far link.from) [ Some a ↦ (a + duration) == t | None ↦ false ]
 
 -- a link that ends in the point completes at t
-abbrev pub is_completed : Moments → ℕ → List Link → List ℕ → PointId → Bool
+abbrev pub is_completed : PartialSchedule → ℕ → List Link → List ℕ → PointId → Bool
 is_completed so_far t (link ∷ links) (duration ∷ durations) point =
     (same_point link.to point && completes so_far t link duration) || is_completed so_far t links durations point
 is_completed so_far t links durations point = false
@@ -42,14 +42,14 @@ abbrev pub points_of : Plan → List PointId
 points_of net = map (λ k. record { 0 = k }) (range_with_len 0 (length net.points))
 
 -- the points that are completed at t, in order of number
-abbrev pub completed : Plan → List ℕ → Moments → ℕ → List PointId
+abbrev pub completed : Plan → List ℕ → PartialSchedule → ℕ → List PointId
 completed net situation so_far t = filter (is_completed so_far t net.links situation) (points_of net)
 
 -- these points may be executed now: they are executable, and none was executed before or stands twice
-abbrev pub may_act : Plan → Moments → List PointId → Bool
+abbrev pub may_act : Plan → PartialSchedule → List PointId → Bool
 may_act net so_far [] = true
 may_act net so_far (act ∷ acts) =
-    nat_lt act.0 (length net.points) && is_none (activation net act) && is_none (moment_of so_far act) && not (list_any (same_point act) acts) && may_act net so_far acts
+    nat_lt act.0 (length net.points) && is_none (activation net act) && is_none (moment_so_far so_far act) && not (list_any (same_point act) acts) && may_act net so_far acts
 
 -- all of these are there
 abbrev pub all_some : List (Option ℕ) → Option (List ℕ)
@@ -58,19 +58,19 @@ all_some (None ∷ others) = None
 all_some (Some x ∷ others) = option_map (λ xs. x ∷ xs) (all_some others)
 
 -- the schedule that was made, where each point has a moment
-abbrev pub schedule_made : Plan → Moments → Option (List ℕ)
-schedule_made net so_far = all_some (map (moment_of so_far) (points_of net))
+abbrev pub schedule_made : Plan → PartialSchedule → Option (List ℕ)
+schedule_made net so_far = all_some (map (moment_so_far so_far) (points_of net))
 
 abbrev mutual
   -- the play of what is left of a strategy, from moment t on
-  pub play_from : Tree → Plan → List ℕ → Moments → ℕ → Option (List ℕ)
+  pub play_from : Tree → Plan → List ℕ → PartialSchedule → ℕ → Option (List ℕ)
   play_from Leaf net situation so_far t = schedule_made net so_far
   play_from (Node' shape cases) net situation so_far t =
       play_cases cases net situation so_far t (completed net situation so_far t)
 
   -- The first case that has just these points as seen is taken. There is no play where none has, or where an act is not
   -- allowed.
-  pub play_cases : {m : _} → Row_of-Case m → Plan → List ℕ → Moments → ℕ → List PointId → Option (List ℕ)
+  pub play_cases : {m : _} → Row_of-Case m → Plan → List ℕ → PartialSchedule → ℕ → List PointId → Option (List ℕ)
   play_cases end_of-Case net situation so_far t points = None
   play_cases (more_of-Case seen acts next others) net situation so_far t points =
       if pointwise same_point seen points

@@ -1,7 +1,7 @@
 ghost use Rattle.std.specs.Prelude.{◌≡◌, ◌+◌, ◌++◌, ◌&&◌, length, is_none, nat_lt, IfOk, IfSome, OnOk};
 ghost use Rattle.std.specs.Option.{option_map, option_copied};
 ghost use Rattle.net_model.specs.Network.{activation};
-ghost use Rattle.strategy_model.specs.Plays.{play, moment_of, at_moment, completes, is_completed, completed, may_act, case_for, schedule_made};
+ghost use Rattle.strategy_model.specs.Plays.{play, moment_so_far, at_moment, completes, is_completed, completed, may_act, case_for, schedule_made};
 
 use crate::tree::{Case, Tree};
 use crate::{Schedule, Situation};
@@ -48,8 +48,8 @@ fn next_moment(t: u64) -> Result<u64, AllocError>
 }
 
 /// The moment that a point has so far.
-fn moment_of(so_far: &[(PointId, u64)], point: PointId) -> Option<u64>
-    ensures { result ≡ moment_of so_far.now point }
+fn moment_so_far(so_far: &[(PointId, u64)], point: PointId) -> Option<u64>
+    ensures { result ≡ moment_so_far so_far.now point }
 {
     for (known, moment) in so_far {
         if *known == point {
@@ -62,7 +62,7 @@ fn moment_of(so_far: &[(PointId, u64)], point: PointId) -> Option<u64>
 fn completes(so_far: &[(PointId, u64)], t: u64, link: &Link, duration: u64) -> bool
     ensures { result ≡ completes so_far.now t link.now duration }
 {
-    match moment_of(so_far, link.from) {
+    match moment_so_far(so_far, link.from) {
         Some(activation) => activation.checked_add(duration) == Some(t),
         None => false,
     }
@@ -131,11 +131,11 @@ fn may_act(net: &Network, so_far: &[(PointId, u64)], acts: &[PointId]) -> bool
 
 /// Whether a point is executable and was not executed before.
 fn may_execute(net: &Network, so_far: &[(PointId, u64)], point: PointId) -> bool
-    ensures { result ≡ (nat_lt point.0 (length net.now.points) && is_none (activation net.now point) && is_none (moment_of so_far.now point)) }
+    ensures { result ≡ (nat_lt point.0 (length net.now.points) && is_none (activation net.now point) && is_none (moment_so_far so_far.now point)) }
 {
     (point.0 as usize) < net.points().len()
         && !net.is_contingent(point)
-        && moment_of(so_far, point).is_none()
+        && moment_so_far(so_far, point).is_none()
 }
 
 /// Gives points a moment.
@@ -159,7 +159,7 @@ fn schedule_made(
 {
     let mut schedule = Vec::new(alloc);
     for k in 0..net.points().len() {
-        let Some(moment) = moment_of(so_far, PointId(k as u32)) else {
+        let Some(moment) = moment_so_far(so_far, PointId(k as u32)) else {
             return Ok(None);
         };
         schedule.push(moment)?;
