@@ -126,6 +126,10 @@ pub each-every : {X : Type 0} (P : X → Type 0) → ((x : X) → P x) → (xs :
 each-every P every [] = tt
 each-every P every (x ∷ xs) = (every x, each-every P every xs)
 
+pub each-from_contains : {X : Type 0} (P : X → Type 0) (xs : List X) → ((x : X) → Contains xs x → P x) → AllByRecursion P xs
+each-from_contains P [] every = tt
+each-from_contains P (x ∷ xs) every = (every x (Contains-head x xs), each-from_contains P xs (λ y inside. every y (Contains-tail x xs y inside)))
+
 pub each-contained : {X : Type 0} (P : X → Type 0) (xs : List X) (x : X) → AllByRecursion P xs → Contains xs x → P x
 each-contained P [] x all inside = absurd (Contains-none x inside)
 each-contained P (y ∷ ys) x (one, more) (zero, inside, at) = subst P at one

@@ -10,7 +10,7 @@ use Rattle.net_model.specs.Edges.{IsEdge, IsLabelled}
 use Rattle.net_model.specs.declared.ids.LinkId.{LinkId}
 use Rattle.net_model.specs.declared.ids.PointId.{PointId}
 use Rattle.net_model.specs.declared.part.Edge.{Edge}
-use Rattle.closure_model.proofs.Lists.{Contains-head, Contains-tail}
+use Rattle.closure_model.proofs.Lists.{each-from_contains}
 use Rattle.closure_model.proofs.Made.{Made, made_bound, made_link, made_no, made_up, made_low, made_cross, made_drop, made_at}
 use Rattle.closure_model.specs.Derivations.{Support, StandsOn, node_at, IsDerivationList, AreAncestors, itself, premises_of, item_of, IsNodeOf}
 use Rattle.closure_model.specs.Keys.{Key}
@@ -33,10 +33,6 @@ use Rattle.refutations.specs.Making.{IsItemOf, CanBeLine, CanBeLines, HasWeight}
 use Rattle.refutations.proofs.LinesPass.{node_edge, line_is_node, premise_is_line}
 use Rattle.refutations.proofs.LawProofs.{steps_are_nodes, refutations_are_accepted, refutations_have_weights}
 use Rattle.refutations.proofs.WalkPasses.{IsNegativeKey, negative_cycle}
-
-each_of : {X : Type 0} (P : X → Type 0) (xs : List X) → ((x : X) → Contains xs x → P x) → AllByRecursion P xs
-each_of P [] every = tt
-each_of P (x ∷ xs) every = (every x (Contains-head x xs), each_of P xs (λ y inside. every y (Contains-tail x xs y inside)))
 
 there_is : {X : Type 0} (o : Option X) (x : X) → o ≡ Some x → IsSome o
 there_is o x is = ap is_some is
@@ -75,7 +71,7 @@ module _ (net : Plan) (plan : IsPlan net) (nodes : List Node) (list : IsDerivati
         from = sound.from_point;
         to = sound.to_point;
         item = item_within net nodes lines id.0 node.edge node.rule from_premises;
-        premises = each_of (Contains lines) (premises_of node.rule) (λ premise among. premise_is_line net plan nodes list tops lines all_under tops_are_nodes id premise node inside here among);
+        premises = each-from_contains (Contains lines) (premises_of node.rule) (λ premise among. premise_is_line net plan nodes list tops lines all_under tops_are_nodes id premise node inside here among);
         label = label_within net node.edge node.edge.label sound.labelled;
         labelled = has_its_label net nodes lines id.0 node.edge node.rule from_premises;
       }

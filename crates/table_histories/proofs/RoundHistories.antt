@@ -15,7 +15,7 @@ use Rattle.closure_model.specs.declared.derivation.Node.{Node}
 use Rattle.closure_model.specs.declared.rows.Made.{Made}
 use Rattle.closure_model.proofs.Consequences.{IsConsequence, removed, moved, crossed, joined, joined_labelled}
 use Rattle.closure_model.proofs.Grounding.{AreGrounded, grounded_first, grounded_rest}
-use Rattle.closure_model.proofs.Lists.{Contains-head, Contains-tail, Contains-map, Contains-flat_map, each-append, each-map}
+use Rattle.closure_model.proofs.Lists.{Contains-head, Contains-tail, Contains-map, Contains-flat_map, each-append, each-map, each-from_contains}
 use Rattle.closure_model.proofs.RoundClosing.{standing_fits, standing_sound}
 use Rattle.closure_model.proofs.RoundLaw.{StandsAfter, rule_exists, with_one_is, one_stands, goes_on_itself, round_is_grounded}
 use Rattle.closure_model.proofs.RoundsLaw.{rounds_keep_standing}
@@ -35,10 +35,6 @@ first_reads table made = flat_map (λ (one : Made). reads_whole table one.edge.t
 each-flat_map : {X Y : Type 0} (P : Y → Type 0) (f : X → List Y) → ((x : X) → AllByRecursion P (f x)) → (xs : List X) → AllByRecursion P (flat_map f xs)
 each-flat_map P f every [] = tt
 each-flat_map P f every (x ∷ xs) = each-append P (f x) (flat_map f xs) (every x) (each-flat_map P f every xs)
-
-each-from_contains : {X : Type 0} (P : X → Type 0) (xs : List X) → ((x : X) → Contains xs x → P x) → AllByRecursion P xs
-each-from_contains P [] all = tt
-each-from_contains P (x ∷ xs) all = (all x (Contains-head x xs), each-from_contains P xs (λ y inside. all y (Contains-tail x xs y inside)))
 
 -- what was read stands in the table
 abbrev pub AreOf : Graph → List Read → Type 0

@@ -14,7 +14,7 @@ use Rattle.closure_model.specs.Orders.{IsOrder, placed_points}
 use Rattle.closure_model.specs.Tables.{Graph, edges_of}
 use Rattle.closure_model.proofs.BaseLemmas.{all_contained}
 use Rattle.closure_model.proofs.LawProofs.{closure_is_closed, closure_is_one}
-use Rattle.closure_model.proofs.Lists.{Contains-map_from}
+use Rattle.closure_model.proofs.Lists.{Contains-map_from, each-from_contains}
 use Rattle.closure_model.proofs.OrderStays.{ordered_tables_are_placed}
 use Rattle.closure_model.proofs.TableLemmas.{listed_edge}
 use Rattle.cert_format.specs.CertificateWords.{HasWeights, IsEntryWeight}
@@ -35,7 +35,7 @@ use Rattle.table_proofs.specs.Laws.{TableProofsAreAccepted, TableProofsHaveWeigh
 use Rattle.table_proofs.specs.Certified.{IsTableProofOf, TableProofsProve, CertificatesAreOne}
 use Rattle.table_proofs.proofs.ClosureLemmas.{edge_is, edge_within}
 use Rattle.table_proofs.proofs.Reading.{read_back, point_read, entry_read, weight_kept}
-use Rattle.table_proofs.proofs.Standing.{each_of, base_there, none_open}
+use Rattle.table_proofs.proofs.Standing.{base_there, none_open}
 use Rattle.table_proofs.proofs.Ordering.{order_stands}
 
 module _ (net : Plan) (table : Graph) (order : List PointId) (plan : IsPlan net) (closure : IsClosure net table) where
@@ -68,9 +68,9 @@ module _ (net : Plan) (table : Graph) (order : List PointId) (plan : IsPlan net)
     passes =
         let closed = closure_is_closed net table closure in
         goes_on (read_each (point_passes net) 1 names) (λ points. read_each (entry_passes net) (length names + 1) entries >>= (λ es. edges_pass net points es)) order (Ok tt)
-        (read_back (point_passes net) (point_name net.points) 1 order (each_of (λ p. point_passes net (point_name net.points p) ≡ Ok p) order (λ p among. point_read net plan p (order_inside p among))))
+        (read_back (point_passes net) (point_name net.points) 1 order (each-from_contains (λ p. point_passes net (point_name net.points p) ≡ Ok p) order (λ p among. point_read net plan p (order_inside p among))))
         (goes_on (read_each (entry_passes net) (length names + 1) entries) (λ es. edges_pass net order es) edges (Ok tt)
-        (read_back (entry_passes net) (entry_of net) (length names + 1) edges (each_of (λ e. entry_passes net (entry_of net e) ≡ Ok e) edges (λ e among. entry_read net plan e (edge_sound e among) (weight_within e among))))
+        (read_back (entry_passes net) (entry_of net) (length names + 1) edges (each-from_contains (λ e. entry_passes net (entry_of net e) ≡ Ok e) edges (λ e among. entry_read net plan e (edge_sound e among) (weight_within e among))))
         (goes_on (base_stands net edges) (λ base. ordered_passes net order edges) tt (Ok tt) (base_there table net closed.1)
         (goes_on (order_passes net order edges) (λ falls. none_refused (length order + 1) NotClosed (is_open net edges) edges) tt (Ok tt)
         (order_stands net table order closure.for_network is (λ edge among. let sound = edge_sound edge among in (sound.from_point, sound.to_point)))

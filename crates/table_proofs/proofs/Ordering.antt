@@ -17,13 +17,14 @@ use Rattle.closure_model.specs.Keys.{Shape, ordinary_key}
 use Rattle.closure_model.specs.Orders.{goes, IsOrder}
 use Rattle.closure_model.specs.Tables.{Graph, weight_of, HasEdge, IsFor, edges_of}
 use Rattle.closure_model.proofs.TableLemmas.{listed_edge}
+use Rattle.closure_model.proofs.Lists.{each-from_contains}
 use Rattle.cert_checker.specs.Lines.{unless}
 use Rattle.cert_checker.specs.Tables.{stand_once, is_complete, place_in, comes_before, rises, placed_passes, order_passes, none_refused}
 use Rattle.cert_checker.specs.Walk.{refusal}
 use Rattle.cert_checker.specs.declared.judgement.CertFault.TheVariants.{OrderBroken}
 use Rattle.cert_checker.proofs.ListLemmas.{passes_some, none_at}
 use Rattle.refutations.proofs.RulesPass.{goes_on, unless_is}
-use Rattle.table_proofs.proofs.Standing.{each_of, none_refused_of}
+use Rattle.table_proofs.proofs.Standing.{none_refused_of}
 
 -- ---- each point once
 abbrev Apart : List PointId → Type 0
@@ -160,7 +161,7 @@ module _ (net : Plan) (table : Graph) (order : List PointId) (fits : IsFor net t
       goes_on (stand_once [] order) (λ once. placed_passes net order edges) tt (Ok tt) (once [] order is.once)
       (goes_on (unless (is_complete net order) (refusal 0 OrderBroken)) (λ complete. none_refused (length order + 1) OrderBroken (rises order) edges) tt (Ok tt)
       (unless_is (is_complete net order) (refusal 0 OrderBroken) (none_missing_from order 0 net.points (λ k inside. placed (record { 0 = 0 + k }) (subst (λ (n : ℕ). n < length net.points) (from_zero k) inside))))
-      (none_refused_of (length order + 1) OrderBroken (rises order) edges (each_of (λ edge. rises order edge ≡ false) edges (λ edge among. let (from, to) = points edge among in rises_not edge among (placed edge.from from) (placed edge.to to)))))
+      (none_refused_of (length order + 1) OrderBroken (rises order) edges (each-from_contains (λ edge. rises order edge ≡ false) edges (λ edge among. let (from, to) = points edge among in rises_not edge among (placed edge.from from) (placed edge.to to)))))
     where
       from_zero : (n : ℕ) → n ≡ 0 + n
       from_zero n = omega arith

@@ -14,7 +14,7 @@ use Rattle.net_model.specs.declared.part.Edge.{Edge}
 use Rattle.net_model.specs.declared.part.Link.{Link}
 use Rattle.closure_model.specs.Keys.{key_of, edge_of}
 use Rattle.closure_model.specs.Tables.{Graph, HasAtMost, HasBase, IsClosed, edges_of, base_edges}
-use Rattle.closure_model.proofs.Lists.{each-append, each-map, Contains-head, Contains-tail, Contains-map, Contains-cases, Contains-none}
+use Rattle.closure_model.proofs.Lists.{each-append, each-map, Contains-head, Contains-tail, Contains-map, Contains-cases, Contains-none, each-from_contains}
 use Rattle.closure_model.proofs.TableLemmas.{at_most_gives, edge_listed}
 use Rattle.cert_checker.specs.Tables.{same_label_id, same_key, stands_among, refused_at, none_refused, base_of_bound, base_of_link, base_of, is_missing, none_missing, base_stands, link_ids, conclusions, is_open}
 use Rattle.cert_checker.specs.declared.judgement.CertFault.{CertFault}
@@ -22,10 +22,6 @@ use Rattle.cert_checker.specs.declared.judgement.CertFault.TheVariants.{NotClose
 use Rattle.cert_checker.proofs.ListLemmas.{passes_some}
 
 -- ---- tests of lists
-pub each_of : {X : Type 0} (P : X → Type 0) (xs : List X) → ((x : X) → Contains xs x → P x) → AllByRecursion P xs
-each_of P [] every = tt
-each_of P (x ∷ xs) every = (every x (Contains-head x xs), each_of P xs (λ y inside. every y (Contains-tail x xs y inside)))
-
 nothing_found : {X : Type 0} (test : X → Bool) (xs : List X) → AllByRecursion (λ x. test x ≡ false) xs → find test xs ≡ None
 nothing_found test [] fails = refl
 nothing_found test (x ∷ xs) (one, more) = ap (λ (b : Bool). cond b (Some x) (find test xs)) one ∙ nothing_found test xs more
@@ -84,8 +80,8 @@ module _ (table : Graph) where
       let numbered : List (ℕ × Link) = enumerate_from 0 net.links in
       let at : (edge : Edge) → Contains (base_edges net) edge → not (stands_among edges edge) ≡ false = λ edge among. not_is (stands_among edges edge) (stands edge (All-contains (HasAtMost table) (base_edges net) edge has among)) in
       let link_of : ℕ × Link → Edge = λ e. link_edge (record { 0 = e.0 }) e.1 in
-      let bounds = each_of (λ bound. is_missing edges (base_of_bound bound) ≡ false) net.bounds (λ bound among. at (bound_edge bound) (Contains-append_left (map bound_edge net.bounds) (map link_of numbered) (bound_edge bound) (Contains-map bound_edge net.bounds bound among))) in
-      let links = each_of (λ link. is_missing edges (base_of_link net link) ≡ false) numbered (λ link among. at (link_of link) (Contains-append_right (map bound_edge net.bounds) (map link_of numbered) (link_of link) (Contains-map link_of numbered link among))) in
+      let bounds = each-from_contains (λ bound. is_missing edges (base_of_bound bound) ≡ false) net.bounds (λ bound among. at (bound_edge bound) (Contains-append_left (map bound_edge net.bounds) (map link_of numbered) (bound_edge bound) (Contains-map bound_edge net.bounds bound among))) in
+      let links = each-from_contains (λ link. is_missing edges (base_of_link net link) ≡ false) numbered (λ link among. at (link_of link) (Contains-append_right (map bound_edge net.bounds) (map link_of numbered) (link_of link) (Contains-map link_of numbered link among))) in
       ap none_missing (nothing_found (is_missing edges) (base_of net) (each-append (λ base. is_missing edges base ≡ false) (map base_of_bound net.bounds) (map (base_of_link net) numbered)
       (each-map (λ base. is_missing edges base ≡ false) base_of_bound net.bounds bounds) (each-map (λ base. is_missing edges base ≡ false) (base_of_link net) numbered links)))
 
@@ -115,4 +111,4 @@ module _ (table : Graph) where
     pub none_open : (line : ℕ) → none_refused line NotClosed (is_open net edges) edges ≡ Ok tt
     none_open line =
         none_refused_of line NotClosed (is_open net edges) edges
-        (each_of (λ second. is_open net edges second ≡ false) edges (λ second there. list_any_none (λ edge. not (stands_among edges edge)) (conclusions net edges second) (All-from_recursion IsMet (conclusions net edges second) (all_met second there))))
+        (each-from_contains (λ second. is_open net edges second ≡ false) edges (λ second there. list_any_none (λ edge. not (stands_among edges edge)) (conclusions net edges second) (All-from_recursion IsMet (conclusions net edges second) (all_met second there))))
