@@ -81,6 +81,10 @@ Contains-filter_passes keep (y ∷ ys) x inside = by (λ there. Contains-filter_
         either (inr there) = rest there
     by rest false is inside = rest inside
 
+pub filter_all : {X : Type 0} (p : X → Bool) (xs : List X) → ((x : X) → Contains xs x → p x ≡ true) → filter p xs ≡ xs
+filter_all p [] all = refl
+filter_all p (x ∷ xs) all = ap (λ b. cond b (x ∷ filter p xs) (filter p xs)) (all x (Contains-head x xs)) ∙ ap (λ ys. x ∷ ys) (filter_all p xs (λ y inside. all y (Contains-tail x xs y inside)))
+
 pub Contains-filter_map : {X Y : Type 0} (f : X → Option Y) (xs : List X) (x : X) (y : Y) → Contains xs x → f x ≡ Some y → Contains (filter_map f xs) y
 Contains-filter_map f [] x y inside is = absurd (Contains-none x inside)
 Contains-filter_map f (z ∷ zs) x y inside is = by (λ there. Contains-filter_map f zs x y there is) (f z) refl (Contains-cases z zs x inside)

@@ -1,25 +1,19 @@
 -- What was kept once is kept again.
 use Rattle.std.proofs.Common.{◌≡◌, ℤ, Bool, true, false, List, [], ◌∷◌, map, filter, refl, ap, sym, subst, ◌∙◌, inl, inr}
-use Rattle.std.specs.Prelude.{◌&&◌, ◌||◌, ◌==◌, not, ◌+ℤ◌, int_le, slice_get, if◌then◌else◌}
+use Rattle.std.specs.Prelude.{◌&&◌, ◌||◌, ◌==◌, not, ◌+ℤ◌, int_le, slice_get}
 use Rattle.std.specs.List.{Contains}
 use Rattle.std.specs.Option.{option_map_or}
 use Rattle.std.proofs.lemmas.Bool.{or_cases, or_left, or_right, true≢false}
 use Rattle.net_model.specs.declared.ids.PointId.{PointId}
 use Rattle.net_model.specs.declared.ids.LinkId.{LinkId}
 use Rattle.net_model.specs.declared.part.Link.{Link}
-use Rattle.closure_model.proofs.Lists.{Contains-head, Contains-tail, Contains-filter_from, Contains-filter_passes, any_is, any_from}
+use Rattle.closure_model.proofs.Lists.{Contains-filter_from, Contains-filter_passes, any_is, any_from, filter_all}
 use Rattle.dispatch_net.specs.declared.dispatch.Conditions.{Conditions}
 use Rattle.dispatch_net.specs.Dispatchable.{conditions_at}
 use Rattle.dispatch_net.specs.Held.{IsSlimOrWhole}
 use Rattle.dispatch_net.specs.Slim.{over_point, over_link, is_bound_implied, over_end, over_wait, is_wait_implied, slim_conditions, slimmed}
 use Rattle.dispatch_net.specs.Laws.{SlimStaysSlim}
 use Rattle.dispatch_net.proofs.SlimLists.{slim_at}
-
-pub all_kept : {X : Type 0} (p : X → Bool) (xs : List X) → ((x : X) → Contains xs x → p x ≡ true) → filter p xs ≡ xs
-all_kept p [] each = refl
-all_kept p (y ∷ ys) each =
-    ap (λ (b : Bool). if b then y ∷ filter p ys else filter p ys) (each y (Contains-head y ys))
-    ∙ ap (λ zs. y ∷ zs) (all_kept p ys (λ x among. each x (Contains-tail y ys x among)))
 
 from_not : (b : Bool) → not b ≡ true → b ≡ false
 from_not true holds = absurd cc
@@ -79,11 +73,11 @@ module _ (links : List Link) (made : List Conditions) (c : Conditions) where
   stays_not implied false passes fewer = refl
 
   bounds_stay : filter (λ bound. not (is_bound_implied links kept slim bound)) slim.lower_bounds ≡ slim.lower_bounds
-  bounds_stay = all_kept (λ bound. not (is_bound_implied links kept slim bound)) slim.lower_bounds (λ bound among.
+  bounds_stay = filter_all (λ bound. not (is_bound_implied links kept slim bound)) slim.lower_bounds (λ bound among.
       stays_not (is_bound_implied links made c bound) (is_bound_implied links kept slim bound) (Contains-filter_passes (λ b. not (is_bound_implied links made c b)) c.lower_bounds bound among) (fewer_bounds bound))
 
   waits_stay : filter (λ wait. not (is_wait_implied links kept slim wait)) slim.waits ≡ slim.waits
-  waits_stay = all_kept (λ wait. not (is_wait_implied links kept slim wait)) slim.waits (λ wait among.
+  waits_stay = filter_all (λ wait. not (is_wait_implied links kept slim wait)) slim.waits (λ wait among.
       stays_not (is_wait_implied links made c wait) (is_wait_implied links kept slim wait) (Contains-filter_passes (λ w. not (is_wait_implied links made c w)) c.waits wait among) (fewer_waits wait))
 
   conditions_stay : slim_conditions links kept slim ≡ slim

@@ -14,17 +14,13 @@ use Rattle.closure_model.specs.ReferenceRow.{ordinary_into}
 use Rattle.closure_model.specs.Tables.{Graph, weight_of, HasEdge, edges_of, row_of, edges_at, IsGraph}
 use Rattle.closure_model.proofs.KeyLists.{row_keys_owned}
 use Rattle.closure_model.proofs.Listed.{row_listed}
-use Rattle.closure_model.proofs.Lists.{Contains-head, Contains-tail}
+use Rattle.closure_model.proofs.Lists.{filter_all}
 use Rattle.closure_model.proofs.TableLemmas.{listed_edge}
 use Rattle.labelled_graph.specs.declared.entry.Entry.{Entry}
 use Rattle.labelled_graph.specs.Entries.{edge_into, is_ordinary, wide_label}
 use Rattle.labelled_graph.specs.Rows.{TargetRow, keyed}
 use Rattle.labelled_graph.specs.Stored.{graph_with, AreStored}
 use Rattle.labelled_graph.proofs.StoredLemmas.{sound_graph, shape_is, row_there, row_target, row_reads}
-
-filter_all : {X : Type 0} (p : X → Bool) (xs : List X) → ((x : X) → Contains xs x → p x ≡ true) → filter p xs ≡ xs
-filter_all p [] all = refl
-filter_all p (x ∷ xs) all = ap (λ b. cond b (x ∷ filter p xs) (filter p xs)) (all x (Contains-head x xs)) ∙ ap (λ ys. x ∷ ys) (filter_all p xs (λ y inside. all y (Contains-tail x xs y inside)))
 
 edges_alike : (one other : Graph) (to : PointId) (keys : List Key) → AllByRecursion (λ k. k.to ≡ to) keys → ((k : Key) → k.to ≡ to → weight_of one k ≡ weight_of other k) → edges_at one keys ≡ edges_at other keys
 edges_alike one other to [] own alike = refl
