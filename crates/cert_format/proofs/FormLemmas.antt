@@ -5,7 +5,7 @@ use Rattle.net_model.specs.Numbers.{name_of}
 use Rattle.net_model.specs.Reading.{◌>>=◌}
 use Rattle.net_model.specs.declared.format.FormatKind.{FormatKind}
 use Rattle.net_model.specs.declared.format.FormatKind.TheVariants.{UnknownWord, WordCount, NoHeader}
-use Rattle.net_model.proofs.ReadingLemmas.{choice, name_ok}
+use Rattle.net_model.proofs.ReadingLemmas.{choice, name_ok, name_err}
 use Rattle.cert_format.specs.Limits.{most_written_weight, most_line_number}
 use Rattle.cert_format.specs.Kind.{has_label}
 use Rattle.cert_format.specs.Keywords.{spelled, keyword_of}
@@ -24,7 +24,7 @@ use Rattle.cert_format.specs.declared.read.CertText.{CertText}
 use Rattle.cert_format.specs.declared.read.CertText.TheVariants as text
 use Rattle.cert_format.specs.declared.section.Section.{Section}
 use Rattle.cert_format.specs.declared.section.Section.TheVariants as section
-use Rattle.cert_format.proofs.NumberLemmas.{natural_err, natural_ok, integer_err, integer_ok, name_err}
+use Rattle.cert_format.proofs.NumberLemmas.{natural_err, natural_ok, integer_err, integer_ok}
 use Rattle.cert_format.proofs.SaidLemmas.{keyword_is}
 use Rattle.cert_format.proofs.WordLemmas.{keyword_spelled, text_read}
 

@@ -2,11 +2,10 @@
 use Rattle.std.proofs.Common.{◌≡◌, ◌⊎◌, ℕ, ℤ, pos, neg_ℤ, ◌<◌, ◌≤◌, ◌==◌, Bool, true, false, cond, List, [], ◌∷◌, ◌++◌, get_or, Result, Ok, Err, refl, sym, ap, ◌∙◌, subst, arith, nat_lt, unsigned_abs, zero, suc, codes, inl, inr}
 use Rattle.std.specs.Result.{result_map_both}
 use Rattle.std.proofs.lemmas.Bool.{ltb-true, ltb-false, eqb-true}
-use Rattle.net_model.specs.Names.{is_name}
-use Rattle.net_model.specs.Numbers.{is_positive, value_of, limited, is_zero, natural_of, negative_of, integer_of, name_of}
+use Rattle.net_model.specs.Numbers.{is_positive, value_of, limited, is_zero, natural_of, negative_of, integer_of}
 use Rattle.net_model.specs.declared.format.FormatKind.{FormatKind}
-use Rattle.net_model.specs.declared.format.FormatKind.TheVariants.{BadName, BadNumber, NumberLimit}
-use Rattle.net_model.proofs.ReadingLemmas.{choice, word_is}
+use Rattle.net_model.specs.declared.format.FormatKind.TheVariants.{BadNumber, NumberLimit}
+use Rattle.net_model.proofs.ReadingLemmas.{word_is}
 use Rattle.cert_format.specs.LineForms.{SpellsNatural, SpellsInteger}
 
 -- `0` is no positive number
@@ -157,11 +156,3 @@ pub integer_ok : (word : List ℕ) (limit : ℕ) (n : ℤ) → integer_of limit 
 unfolding integer_of
 integer_ok [] limit n read = absurd (cc)
 integer_ok (byte ∷ bytes) limit n read = signed_ok byte bytes limit n (byte == 45) refl read
-
--- a word is refused in the place of a name
-pub name_err : (word : List ℕ) (kind : FormatKind) → name_of word ≡ Err kind → (is_name word ≡ false) × (kind ≡ BadName)
-name_err word kind read =
-    elim (choice (is_name word) (Ok word) (Err BadName) (Err kind) read) [
-      | inl named ↦ absurd (cc)
-      | inr other ↦ (other.0, cc)
-    ]
