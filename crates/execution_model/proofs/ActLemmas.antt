@@ -1,14 +1,14 @@
 -- The acts of an execution that keeps to a schedule are those of the schedule.
-use Rattle.std.proofs.Common.{◌≡◌, ℕ, zero, suc, ◌+◌, ◌-◌, ◌≤◌, ◌<◌, Bool, true, false, List, ◌∷◌, ◌++◌, length, map, filter, Option, Some, None, is_none, is_some, inl, inr, refl, ap, sym, ◌∙◌, arith}
+use Rattle.std.proofs.Common.{◌≡◌, ℕ, zero, suc, ◌+◌, ◌-◌, ◌≤◌, ◌<◌, Bool, true, false, List, ◌∷◌, ◌++◌, length, map, filter, inl, inr, refl, ap, sym, ◌∙◌, arith}
 use Rattle.std.specs.Prelude.{◌&&◌, ◌==◌, if◌then◌else◌}
 use Rattle.std.specs.List.{range_with_len}
-use Rattle.std.proofs.lemmas.Bool.{cases_order, eq-eqb, ne_eqb, false≢true}
+use Rattle.std.proofs.lemmas.Bool.{cases_order, eq-eqb, ne_eqb}
 use Rattle.std.proofs.lemmas.List.{append-nil, append_assoc}
 use Rattle.net_model.specs.Network.{Plan, IsPoint, IsExecutable, activation}
 use Rattle.net_model.specs.declared.ids.PointId.{PointId}
 use Rattle.closure_model.specs.Tables.{Graph}
 use Rattle.strategy_model.specs.Situations.{moment_in}
-use Rattle.strategy_model.proofs.KindLemmas.{kind, ending_known}
+use Rattle.strategy_model.proofs.KindLemmas.{kind, ending_known, none_from_test}
 use Rattle.dispatch_net.proofs.ExecutionLemmas.{dispatchable_length}
 use Rattle.net_model.specs.Moments.{Moments}
 use Rattle.execution_model.specs.Execution.{Setting, is_due, acts_at, acted, acts_while}
@@ -37,10 +37,6 @@ same_kept p q a (suc n) same =
     let first : PointId = record { 0 = a } in
     (λ i. if here i then first ∷ rest i else rest i)
 
-none_of : {A : Type 0} (o : Option A) → is_some o ≡ false → is_none o ≡ true
-none_of None none = refl
-none_of (Some x) none = absurd (false≢true (sym none))
-
 -- the acts of one more moment stand last
 scheduled_on : (net : Plan) (schedule : List ℕ) (t n : ℕ) → scheduled net schedule t (suc n) ≡ scheduled net schedule t n ++ scheduled_at net schedule (t + n)
 scheduled_on net schedule t zero =
@@ -55,7 +51,7 @@ module _ (net : Plan) (table : Graph) (schedule : List ℕ) (run : IsRun net tab
   -- ---- a moment
   module _ (moments : Moments) (t : ℕ) (sees : IsSeen net schedule moments t) where
     at_its_moment : (point : PointId) → IsExecutable net point → (now : Bool) → moment_in schedule point == t ≡ now → executes_at net schedule t point ≡ now
-    at_its_moment point executable now is = (λ i. none_of (activation net point) executable.1 i && is i)
+    at_its_moment point executable now is = (λ i. none_from_test (activation net point) executable.1 i && is i)
 
     executable_due : (point : PointId) → IsExecutable net point → is_due (setting_of net table) moments t point ≡ executes_at net schedule t point
     executable_due point executable =

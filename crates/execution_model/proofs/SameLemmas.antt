@@ -16,6 +16,7 @@ use Rattle.execution_model.specs.declared.feeding.Fed.{Fed}
 use Rattle.execution_model.specs.declared.feeding.Fed.TheVariants as fed
 use Rattle.execution_model.specs.declared.feeding.Finished.{Finished}
 use Rattle.execution_model.specs.declared.feeding.Finished.TheVariants as finished
+use Rattle.execution_model.proofs.FedLemmas.{fed_on}
 use Rattle.execution_model.proofs.MomentLemmas.{length-acted, length-time_runs}
 use Rattle.dispatch_net.specs.Slim.{slim_conditions}
 use Rattle.execution_model.specs.Paced.{IsRankedNetwork, ArePaced, slim_setting}
@@ -196,10 +197,6 @@ module _ (execution : Execution) (rank : PointId → ℕ) (ranked : IsRankedNetw
   goes_the_same = record { acts = acts_here; taken = same_taken; fed = same_fed; next_due = same_next; finished = same_finished }
 
 -- ---- several feeds
-abbrev fed_on : Execution → Listing → List Listing → Result Moments Why → Result Execution Why
-fed_on execution listing others (Ok moments) = fed_all (after_feed execution listing.moment moments) others
-fed_on execution listing others (Err cause) = Err cause
-
 -- an execution that is fed to an end goes on there as it would without what others imply
 abbrev pub FeedsTheSame : List Listing → Execution → Execution → Type 0
 FeedsTheSame listings execution old = (fed_all (slim_execution execution) listings ≡ Ok (slim_execution old)) × GoesTheSame old

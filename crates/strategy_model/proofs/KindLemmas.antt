@@ -45,7 +45,7 @@ pub kind : (net : Plan) (point : PointId) → IsPoint net point → IsExecutable
 kind net point within =
     elim (kind_of_any net point) [ inl none ↦ inl (within, ap is_some none) | inr ending ↦ inr ending ]
 
-none_from_test : {A : Type 0} (o : Option A) → is_some o ≡ false → is_none o ≡ true
+pub none_from_test : {A : Type 0} (o : Option A) → is_some o ≡ false → is_none o ≡ true
 none_from_test None none = refl
 none_from_test (Some x) none = absurd (true≢false none)
 
