@@ -1,5 +1,5 @@
 -- The base nodes of what is new are, with those that are kept, all base nodes of the new network.
-use Rattle.std.proofs.Common.{◌≡◌, ℕ, suc, zero, ◌+◌, Bool, true, false, ◌⊎◌, inl, inr, List, [], ◌∷◌, map, Option, Some, None, is_none, refl, ap, sym, ◌∙◌, subst, arith, zero-add}
+use Rattle.std.proofs.Common.{◌≡◌, ℕ, Bool, true, false, ◌⊎◌, inl, inr, List, [], map, Option, Some, None, is_none, refl, ap, sym, ◌∙◌, subst, zero-add}
 use Rattle.std.specs.Prelude.{slice_get}
 use Rattle.std.specs.Option.{option_map, option_and_then}
 use Rattle.std.specs.List.{Contains, enumerate_from}
@@ -17,7 +17,8 @@ use Rattle.closure_model.specs.Derivations.{base_nodes, bound_node, link_node}
 use Rattle.closure_model.specs.declared.derivation.Node.{Node}
 use Rattle.closure_model.specs.declared.derivation.Rule.TheVariants as by_rule
 use Rattle.closure_model.proofs.Basing.{numbered_at}
-use Rattle.closure_model.proofs.Lists.{Contains-filter_from, Contains-head, Contains-tail, Contains-map, Contains-map_from, Contains-filter}
+use Rattle.closure_model.proofs.Lists.{Contains-filter_from, Contains-map, Contains-map_from, Contains-filter}
+use Rattle.closure_model.proofs.BaseLemmas.{numbered_contained}
 use Rattle.derivation_edits.specs.Following.{Renumbering, IsRenumbering, moved_node, moved_bound, moved_link, IsMovedBase, AreNewBase}
 use Rattle.derivation_edits.specs.FollowingLaws.{NewBaseIsWhole}
 use Rattle.derivation_edits.specs.Taken.{new_bounds, new_links, point_in, renumbering, is_new_bound, is_new_link, new_base_nodes}
@@ -26,18 +27,8 @@ use Rattle.derivation_edits.proofs.Keeping.{with_rule}
 use Rattle.derivation_edits.proofs.KeptDerived.{link_moved}
 
 -- ---- lists
-numbered : {X : Type 0} (n : ℕ) (xs : List X) (k : ℕ) (x : X) → slice_get xs k ≡ Some x → Contains (enumerate_from n xs) (n + k, x)
-numbered n [] k x here = absurd cc
-numbered {X = X} n (y ∷ ys) zero x here =
-    let same : y ≡ x = cc in
-    let number : n ≡ n + 0 = omega arith in
-    subst (Contains (enumerate_from n (y ∷ ys))) (λ i. (number i, same i)) (Contains-head (n, y) (enumerate_from (n + 1) ys))
-numbered {X = X} n (y ∷ ys) (suc k) x here =
-    let number : n + 1 + k ≡ n + suc k = omega arith in
-    Contains-tail (n, y) (enumerate_from (n + 1) ys) (n + suc k, x) (subst (λ (m : ℕ). Contains (enumerate_from (n + 1) ys) (m, x)) number (numbered (n + 1) ys k x here))
-
 numbered_here : {X : Type 0} (xs : List X) (k : ℕ) (x : X) → slice_get xs k ≡ Some x → Contains (enumerate_from 0 xs) (k, x)
-numbered_here xs k x here = subst (λ (n : ℕ). Contains (enumerate_from 0 xs) (n, x)) (zero-add k) (numbered 0 xs k x here)
+numbered_here xs k x here = subst (λ (n : ℕ). Contains (enumerate_from 0 xs) (n, x)) (zero-add k) (numbered_contained 0 xs k x here)
 
 some_unless : {A : Type 0} (o : Option A) → is_none o ≡ false → (x : A) × (o ≡ Some x)
 some_unless None is = absurd cc
