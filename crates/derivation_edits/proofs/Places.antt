@@ -1,17 +1,10 @@
 -- The first of a list that passes a test, where no two pass.
-use Rattle.std.proofs.Common.{◌≡◌, ℕ, ◌<◌, Bool, true, false, cond, List, [], ◌∷◌, length, get_or, Some, None, position, refl, ap, ◌∙◌, subst, arith}
-use Rattle.std.specs.Prelude.{slice_get, nat_lt}
-use Rattle.std.specs.List.{AllPairs, position_or_len}
-use Rattle.std.proofs.lemmas.Bool.Decides.{nat_tests}
+use Rattle.std.proofs.Common.{◌≡◌, ℕ, ◌<◌, Bool, true, false, List, [], ◌∷◌, length, get_or, Some, position, refl, ap, ◌∙◌, subst, arith}
+use Rattle.std.specs.Prelude.{slice_get}
+use Rattle.std.specs.List.{AllPairs}
 use Rattle.std.proofs.lemmas.List.Quantifiers.{position-Some}
-use Rattle.std.proofs.lemmas.List.Sums.{position_or_len_is}
 use Rattle.std.proofs.lemmas.Option.{slice_get-get_or, slice_get_within, get_or_from_slice_get}
-
-first_at : {X : Type 0} (p : X → Bool) (xs : List X) (k : ℕ) (d : X) → k < length xs → p (get_or xs k d) ≡ true → ((j : ℕ) → j < k → p (get_or xs j d) ≡ false) → position p xs ≡ Some k
-first_at p xs k d inside passes before =
-    let here : position_or_len p xs ≡ k = position_or_len_is p xs k d (omega arith) before (λ _. passes) in
-    let within : nat_lt k (length xs) ≡ true = grind (arith, nat_tests) in
-    ap (λ (n : ℕ). cond (nat_lt n (length xs)) (Some n) None) here ∙ ap (λ (b : Bool). cond b (Some k) None) within
+use Rattle.net_model.proofs.Positions.{position_first}
 
 module _ {X : Type 0} (p : X → Bool) (xs : List X) where
   -- what was found passes
@@ -29,7 +22,7 @@ module _ {X : Type 0} (p : X → Bool) (xs : List X) where
   one_is_found k x apart here passes =
       let inside : k < length xs = slice_get_within xs k x here in
       let at : get_or xs k x ≡ x = get_or_from_slice_get xs k x x here in
-      first_at p xs k x inside (ap p at ∙ passes) (λ j less. fails j less (p (get_or xs j x)) refl)
+      position_first p xs k x inside (ap p at ∙ passes) (λ j less. fails j less (p (get_or xs j x)) refl)
     where
       fails : (j : ℕ) → j < k → (b : Bool) → p (get_or xs j x) ≡ b → p (get_or xs j x) ≡ false
       fails j less false is = is

@@ -1,8 +1,10 @@
 -- The place that `position` gives: after a push, over a mapped list, and where no item passes.
-use Rattle.std.proofs.Common.{◌≡◌, ◌+◌, ◌≤◌, Bool, true, false, cond, not, List, [], ◌∷◌, ◌++◌, length, map, Option, Some, None, position, refl, ap, arith}
+use Rattle.std.proofs.Common.{◌≡◌, ℕ, ◌+◌, ◌<◌, ◌≤◌, ◌∙◌, Bool, true, false, cond, not, List, [], ◌∷◌, ◌++◌, length, get_or, map, Option, Some, None, position, refl, ap, arith}
+use Rattle.std.specs.Prelude.{nat_lt}
 use Rattle.std.specs.List.{All, list_any, position_or_len}
 use Rattle.std.specs.Option.{option_map}
 use Rattle.std.proofs.lemmas.Grind.{common_steps}
+use Rattle.std.proofs.lemmas.Bool.Decides.{nat_tests}
 use Rattle.std.proofs.lemmas.List.Sums.{fails_before_first, position_or_len_is, prefix_len-le-length}
 use Rattle.std.proofs.lemmas.List.Folds.{list_any_none}
 
@@ -40,3 +42,10 @@ module _ {X : Type 0} (p : X → Bool) where
 
   pub position-map : {Y : Type 0} (f : Y → X) (ys : List Y) → position p (map f ys) ≡ position (λ y. p (f y)) ys
   position-map f ys = rw (position_or_len-map f ys) (grind (arith, common_steps))
+
+-- the place of the first that passes
+pub position_first : {X : Type 0} (p : X → Bool) (xs : List X) (k : ℕ) (d : X) → k < length xs → p (get_or xs k d) ≡ true → ((j : ℕ) → j < k → p (get_or xs j d) ≡ false) → position p xs ≡ Some k
+position_first p xs k d inside passes before =
+    let here : position_or_len p xs ≡ k = position_or_len_is p xs k d (omega arith) before (λ _. passes) in
+    let within : nat_lt k (length xs) ≡ true = grind (arith, nat_tests) in
+    ap (λ (n : ℕ). cond (nat_lt n (length xs)) (Some n) None) here ∙ ap (λ (b : Bool). cond b (Some k) None) within

@@ -18,8 +18,8 @@ use Rattle.closure_model.proofs.Deriving.{link_at}
 use Rattle.cert_checker.specs.Lines.{link_named, bound_of, names_point}
 use Rattle.cert_checker.proofs.Naming.{same_bytes, bytes_same}
 use Rattle.net_model.specs.NetworkParts.{point_name}
+use Rattle.net_model.proofs.Positions.{position_first}
 use Rattle.refutations.specs.Certifying.{bound_name, link_name}
-use Rattle.refutations.proofs.Places.{first_at}
 
 differ : (x y : List ℕ) → (x ≡ y → ⊥) → bytes_eq x y ≡ false
 differ x y apart = false_from_ne_true (bytes_eq x y) (λ same. apart (same_bytes x y same))
@@ -36,7 +36,7 @@ module _ (net : Plan) (plan : IsPlan net) where
       let name : List ℕ = point_name net.points point in
       let apart = AllPairs-from_IsDistinct bytes_eq-Decides net.points plan.points_apart in
       let fails : (j : ℕ) → j < point.0 → bytes_eq name (get_or net.points j []) ≡ false = λ j below. differ name (get_or net.points j []) (λ same. apart j point.0 [] below inside (sym same)) in
-      ap (option_map (λ (k : ℕ). record { 0 = k })) (first_at (bytes_eq name) net.points point.0 [] inside (bytes_same name name refl) fails)
+      ap (option_map (λ (k : ℕ). record { 0 = k })) (position_first (bytes_eq name) net.points point.0 [] inside (bytes_same name name refl) fails)
 
   -- a point has its name
   pub has_name : (point : PointId) → IsPoint net point → names_point net (point_name net.points point) point ≡ true
@@ -54,7 +54,7 @@ module _ (net : Plan) (plan : IsPlan net) where
       let own : get_or names id.0 [] ≡ bound.name = get_or_from_slice_get names id.0 bound.name [] named in
       let within : id.0 < length names = slice_get_within names id.0 bound.name named in
       let fails : (j : ℕ) → j < id.0 → bytes_eq bound.name (get_or net.bounds j bound).name ≡ false = λ j below. differ bound.name (get_or net.bounds j bound).name (λ same. apart j id.0 [] below within (other_name j bound (omega arith) ∙ sym same ∙ sym own)) in
-      ap (option_map (λ (k : ℕ). record { 0 = k })) (first_at (λ (b : Bound). bytes_eq bound.name b.name) net.bounds id.0 bound inside (bytes_same bound.name (get_or net.bounds id.0 bound).name (ap (λ (b : Bound). b.name) (sym at))) fails)
+      ap (option_map (λ (k : ℕ). record { 0 = k })) (position_first (λ (b : Bound). bytes_eq bound.name b.name) net.bounds id.0 bound inside (bytes_same bound.name (get_or net.bounds id.0 bound).name (ap (λ (b : Bound). b.name) (sym at))) fails)
     where
       other_name : (j : ℕ) (d : Bound) → j < length net.bounds → get_or (map (λ (b : Bound). b.name) net.bounds) j [] ≡ (get_or net.bounds j d).name
       other_name j d below =
@@ -75,7 +75,7 @@ module _ (net : Plan) (plan : IsPlan net) where
       let number : (get_or net.links id.0 link).to.0 ≡ link.to.0 = ap (λ (l : Link). l.to.0) at in
       let passes : ((get_or net.links id.0 link).to.0 == link.to.0) ≡ true = grind (arith, nat_tests) in
       let fails : (j : ℕ) → j < id.0 → ((get_or net.links j link).to.0 == link.to.0) ≡ false = λ j below. other_number (get_or net.links j link).to.0 link.to.0 (λ same. plan.links_apart j id.0 link below inside (same ∙ sym number)) in
-      ap (option_map (λ (k : ℕ). record { 0 = k })) (first_at (λ (l : Link). l.to.0 == link.to.0) net.links id.0 link inside passes fails)
+      ap (option_map (λ (k : ℕ). record { 0 = k })) (position_first (λ (l : Link). l.to.0 == link.to.0) net.links id.0 link inside passes fails)
 
   -- the name of a link stands for it
   pub link_known : (id : LinkId) (link : Link) → slice_get net.links id.0 ≡ Some link → (link_id net (link_name net id) ≡ Some id) × (link_named net (link_name net id) ≡ Some link)

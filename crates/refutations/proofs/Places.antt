@@ -1,20 +1,14 @@
--- Places in lists: the first that passes, what stands at a place of a list that is made of another, and that the lines before one
+-- Places in lists: what stands at a place of a list that is made of another, and that the lines before one
 -- are among all.
-use Rattle.std.proofs.Common.{◌≡◌, ℕ, zero, suc, ◌<◌, ◌==◌, Bool, true, false, cond, List, [], ◌∷◌, length, take, get_or, Option, Some, None, position, refl, ap, sym, ◌∙◌, arith}
-use Rattle.std.specs.Prelude.{slice_get, nat_lt}
+use Rattle.std.proofs.Common.{◌≡◌, ℕ, zero, suc, ◌<◌, ◌==◌, true, false, List, [], ◌∷◌, length, take, get_or, Option, Some, None, refl, ap, sym, ◌∙◌, arith}
+use Rattle.std.specs.Prelude.{slice_get}
 use Rattle.std.specs.List.{Contains, AllPairs, filter_map, cons_option, position_or_len}
 use Rattle.std.proofs.lemmas.Bool.Decides.{nat_tests}
 use Rattle.std.proofs.lemmas.Bool.{eqb-true}
-use Rattle.std.proofs.lemmas.List.Sums.{position_or_len_is, fails_before_first, passes_at_first}
+use Rattle.std.proofs.lemmas.List.Sums.{fails_before_first, passes_at_first}
 use Rattle.std.proofs.lemmas.Option.{slice_get-get_or, slice_get_within, get_or_from_slice_get}
 use Rattle.closure_model.proofs.Lists.{Contains-head, Contains-tail}
 use Rattle.closure_model.specs.declared.derivation.NodeId.{NodeId}
-
-pub first_at : {X : Type 0} (p : X → Bool) (xs : List X) (k : ℕ) (d : X) → k < length xs → p (get_or xs k d) ≡ true → ((j : ℕ) → j < k → p (get_or xs j d) ≡ false) → position p xs ≡ Some k
-first_at p xs k d inside passes before =
-    let here : position_or_len p xs ≡ k = position_or_len_is p xs k d (omega arith) before (λ _. passes) in
-    let within : nat_lt k (length xs) ≡ true = grind (arith, nat_tests) in
-    ap (λ (n : ℕ). cond (nat_lt n (length xs)) (Some n) None) here ∙ ap (λ (b : Bool). cond b (Some k) None) within
 
 -- an item before a place
 pub before : {X : Type 0} (n : ℕ) (xs : List X) (k : ℕ) (x : X) → slice_get xs k ≡ Some x → k < n → slice_get (take n xs) k ≡ Some x
