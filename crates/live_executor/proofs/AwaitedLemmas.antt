@@ -1,6 +1,6 @@
 -- Until when contingent points must complete, and which points each point activates.
-use Rattle.std.proofs.Common.{◌≡◌, ◌≢◌, ◌⊎◌, ℕ, ◌+◌, ◌<◌, ◌≤◌, Bool, true, false, cond, List, [], ◌∷◌, ◌++◌, length, get_or, take, Option, Some, None, refl, ap, sym, subst, ◌∙◌, inl, inr, arith}
-use Rattle.std.specs.Prelude.{◌==◌, replicate, slice_set, nat_le, find, is_some, unsigned_abs, if◌then◌else◌}
+use Rattle.std.proofs.Common.{◌≡◌, ◌≢◌, ◌⊎◌, ℕ, ◌+◌, ◌<◌, ◌≤◌, Bool, true, false, cond, List, [], length, get_or, take, Option, Some, None, refl, ap, sym, subst, ◌∙◌, inl, inr, arith}
+use Rattle.std.specs.Prelude.{◌==◌, replicate, slice_set, nat_le, is_some, unsigned_abs, if◌then◌else◌}
 use Rattle.std.specs.List.{All, Contains}
 use Rattle.std.specs.Option.{option_map, option_map_or, option_and_then}
 use Rattle.std.proofs.lemmas.Bool.{cases_lt, cases_eq, eqb-true}
@@ -8,21 +8,20 @@ use Rattle.std.proofs.lemmas.Bool.Decides.{nat_tests}
 use Rattle.std.proofs.lemmas.List.{get_or_past, get_or-set_same, get_or-set_other, get_or-replicate, length-replicate, take_more, take_all}
 use Rattle.std.proofs.lemmas.List.Elements.{All-nil, Contains-push_cases}
 use Rattle.std.proofs.lemmas.List.Sums.{count_by_more_no}
-use Rattle.std.proofs.lemmas.Option.{none-some, same_Some}
+use Rattle.std.proofs.lemmas.Option.{none-some}
 use Rattle.closure_model.proofs.Lists.{Contains-none}
 use Rattle.closure_model.proofs.OrderLemmas.{IsFound, find_some}
 use Rattle.net_model.specs.declared.ids.PointId.{PointId}
 use Rattle.net_model.specs.declared.part.Link.{Link}
 use Rattle.net_model.specs.Moments.{Moments, moment_of}
-use Rattle.due_queue.specs.First.{IsNotAfter, IsFirstDue}
+use Rattle.due_queue.specs.First.{IsFirstDue}
 use Rattle.execution_model.specs.Execution.{Setting, has_come, link_to}
-use Rattle.execution_model.specs.Feeding.{completed_at, latest_of, is_overdue, first_overdue}
-use Rattle.execution_model.proofs.MomentLemmas.{moment_completed, moment_of_other}
+use Rattle.execution_model.specs.Feeding.{completed_at, latest_of, is_overdue}
+use Rattle.execution_model.proofs.MomentLemmas.{moment_of_other}
 use Rattle.live_executor.specs.Awaited.{AreActivated, AreActivatedBy, IsNotActivatedBy, AreLatest, IsLatestOrKept}
 use Rattle.live_executor.specs.Sound.{IsLinkOf}
 use Rattle.live_executor.specs.Waking.{times}
 use Rattle.live_executor.specs.Wakes.{list_at, added}
-use Rattle.live_executor.proofs.TakingLemmas.{overdue_nowhere}
 use Rattle.live_executor.proofs.WakesLemmas.{length-added, added_same, added_other, added_inside}
 
 -- ---- which points each point activates

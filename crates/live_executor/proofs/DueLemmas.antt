@@ -1,10 +1,9 @@
 -- From when on a point is due, by its lower bounds and waits.
-use Rattle.std.proofs.Common.{◌≡◌, ℕ, max, false, true, Option, Some, None, leb, arith, refl, List, [], ℤ}
+use Rattle.std.proofs.Common.{◌≡◌, ℕ, max, false, true, Option, Some, None, leb, arith, refl, List, []}
 use Rattle.std.specs.Prelude.{is_some, is_none, ◌&&◌}
 use Rattle.std.specs.List.{list_all}
 use Rattle.std.proofs.lemmas.Bool.Decides.{nat_tests}
 use Rattle.net_model.specs.declared.ids.PointId.{PointId}
-use Rattle.net_model.specs.declared.ids.LinkId.{LinkId}
 use Rattle.net_model.specs.declared.part.Link.{Link}
 use Rattle.dispatch_net.specs.Dispatchable.{conditions_at}
 use Rattle.dispatch_net.specs.declared.dispatch.Conditions.{Conditions}
