@@ -2,20 +2,24 @@
 //!
 //!     plain WAY [--nodes] < PLAN
 //!
-//! WAY is how the verdict is sought: `told` makes rounds whose rows are told which ordinary edges fell in the last round; `stale` makes,
-//! after the first round, the rows whose targets are stale, each from the start; `letter` makes every row of every round, and looks
-//! through all keys for the least; `closing` closes one table without rounds. Prints what `check` prints of a plan without faults. On
+//! WAY is how the verdict is sought: `told` makes rounds whose rows are told which ordinary edges fell in the last round; `blocks` makes
+//! the same rounds over dense words, a block of which is tested at once; `stale` makes, after the first round, the rows whose targets are
+//! stale, each from the start; `letter` makes every row of every round, and looks through all keys for the least; `closing` closes one
+//! table without rounds. Prints what `check` prints of a plan without faults. On
 //! standard error stand the rounds and the nodes; with --nodes a line for each node, in order of making, comes first.
 
+mod blocks;
 mod closing;
+mod order;
 mod plan;
 mod refuting;
 mod rounds;
 mod rows;
 mod table;
 
+use blocks::Blocks;
 use plan::Plan;
-use rounds::{Outcome, Rounds};
+use rounds::{Node, Outcome, Rounds};
 use std::io::{self, Read, Write};
 use std::process::ExitCode;
 
@@ -23,6 +27,7 @@ use std::process::ExitCode;
 #[derive(Clone, Copy, PartialEq, Eq)]
 enum Way {
     Rounds(rounds::Way),
+    Blocks,
     Closing,
 }
 
@@ -31,30 +36,42 @@ fn way_of(word: &str) -> Option<Way> {
         "told" => Some(Way::Rounds(rounds::Way::Told)),
         "stale" => Some(Way::Rounds(rounds::Way::Stale)),
         "letter" => Some(Way::Rounds(rounds::Way::Letter)),
+        "blocks" => Some(Way::Blocks),
         "closing" => Some(Way::Closing),
         _ => None,
     }
 }
 
-fn by_rounds(plan: &Plan, way: rounds::Way, shows_nodes: bool) -> io::Result<()> {
+/// Prints the verdict that rounds have come to, with the nodes that they made.
+fn tell(plan: &Plan, outcome: Outcome, nodes: &[Node], node_of: impl Fn(u32, u32) -> u32, shows_nodes: bool) -> io::Result<()> {
     let mut out = io::BufWriter::new(io::stdout().lock());
-    let mut rounds = Rounds::new(plan);
-    let outcome = rounds.propagate(way);
     if shows_nodes {
-        for node in rounds.nodes() {
+        for node in nodes {
             writeln!(out, "{}", refuting::told(plan, node))?;
         }
     }
     let (made, lines) = match outcome {
         Outcome::Closed { rounds: made, .. } => (made, vec!["controllable".to_string()]),
-        Outcome::Looped { rounds: made, cycle } => (made, refuting::refutation(plan, &rounds, &cycle)),
+        Outcome::Looped { rounds: made, cycle } => (made, refuting::refutation(plan, nodes, &cycle, node_of)),
     };
     for line in lines {
         writeln!(out, "{line}")?;
     }
     out.flush()?;
-    eprintln!("rounds {made} nodes {}", rounds.nodes().len());
+    eprintln!("rounds {made} nodes {}", nodes.len());
     Ok(())
+}
+
+fn by_rounds(plan: &Plan, way: rounds::Way, shows_nodes: bool) -> io::Result<()> {
+    let mut rounds = Rounds::new(plan);
+    let outcome = rounds.propagate(way);
+    tell(plan, outcome, rounds.nodes(), |from, to| rounds.node_of(from, to), shows_nodes)
+}
+
+fn by_blocks(plan: &Plan, shows_nodes: bool) -> io::Result<()> {
+    let mut rounds = Blocks::new(plan);
+    let outcome = rounds.propagate();
+    tell(plan, outcome, rounds.nodes(), |from, to| rounds.node_of(from, to), shows_nodes)
 }
 
 fn by_closing(plan: &Plan) -> io::Result<()> {
@@ -70,7 +87,7 @@ fn main() -> ExitCode {
     let words: Vec<String> = std::env::args().skip(1).collect();
     let way = words.first().and_then(|word| way_of(word));
     let (Some(way), Some(shows_nodes)) = (way, shows_nodes(&words)) else {
-        eprintln!("usage: plain told|stale|letter|closing [--nodes] < PLAN");
+        eprintln!("usage: plain told|blocks|stale|letter|closing [--nodes] < PLAN");
         return ExitCode::from(2);
     };
     let mut text = String::new();
@@ -81,6 +98,7 @@ fn main() -> ExitCode {
     let plan = Plan::read(&text);
     let done = match way {
         Way::Rounds(way) => by_rounds(&plan, way, shows_nodes),
+        Way::Blocks => by_blocks(&plan, shows_nodes),
         Way::Closing => by_closing(&plan),
     };
     match done {

@@ -1,18 +1,17 @@
 //! What is printed of nodes and refutations.
 
 use crate::plan::Plan;
-use crate::rounds::{Node, Rounds, Rule};
+use crate::rounds::{Node, Rule};
 
 /// A node in one line: its rule with the numbers of its premises, and its edge.
 pub fn told(plan: &Plan, node: &Node) -> String {
     line(plan, node, |premise| premise as usize)
 }
 
-/// The lines of a refutation by a cycle.
-pub fn refutation(plan: &Plan, rounds: &Rounds, cycle: &[u32]) -> Vec<String> {
-    let nodes = rounds.nodes();
+/// The lines of a refutation by a cycle; `node_of` gives the node of an ordinary edge.
+pub fn refutation(plan: &Plan, nodes: &[Node], cycle: &[u32], node_of: impl Fn(u32, u32) -> u32) -> Vec<String> {
     let next = cycle.iter().cycle().skip(1);
-    let steps: Vec<u32> = cycle.iter().zip(next).map(|(&from, &to)| rounds.node_of(from, to)).collect();
+    let steps: Vec<u32> = cycle.iter().zip(next).map(|(&from, &to)| node_of(from, to)).collect();
     let is_used = used(nodes, &steps);
     let mut numbers = vec![0usize; nodes.len()];
     let mut lines: Vec<String> = ["not controllable", "certificate 1", "refutation"].map(String::from).to_vec();

@@ -1,10 +1,9 @@
 //! Rounds, until the table is closed or has a cycle of negative ordinary edges.
 
+use crate::order::{order, Order};
 use crate::plan::Plan;
 use crate::rows::{row, row_by_letter, Fresh, Made, Slots, Why};
 use crate::table::{Entry, Key, Table};
-use std::cmp::Reverse;
-use std::collections::BinaryHeap;
 
 /// How a node was made; its premises are nodes before it.
 #[derive(Clone, Copy, Debug)]
@@ -30,7 +29,7 @@ pub struct Node {
 }
 
 impl Node {
-    fn new(rule: Rule, target: u32, key: Key, weight: i32) -> Node {
+    pub fn new(rule: Rule, target: u32, key: Key, weight: i32) -> Node {
         let label = key.label.map_or(u16::MAX, |label| label as u16);
         Node {
             rule,
@@ -63,12 +62,6 @@ pub enum Outcome {
         rounds: usize,
         cycle: Vec<u32>,
     },
-}
-
-/// The last order of the points, by their places.
-struct Order {
-    points: Vec<u32>,
-    places: Vec<u32>,
 }
 
 pub struct Rounds<'a> {
@@ -219,57 +212,15 @@ impl<'a> Rounds<'a> {
 
     /// The order of the points, or the first cycle of negative ordinary edges.
     fn order(&self) -> Result<Order, Vec<u32>> {
-        let count = self.plan.points.len();
-        let mut waits = vec![0usize; count];
         let negative = |entry: &&Entry| entry.key.label.is_none() && entry.weight < 0;
-        for target in 0..count as u32 {
-            for entry in self.table.row(target).iter().filter(negative) {
-                waits[entry.key.from as usize] += 1;
-            }
-        }
-        let mut free: BinaryHeap<Reverse<u32>> = (0..count as u32).filter(|&point| waits[point as usize] == 0).map(Reverse).collect();
-        let mut points = vec![];
-        while let Some(Reverse(point)) = free.pop() {
-            points.push(point);
-            for entry in self.table.row(point).iter().filter(negative) {
-                let from = entry.key.from as usize;
-                waits[from] -= 1;
-                if waits[from] == 0 {
-                    free.push(Reverse(entry.key.from));
-                }
-            }
-        }
-        if points.len() == count {
-            let mut places = vec![0; count];
-            for (place, &point) in points.iter().enumerate() {
-                places[point as usize] = place as u32;
-            }
-            return Ok(Order { points, places });
-        }
-        Err(self.cycle(&points))
-    }
-
-    /// The cycle that is met from the lowest point that is not placed.
-    fn cycle(&self, placed: &[u32]) -> Vec<u32> {
-        let count = self.plan.points.len() as u32;
-        let mut is_placed = vec![false; count as usize];
-        for &point in placed {
-            is_placed[point as usize] = true;
-        }
-        let goes = |from: u32, to: u32| {
-            self.table
-                .entry(to, Key { from, label: None })
-                .is_some_and(|entry| entry.weight < 0)
-        };
-        let left: Vec<u32> = (0..count).filter(|&point| !is_placed[point as usize]).collect();
-        let mut path = vec![left[0]];
-        loop {
-            let last = path[path.len() - 1];
-            let next = *left.iter().find(|&&to| goes(last, to)).expect("a point that is not placed goes on");
-            if let Some(place) = path.iter().position(|&point| point == next) {
-                return path.split_off(place);
-            }
-            path.push(next);
-        }
+        order(
+            self.plan.points.len(),
+            |target| self.table.row(target).iter().filter(negative).map(|entry| entry.key.from),
+            |from, to| {
+                self.table
+                    .entry(to, Key { from, label: None })
+                    .is_some_and(|entry| entry.weight < 0)
+            },
+        )
     }
 }
