@@ -168,7 +168,7 @@ reads_back net plan numbers =
     }
 
 -- and its lines declare the network, whole
-pub declares_back : (net : Plan) → IsPlan net → HasPlanNumbers net → DeclaresNetwork (lines (printed_plan net)) net []
+pub declares_back : (net : Plan) → IsPlan net → HasPlanNumbers net → DeclaresNetwork (lines (printed_plan net)) (record net { delay = 0 }) []
 unfolding printed_plan
 declares_back net plan numbers =
     let parts : List Part = parts_of net in

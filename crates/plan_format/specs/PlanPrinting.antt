@@ -17,9 +17,9 @@ plan_words parts = header_words ∷ (map part_words parts ++ end_words ∷ [])
 unfoldable pub printed_plan : Plan → List ℕ
 printed_plan net = printed (plan_words (parts_of net))
 
--- a text that reads back, whole, to parts that build the network
+-- a text that reads back, whole, to parts that build the network; a text of version 1 does not tell its delay
 pub record ReadsBack (text : List ℕ) (net : Plan) : Type 0 where
   pub read : Parts
   pub said : Says text read
   pub whole : read.used ≡ length text
-  pub same : built read.parts ≡ Ok net
+  pub same : built read.parts ≡ Ok (record net { delay = 0 })

@@ -50,11 +50,11 @@ document_of net = object (members_of_document net)
 abbrev pub document_text : Data → List ℕ
 document_text document = pretty (json_tokens (outline document))
 
--- a text that is read back as parts that build the network
+-- a text that is read back as parts that build the network; it does not tell its delay
 pub record ReadsBack (text : List ℕ) (net : Plan) : Type 0 where
   pub parts : List Part
   pub said : declared text ≡ Some (Ok parts)
-  pub same : built parts ≡ Ok net
+  pub same : built parts ≡ Ok (record net { delay = 0 })
 
 -- A text that can stand before a line `end` in an input, and is read there whole: its lines, none of which has `end` as its only word, with
 -- byte 10 between.
