@@ -20,6 +20,7 @@ use Rattle.net_model.specs.declared.part.Link.{Link}
 use Rattle.net_model.specs.declared.part.Part.{Part}
 use Rattle.net_model.specs.declared.part.Part.TheVariants as part
 use Rattle.net_model.specs.declared.fault.BuildFault.{BuildFault}
+use Rattle.net_model.proofs.EditLemmas.{shown_within_limit}
 use Rattle.net_model.proofs.NetworkLemmas.{IsPlan-more_points, IsPlan-more_bounds, IsPlan-more_links}
 use Rattle.plan_format.specs.PlanGrammar.{IsBegun, header, blank, declares}
 use Rattle.plan_format.specs.PlanNetwork.{DeclaresNetwork}
@@ -123,6 +124,10 @@ fits : (n : ℤ) (b : Bool) → within_limit n ≡ b → not b ≡ false → wit
 fits n true is small = grind (arith, nat_tests)
 fits n false is small = absurd (cc)
 
+in_limit : (n : ℤ) (b : Bool) → within_limit n ≡ b → not b ≡ false → within_limit n ≡ true
+in_limit n true is small = is
+in_limit n false is small = absurd (cc)
+
 place_within : {X : Type 0} (test : X → Bool) (xs : List X) (d : X) (found : Option ℕ) (point : PointId) → position test xs ≡ found → option_map (λ k. record { 0 = k }) found ≡ Some point → point.0 < length xs
 place_within test xs d (Some k) point is same =
     let at : k ≡ point.0 = ap (λ (p : Option PointId). unwrap_or (option_map (λ (i : PointId). i.0) p) 0) same in
@@ -158,7 +163,7 @@ bound_sound net name from to most is sound =
     unless_refused IsPlan (not (within_limit most)) _ _ (λ fitting.
     unless_refused IsPlan (nat_le most_bounds (length net.bounds)) _ _ (λ roomy.
     let bound : Bound = record { name = name; from = x; to = y; most = most } in
-    let good : IsBound net bound = record { named = is; from_point = named_within net from x begins; to_point = named_within net to y ends; within = fits most (within_limit most) refl fitting } in
+    let good : IsBound net bound = record { named = is; from_point = named_within net from x begins; to_point = named_within net to y ends; within = fits most (within_limit most) refl fitting; shown_within = shown_within_limit most net.delay sound.short_delay (in_limit most (within_limit most) refl fitting) } in
     IsPlan-more_bounds net bound sound good (none_is (bound_named net name) fresh) (grind (arith, nat_tests)))))))
 
 interval_is : (low high : ℤ) → (int_lt low (pos 1) || int_lt high low) ≡ false → (pos 1 ≤ℤ low) × (low ≤ℤ high)
@@ -183,6 +188,7 @@ link_sound net from low high to sound =
       positive = durations.0;
       interval = durations.1;
       within = fits high (within_limit high) refl fitting;
+      shown_within = shown_within_limit high net.delay sound.short_delay (in_limit high (within_limit high) refl fitting);
     } in
     IsPlan-more_links net link sound good (none_is (activation net c) first) (grind (arith, nat_tests)))))))))
 
@@ -220,6 +226,7 @@ empty_sound = record {
   few_points = omega arith;
   few_bounds = omega arith;
   few_links = omega arith;
+  short_delay = omega arith;
 }
 
 -- what parts build that can be spelled is sound
