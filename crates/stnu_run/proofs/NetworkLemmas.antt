@@ -23,6 +23,7 @@ use Rattle.net_model.specs.declared.fault.BuildFault.{BuildFault}
 use Rattle.net_model.proofs.EditLemmas.{shown_within_limit}
 use Rattle.net_model.proofs.NetworkLemmas.{IsPlan-more_points, IsPlan-more_bounds, IsPlan-more_links}
 use Rattle.plan_format.specs.PlanGrammar.{IsBegun, header, blank, declares}
+use Rattle.plan_format.specs.PlanParts.{Version}
 use Rattle.plan_format.specs.PlanNetwork.{DeclaresNetwork}
 use Rattle.net_model.specs.NetworkParts.{IsDeclarable}
 
@@ -208,12 +209,12 @@ parts_sound place net made (part ∷ parts) spelled sound builds =
     (λ more also rest. parts_sound (place + 1) more made parts (All-tail IsDeclarable part parts spelled) also rest) builds
 
 -- the parts of a plan text can be spelled
-spelled_parts : (lines : List (List ℕ)) (parts : List Part) (numbers : List ℕ) → IsBegun lines parts numbers → All IsDeclarable parts
-spelled_parts lines parts numbers (header blanks first all is) = All-nil IsDeclarable
-spelled_parts lines parts numbers (blank before next ps ns begins is) = spelled_parts before ps ns begins
-spelled_parts lines parts numbers (declares before next ps more ns begins declared) =
+spelled_parts : (version : Version) (lines : List (List ℕ)) (parts : List Part) (numbers : List ℕ) → IsBegun version lines parts numbers → All IsDeclarable parts
+spelled_parts version lines parts numbers (header blanks first all is) = All-nil IsDeclarable
+spelled_parts version lines parts numbers (blank before next ps ns begins is) = spelled_parts version before ps ns begins
+spelled_parts version lines parts numbers (declares before next ps more ns begins declared) =
     let one : All IsDeclarable (declared.0 ∷ []) = All-cons IsDeclarable declared.0 [] declared.2.1 (All-nil IsDeclarable) in
-    All-append IsDeclarable ps more (spelled_parts before ps ns begins) (subst (All IsDeclarable) (sym declared.1) one)
+    All-append IsDeclarable ps more (spelled_parts version before ps ns begins) (subst (All IsDeclarable) (sym declared.1) one)
 
 empty_sound : IsPlan empty
 empty_sound = record {
@@ -235,4 +236,4 @@ built_sound parts net spelled builds = parts_sound 0 empty net parts spelled emp
 
 -- a network that lines declare is sound
 pub declared_sound : (lines : List (List ℕ)) (net : Plan) (rest : List (List ℕ)) → DeclaresNetwork lines net rest → IsPlan net
-declared_sound lines net rest is = built_sound is.parts net (spelled_parts is.is_plan.begun is.parts is.numbers is.is_plan.begins) is.builds
+declared_sound lines net rest is = built_sound is.parts net (spelled_parts is.is_plan.version is.is_plan.begun is.parts is.numbers is.is_plan.begins) is.builds
