@@ -1,6 +1,5 @@
 //! Networks with a delay, and their shown forms.
 
-ghost use Rattle.std.specs.Prelude.{IfOk, IfSome};
 ghost use Rattle.net_model.specs.Network.{HasPlanNumbers};
 
 use crate::edits::{edit_of, told_network};
@@ -56,7 +55,7 @@ fn delayed(net: Network, delay: Weight) -> Option<Network>
 fn read_as_shown(rt: &impl Abort, net: &Network, shown: &Network) {
     for k in 0..net.bounds().len() {
         let edge = net.shown_bound(BoundId(k as u32));
-        assert_eq!(rt; shown.bounds().get(k).map(bound_edge), Some(edge));
+        assert_eq!(rt; shown.bounds().get(k).map(|bound| bound_edge(bound)), Some(edge));
     }
     for k in 0..net.links().len() {
         let link = net.shown_link(LinkId(k as u32));

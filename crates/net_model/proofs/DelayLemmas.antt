@@ -1,9 +1,8 @@
 -- A network with the numbers of a plan is sound with any delay; what a list of parts builds has the delay 0.
-use Rattle.std.proofs.Common.{◌≡◌, ◌++◌, ◌∷◌, [], ℕ, ℤ, ◌+◌, ◌≤◌, ◌==◌, ◌||◌, List, Result, Ok, Err, IfOk, get_or, true, refl, ◌∙◌, is_some, nat_le, int_lt, not, pos, length}
-use Rattle.std.specs.List.{All}
+use Rattle.std.proofs.Common.{◌≡◌, ◌++◌, ◌∷◌, [], ℕ, ℤ, ◌+◌, ◌≤◌, ◌==◌, ◌||◌, List, Result, Ok, Err, IfOk, get_or, refl, ◌∙◌, is_some, nat_le, int_lt, not, pos, length}
 use Rattle.net_model.specs.Building.{◌>>=◌, refuse_if, named, with_point, with_bound, with_link, with_part, with_parts, built, at_place}
 use Rattle.net_model.specs.Limits.{most_points, most_links, most_bounds, most_delay, within_limit}
-use Rattle.net_model.specs.Network.{Plan, IsPlan, IsBound, IsLink, HasPlanNumbers, point_named, bound_named, activation, empty}
+use Rattle.net_model.specs.Network.{Plan, IsPlan, HasPlanNumbers, point_named, bound_named, activation, empty}
 use Rattle.net_model.specs.declared.fault.BuildFault.{BuildFault}
 use Rattle.net_model.specs.declared.fault.PartFault.{PartFault}
 use Rattle.net_model.specs.declared.fault.PartFault.TheVariants.{DuplicateName, TwoLinksOnPoint, LinkToItself, BadInterval, Limit}

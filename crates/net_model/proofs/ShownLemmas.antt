@@ -1,13 +1,13 @@
 -- The shown form of a network is a network, with numbers near to those of the network; without a delay it is the network itself.
 use Rattle.std.proofs.Common.{◌≡◌, ℕ, ℤ, pos, zero, suc, drop, ◌+◌, ◌<◌, ◌≤◌, ◌+ℤ◌, ◌-ℤ◌, List, [], ◌∷◌, ◌++◌, append_assoc, length, map, get_or, refl, sym, ap, subst, ◌∙◌, arith, unsigned_abs, true, false, Bool, cond}
 use Rattle.std.specs.Prelude.{is_some, fold, max}
-use Rattle.std.specs.List.{All, IsDistinct}
+use Rattle.std.specs.List.{IsDistinct}
 use Rattle.std.specs.Str.{bytes_eq}
 use Rattle.std.proofs.lemmas.Int.{ints}
 use Rattle.std.proofs.lemmas.Bool.{le-leb}
 use Rattle.std.proofs.lemmas.List.{length-map, get_or-map}
 use Rattle.std.proofs.lemmas.List.Elements.{All-map}
-use Rattle.net_model.specs.Limits.{within_size, most_size, most_bounds, most_links}
+use Rattle.net_model.specs.Limits.{most_size, most_bounds, most_links}
 use Rattle.net_model.specs.Network.{Plan, IsPlan, IsBound, IsLink, activation, greatest}
 use Rattle.net_model.specs.ShownForm.{lag, gain, shown_bound, shown_link, shown_form, shown_durations}
 use Rattle.net_model.specs.declared.ids.PointId.{PointId}

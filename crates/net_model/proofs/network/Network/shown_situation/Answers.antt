@@ -1,4 +1,4 @@
-use Rattle.std.proofs.Common.{◌≡◌, ◌<◌, ◌+◌, pos, length, ap, sym, ◌∙◌, arith, get_or}
+use Rattle.std.proofs.Common.{◌<◌, pos, length, ap, ◌∙◌, arith}
 use Rattle.net_model.specs.declared.part.Link.{Link}
 use Rattle.net_model.proofs.ShownLemmas.{durations_next}
 use Rattle.net_model.proofs.network.Network.shown_situation.Goals as goal

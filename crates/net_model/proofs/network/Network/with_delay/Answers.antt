@@ -1,8 +1,8 @@
-use Rattle.std.proofs.Common.{◌≡◌, ◌≤◌, ℕ, refl, sym, ap, subst, ◌∙◌, arith, unsigned_abs, w64, to_z, of_z, ℤ}
+use Rattle.std.proofs.Common.{◌≤◌, sym, subst, arith, unsigned_abs, w64, to_z, of_z, ℤ}
 use Rattle.std.proofs.lemmas.Int.{ints, to_z-of_z}
 use Rattle.net_model.specs.Limits.{most_delay}
 use Rattle.net_model.specs.Network.{HasPlanNumbers}
-use Rattle.net_model.specs.Stored.{IsStored, plan_of}
+use Rattle.net_model.specs.Stored.{plan_of}
 use Rattle.net_model.proofs.DelayLemmas.{sound_with_delay}
 use Rattle.net_model.proofs.network.Network.with_delay.Goals as goal
 
