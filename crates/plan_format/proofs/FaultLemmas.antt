@@ -19,7 +19,7 @@ use Rattle.plan_format.specs.PlanLines.{plan_line}
 use Rattle.plan_format.specs.PlanParts.{Version, version_1}
 use Rattle.plan_format.specs.PlanGrammar.{Says}
 use Rattle.plan_format.specs.PlanFaults.{Departs, CanBecomePlan, ExcludesPlan, Stops, IsFirstFault}
-use Rattle.plan_format.specs.PlanReading.{Progress, begun, in_section, line_in, version_in, advanced, missing, IsReached, IsFront, Brings, fault_after}
+use Rattle.plan_format.specs.PlanReading.{Progress, begun, in_section, line_in, advanced, missing, IsReached, IsFront, Brings, fault_after}
 use Rattle.plan_format.proofs.PartLemmas.{read_is}
 use Rattle.plan_format.proofs.DepartureLemmas.{departs, departs_one}
 use Rattle.plan_format.proofs.StepLemmas.{reached, advance, goes_on, may_begin}

@@ -1,13 +1,13 @@
 -- A document is read as one thing at most: what it declares, or its first fault.
-use Rattle.std.proofs.Common.{◌≡◌, ℕ, ◌+◌, ℤ, Bool, true, false, List, [], ◌∷◌, ◌++◌, length, Option, Some, None, Result, Ok, Err, refl, sym, ap, ◌∙◌, subst, codes, arith}
+use Rattle.std.proofs.Common.{◌≡◌, ℕ, ◌+◌, ℤ, List, [], ◌∷◌, ◌++◌, length, Some, Result, Ok, Err, refl, sym, ap, ◌∙◌, subst, arith}
 use Rattle.net_model.specs.declared.part.Part.{Part}
 use Rattle.net_model.specs.declared.part.Part.TheVariants as part
-use Rattle.plan_json.specs.Document.{Fault as Wrong, shape, bad_name, number_limit, BoundForm, LinkForm, Lists, ◌>>=◌, document_parts, item_part, items_parts, lists_parts, member_of, place_after, top_of, has_members, known_members, is_version, text_at, whole_at, list_at, list_or_none}
+use Rattle.plan_json.specs.Document.{Fault as Wrong, shape, bad_name, number_limit, BoundForm, LinkForm, Lists, ◌>>=◌, document_parts, item_part, items_parts, lists_parts, top_of}
 use Rattle.plan_json.specs.DocumentGrammar.{HasBoundForm, HasLinkForm, HasForm, point, bound, link, AreNames, AreWithin, DeclaresItem, HasNoForm, HasBadName, HasGreatNumber, IsItemFault, DeclareItems, IsListFault, HasTop, DeclaresParts, IsFirstFault, of_top, of_points, of_bounds, of_links, ReadsAsDeclared}
 use Rattle.plan_json.specs.declared.place.PartList.{PartList}
 use Rattle.plan_json.specs.declared.place.PartList.TheVariants as list
 use Rattle.plan_json.specs.declared.fault.Member.TheVariants.{Top}
-use Rattle.plan_json.proofs.GrammarLemmas.{ItemReads, ItemsRead, TopReads, item_reads, top_reads}
+use Rattle.plan_json.proofs.GrammarLemmas.{ItemReads, TopReads, item_reads, top_reads}
 use Rattle.serde_json.specs.Data.{Data}
 
 some_inj : {X : Type 0} {x y : X} → Some x ≡ Some y → x ≡ y
