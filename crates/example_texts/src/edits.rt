@@ -41,7 +41,7 @@ set link C 0 3 => bad-interval
 set link C 5 3 => bad-interval";
 
 /// The names of points, with a blank between two.
-fn shown_points(alloc: Global, text: &mut String, points: &[Name]) -> Result<(), AllocError> {
+fn told_points(alloc: Global, text: &mut String, points: &[Name]) -> Result<(), AllocError> {
     let mut gap = "";
     for name in points {
         let one = format!(in alloc; "{gap}{name}")?;
@@ -51,7 +51,7 @@ fn shown_points(alloc: Global, text: &mut String, points: &[Name]) -> Result<(),
     Ok(())
 }
 
-fn shown_bounds(alloc: Global, text: &mut String, bounds: &[Bound]) -> Result<(), AllocError> {
+fn told_bounds(alloc: Global, text: &mut String, bounds: &[Bound]) -> Result<(), AllocError> {
     let mut gap = "; ";
     for b in bounds {
         let one = format!(in alloc; "{gap}{} {} {} {}", b.name, b.from.0, b.to.0, b.most)?;
@@ -61,7 +61,7 @@ fn shown_bounds(alloc: Global, text: &mut String, bounds: &[Bound]) -> Result<()
     Ok(())
 }
 
-fn shown_links(alloc: Global, text: &mut String, links: &[Link]) -> Result<(), AllocError> {
+fn told_links(alloc: Global, text: &mut String, links: &[Link]) -> Result<(), AllocError> {
     text.push_str("; ")?;
     let mut gap = "";
     for l in links {
@@ -72,21 +72,22 @@ fn shown_links(alloc: Global, text: &mut String, links: &[Link]) -> Result<(), A
     Ok(())
 }
 
-fn show(alloc: Global, text: &mut String, net: &Network) -> Result<(), AllocError> {
-    shown_points(alloc, text, net.points())?;
-    shown_bounds(alloc, text, net.bounds())?;
-    shown_links(alloc, text, net.links())
+fn tell(alloc: Global, text: &mut String, net: &Network) -> Result<(), AllocError> {
+    told_points(alloc, text, net.points())?;
+    told_bounds(alloc, text, net.bounds())?;
+    told_links(alloc, text, net.links())
 }
 
-fn shown_network(alloc: Global, net: &Network) -> Result<String, AllocError> {
+/// The points, bounds and links of a network, each list after `; `.
+pub fn told_network(alloc: Global, net: &Network) -> Result<String, AllocError> {
     let mut text = String::new(alloc);
-    match show(alloc, &mut text, net) {
+    match tell(alloc, &mut text, net) {
         Ok(()) => Ok(text),
         Err(error) => Err(error),
     }
 }
 
-fn shown_fault(alloc: Global, fault: EditFault) -> Result<String, AllocError> {
+fn told_fault(alloc: Global, fault: EditFault) -> Result<String, AllocError> {
     match fault {
         EditFault::StillUsed(User::Bound(id)) => format!(in alloc; "{fault} bound {}", id.0),
         EditFault::StillUsed(User::Link(id)) => format!(in alloc; "{fault} link {}", id.0),
@@ -98,13 +99,13 @@ fn shown_fault(alloc: Global, fault: EditFault) -> Result<String, AllocError> {
 /// What an edit makes of a network, or why it is refused.
 fn answer(alloc: Global, net: &Network, edit: &Edit) -> Result<String, AllocError> {
     match net.apply(alloc, edit) {
-        Ok(new) => shown_network(alloc, &new),
-        Err(fault) => shown_fault(alloc, fault),
+        Ok(new) => told_network(alloc, &new),
+        Err(fault) => told_fault(alloc, fault),
     }
 }
 
 /// The edit of a line.
-fn edit_of(line: &str) -> Option<Edit> {
+pub fn edit_of(line: &str) -> Option<Edit> {
     match read_step(line.as_bytes()) {
         Ok(Step::Edit(edit)) => Some(edit),
         _ => None,

@@ -5,6 +5,8 @@
 #[cfg(test)]
 mod certificates;
 #[cfg(test)]
+mod delays;
+#[cfg(test)]
 mod documents;
 #[cfg(test)]
 mod edits;

@@ -1,5 +1,5 @@
 -- Where a rule applies, it gives its edge.
-use Rattle.std.proofs.Common.{◌≡◌, ◌≢◌, ℕ, ℤ, pos, ◌<ℤ◌, ◌-ℤ◌, ◌==◌, not, Bool, true, false, Some, None, refl, ap, arith, is_none, is_some}
+use Rattle.std.proofs.Common.{◌≡◌, ◌≢◌, ℕ, pos, ◌<ℤ◌, ◌-ℤ◌, ◌==◌, not, Bool, true, false, Some, None, refl, ap, arith, is_none, is_some}
 use Rattle.std.specs.Int.{int_max}
 use Rattle.std.proofs.lemmas.Int.{ints}
 use Rattle.std.proofs.lemmas.Bool.{eq-eqb, eqb-true}

@@ -249,7 +249,7 @@ point_added net name sound =
     let room : Result Plan PartFault = refuse_if (nat_le most_points (length net.points)) (Limit Points) (Ok more) in
     unless_refused P (is_some (point_named net name)) DuplicateName room (λ fresh.
     unless_refused P (nat_le most_points (length net.points)) (Limit Points) (Ok more) (λ roomy.
-    λ i. record { points = net.points ++ name ∷ []; bounds = more_bounds_same net sound name i; links = more_links_same net sound name i }))
+    λ i. record { points = net.points ++ name ∷ []; bounds = more_bounds_same net sound name i; links = more_links_same net sound name i; delay = net.delay }))
 
 bound_added : (net : Plan) (name from to : List ℕ) (most : ℤ) → IsPlan net → IfOk (with_bound net name from to most) (HasEffect net (edits.AddBound name from to most))
 unfolding with_bound
@@ -266,7 +266,7 @@ bound_added net name from to most sound =
     unless_refused P (nat_le most_bounds (length net.bounds)) (Limit Bounds) (Ok (more x y)) (λ roomy.
     let parts : map (bound_part net.points) (net.bounds ++ bound x y ∷ []) ≡ map (bound_part net.points) net.bounds ++ part.Bound name from to most ∷ [] =
     map-append (bound_part net.points) net.bounds (bound x y ∷ []) ∙ (λ i. map (bound_part net.points) net.bounds ++ part.Bound name (name_is net sound from x x_is i) (name_is net sound to y y_is i) most ∷ []) in
-    λ i. record { points = net.points; bounds = parts i; links = map (link_part net.points) net.links })))))
+    λ i. record { points = net.points; bounds = parts i; links = map (link_part net.points) net.links; delay = net.delay })))))
 
 link_added : (net : Plan) (from : List ℕ) (low high : ℤ) (to : List ℕ) → IsPlan net → IfOk (with_link net from low high to) (HasEffect net (edits.AddLink from low high to))
 unfolding with_link
@@ -288,7 +288,7 @@ link_added net from low high to sound =
     unless_refused P (nat_le most_links (length net.links)) (Limit Links) (Ok (more a c)) (λ roomy.
     let parts : map (link_part net.points) (net.links ++ link a c ∷ []) ≡ map (link_part net.points) net.links ++ part.Link from low high to ∷ [] =
     map-append (link_part net.points) net.links (link a c ∷ []) ∙ (λ i. map (link_part net.points) net.links ++ part.Link (name_is net sound from a a_is i) low high (name_is net sound to c c_is i) ∷ []) in
-    λ i. record { points = net.points; bounds = map (bound_part net.points) net.bounds; links = parts i })))))))
+    λ i. record { points = net.points; bounds = map (bound_part net.points) net.bounds; links = parts i; delay = net.delay })))))))
 
 has_effect : (net : Plan) (edit : Edit) → IsPlan net → IfOk (edited net edit) (HasEffect net edit)
 has_effect net (edits.AddPoint name) sound = kept_added (HasEffect net (edits.AddPoint name)) (with_point net name) (point_added net name sound)
@@ -303,17 +303,18 @@ has_effect net (edits.DropPoint name) sound =
       points = only_removed (bytes_eq name) net.points point.0 (only_point net sound name point named) i;
       bounds = less_bounds_same net sound point inside free i;
       links = less_links_same net sound point inside free i;
+      delay = net.delay;
     }))
 has_effect net (edits.DropBound name) sound =
     if_known (HasEffect net (edits.DropBound name)) (bound_named net name) _ (λ id named.
     let parts = ap (map (bound_part net.points)) (only_removed (λ (b : Bound). bytes_eq name b.name) net.bounds id.0 (only_bound net sound name id named))
     ∙ filter_mapped (λ p. not (is_bound_named name p)) (bound_part net.points) net.bounds in
-    λ i. record { points = net.points; bounds = parts i; links = map (link_part net.points) net.links })
+    λ i. record { points = net.points; bounds = parts i; links = map (link_part net.points) net.links; delay = net.delay })
 has_effect net (edits.DropLink to) sound =
     if_known (HasEffect net (edits.DropLink to)) (link_named net to) _ (λ id named.
     let parts = ap (map (link_part net.points)) (only_removed (λ (l : Link). bytes_eq to (point_name net.points l.to)) net.links id.0 (only_link net sound to id named))
     ∙ filter_mapped (λ p. not (is_link_to to p)) (link_part net.points) net.links in
-    λ i. record { points = net.points; bounds = map (bound_part net.points) net.bounds; links = parts i })
+    λ i. record { points = net.points; bounds = map (bound_part net.points) net.bounds; links = parts i; delay = net.delay })
 has_effect net (edits.SetBound name most) sound =
     let P : Plan → Type 0 = HasEffect net (edits.SetBound name most) in
     if_known P (bound_named net name) _ (λ id named.
@@ -324,7 +325,7 @@ has_effect net (edits.SetBound name most) sound =
     let parts = ap (λ (b : Bound). map (bound_part net.points) (set net.bounds id.0 (change b))) (sym is)
     ∙ ap (map (bound_part net.points)) (only_changed (λ (b : Bound). bytes_eq name b.name) change net.bounds id.0 bound (only_bound net sound name id named))
     ∙ changed_mapped (is_bound_named name) (part_with_most most) (bound_part net.points) change net.bounds (λ b. refl) in
-    λ i. record { points = net.points; bounds = parts i; links = map (link_part net.points) net.links })))
+    λ i. record { points = net.points; bounds = parts i; links = map (link_part net.points) net.links; delay = net.delay })))
 has_effect net (edits.SetLink to low high) sound =
     let P : Plan → Type 0 = HasEffect net (edits.SetLink to low high) in
     if_known P (link_named net to) _ (λ id named.
@@ -336,7 +337,7 @@ has_effect net (edits.SetLink to low high) sound =
     let parts = ap (λ (l : Link). map (link_part net.points) (set net.links id.0 (change l))) (sym is)
     ∙ ap (map (link_part net.points)) (only_changed (λ (l : Link). bytes_eq to (point_name net.points l.to)) change net.links id.0 link (only_link net sound to id named))
     ∙ changed_mapped (is_link_to to) (part_with_interval low high) (link_part net.points) change net.links (λ l. refl) in
-    λ i. record { points = net.points; bounds = map (bound_part net.points) net.bounds; links = parts i }))))
+    λ i. record { points = net.points; bounds = map (bound_part net.points) net.bounds; links = parts i; delay = net.delay }))))
 
 pub edits_change_by_names : EditsChangeByNames
 edits_change_by_names net edit new sound is = let P : Result Plan EditFault → Type 0 = λ answer. IfOk answer (HasEffect net edit) in subst P is (has_effect net edit sound)

@@ -21,7 +21,7 @@ use Rattle.net_model.specs.declared.part.Bound.{Bound}
 use Rattle.net_model.specs.declared.part.Link.{Link}
 use Rattle.net_model.specs.declared.part.Part.TheVariants as part
 use Rattle.net_model.specs.declared.part.Which.TheVariants.{Points, Links, Bounds, Number}
-use Rattle.net_model.proofs.EditLemmas.{All-remove, bound_within, link_within, point_within, sound_without_bound, sound_without_link, sound_without_point, sound_with_number, sound_with_interval}
+use Rattle.net_model.proofs.EditLemmas.{All-remove, shown_within_limit, bound_within, link_within, point_within, sound_without_bound, sound_without_link, sound_without_point, sound_with_number, sound_with_interval}
 use Rattle.net_model.proofs.NetworkLemmas.{IsPlan-more_points, IsPlan-more_bounds, IsPlan-more_links}
 use Rattle.net_model.proofs.PlanNumbers.{unless_refused, fits, part_keeps}
 
@@ -117,7 +117,7 @@ bound_sound net name from to most sound is =
     if_named IsPlan net to (λ y. small x y) (λ y y_held.
     unless_refused IsPlan (not (within_limit most)) (Limit Number) (room x y) (λ fitting.
     unless_refused IsPlan (nat_le most_bounds (length net.bounds)) (Limit Bounds) (Ok (more x y)) (λ roomy.
-    IsPlan-more_bounds net (bound x y) sound (record { named = is; from_point = x_held; to_point = y_held; within = within_sizes most (fits most fitting) }) (none_of (bound_named net name) fresh) (grind (arith, nat_tests)))))))
+    IsPlan-more_bounds net (bound x y) sound (record { named = is; from_point = x_held; to_point = y_held; within = within_sizes most (fits most fitting); shown_within = shown_within_limit most net.delay sound.short_delay (fits most fitting) }) (none_of (bound_named net name) fresh) (grind (arith, nat_tests)))))))
 
 link_sound : (net : Plan) (from : List ℕ) (low high : ℤ) (to : List ℕ) → IsPlan net → IfOk (with_link net from low high to) IsPlan
 unfolding with_link
@@ -143,6 +143,7 @@ link_sound net from low high to sound =
       positive = (interval_of low high good).0;
       interval = (interval_of low high good).1;
       within = within_sizes high (fits high fitting);
+      shown_within = shown_within_limit high net.delay sound.short_delay (fits high fitting);
     }) (none_of (activation net c) first) (grind (arith, nat_tests)))))))))
 
 pub edited_sound : (net : Plan) (edit : Edit) → IsPlan net → HasNames edit → IfOk (edited net edit) IsPlan

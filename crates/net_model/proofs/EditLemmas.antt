@@ -1,9 +1,10 @@
 -- A network without one of its points, bounds or links, and one in which a number is set, is a network.
-use Rattle.std.proofs.Common.{◌≡◌, ◌≢◌, ℕ, ℤ, suc, ◌-◌, ◌<◌, ◌==◌, ◌||◌, Bool, true, false, not, cond, nat_lt, List, [], ◌∷◌, ◌++◌, length, map, take, drop, get_or, set, Option, Some, None, Result, Ok, Err, position, slice_get, pos, int_lt, ◌≤ℤ◌, IsTrue, ◌⊎◌, ⊎_elim, inl, inr, refl, sym, ap, subst, ◌∙◌, arith}
+use Rattle.std.proofs.Common.{◌≡◌, ◌≢◌, ℕ, ℤ, suc, ◌+◌, ◌-◌, ◌<◌, ◌≤◌, unsigned_abs, ◌==◌, ◌||◌, Bool, true, false, not, cond, nat_lt, List, [], ◌∷◌, ◌++◌, length, map, take, drop, get_or, set, Option, Some, None, Result, Ok, Err, position, slice_get, pos, int_lt, ◌≤ℤ◌, IsTrue, ◌⊎◌, ⊎_elim, inl, inr, refl, sym, ap, subst, ◌∙◌, arith}
 use Rattle.std.specs.List.{All, AllPairs, IsDistinct, remove}
 use Rattle.std.specs.Option.{option_and_then}
 use Rattle.std.specs.Str.{bytes_eq}
 use Rattle.std.proofs.Math.Seq.{map-set_same}
+use Rattle.std.proofs.lemmas.Bool.{leb-true}
 use Rattle.std.proofs.lemmas.Bool.Decides.{nat_tests}
 use Rattle.std.proofs.lemmas.Grind.{common_steps}
 use Rattle.std.proofs.lemmas.List.{map-append, take-map, drop-map, length-set, length-map, get_or-map}
@@ -18,7 +19,7 @@ use Rattle.net_model.proofs.NetworkLemmas.{IsBound-more, IsLink-more}
 use Rattle.net_model.proofs.Positions.{fails_from_None, None_from_option_map}
 use Rattle.net_model.specs.Building.{Adds, refuse_if}
 use Rattle.net_model.specs.Editing.{closed_up, closed_up_bounds, closed_up_links, without_point, with_number, with_interval, bound_user, link_user, user_by, user_of, known, edited, cause_of, added, Edits}
-use Rattle.net_model.specs.Limits.{within_limit, within_size}
+use Rattle.net_model.specs.Limits.{most_delay, most_number, most_size, within_limit, within_size}
 use Rattle.net_model.specs.Names.{is_name}
 use Rattle.net_model.specs.Network.{Plan, IsPlan, IsBound, IsLink, point_named, bound_named, activation, link_named}
 use Rattle.net_model.specs.declared.ids.BoundId.{BoundId}
@@ -53,11 +54,11 @@ pairs_of_map R f (x ∷ xs) pairs i j e less inside =
     subst (λ y. R (get_or (map f (x ∷ xs)) i e) y) (sym second) (subst (λ z. R z (f (get_or (x ∷ xs) j x))) (sym first) (pairs i j x less within))
 
 -- ---- what is sound in a network is so in one with the same points
-All-IsBound : (net other : Plan) → length net.points ≡ length other.points → (bounds : List Bound) → All (IsBound net) bounds → All (IsBound other) bounds
-All-IsBound net other same bounds = All-weaker (IsBound net) (IsBound other) (IsBound-more net other (omega arith)) bounds
+All-IsBound : (net other : Plan) → length net.points ≡ length other.points → other.delay ≡ net.delay → (bounds : List Bound) → All (IsBound net) bounds → All (IsBound other) bounds
+All-IsBound net other same delay bounds = All-weaker (IsBound net) (IsBound other) (IsBound-more net other (omega arith) delay) bounds
 
-All-IsLink : (net other : Plan) → length net.points ≡ length other.points → (links : List Link) → All (IsLink net) links → All (IsLink other) links
-All-IsLink net other same links = All-weaker (IsLink net) (IsLink other) (IsLink-more net other (omega arith)) links
+All-IsLink : (net other : Plan) → length net.points ≡ length other.points → other.delay ≡ net.delay → (links : List Link) → All (IsLink net) links → All (IsLink other) links
+All-IsLink net other same delay links = All-weaker (IsLink net) (IsLink other) (IsLink-more net other (omega arith) delay) links
 
 -- ---- the numbers of points after one is dropped
 pub number_after : (dropped point : PointId) → point.0 ≢ dropped.0
@@ -86,20 +87,25 @@ no_user (Some bound) link none = absurd (cc)
 no_user None (Some link) none = absurd (cc)
 no_user None None none = (refl, refl)
 
+-- a number that a plan may have stays within its size with any delay
+pub shown_within_limit : (n : ℤ) (delay : ℕ) → delay ≤ most_delay → within_limit n ≡ true → unsigned_abs n + delay ≤ most_size
+shown_within_limit n delay short small = let low = leb-true (unsigned_abs n) most_number small in omega (arith, low, short)
+
 module _ (net : Plan) (sound : IsPlan net) where
   -- ---- one bound less
   pub sound_without_bound : (place : ℕ) → place < length net.bounds → IsPlan (record net { bounds = remove net.bounds place })
   sound_without_bound place inside = record {
     points_named = sound.points_named;
     points_apart = sound.points_apart;
-    bounds_sound = All-IsBound net (record net { bounds = remove net.bounds place }) refl (remove net.bounds place) (All-remove (IsBound net) net.bounds place sound.bounds_sound);
+    bounds_sound = All-IsBound net (record net { bounds = remove net.bounds place }) refl refl (remove net.bounds place) (All-remove (IsBound net) net.bounds place sound.bounds_sound);
     bounds_apart = subst (IsDistinct bytes_eq) (sym (map-remove (λ (b : Bound). b.name) net.bounds place))
         (IsDistinct-remove (map (λ (b : Bound). b.name) net.bounds) place (omega (arith, length-map net.bounds (λ (b : Bound). b.name))) sound.bounds_apart);
-    links_sound = All-IsLink net (record net { bounds = remove net.bounds place }) refl net.links sound.links_sound;
+    links_sound = All-IsLink net (record net { bounds = remove net.bounds place }) refl refl net.links sound.links_sound;
     links_apart = sound.links_apart;
     few_points = sound.few_points;
     few_bounds = omega (arith, length-remove net.bounds place inside, sound.few_bounds);
     few_links = sound.few_links;
+    short_delay = sound.short_delay;
   }
 
   -- ---- one link less
@@ -107,13 +113,14 @@ module _ (net : Plan) (sound : IsPlan net) where
   sound_without_link place inside = record {
     points_named = sound.points_named;
     points_apart = sound.points_apart;
-    bounds_sound = All-IsBound net (record net { links = remove net.links place }) refl net.bounds sound.bounds_sound;
+    bounds_sound = All-IsBound net (record net { links = remove net.links place }) refl refl net.bounds sound.bounds_sound;
     bounds_apart = sound.bounds_apart;
-    links_sound = All-IsLink net (record net { links = remove net.links place }) refl (remove net.links place) (All-remove (IsLink net) net.links place sound.links_sound);
+    links_sound = All-IsLink net (record net { links = remove net.links place }) refl refl (remove net.links place) (All-remove (IsLink net) net.links place sound.links_sound);
     links_apart = all_pairs_remove (λ (l m : Link). l.to.0 ≢ m.to.0) net.links place inside sound.links_apart;
     few_points = sound.few_points;
     few_bounds = sound.few_bounds;
     few_links = omega (arith, length-remove net.links place inside, sound.few_links);
+    short_delay = sound.short_delay;
   }
 
   -- ---- a bound with another number
@@ -124,17 +131,19 @@ module _ (net : Plan) (sound : IsPlan net) where
       let held : IsBound net bound = subst (IsBound net) is (sound.bounds_sound id.0 bound inside) in
       let now : Bound = record bound { most = most } in
       let fits : within_size most ≡ true = grind (arith, nat_tests) in
-      let kept : IsBound net now = record { named = held.named; from_point = held.from_point; to_point = held.to_point; within = fits } in
+      let shown : unsigned_abs most + net.delay ≤ most_size = shown_within_limit most net.delay sound.short_delay small in
+      let kept : IsBound net now = record { named = held.named; from_point = held.from_point; to_point = held.to_point; within = fits; shown_within = shown } in
       record {
         points_named = sound.points_named;
         points_apart = sound.points_apart;
-        bounds_sound = All-IsBound net (with_number net id most bound) refl (set net.bounds id.0 now) (All-set (IsBound net) net.bounds id.0 now kept sound.bounds_sound);
+        bounds_sound = All-IsBound net (with_number net id most bound) refl refl (set net.bounds id.0 now) (All-set (IsBound net) net.bounds id.0 now kept sound.bounds_sound);
         bounds_apart = subst (IsDistinct bytes_eq) (sym (map-set_same (λ (b : Bound). b.name) net.bounds id.0 now bound (ap (λ (b : Bound). b.name) (sym is)))) sound.bounds_apart;
-        links_sound = All-IsLink net (with_number net id most bound) refl net.links sound.links_sound;
+        links_sound = All-IsLink net (with_number net id most bound) refl refl net.links sound.links_sound;
         links_apart = sound.links_apart;
         few_points = sound.few_points;
         few_bounds = omega (arith, length-set net.bounds id.0 now, sound.few_bounds);
         few_links = sound.few_links;
+        short_delay = sound.short_delay;
       }
 
   -- ---- a link with another interval
@@ -146,18 +155,20 @@ module _ (net : Plan) (sound : IsPlan net) where
       let held : IsLink net link = subst (IsLink net) is (sound.links_sound id.0 link inside) in
       let now : Link = record link { low = low; high = high } in
       let fits : within_size high ≡ true = grind (arith, nat_tests) in
-      let kept : IsLink net now = record { from_point = held.from_point; to_point = held.to_point; apart = held.apart; positive = positive; interval = interval; within = fits } in
+      let shown : unsigned_abs high + net.delay ≤ most_size = shown_within_limit high net.delay sound.short_delay small in
+      let kept : IsLink net now = record { from_point = held.from_point; to_point = held.to_point; apart = held.apart; positive = positive; interval = interval; within = fits; shown_within = shown } in
       let tos = map-set_same (λ (l : Link). l.to.0) net.links id.0 now link (ap (λ (l : Link). l.to.0) (sym is)) in
       record {
         points_named = sound.points_named;
         points_apart = sound.points_apart;
-        bounds_sound = All-IsBound net (with_interval net id low high link) refl net.bounds sound.bounds_sound;
+        bounds_sound = All-IsBound net (with_interval net id low high link) refl refl net.bounds sound.bounds_sound;
         bounds_apart = sound.bounds_apart;
-        links_sound = All-IsLink net (with_interval net id low high link) refl (set net.links id.0 now) (All-set (IsLink net) net.links id.0 now kept sound.links_sound);
+        links_sound = All-IsLink net (with_interval net id low high link) refl refl (set net.links id.0 now) (All-set (IsLink net) net.links id.0 now kept sound.links_sound);
         links_apart = pairs_from_map (λ (p q : ℕ). p ≢ q) (λ (l : Link). l.to.0) (set net.links id.0 now) (subst (AllPairs (λ (p q : ℕ). p ≢ q)) (sym tos) (pairs_of_map (λ (p q : ℕ). p ≢ q) (λ (l : Link). l.to.0) net.links sound.links_apart));
         few_points = sound.few_points;
         few_bounds = sound.few_bounds;
         few_links = omega (arith, length-set net.links id.0 now, sound.few_links);
+        short_delay = sound.short_delay;
       }
 
   -- ---- one point less, which nothing uses
@@ -184,6 +195,7 @@ module _ (net : Plan) (sound : IsPlan net) where
           from_point = stays bound.from was.from_point (grind (arith, nat_tests));
           to_point = stays bound.to was.to_point (grind (arith, nat_tests));
           within = was.within;
+          shown_within = was.shown_within;
         }
 
     unused_by_link : (k : ℕ) (d : Link) → k < length net.links → ((get_or net.links k d).from.0 ≢ dropped.0) × ((get_or net.links k d).to.0 ≢ dropped.0)
@@ -203,6 +215,7 @@ module _ (net : Plan) (sound : IsPlan net) where
           positive = was.positive;
           interval = was.interval;
           within = was.within;
+          shown_within = was.shown_within;
         }
 
     links_still_apart : AllPairs (λ (l m : Link). l.to.0 ≢ m.to.0) (closed_up_links dropped net.links)
@@ -225,6 +238,7 @@ module _ (net : Plan) (sound : IsPlan net) where
       few_points = omega (arith, length-remove net.points dropped.0 inside, sound.few_points);
       few_bounds = omega (arith, length-map net.bounds (λ (b : Bound). record b { from = closed_up dropped b.from; to = closed_up dropped b.to }), sound.few_bounds);
       few_links = omega (arith, length-map net.links (λ (l : Link). record l { from = closed_up dropped l.from; to = closed_up dropped l.to }), sound.few_links);
+      short_delay = sound.short_delay;
     }
 
 -- ---- what is named stands in its list
@@ -243,11 +257,11 @@ point_within net name id named = grind (arith, common_steps)
 
 -- ---- the three lists make the network
 pub made_of : (made : Plan) (points : List (List ℕ)) (bounds : List Bound) (links : List Link) → points ≡ made.points → bounds ≡ made.bounds → links ≡ made.links
-    → record { points = points; bounds = bounds; links = links } ≡ made
-made_of made points bounds links same_points same_bounds same_links = λ i. record { points = same_points i; bounds = same_bounds i; links = same_links i }
+    → record { points = points; bounds = bounds; links = links; delay = made.delay } ≡ made
+made_of made points bounds links same_points same_bounds same_links = λ i. record { points = same_points i; bounds = same_bounds i; links = same_links i; delay = made.delay }
 
 pub made_sound : (made : Plan) (points : List (List ℕ)) (bounds : List Bound) (links : List Link) → points ≡ made.points → bounds ≡ made.bounds → links ≡ made.links → IsPlan made
-    → IsPlan (record { points = points; bounds = bounds; links = links })
+    → IsPlan (record { points = points; bounds = bounds; links = links; delay = made.delay })
 made_sound made points bounds links same_points same_bounds same_links = subst IsPlan (sym (made_of made points bounds links same_points same_bounds same_links))
 
 -- ---- what a setting makes where it is not refused

@@ -67,7 +67,7 @@ module _ (net now : Plan) (bounds : List Bound) (n : ℕ) (bound : Bound) (insid
   pub next_bound_sound : IsBound now bound
   next_bound_sound =
       let held = All-appended_right (IsBound (record net { bounds = net.bounds ++ bounds })) net.bounds bounds sound.bounds_sound n bound inside in
-      IsBound-more (record net { bounds = net.bounds ++ bounds }) now (omega (arith, ap (λ (p : Plan). length p.points) taken)) bound (subst (IsBound (record net { bounds = net.bounds ++ bounds })) (sym is) held)
+      IsBound-more (record net { bounds = net.bounds ++ bounds }) now (omega (arith, ap (λ (p : Plan). length p.points) taken)) (ap (λ (p : Plan). p.delay) taken) bound (subst (IsBound (record net { bounds = net.bounds ++ bounds })) (sym is) held)
 
 module _ (net now : Plan) (links : List Link) (n : ℕ) (link : Link) (inside : n < length links) (sound : IsPlan (record net { links = net.links ++ links }))
     (taken : now ≡ record net { links = net.links ++ take n links }) (is : link ≡ get_or links n link) where
@@ -83,14 +83,14 @@ module _ (net now : Plan) (links : List Link) (n : ℕ) (link : Link) (inside : 
   pub next_link_sound : IsLink now link
   next_link_sound =
       let held = All-appended_right (IsLink (record net { links = net.links ++ links })) net.links links sound.links_sound n link inside in
-      IsLink-more (record net { links = net.links ++ links }) now (omega (arith, ap (λ (p : Plan). length p.points) taken)) link (subst (IsLink (record net { links = net.links ++ links })) (sym is) held)
+      IsLink-more (record net { links = net.links ++ links }) now (omega (arith, ap (λ (p : Plan). length p.points) taken)) (ap (λ (p : Plan). p.delay) taken) link (subst (IsLink (record net { links = net.links ++ links })) (sym is) held)
 
 no_names_apart : IsDistinct {K = List ℕ} bytes_eq []
 unfolding IsDistinct
 no_names_apart = tt
 
 -- the points of a network alone are one
-pub points_alone : (net : Plan) → IsPlan net → (points : List (List ℕ)) → points ≡ net.points → IsPlan (record { points = points; bounds = []; links = [] })
+pub points_alone : (net : Plan) → IsPlan net → (points : List (List ℕ)) → points ≡ net.points → IsPlan (record { points = points; bounds = []; links = []; delay = net.delay })
 points_alone net sound points are = record {
   points_named = subst (All (λ name. IsTrue (is_name name))) (sym are) sound.points_named;
   points_apart = subst (IsDistinct bytes_eq) (sym are) sound.points_apart;
@@ -101,4 +101,5 @@ points_alone net sound points are = record {
   few_points = omega (arith, sound.few_points, ap length are);
   few_bounds = omega arith;
   few_links = omega arith;
+  short_delay = sound.short_delay;
 }

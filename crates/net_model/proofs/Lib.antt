@@ -2,8 +2,10 @@ pub mod NameLemmas
 pub mod Positions
 pub mod NetworkLemmas
 pub mod StoredLemmas
+pub mod ShownLemmas
 pub mod SpellingLemmas
 pub mod ReadingLemmas
+pub mod DelayLemmas
 pub mod DepartureLemmas
 pub mod PlanNumbers
 pub mod RuleLemmas

@@ -23,25 +23,32 @@ use Rattle.net_model.specs.declared.part.Bound.{Bound}
 use Rattle.net_model.specs.declared.part.Link.{Link}
 
 -- ---- what is sound in a network is so in one with as many points or more
-pub IsBound-more : (net more : Plan) → length net.points ≤ length more.points → (bound : Bound) → IsBound net bound → IsBound more bound
-IsBound-more net more grown bound sound = record { named = sound.named; from_point = omega arith; to_point = omega arith; within = sound.within }
+pub IsBound-more : (net more : Plan) → length net.points ≤ length more.points → more.delay ≡ net.delay → (bound : Bound) → IsBound net bound → IsBound more bound
+IsBound-more net more grown same bound sound = record {
+  named = sound.named;
+  from_point = omega arith;
+  to_point = omega arith;
+  within = sound.within;
+  shown_within = omega (arith, sound.shown_within, same);
+}
 
-pub IsLink-more : (net more : Plan) → length net.points ≤ length more.points → (link : Link) → IsLink net link → IsLink more link
-IsLink-more net more grown link sound = record {
+pub IsLink-more : (net more : Plan) → length net.points ≤ length more.points → more.delay ≡ net.delay → (link : Link) → IsLink net link → IsLink more link
+IsLink-more net more grown same link sound = record {
   from_point = omega arith;
   to_point = omega arith;
   apart = sound.apart;
   positive = sound.positive;
   interval = sound.interval;
   within = sound.within;
+  shown_within = omega (arith, sound.shown_within, same);
 }
 
-module _ (net more : Plan) (grown : length net.points ≤ length more.points) where
+module _ (net more : Plan) (grown : length net.points ≤ length more.points) (same : more.delay ≡ net.delay) where
   All-IsBound-more : (bounds : List Bound) → All (IsBound net) bounds → All (IsBound more) bounds
-  All-IsBound-more bounds = All-weaker (IsBound net) (IsBound more) (IsBound-more net more grown) bounds
+  All-IsBound-more bounds = All-weaker (IsBound net) (IsBound more) (IsBound-more net more grown same) bounds
 
   All-IsLink-more : (links : List Link) → All (IsLink net) links → All (IsLink more) links
-  All-IsLink-more links = All-weaker (IsLink net) (IsLink more) (IsLink-more net more grown) links
+  All-IsLink-more links = All-weaker (IsLink net) (IsLink more) (IsLink-more net more grown same) links
 
 -- ---- one more point
 abbrev pub more_points : Plan → List ℕ → Plan
@@ -54,13 +61,14 @@ IsPlan-more_points net name plan named fresh room =
     record {
       points_named = All-push (λ n. IsTrue (is_name n)) net.points name plan.points_named named;
       points_apart = IsDistinct-push nat_list_eq_equiv net.points name plan.points_apart (list_any_from_None (bytes_eq name) net.points none);
-      bounds_sound = All-IsBound-more net (more_points net name) grown net.bounds plan.bounds_sound;
+      bounds_sound = All-IsBound-more net (more_points net name) grown refl net.bounds plan.bounds_sound;
       bounds_apart = plan.bounds_apart;
-      links_sound = All-IsLink-more net (more_points net name) grown net.links plan.links_sound;
+      links_sound = All-IsLink-more net (more_points net name) grown refl net.links plan.links_sound;
       links_apart = plan.links_apart;
       few_points = grind (arith, common_steps);
       few_bounds = plan.few_bounds;
       few_links = plan.few_links;
+      short_delay = plan.short_delay;
     }
 
 -- ---- one more bound
@@ -86,13 +94,14 @@ pub IsPlan-more_bounds : (net : Plan) (bound : Bound) → IsPlan net → IsBound
 IsPlan-more_bounds net bound plan sound fresh room = record {
   points_named = plan.points_named;
   points_apart = plan.points_apart;
-  bounds_sound = All-IsBound-more net (more_bounds net bound) (omega arith) (net.bounds ++ bound ∷ []) (All-push (IsBound net) net.bounds bound plan.bounds_sound sound);
+  bounds_sound = All-IsBound-more net (more_bounds net bound) (omega arith) refl (net.bounds ++ bound ∷ []) (All-push (IsBound net) net.bounds bound plan.bounds_sound sound);
   bounds_apart = rw (names_of-push net.bounds bound) (IsDistinct-push nat_list_eq_equiv (names_of net.bounds) bound.name plan.bounds_apart (list_any_from_None (bytes_eq bound.name) (names_of net.bounds) (free_name net bound.name fresh)));
-  links_sound = All-IsLink-more net (more_bounds net bound) (omega arith) net.links plan.links_sound;
+  links_sound = All-IsLink-more net (more_bounds net bound) (omega arith) refl net.links plan.links_sound;
   links_apart = plan.links_apart;
   few_points = plan.few_points;
   few_bounds = grind (arith, common_steps);
   few_links = plan.few_links;
+  short_delay = plan.short_delay;
 }
 
 -- ---- one more link
@@ -105,9 +114,9 @@ IsPlan-more_links net link plan sound fresh room =
     record {
       points_named = plan.points_named;
       points_apart = plan.points_apart;
-      bounds_sound = All-IsBound-more net (more_links net link) (omega arith) net.bounds plan.bounds_sound;
+      bounds_sound = All-IsBound-more net (more_links net link) (omega arith) refl net.bounds plan.bounds_sound;
       bounds_apart = plan.bounds_apart;
-      links_sound = All-IsLink-more net (more_links net link) (omega arith) (net.links ++ link ∷ []) (All-push (IsLink net) net.links link plan.links_sound sound);
+      links_sound = All-IsLink-more net (more_links net link) (omega arith) refl (net.links ++ link ∷ []) (All-push (IsLink net) net.links link plan.links_sound sound);
       links_apart = all_pairs_push (λ (l m : Link). l.to.0 ≢ m.to.0) net.links link plan.links_apart
           (λ k d inside same.
           let apart = fails_from_None (λ (l : Link). l.to.0 == link.to.0) net.links none k d inside in
@@ -115,6 +124,7 @@ IsPlan-more_links net link plan sound fresh room =
       few_points = plan.few_points;
       few_bounds = plan.few_bounds;
       few_links = grind (arith, common_steps);
+      short_delay = plan.short_delay;
     }
 
 -- no link ends in a number that is no point

@@ -56,7 +56,7 @@ has_room done x rest most few =
 
 -- networks that have only points
 abbrev only_points : List (List ℕ) → Plan
-only_points names = record { points = names; bounds = []; links = [] }
+only_points names = record { points = names; bounds = []; links = []; delay = 0 }
 
 point_taken : (done : List (List ℕ)) (name : List ℕ) (rest : List (List ℕ)) → IsDistinct bytes_eq (done ++ name ∷ rest) → length (done ++ name ∷ rest) ≤ most_points → with_point (only_points done) name ≡ Ok (only_points (done ++ name ∷ []))
 unfolding with_point
@@ -73,7 +73,7 @@ points_built names (name ∷ rest) done more answer goes_on place split distinct
 
 -- networks that have points and bounds
 abbrev with_bounds : List (List ℕ) → List Bound → Plan
-with_bounds points bounds = record { points = points; bounds = bounds; links = [] }
+with_bounds points bounds = record { points = points; bounds = bounds; links = []; delay = 0 }
 
 abbrev names_of : List Bound → List (List ℕ)
 names_of bounds = map (λ (b : Bound). b.name) bounds
@@ -118,7 +118,7 @@ bounds_built points bounds (bound ∷ rest) done more answer goes_on place split
 
 -- networks of given points and bounds
 abbrev with_links : List (List ℕ) → List Bound → List Link → Plan
-with_links points bounds links = record { points = points; bounds = bounds; links = links }
+with_links points bounds links = record { points = points; bounds = bounds; links = links; delay = 0 }
 
 -- a link that a plan may have, as far as it alone tells
 abbrev IsSound : List (List ℕ) → Link → Type 0
@@ -161,13 +161,14 @@ links_built points bounds links (link ∷ rest) done place split apart sound end
     ∙ links_built points bounds links rest (done ++ link ∷ []) (place + 1) (split ∙ one_more done link rest) apart sound ends few
 
 -- the parts of a network build that network
-pub parts_build : (net : Plan) → IsPlan net → HasPlanNumbers net → built (parts_of net) ≡ Ok net
+pub parts_build : (net : Plan) → IsPlan net → HasPlanNumbers net → built (parts_of net) ≡ Ok (record net { delay = 0 })
 parts_build net plan numbers =
+    let instant : Plan = record net { delay = 0 } in
     let among : All (IsAmong net.points) net.bounds = λ k d inside. (let b = plan.bounds_sound k d inside in (b.from_point, b.to_point, numbers.bounds k d inside)) in
     let sound : All (IsSound net.points) net.links = λ k d inside. (let l = plan.links_sound k d inside in (l.from_point, l.to_point, l.apart, l.positive, l.interval, numbers.links k d inside)) in
-    let links : (place : ℕ) → with_parts place (with_bounds net.points net.bounds) (map (link_part net.points) net.links) ≡ Ok net = λ place. links_built net.points net.bounds net.links net.links [] place refl plan.points_apart sound plan.links_apart plan.few_links in
+    let links : (place : ℕ) → with_parts place (with_bounds net.points net.bounds) (map (link_part net.points) net.links) ≡ Ok instant = λ place. links_built net.points net.bounds net.links net.links [] place refl plan.points_apart sound plan.links_apart plan.few_links in
     let link_parts = map (link_part net.points) net.links in
     let ready : AreBoundsAmong net.points net.bounds = record { points_apart = plan.points_apart; among = among; bounds_apart = plan.bounds_apart; few = plan.few_bounds } in
-    let bounds : (place : ℕ) → with_parts place (only_points net.points) (map (bound_part net.points) net.bounds ++ link_parts) ≡ Ok net =
-    λ place. bounds_built net.points net.bounds net.bounds [] link_parts (Ok net) links place refl ready in
-    points_built net.points net.points [] (map (bound_part net.points) net.bounds ++ link_parts) (Ok net) bounds 0 refl plan.points_apart plan.few_points
+    let bounds : (place : ℕ) → with_parts place (only_points net.points) (map (bound_part net.points) net.bounds ++ link_parts) ≡ Ok instant =
+    λ place. bounds_built net.points net.bounds net.bounds [] link_parts (Ok instant) links place refl ready in
+    points_built net.points net.points [] (map (bound_part net.points) net.bounds ++ link_parts) (Ok instant) bounds 0 refl plan.points_apart plan.few_points

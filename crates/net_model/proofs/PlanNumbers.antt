@@ -19,7 +19,7 @@ unless_refused P true fault otherwise keeps = tt
 unless_refused P false fault otherwise keeps = keeps refl
 
 -- what comes next keeps it for each value that may come first
-whatever_came : {A B : Type 0} (P : B → Type 0) (read : Result A PartFault) (next : A → Result B PartFault) → ((x : A) → IfOk (next x) P) → IfOk (read >>= next) P
+pub whatever_came : {A B : Type 0} (P : B → Type 0) (read : Result A PartFault) (next : A → Result B PartFault) → ((x : A) → IfOk (next x) P) → IfOk (read >>= next) P
 whatever_came P (Ok x) next keeps = keeps x
 whatever_came P (Err fault) next keeps = tt
 

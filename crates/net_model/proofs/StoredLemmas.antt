@@ -60,6 +60,7 @@ module _ (old new : Inside) where
     pub points : new.points.items ≡ old.points.items ++ name ∷ []
     pub point_names : new.point_names.keys ≡ insert_key bytes_eq old.point_names.keys name
     pub ending : new.ending.items ≡ old.ending.items ++ None ∷ []
+    pub delay : new.delay ≡ old.delay
 
   pub record HasMoreBounds (bound : Bound) : Type 0 where
     pub points : new.points ≡ old.points
@@ -68,6 +69,7 @@ module _ (old new : Inside) where
     pub ending : new.ending ≡ old.ending
     pub bounds : new.bounds.items ≡ old.bounds.items ++ bound ∷ []
     pub bound_names : new.bound_names.keys ≡ insert_key bytes_eq old.bound_names.keys bound.name
+    pub delay : new.delay ≡ old.delay
 
   pub record HasMoreLinks (link : Link) : Type 0 where
     pub points : new.points ≡ old.points
@@ -76,12 +78,13 @@ module _ (old new : Inside) where
     pub bound_names : new.bound_names ≡ old.bound_names
     pub links : new.links.items ≡ old.links.items ++ link ∷ []
     pub ending : new.ending.items ≡ set old.ending.items link.to.0 (Some (record { 0 = length old.links.items }))
+    pub delay : new.delay ≡ old.delay
 
 module _ (old new : Inside) (stored : IsStored old) where
   pub stored-more_points : (name : List ℕ) → IsTrue (is_name name) → point_named (plan_of old) name ≡ None → length old.points.items < most_points
       → HasMorePoints old new name → IsStored new
   stored-more_points name named fresh room more =
-      let record { bounds = bounds; links = links; bound_names = bound_names; points = points; point_names = point_names; ending = ending } = more in
+      let record { bounds = bounds; links = links; bound_names = bound_names; points = points; point_names = point_names; ending = ending; delay = delay } = more in
       let same : plan_of new ≡ more_points (plan_of old) name = cc in
       let none = None_from_option_map _ (position (bytes_eq name) old.points.items) fresh in
       let last = insert_key-new old.points.items name none in
@@ -102,7 +105,7 @@ module _ (old new : Inside) (stored : IsStored old) where
   pub stored-more_bounds : (bound : Bound) → IsBound (plan_of old) bound → bound_named (plan_of old) bound.name ≡ None → length old.bounds.items < most_bounds
       → HasMoreBounds old new bound → IsStored new
   stored-more_bounds bound sound fresh room more =
-      let record { points = points; links = links; point_names = point_names; ending = ending; bounds = bounds; bound_names = bound_names } = more in
+      let record { points = points; links = links; point_names = point_names; ending = ending; bounds = bounds; bound_names = bound_names; delay = delay } = more in
       let same : plan_of new ≡ more_bounds (plan_of old) bound = cc in
       let last = insert_key-new (names_of old.bounds.items) bound.name (free_name (plan_of old) bound.name fresh) in
       record {
@@ -116,7 +119,7 @@ module _ (old new : Inside) (stored : IsStored old) where
   pub stored-more_links : (link : Link) → IsLink (plan_of old) link → activation (plan_of old) link.to ≡ None → length old.links.items < most_links
       → HasMoreLinks old new link → IsStored new
   stored-more_links link sound fresh room more =
-      let record { points = points; bounds = bounds; point_names = point_names; bound_names = bound_names; links = links; ending = ending } = more in
+      let record { points = points; bounds = bounds; point_names = point_names; bound_names = bound_names; links = links; ending = ending; delay = delay } = more in
       let same : plan_of new ≡ more_links (plan_of old) link = cc in
       let none = None_from_option_map _ (position (λ (l : Link). l.to.0 == link.to.0) old.links.items) fresh in
       record {

@@ -108,6 +108,10 @@ with_parts place net (part ∷ parts) =
 abbrev pub built : List Part → Result Plan BuildFault
 built parts = with_parts 0 empty parts
 
+-- the network that a plan declares, of which these parts were read, or the first refusal with its place
+abbrev pub declared_net : List Part → Result Plan BuildFault
+declared_net parts = built parts
+
 -- The answer is what the parts build, unless memory ran out.
 abbrev pub Builds : Result Plan BuildFault → Result Plan BuildFault → Type 0
 Builds (Ok net) answer = answer ≡ Ok net

@@ -29,14 +29,16 @@ pub record KeepsSound (net : Plan) (edit : Edit) (new : Plan) : Type 0 where
 abbrev pub EditsKeepSound : Type 0
 EditsKeepSound = (net : Plan) (edit : Edit) (new : Plan) → edited net edit ≡ Ok new → KeepsSound net edit new
 
--- a network by names alone: its points, and its bounds and its links as the parts that declare them, each list in its order
+-- a network by names alone: its points, its bounds and its links as the parts that declare them, each list in its order, and
+-- its delay
 pub record ByNames : Type 0 where
   pub points : List (List ℕ)
   pub bounds : List Part
   pub links : List Part
+  pub delay : ℕ
 
 abbrev pub by_names : Plan → ByNames
-by_names net = record { points = net.points; bounds = map (bound_part net.points) net.bounds; links = map (link_part net.points) net.links }
+by_names net = record { points = net.points; bounds = map (bound_part net.points) net.bounds; links = map (link_part net.points) net.links; delay = net.delay }
 
 -- the part declares the bound of a name
 abbrev pub is_bound_named : List ℕ → Part → Bool

@@ -81,6 +81,7 @@ without_point net dropped = record {
   points = remove net.points dropped.0;
   bounds = closed_up_bounds dropped net.bounds;
   links = closed_up_links dropped net.links;
+  delay = net.delay;
 }
 
 -- the network in which a bound has this number

@@ -11,6 +11,8 @@ pub mod Editing
 pub mod EditLaws
 pub mod Formats
 pub mod NetworkParts
+pub mod ShownForm
+pub mod ShownLaws
 pub mod Stored
 pub mod Numbers
 pub mod Places

@@ -29,6 +29,10 @@ most_weight = 1000000000000
 abbrev pub most_moment : ℕ
 most_moment = 4000000000000
 
+-- the greatest delay, in whole moments
+abbrev pub most_delay : ℕ
+most_delay = 1000000
+
 -- how many lines of one text are read
 abbrev pub most_lines : ℕ
 most_lines = 2147483648

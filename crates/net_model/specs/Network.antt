@@ -1,5 +1,5 @@
 -- Temporal networks with uncertainty (Morris, Muscettola and Vidal 2001), in whole moments.
-use Rattle.std.specs.Prelude.{◌≡◌, ◌≢◌, ℕ, ◌<◌, ◌≤◌, ◌==◌, true, List, [], length, map, filter, fold, max, Option, IsTrue, IsSome, IsNone, pos, ◌≤ℤ◌, unsigned_abs}
+use Rattle.std.specs.Prelude.{◌≡◌, ◌≢◌, ℕ, ◌<◌, ◌≤◌, ◌==◌, true, List, [], length, map, filter, fold, max, Option, IsTrue, IsSome, IsNone, pos, ◌≤ℤ◌, ◌+◌, unsigned_abs}
 use Rattle.std.specs.Option.{option_map, option_and_then}
 use Rattle.std.specs.List.{All, AllPairs, IsDistinct, position, enumerate_from}
 use Rattle.std.specs.Str.{bytes_eq}
@@ -9,13 +9,15 @@ use Rattle.net_model.specs.declared.ids.LinkId.{LinkId}
 use Rattle.net_model.specs.declared.ids.BoundId.{BoundId}
 use Rattle.net_model.specs.declared.part.Bound.{Bound}
 use Rattle.net_model.specs.declared.part.Link.{Link}
-use Rattle.net_model.specs.Limits.{most_points, most_links, most_bounds, within_limit, within_size}
+use Rattle.net_model.specs.Limits.{most_points, most_links, most_bounds, most_delay, most_size, within_limit, within_size}
 
--- a network as it is declared: its points by their names, its bounds, its links, each list in the order of declaration
+-- a network as it is declared: its points by their names, its bounds, its links, each list in the order of declaration, and its
+-- delay, how many moments after it happened a completion is shown
 pub record Plan : Type 0 where
   pub points : List (List ℕ)
   pub bounds : List Bound
   pub links : List Link
+  pub delay : ℕ
 
 -- the point of a name
 abbrev pub point_named : Plan → List ℕ → Option PointId
@@ -44,14 +46,16 @@ IsContingent net point = IsSome (activation net point)
 abbrev pub IsExecutable : Plan → PointId → Type 0
 IsExecutable net point = IsPoint net point × IsNone (activation net point)
 
--- a bound between points of the network, with a number that is not too great
+-- a bound between points of the network, with a number that is not too great, nor is it with the delay
 pub record IsBound (net : Plan) (bound : Bound) : Type 0 where
   pub named : IsTrue (is_name bound.name)
   pub from_point : IsPoint net bound.from
   pub to_point : IsPoint net bound.to
   pub within : within_size bound.most ≡ true
+  pub shown_within : unsigned_abs bound.most + net.delay ≤ most_size
 
--- a link between two points of the network, with an interval of durations from 1 on that is not empty
+-- a link between two points of the network, with an interval of durations from 1 on that is not empty; its longest duration is not
+-- too great, nor is it with the delay
 pub record IsLink (net : Plan) (link : Link) : Type 0 where
   pub from_point : IsPoint net link.from
   pub to_point : IsPoint net link.to
@@ -59,9 +63,10 @@ pub record IsLink (net : Plan) (link : Link) : Type 0 where
   pub positive : pos 1 ≤ℤ link.low
   pub interval : link.low ≤ℤ link.high
   pub within : within_size link.high ≡ true
+  pub shown_within : unsigned_abs link.high + net.delay ≤ most_size
 
--- a network: names are names and differ, bounds and links are sound, no two links end in one point, and no list is
--- too long
+-- a network: names are names and differ, bounds and links are sound, no two links end in one point, and no list and no delay
+-- is too long
 pub record IsPlan (net : Plan) : Type 0 where
   pub points_named : All (λ name. IsTrue (is_name name)) net.points
   pub points_apart : IsDistinct bytes_eq net.points
@@ -72,6 +77,7 @@ pub record IsPlan (net : Plan) : Type 0 where
   pub few_points : length net.points ≤ most_points
   pub few_bounds : length net.bounds ≤ most_bounds
   pub few_links : length net.links ≤ most_links
+  pub short_delay : net.delay ≤ most_delay
 
 -- the numbers of a network are those that a plan may have
 pub record HasPlanNumbers (net : Plan) : Type 0 where
@@ -86,6 +92,6 @@ links_from net point = map (λ (l : ℕ × Link). record { 0 = l.0 }) (filter (�
 abbrev pub greatest : Plan → ℕ
 greatest net = max (fold (λ most (b : Bound). max most (unsigned_abs b.most)) 0 net.bounds) (fold (λ most (l : Link). max most (unsigned_abs l.high)) 0 net.links)
 
--- the network without points
+-- the network without points, with a delay of 0
 abbrev pub empty : Plan
-empty = record { points = []; bounds = []; links = [] }
+empty = record { points = []; bounds = []; links = []; delay = 0 }

@@ -1,4 +1,4 @@
--- How a network is stored: its three lists, an index of names for each list of names, and for each point the link that
+-- How a network is stored: its three lists and its delay, an index of names for each list of names, and for each point the link that
 -- ends in it.
 use Rattle.std.specs.Prelude.{◌≡◌, ℕ, ◌<◌, length, map, None}
 use Rattle.std.specs.List.{slice_index_or}
@@ -8,7 +8,7 @@ use Rattle.net_model.specs.declared.network.Network.TheInside.{Inside}
 
 -- the network that is stored
 abbrev pub plan_of : Inside → Plan
-plan_of net = record { points = net.points.items; bounds = net.bounds.items; links = net.links.items }
+plan_of net = record { points = net.points.items; bounds = net.bounds.items; links = net.links.items; delay = net.delay }
 
 pub record IsStored (net : Inside) : Type 0 where
   pub plan : IsPlan (plan_of net)

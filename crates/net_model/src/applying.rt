@@ -1,4 +1,5 @@
-//! What an edit makes of a network: the fault is found first, and then a new network is made of three lists.
+//! What an edit makes of a network: the fault is found first, and then a new network is made of three
+//! lists and the delay.
 
 ghost use Rattle.std.specs.Prelude.{◌≡◌, ◌<◌, ◌==◌, ◌||◌, length, IfOk};
 ghost use Rattle.std.specs.List.{position, remove, slice_set};
@@ -49,7 +50,7 @@ impl Network {
     fn with_part(&self, alloc: Global, part: &Part) -> Result<Network, EditFault>
         ensures { Edits result (added (with_part self.now part.now)) }
     {
-        let mut net = Network::of_lists(alloc, self.points(), self.bounds(), self.links())?;
+        let mut net = self.of_lists(alloc, self.points(), self.bounds(), self.links())?;
         match net.add(part) {
             Ok(()) => Ok(net),
             Err(fault) => Err(fault.of_edit()),
@@ -74,7 +75,7 @@ impl Network {
         let points = without(alloc, self.points(), dropped.0 as usize)?;
         let bounds = closed_up_bounds(alloc, self.bounds(), dropped)?;
         let links = closed_up_links(alloc, self.links(), dropped)?;
-        Network::of_lists(
+        self.of_lists(
             alloc,
             points.as_slice(),
             bounds.as_slice(),
@@ -87,7 +88,7 @@ impl Network {
     {
         let id = self.named_bound(name).ok_or(EditFault::UnknownName)?;
         let bounds = without(alloc, self.bounds(), id.0 as usize)?;
-        Ok(Network::of_lists(alloc, self.points(), bounds.as_slice(), self.links())?)
+        Ok(self.of_lists(alloc, self.points(), bounds.as_slice(), self.links())?)
     }
 
     fn with_number(&self, alloc: Global, name: &Name, most: Weight) -> Result<Network, EditFault>
@@ -99,7 +100,7 @@ impl Network {
         }
         let bound = self.bounds()[id.0 as usize].with_most(most);
         let bounds = replaced(alloc, self.bounds(), id.0 as usize, bound)?;
-        Ok(Network::of_lists(alloc, self.points(), bounds.as_slice(), self.links())?)
+        Ok(self.of_lists(alloc, self.points(), bounds.as_slice(), self.links())?)
     }
 
     fn without_link(&self, alloc: Global, to: &Name) -> Result<Network, EditFault>
@@ -107,7 +108,7 @@ impl Network {
     {
         let id = self.named_link(to).ok_or(EditFault::UnknownName)?;
         let links = without(alloc, self.links(), id.0 as usize)?;
-        Ok(Network::of_lists(alloc, self.points(), self.bounds(), links.as_slice())?)
+        Ok(self.of_lists(alloc, self.points(), self.bounds(), links.as_slice())?)
     }
 
     fn with_interval(
@@ -128,7 +129,7 @@ impl Network {
         }
         let link = self.links()[id.0 as usize].with_interval(low, high);
         let links = replaced(alloc, self.links(), id.0 as usize, link)?;
-        Ok(Network::of_lists(alloc, self.points(), self.bounds(), links.as_slice())?)
+        Ok(self.of_lists(alloc, self.points(), self.bounds(), links.as_slice())?)
     }
 
     /// The link that ends in the point of a name.

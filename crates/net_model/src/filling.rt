@@ -1,4 +1,4 @@
-//! A network that is made of its three lists.
+//! A network that is made of its three lists and its delay.
 
 ghost use Rattle.std.specs.Prelude.{◌≡◌, ◌++◌, IfOk, OnOk};
 ghost use Rattle.net_model.specs.Network.{IsPlan, empty};
@@ -9,17 +9,35 @@ use crate::part::{Bound, Link};
 use std::alloc::{AllocError, Global};
 
 impl Network {
-    /// The network of three lists. `AllocError` comes only for want of memory.
+    /// The network of three lists with the delay of this one. `AllocError` comes only for want of memory.
     pub(crate) fn of_lists(
+        &self,
         alloc: Global,
         points: &[Name],
         bounds: &[Bound],
         links: &[Link],
     ) -> Result<Network, AllocError>
-        requires { IsPlan (record { points = points.now; bounds = bounds.now; links = links.now }) }
-        ensures { IfOk result (λ net. net ≡ record { points = points.now; bounds = bounds.now; links = links.now }) }
+        requires { IsPlan (record { points = points.now; bounds = bounds.now; links = links.now; delay = self.now.delay }) }
+        ensures { IfOk result (λ net. net ≡ record { points = points.now; bounds = bounds.now; links = links.now; delay = self.now.delay }) }
     {
-        let mut net = Network::empty(alloc);
+        let mut net = Network::empty(alloc, self.delay);
+        match net.fill(points, bounds, links) {
+            Ok(()) => Ok(net),
+            Err(error) => Err(error),
+        }
+    }
+
+    /// The network of three lists, with a delay of 0. `AllocError` comes only for want of memory.
+    pub(crate) fn instant(
+        alloc: Global,
+        points: &[Name],
+        bounds: &[Bound],
+        links: &[Link],
+    ) -> Result<Network, AllocError>
+        requires { IsPlan (record { points = points.now; bounds = bounds.now; links = links.now; delay = 0 }) }
+        ensures { IfOk result (λ net. net ≡ record { points = points.now; bounds = bounds.now; links = links.now; delay = 0 }) }
+    {
+        let mut net = Network::empty(alloc, 0);
         match net.fill(points, bounds, links) {
             Ok(()) => Ok(net),
             Err(error) => Err(error),
@@ -27,9 +45,9 @@ impl Network {
     }
 
     fn fill(&mut self, points: &[Name], bounds: &[Bound], links: &[Link]) -> Result<(), AllocError>
-        requires empty { self.old ≡ empty }
-        requires sound { IsPlan (record { points = points.now; bounds = bounds.now; links = links.now }) }
-        ensures { OnOk result (self.new ≡ record { points = points.now; bounds = bounds.now; links = links.now }) }
+        requires empty { self.old ≡ record empty { delay = self.old.delay } }
+        requires sound { IsPlan (record { points = points.now; bounds = bounds.now; links = links.now; delay = self.old.delay }) }
+        ensures { OnOk result (self.new ≡ record { points = points.now; bounds = bounds.now; links = links.now; delay = self.old.delay }) }
     {
         self.push_points(points)?;
         self.push_bounds(bounds)?;

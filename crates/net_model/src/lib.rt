@@ -14,6 +14,7 @@ mod limits;
 mod name;
 mod network;
 mod part;
+mod shown;
 pub mod text;
 
 pub use edges::{bound_edge, link_edge};
@@ -23,8 +24,8 @@ pub use format::{FormatFault, FormatKind, TextFault, WordFault};
 pub use ids::{BoundId, LinkId, PointId, Weight};
 pub use items::Items;
 pub use limits::{
-    MOST_BOUNDS, MOST_LINES, MOST_LINKS, MOST_MOMENT, MOST_NUMBER, MOST_POINTS, MOST_WEIGHT,
-    limits_are_defined,
+    MOST_BOUNDS, MOST_DELAY, MOST_LINES, MOST_LINKS, MOST_MOMENT, MOST_NUMBER, MOST_POINTS,
+    MOST_WEIGHT, limits_are_defined,
 };
 pub use name::{Name, NameFault};
 pub use network::Network;

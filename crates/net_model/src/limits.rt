@@ -1,7 +1,7 @@
 //! The greatest counts and sizes of a network.
 
 ghost use Rattle.std.specs.Prelude.{◌≡◌};
-ghost use Rattle.net_model.specs.Limits.{most_points, most_links, most_bounds, most_number, most_weight, most_moment, most_lines};
+ghost use Rattle.net_model.specs.Limits.{most_points, most_links, most_bounds, most_number, most_weight, most_moment, most_delay, most_lines};
 
 /// The greatest number of points of a network.
 pub const MOST_POINTS: usize = 1_000;
@@ -21,6 +21,9 @@ pub const MOST_WEIGHT: u64 = 1_000_000_000_000;
 /// The greatest moment of an event, and of an execution.
 pub const MOST_MOMENT: u64 = 4_000_000_000_000;
 
+/// The greatest delay of a network, in whole moments.
+pub const MOST_DELAY: u32 = 1_000_000;
+
 /// The greatest number of lines of one text.
 pub const MOST_LINES: u32 = 2_147_483_648;
 
@@ -32,5 +35,6 @@ pub fn limits_are_defined()
     ensures number { MOST_NUMBER ≡ most_number }
     ensures weight { MOST_WEIGHT ≡ most_weight }
     ensures moment { MOST_MOMENT ≡ most_moment }
+    ensures delay { MOST_DELAY ≡ most_delay }
     ensures lines { MOST_LINES ≡ most_lines }
 {}

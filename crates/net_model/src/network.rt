@@ -1,8 +1,8 @@
-ghost use Rattle.std.specs.Prelude.{◌≡◌, ◌<◌, ◌^◌, ◌↔◌, ◌==◌, ◌≤◌, [], ◌∷◌, ◌++◌, length, fold, map, filter, max, unsigned_abs, pos, IfOk, IsTrue, MatchResult};
+ghost use Rattle.std.specs.Prelude.{◌≡◌, ◌<◌, ◌^◌, ◌↔◌, ◌==◌, ◌≤◌, [], ◌∷◌, ◌++◌, length, fold, map, filter, max, unsigned_abs, pos, ◌≤ℤ◌, IfOk, IsTrue, MatchResult};
 ghost use Rattle.std.specs.List.{enumerate_from};
 ghost use Rattle.net_model.specs.Network.{IsPlan, IsPoint, IsContingent, IsBound, IsLink, point_named, bound_named, activation, links_from, greatest, empty, HasPlanNumbers};
 ghost use Rattle.net_model.specs.NetworkParts.{point_name};
-ghost use Rattle.net_model.specs.Limits.{most_points, most_links, most_bounds, within_limit};
+ghost use Rattle.net_model.specs.Limits.{most_points, most_links, most_bounds, most_delay, within_limit};
 ghost use Rattle.net_model.specs.Building.{Builds, Adds, Pushes, built, with_part, with_point, with_bound, with_link, with_parts, named};
 
 use crate::fault::{BuildFault, PartFault};
@@ -15,7 +15,8 @@ use std::alloc::{AllocError, Global};
 use std::marker::Model;
 
 /// A temporal network with uncertainty (Morris, Muscettola and Vidal 2001): points, bounds `to - from <= most`, and
-/// contingent links, each list in the order of declaration. Contracts see it as its three lists.
+/// contingent links, each list in the order of declaration, and a delay, how many moments after it happened a completion is
+/// shown. Contracts see it as its three lists and its delay.
 #[derive(Debug, Drop)]
 pub struct Network {
     points: Vec<Name>,
@@ -24,6 +25,7 @@ pub struct Network {
     point_names: IndexSet<Name>,
     bound_names: IndexSet<Name>,
     ending: Vec<Option<LinkId>>,
+    pub(crate) delay: u32,
 }
 
 impl Model for Network {
@@ -39,8 +41,8 @@ impl Model for Network {
 }
 
 impl Network {
-    /// The network that a list of parts declares, in their order, or the first part that is refused. The refusals of
-    /// a part are tried in this order. A point: `DuplicateName`, `Limit(Points)`. A bound: `DuplicateName`,
+    /// The network that a list of parts declares, in their order, or the first part that is refused; its delay is 0. The
+    /// refusals of a part are tried in this order. A point: `DuplicateName`, `Limit(Points)`. A bound: `DuplicateName`,
     /// `UnknownName` of its from and then of its to, `Limit(Number)`, `Limit(Bounds)`. A link: `UnknownName` of its
     /// from and then of its to, `LinkToItself`, `TwoLinksOnPoint`, `BadInterval`, `Limit(Number)` of its longest
     /// duration, `Limit(Links)`. A limit on a count comes exactly where the list already has its greatest length. The
@@ -51,8 +53,9 @@ impl Network {
         ensures built { Builds result (built parts.now) }
         ensures sound { IfOk result IsPlan }
         ensures numbers { IfOk result HasPlanNumbers }
+        ensures no_delay { IfOk result (λ net. net.delay ≡ 0) }
     {
-        let mut net = Network::empty(alloc);
+        let mut net = Network::empty(alloc, 0);
         match net.add_all(parts) {
             Ok(()) => {
                 // The proof reads here that the network is sound.
@@ -93,6 +96,28 @@ impl Network {
         ensures sound { IsPlan self.now }
     {
         self.links.as_slice()
+    }
+
+    /// The delay, in whole moments, from 0 to `MOST_DELAY`.
+    pub fn delay(&self) -> Weight
+        ensures delay { result ≡ pos self.now.delay }
+        ensures sound { IsPlan self.now }
+    {
+        Weight::from(self.delay)
+    }
+
+    /// The same network with a delay of so many moments, 0 to `MOST_DELAY`; its numbers are at most `MOST_NUMBER` in size, as
+    /// those of a built network are. It takes no memory.
+    pub fn with_delay(mut self, moments: Weight) -> Network
+        requires from_nought { pos 0 ≤ℤ moments }
+        requires short { moments ≤ℤ pos most_delay }
+        requires numbers { HasPlanNumbers self }
+        ensures { result ≡ record self { delay = unsigned_abs moments } }
+    {
+        // The proof reads here that the network is sound.
+        let _ = &self.points;
+        self.delay = moments as u32;
+        self
     }
 
     /// The point of a name, or `None` exactly where no point has it.
@@ -148,8 +173,10 @@ impl Network {
         links_from(alloc, self.links.as_slice(), point)
     }
 
-    pub(crate) fn empty(alloc: Global) -> Network
-        ensures { result ≡ empty }
+    /// The network without points, with a delay.
+    pub(crate) fn empty(alloc: Global, moments: u32) -> Network
+        requires { moments ≤ most_delay }
+        ensures { result ≡ record empty { delay = moments } }
     {
         Network {
             points: Vec::new(alloc),
@@ -158,6 +185,7 @@ impl Network {
             point_names: IndexSet::new(alloc),
             bound_names: IndexSet::new(alloc),
             ending: Vec::new(alloc),
+            delay: moments,
         }
     }
 

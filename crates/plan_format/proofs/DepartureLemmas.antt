@@ -15,6 +15,7 @@ use Rattle.plan_format.specs.declared.plan_line.PlanLine.TheVariants as line
 use Rattle.plan_format.specs.PlanLines.{plan_line, line_of, header_line, end_line, declares, point_line, bound_line, link_line}
 use Rattle.net_model.specs.Places.{Place, of_name, of_number, DepartsFrom}
 use Rattle.plan_format.specs.PlanFaults.{places_after, Departs, IsFaultAlone, IsFaultOfLine}
+use Rattle.plan_format.specs.PlanParts.{Version, version_1, version_word}
 use Rattle.plan_format.proofs.PartLemmas.{blank_read, header_read}
 
 point_departs : (others : List (List ℕ)) (kind : FormatKind) → point_line others ≡ Err kind → DepartsFrom (Some (of_name ∷ [])) others kind
@@ -56,25 +57,25 @@ end_departs : (others : List (List ℕ)) (kind : FormatKind) → end_line others
 end_departs [] kind read = absurd (cc)
 end_departs (a ∷ others) kind read = inl (λ same. absurd (omega arith), cc)
 
-header_departs : (others : List (List ℕ)) (kind : FormatKind) → header_line others ≡ Err kind → kind ≡ UnknownWord
-header_departs [] kind read = cc
-header_departs (version ∷ []) kind read =
-    elim (choice (bytes_eq version (codes "1")) (Ok line.Header) (Err UnknownWord) (Err kind) read) [
+header_departs : (version : Version) (others : List (List ℕ)) (kind : FormatKind) → header_line version others ≡ Err kind → kind ≡ UnknownWord
+header_departs version [] kind read = cc
+header_departs version (word ∷ []) kind read =
+    elim (choice (bytes_eq word (version_word version)) (Ok line.Header) (Err UnknownWord) (Err kind) read) [
       | inl one ↦ never _ kind one.1
       | inr other ↦ let same : Err UnknownWord ≡ Err kind = other.1 in cc
     ]
-header_departs (version ∷ next ∷ others) kind read = cc
+header_departs version (word ∷ next ∷ others) kind read = cc
 
 declared_err : (read : Result Part FormatKind) (kind : FormatKind) → declares read ≡ Err kind → read ≡ Err kind
 declared_err (Ok p) kind said = absurd (cc)
 declared_err (Err k) kind said = cc
 
 -- a line that begins with a word that is no remark
-line_departs : (first : List ℕ) (others : List (List ℕ)) (kind : FormatKind) → line_of first others ≡ Err kind → Departs (first ∷ others) kind
-line_departs first others kind read =
-    let with_form : (form : Option (List Place)) → places_after first ≡ form → DepartsFrom form others kind → Departs (first ∷ others) kind = λ form is departs. subst (λ (f : Option (List Place)). DepartsFrom f others kind) (sym is) departs in
+line_departs : (version : Version) (first : List ℕ) (others : List (List ℕ)) (kind : FormatKind) → line_of version first others ≡ Err kind → Departs version (first ∷ others) kind
+line_departs version_1 first others kind read =
+    let with_form : (form : Option (List Place)) → places_after version_1 first ≡ form → DepartsFrom form others kind → Departs version_1 (first ∷ others) kind = λ form is departs. subst (λ (f : Option (List Place)). DepartsFrom f others kind) (sym is) departs in
     elim (choice (bytes_eq first (codes "stnu")) _ _ (Err kind) read) [
-      | inl stnu ↦ with_form None (ap places_after (word_is first (codes "stnu") stnu.0)) (header_departs others kind stnu.1)
+      | inl stnu ↦ with_form None (ap (places_after version_1) (word_is first (codes "stnu") stnu.0)) (header_departs version_1 others kind stnu.1)
       | inr not_stnu ↦ elim (choice (bytes_eq first (codes "point")) _ _ (Err kind) not_stnu.1) [
         | inl point ↦ with_form (Some (of_name ∷ [])) (rw point.0 refl) (point_departs others kind (declared_err (point_line others) kind point.1))
         | inr not_point ↦ elim (choice (bytes_eq first (codes "bound")) _ _ (Err kind) not_point.1) [
@@ -91,39 +92,39 @@ line_departs first others kind read =
     ]
 
 -- a line that is not read departs from the forms of lines
-pub departs : (words : List (List ℕ)) (kind : FormatKind) → plan_line words ≡ Err kind → Departs words kind
+pub departs : (version : Version) (words : List (List ℕ)) (kind : FormatKind) → plan_line version words ≡ Err kind → Departs version words kind
 unfolding plan_line
-departs [] kind read = absurd (cc)
-departs (first ∷ others) kind read =
-    elim (choice (is_remark first) (Ok line.Blank) (line_of first others) (Err kind) read) [
+departs version [] kind read = absurd (cc)
+departs version (first ∷ others) kind read =
+    elim (choice (is_remark first) (Ok line.Blank) (line_of version first others) (Err kind) read) [
       | inl remark ↦ never _ kind remark.1
-      | inr other ↦ line_departs first others kind other.1
+      | inr other ↦ line_departs version first others kind other.1
     ]
 
 -- a line departs from its form for one cause
-pub departs_one : (words : List (List ℕ)) (a b : FormatKind) → Departs words a → Departs words b → a ≡ b
-departs_one [] a b x y = absurd x
-departs_one (first ∷ others) a b x y = departs_from_one (places_after first) others a b x y
+pub departs_one : (version : Version) (words : List (List ℕ)) (a b : FormatKind) → Departs version words a → Departs version words b → a ≡ b
+departs_one version [] a b x y = absurd x
+departs_one version (first ∷ others) a b x y = departs_from_one (places_after version first) others a b x y
 
-passed : (words : List (List ℕ)) (kind : FormatKind) → plan_line words ≡ Err kind → are_passed_over words ≡ true → ⊥
-passed words kind read blank = never line.Blank kind (sym (blank_read words blank) ∙ read)
+passed : (version : Version) (words : List (List ℕ)) (kind : FormatKind) → plan_line version words ≡ Err kind → are_passed_over words ≡ true → ⊥
+passed version words kind read blank = never line.Blank kind (sym (blank_read version words blank) ∙ read)
 
 not_true : (b : Bool) → (b ≡ true → ⊥) → b ≡ false
 not_true true none = absurd (none refl)
 not_true false none = refl
 
 -- the fault of a line that is read alone
-pub fault_alone : (words : List (List ℕ)) (kind : FormatKind) → plan_line words ≡ Err kind → IsFaultAlone words kind
-fault_alone words kind read = record {
-  filled = not_true (are_passed_over words) (passed words kind read);
-  no_header = λ same. never line.Header kind (sym header_read ∙ (ap plan_line (sym same) ∙ read));
-  departs = departs words kind read;
+pub fault_alone : (version : Version) (words : List (List ℕ)) (kind : FormatKind) → plan_line version words ≡ Err kind → IsFaultAlone version words kind
+fault_alone version words kind read = record {
+  filled = not_true (are_passed_over words) (passed version words kind read);
+  no_header = λ same. never line.Header kind (sym (header_read version) ∙ (ap (plan_line version) (sym same) ∙ read));
+  departs = departs version words kind read;
 }
 
 -- the answer to a line that is read alone, and refused
-pub told_alone : (line : List ℕ) (kind : FormatKind) (answer : Result PlanLine WordFault) → plan_line (words line) ≡ Err kind → IsErr answer → IsErrAnd answer (λ (fault : WordFault). fault ≡ word.Kind kind) → IfErr answer (IsFaultOfLine line)
-told_alone line kind (Ok said) read err is = tt
-told_alone line kind (Err (word.Kind k)) read err is =
+pub told_alone : (version : Version) (line : List ℕ) (kind : FormatKind) (answer : Result PlanLine WordFault) → plan_line version (words line) ≡ Err kind → IsErr answer → IsErrAnd answer (λ (fault : WordFault). fault ≡ word.Kind kind) → IfErr answer (IsFaultOfLine version line)
+told_alone version line kind (Ok said) read err is = tt
+told_alone version line kind (Err (word.Kind k)) read err is =
     let same : k ≡ kind = cc in
-    subst (λ (f : FormatKind). IsFaultAlone (words line) f) (sym same) (fault_alone (words line) kind read)
-told_alone line kind (Err word.OutOfMemory) read err is = absurd (cc)
+    subst (λ (f : FormatKind). IsFaultAlone version (words line) f) (sym same) (fault_alone version (words line) kind read)
+told_alone version line kind (Err word.OutOfMemory) read err is = absurd (cc)

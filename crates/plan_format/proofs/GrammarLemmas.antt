@@ -12,8 +12,9 @@ use Rattle.plan_format.specs.declared.plan_line.PlanLine.TheVariants as line
 use Rattle.plan_format.specs.declared.section.PlanSection.{PlanSection}
 use Rattle.plan_format.specs.declared.section.PlanSection.TheVariants as section
 use Rattle.plan_format.specs.declared.read.Parts.{Parts}
-use Rattle.plan_format.specs.PlanGrammar.{IsLine, IsBegun, header, blank, declares, IsPlanText, Says}
-use Rattle.plan_format.specs.PlanReading.{Progress, begun, in_section, line_in, advanced, missing, IsFront}
+use Rattle.plan_format.specs.PlanGrammar.{IsBlank, IsLine, IsBegun, header, blank, declares, IsPlanText, Says}
+use Rattle.plan_format.specs.PlanParts.{Version, version_1}
+use Rattle.plan_format.specs.PlanReading.{Progress, begun, in_section, line_in, version_in, advanced, missing, IsFront}
 use Rattle.plan_format.proofs.PartLemmas.{is_read}
 use Rattle.plan_format.proofs.StepLemmas.{reached, one_more}
 
@@ -39,46 +40,46 @@ pub step : (read : Progress) (number : ℕ) (text : List ℕ) (others : List (Li
 step read number text others said is = ap (λ (r : Result PlanLine FormatKind). said_from read number r (λ more. read_from more (number + 1) others)) is
 
 -- a line of the grammar, in its section
-pub line_is : (s : PlanSection) (text : List ℕ) (said : PlanLine) → IsLine said text → in_section s (Ok said) ≡ Ok said → line_in s (words text) ≡ Ok said
-line_is s text said is comes = ap (in_section s) (is_read (words text) said is) ∙ comes
+pub line_is : (s : PlanSection) (text : List ℕ) (said : PlanLine) → IsLine (version_in s) said text → in_section s (Ok said) ≡ Ok said → line_in s (words text) ≡ Ok said
+line_is s text said is comes = ap (in_section s) (is_read (version_in s) (words text) said is) ∙ comes
 
-blanks_read : (before more : List (List ℕ)) (number n : ℕ) → All (IsLine line.Blank) before → n ≡ number + length before → read_from begun number (before ++ more) ≡ read_from begun n more
+blanks_read : (before more : List (List ℕ)) (number n : ℕ) → All IsBlank before → n ≡ number + length before → read_from begun number (before ++ more) ≡ read_from begun n more
 blanks_read [] more number n all same =
     let at : number ≡ n = omega arith in
     ap (λ (k : ℕ). read_from begun k more) at
 blanks_read (text ∷ before) more number n all same =
-    step begun number text (before ++ more) (Ok line.Blank) (line_is section.Header text line.Blank (All-head (IsLine line.Blank) text before all) refl)
-    ∙ blanks_read before more (number + 1) n (All-tail (IsLine line.Blank) text before all) (omega arith)
+    step begun number text (before ++ more) (Ok line.Blank) (line_is section.Header text line.Blank (All-head IsBlank text before all) refl)
+    ∙ blanks_read before more (number + 1) n (All-tail IsBlank text before all) (omega arith)
 
 -- the number of the line after these lines and one more
 next_number : (front : List (List ℕ)) (text : List ℕ) → length front + 1 + 1 ≡ length (front ++ text ∷ []) + 1
 next_number front text = ap (λ (n : ℕ). n + 1) (one_more front text)
 
 -- after lines that have begun, the others are read
-begun_read : (before : List (List ℕ)) (parts : List Part) (numbers : List ℕ) (others : List (List ℕ)) → IsBegun before parts numbers → read_from begun 1 (before ++ others) ≡ read_from (reached section.Declarations parts numbers) (length before + 1) others
-begun_read before parts numbers others (header blanks text all is) =
+begun_read : (version : Version) (before : List (List ℕ)) (parts : List Part) (numbers : List ℕ) (others : List (List ℕ)) → IsBegun version before parts numbers → read_from begun 1 (before ++ others) ≡ read_from (reached section.Declarations parts numbers) (length before + 1) others
+begun_read version_1 before parts numbers others (header blanks text all is) =
     ap (read_from begun 1) (append_assoc blanks (text ∷ []) others)
     ∙ (blanks_read blanks (text ∷ others) 1 (length blanks + 1) all (omega arith)
     ∙ (step begun (length blanks + 1) text others (Ok line.Header) (line_is section.Header text line.Header is refl)
     ∙ ap (λ (n : ℕ). read_from (reached section.Declarations [] []) n others) (next_number blanks text)))
-begun_read before parts numbers others (blank front text ps ns begins is) =
+begun_read version_1 before parts numbers others (blank front text ps ns begins is) =
     ap (read_from begun 1) (append_assoc front (text ∷ []) others)
-    ∙ (begun_read front ps ns (text ∷ others) begins
+    ∙ (begun_read version_1 front ps ns (text ∷ others) begins
     ∙ (step (reached section.Declarations ps ns) (length front + 1) text others (Ok line.Blank) (line_is section.Declarations text line.Blank is refl)
     ∙ ap (λ (n : ℕ). read_from (reached section.Declarations ps ns) n others) (next_number front text)))
-begun_read before parts numbers others (declares front text ps more ns begins declared) =
+begun_read version_1 before parts numbers others (declares front text ps more ns begins declared) =
     let one = declared.1 in
     let part : Part = declared.0 in
     rw one
     (ap (read_from begun 1) (append_assoc front (text ∷ []) others)
-    ∙ (begun_read front ps ns (text ∷ others) begins
+    ∙ (begun_read version_1 front ps ns (text ∷ others) begins
     ∙ (step (reached section.Declarations ps ns) (length front + 1) text others (Ok (line.Part part)) (line_is section.Declarations text (line.Part part) declared.2 refl)
     ∙ ap (λ (n : ℕ). read_from (reached section.Declarations (ps ++ part ∷ []) (ns ++ (length front + 1) ∷ [])) n others) (next_number front text))))
 
 has_read_by : (s : PlanSection) (parts : List Part) (numbers : List ℕ) (before others : List (List ℕ)) → IsFront before (reached s parts numbers) → read_from begun 1 (before ++ others) ≡ read_from (reached s parts numbers) (length before + 1) others
 has_read_by section.Header parts numbers before others has =
     rw (has.1, has.2) (blanks_read before others 1 (length before + 1) has.0 (omega arith))
-has_read_by section.Declarations parts numbers before others has = begun_read before parts numbers others has
+has_read_by section.Declarations parts numbers before others has = begun_read version_1 before parts numbers others has
 
 -- after lines that were read, the others are read
 pub has_read : (before others : List (List ℕ)) (read : Progress) → IsFront before read → read_from begun 1 (before ++ others) ≡ read_from read (length before + 1) others
@@ -90,7 +91,7 @@ plan_read all text after parts numbers whole plan =
     let split : all ≡ plan.begun ++ plan.last ∷ after = whole ∙ (ap (λ (ls : List (List ℕ)). ls ++ after) plan.whole ∙ append_assoc plan.begun (plan.last ∷ []) after) in
     let size : length plan.begun + 1 ≡ length text = one_more plan.begun plan.last ∙ ap length (sym plan.whole) in
     ap (read_from begun 1) split
-    ∙ (begun_read plan.begun parts numbers (plan.last ∷ after) plan.begins
+    ∙ (begun_read plan.version plan.begun parts numbers (plan.last ∷ after) plan.begins
     ∙ (step (reached section.Declarations parts numbers) (length plan.begun + 1) plan.last after (Ok line.End) (line_is section.Declarations plan.last line.End plan.ends refl)
     ∙ ap (λ (n : ℕ). Ok (record { parts = parts; lines = numbers; end = n })) size))
 

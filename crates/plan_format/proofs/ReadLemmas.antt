@@ -13,6 +13,7 @@ use Rattle.net_model.specs.declared.format.WordFault.TheVariants as word
 use Rattle.net_model.specs.declared.part.Part.{Part}
 use Rattle.plan_format.specs.declared.read.Parts.{Parts}
 use Rattle.plan_format.specs.PlanGrammar.{IsBegun, header, blank, declares, IsPlanText, Says}
+use Rattle.plan_format.specs.PlanParts.{Version}
 use Rattle.plan_format.specs.PlanFaults.{IsFirstFault, IsFaultOf}
 use Rattle.plan_format.specs.PlanReading.{Progress, begun, at_line, IsFront, Brings, Reads, Refuses, ReadsLines, HasSizes, fault_after}
 use Rattle.plan_format.proofs.StepLemmas.{one_more}
@@ -124,13 +125,13 @@ record BegunSizes (text : List (List ℕ)) (parts : List Part) (numbers : List �
   numbered : length numbers ≡ length parts
   few : length parts + 1 ≤ length text
 
-begun_sizes : (text : List (List ℕ)) (parts : List Part) (numbers : List ℕ) → IsBegun text parts numbers → BegunSizes text parts numbers
-begun_sizes text parts numbers (header blanks first all is) = record { numbered = refl; few = omega (arith, one_more blanks first) }
-begun_sizes text parts numbers (blank before next ps ns begins is) =
-    let sizes = begun_sizes before ps ns begins in
+begun_sizes : (version : Version) (text : List (List ℕ)) (parts : List Part) (numbers : List ℕ) → IsBegun version text parts numbers → BegunSizes text parts numbers
+begun_sizes version text parts numbers (header blanks first all is) = record { numbered = refl; few = omega (arith, one_more blanks first) }
+begun_sizes version text parts numbers (blank before next ps ns begins is) =
+    let sizes = begun_sizes version before ps ns begins in
     record { numbered = sizes.numbered; few = omega (arith, one_more before next, sizes.few) }
-begun_sizes text parts numbers (declares before next ps more ns begins declared) =
-    let sizes = begun_sizes before ps ns begins in
+begun_sizes version text parts numbers (declares before next ps more ns begins declared) =
+    let sizes = begun_sizes version before ps ns begins in
     let one : length more ≡ 1 = ap length declared.1 in
     let marks : length (map (λ (part : Part). length before + 1) more) ≡ length more = length-map more (λ (part : Part). length before + 1) in
     let a = length-append ps more in
@@ -139,7 +140,7 @@ begun_sizes text parts numbers (declares before next ps more ns begins declared)
 
 pub says_sizes : (bytes : List ℕ) (read : Parts) → Says bytes read → HasSizes bytes read
 says_sizes bytes read says =
-    let sizes = begun_sizes says.plan.begun read.parts read.lines says.plan.begins in
+    let sizes = begun_sizes says.plan.version says.plan.begun read.parts read.lines says.plan.begins in
     let whole : length says.text ≡ length (says.plan.begun ++ says.plan.last ∷ []) = ap length says.plan.whole in
     let all : length (lines bytes) ≡ length (says.text ++ says.after) = ap length says.split in
     let both : length (says.text ++ says.after) ≡ length says.text + length says.after = length-append says.text says.after in

@@ -19,9 +19,9 @@ use Rattle.texts.proofs.LineLemmas.{size_of_lines-other, size_of_lines-end, size
 use Rattle.texts.proofs.PrintingLemmas.{IsPrintable, IsPrintableLine, words-joined, plain-joined, lines-printed}
 use Rattle.net_model.proofs.SpellingLemmas.{printable_name, printable_integer}
 use Rattle.plan_format.specs.declared.plan_line.PlanLine.TheVariants as line
-use Rattle.plan_format.specs.PlanGrammar.{IsLine, IsBegun, header, declares, IsPlanText}
+use Rattle.plan_format.specs.PlanGrammar.{IsBlank, IsLine, IsBegun, header, declares, IsPlanText}
 use Rattle.plan_format.specs.PlanNetwork.{DeclaresNetwork}
-use Rattle.plan_format.specs.PlanParts.{part_words, header_words, end_words}
+use Rattle.plan_format.specs.PlanParts.{Version, version_1, part_words, header_words, end_words}
 use Rattle.plan_format.specs.PlanPrinting.{plan_words, printed_plan, ReadsBack}
 use Rattle.net_model.proofs.PartsLemmas.{parts_build}
 use Rattle.plan_format.proofs.StepLemmas.{one_more}
@@ -74,22 +74,22 @@ numbers_from number (p ∷ parts) = number ∷ numbers_from (number + 1) parts
 line_back : (l : List (List ℕ)) → IsPrintableLine l → words (joined l) ≡ l
 line_back l printable = words-joined l printable
 
-begun_is : (lines text : List (List ℕ)) (parts ps : List Part) (numbers ns : List ℕ) → lines ≡ text → parts ≡ ps → numbers ≡ ns → IsBegun lines parts numbers → IsBegun text ps ns
-begun_is lines text parts ps numbers ns e p n begun =
-    subst (λ (ls : List (List ℕ)). IsBegun ls ps ns) e (subst (λ (qs : List Part). IsBegun lines qs ns) p (subst (λ (ms : List ℕ). IsBegun lines parts ms) n begun))
+begun_is : (version : Version) (lines text : List (List ℕ)) (parts ps : List Part) (numbers ns : List ℕ) → lines ≡ text → parts ≡ ps → numbers ≡ ns → IsBegun version lines parts numbers → IsBegun version text ps ns
+begun_is version lines text parts ps numbers ns e p n begun =
+    subst (λ (ls : List (List ℕ)). IsBegun version ls ps ns) e (subst (λ (qs : List Part). IsBegun version lines qs ns) p (subst (λ (ms : List ℕ). IsBegun version lines parts ms) n begun))
 
 -- printed lines of parts after lines that have begun
-begun_with : (before : List (List ℕ)) (ps : List Part) (ns : List ℕ) (parts : List Part) → AllByRecursion IsDeclarable parts → IsBegun before ps ns → IsBegun (before ++ map joined (map part_words parts)) (ps ++ parts) (ns ++ numbers_from (length before + 1) parts)
-begun_with before ps ns [] spelled begun = rw (append-nil before, append-nil ps, append-nil ns) begun
-begun_with before ps ns (p ∷ parts) spelled begun =
+begun_with : (version : Version) (before : List (List ℕ)) (ps : List Part) (ns : List ℕ) (parts : List Part) → AllByRecursion IsDeclarable parts → IsBegun version before ps ns → IsBegun version (before ++ map joined (map part_words parts)) (ps ++ parts) (ns ++ numbers_from (length before + 1) parts)
+begun_with version before ps ns [] spelled begun = rw (append-nil before, append-nil ps, append-nil ns) begun
+begun_with version before ps ns (p ∷ parts) spelled begun =
     let text : List ℕ = joined (part_words p) in
     let others : List (List ℕ) = map joined (map part_words parts) in
     let number : ℕ = length before + 1 in
-    let is : IsLine (line.Part p) text = (line_back (part_words p) (printable_part p spelled.0), spelled.0) in
-    let one : IsBegun (before ++ text ∷ []) (ps ++ p ∷ []) (ns ++ number ∷ []) = declares before text ps (p ∷ []) ns begun (p, refl, is) in
-    let all = begun_with (before ++ text ∷ []) (ps ++ p ∷ []) (ns ++ number ∷ []) parts spelled.1 one in
+    let is : IsLine version (line.Part p) text = (line_back (part_words p) (printable_part p spelled.0), spelled.0) in
+    let one : IsBegun version (before ++ text ∷ []) (ps ++ p ∷ []) (ns ++ number ∷ []) = declares before text ps (p ∷ []) ns begun (p, refl, is) in
+    let all = begun_with version (before ++ text ∷ []) (ps ++ p ∷ []) (ns ++ number ∷ []) parts spelled.1 one in
     let size : length (before ++ text ∷ []) + 1 ≡ number + 1 = ap (λ (n : ℕ). n + 1) (sym (one_more before text)) in
-    begun_is _ _ _ _ _ _ (append_assoc before (text ∷ []) others) (append_assoc ps (p ∷ []) parts) (append_assoc ns (number ∷ []) (numbers_from (length (before ++ text ∷ []) + 1) parts) ∙ ap (λ (n : ℕ). ns ++ number ∷ numbers_from n parts) size) all
+    begun_is version _ _ _ _ _ _ (append_assoc before (text ∷ []) others) (append_assoc ps (p ∷ []) parts) (append_assoc ns (number ∷ []) (numbers_from (length (before ++ text ∷ []) + 1) parts) ∙ ap (λ (n : ℕ). ns ++ number ∷ numbers_from n parts) size) all
 
 -- the bytes of a line and its line end
 size_of_line : (count : ℕ) (bytes rest : List ℕ) → AllByRecursion (λ byte. 31 < byte) bytes → size_of_lines (count + 1) (bytes ++ 10 ∷ rest) ≡ length bytes + 1 + size_of_lines count rest
@@ -112,14 +112,15 @@ size_of_printed (l ∷ text) printable =
 -- the printed lines of parts that can be spelled are a plan text
 plan_printed : (parts : List Part) → AllByRecursion IsDeclarable parts → IsPlanText (map joined (plan_words parts)) parts (numbers_from 2 parts)
 plan_printed parts spelled =
-    let first : List ℕ = joined header_words in
-    let heads : IsLine line.Header first = line_back header_words (literal_stnu, (literal_one, tt)) in
-    let begun : IsBegun (first ∷ []) [] [] = header [] first (All-nil (IsLine line.Blank)) heads in
+    let first : List ℕ = joined (header_words version_1) in
+    let heads : IsLine version_1 line.Header first = line_back (header_words version_1) (literal_stnu, (literal_one, tt)) in
+    let begun : IsBegun version_1 (first ∷ []) [] [] = header [] first (All-nil IsBlank) heads in
     record {
+      version = version_1;
       begun = first ∷ map joined (map part_words parts);
       last = joined end_words;
       whole = ap (λ (ls : List (List ℕ)). first ∷ ls) (map-append joined (map part_words parts) (end_words ∷ []));
-      begins = begun_with (first ∷ []) [] [] parts spelled begun;
+      begins = begun_with version_1 (first ∷ []) [] [] parts spelled begun;
       ends = line_back end_words printable_end;
     }
 
@@ -168,7 +169,7 @@ reads_back net plan numbers =
     }
 
 -- and its lines declare the network, whole
-pub declares_back : (net : Plan) → IsPlan net → HasPlanNumbers net → DeclaresNetwork (lines (printed_plan net)) net []
+pub declares_back : (net : Plan) → IsPlan net → HasPlanNumbers net → DeclaresNetwork (lines (printed_plan net)) (record net { delay = 0 }) []
 unfolding printed_plan
 declares_back net plan numbers =
     let parts : List Part = parts_of net in

@@ -10,10 +10,10 @@ use Rattle.plan_format.specs.declared.plan_line.PlanLine.TheVariants as line
 use Rattle.plan_format.specs.declared.section.PlanSection.{PlanSection}
 use Rattle.plan_format.specs.declared.section.PlanSection.TheVariants as section
 use Rattle.plan_format.specs.PlanLines.{plan_line}
-use Rattle.plan_format.specs.PlanParts.{header_words, end_words}
-use Rattle.plan_format.specs.PlanGrammar.{IsLine, header, blank, declares, IsPlanText}
+use Rattle.plan_format.specs.PlanParts.{version_1, header_words, end_words}
+use Rattle.plan_format.specs.PlanGrammar.{IsBlank, IsLine, header, blank, declares, IsPlanText}
 use Rattle.plan_format.specs.PlanFaults.{CanBecomePlan, GoesOn}
-use Rattle.plan_format.specs.PlanReading.{Progress, in_section, line_in, advanced, IsReached, IsFront, Brings}
+use Rattle.plan_format.specs.PlanReading.{Progress, in_section, line_in, version_in, advanced, IsReached, IsFront, Brings}
 use Rattle.plan_format.proofs.PartLemmas.{read_is}
 
 -- which lines come in a section
@@ -51,9 +51,9 @@ reached s parts numbers = record { section = s; parts = parts; lines = numbers }
 pub one_more : (before : List (List ℕ)) (text : List ℕ) → length before + 1 ≡ length (before ++ text ∷ [])
 one_more before text = sym (length-append before (text ∷ []))
 
-advance_by : (s : PlanSection) (parts : List Part) (numbers : List ℕ) (number : ℕ) (before : List (List ℕ)) (text : List ℕ) (said : PlanLine) → number ≡ length before + 1 → MayCome s said → IsLine said text → IsReached s before parts numbers → Brings before text (Ok said) (advanced (reached s parts numbers) number said)
+advance_by : (s : PlanSection) (parts : List Part) (numbers : List ℕ) (number : ℕ) (before : List (List ℕ)) (text : List ℕ) (said : PlanLine) → number ≡ length before + 1 → MayCome s said → IsLine (version_in s) said text → IsReached s before parts numbers → Brings before text (Ok said) (advanced (reached s parts numbers) number said)
 advance_by section.Header parts numbers number before text line.Blank at may is read =
-    (All-append (IsLine line.Blank) before (text ∷ []) read.0 (All-cons (IsLine line.Blank) text [] is (All-nil (IsLine line.Blank))), read.1, read.2)
+    (All-append IsBlank before (text ∷ []) read.0 (All-cons IsBlank text [] is (All-nil IsBlank)), read.1, read.2)
 advance_by section.Header parts numbers number before text line.Header at may is read = rw (read.1, read.2) (header before text read.0 is)
 advance_by section.Header parts numbers number before text (line.Part part) at may is read = absurd may
 advance_by section.Header parts numbers number before text line.End at may is read = absurd may
@@ -62,6 +62,7 @@ advance_by section.Declarations parts numbers number before text line.Blank at m
 advance_by section.Declarations parts numbers number before text (line.Part part) at may is read =
     rw at (declares before text parts (part ∷ []) numbers read (part, refl, is))
 advance_by section.Declarations parts numbers number before text line.End at may is read = record {
+  version = version_1;
   begun = before;
   last = text;
   whole = refl;
@@ -72,8 +73,8 @@ advance_by section.Declarations parts numbers number before text line.End at may
 -- a line that comes in its section brings what it says
 pub advance : (before : List (List ℕ)) (text : List ℕ) (number : ℕ) (said : PlanLine) (read : Progress) → number ≡ length before + 1 → line_in read.section (words text) ≡ Ok said → IsFront before read → Brings before text (Ok said) (advanced read number said)
 advance before text number said read at is has =
-    let may = came read.section (plan_line (words text)) said is in
-    advance_by read.section read.parts read.lines number before text said at may.1 (read_is (words text) said may.0) has
+    let may = came read.section (plan_line (version_in read.section) (words text)) said is in
+    advance_by read.section read.parts read.lines number before text said at may.1 (read_is (version_in read.section) (words text) said may.0) has
 
 -- lines with which what has begun is a plan text
 header_line : List ℕ
@@ -82,7 +83,7 @@ header_line = codes "stnu 1"
 end_line : List ℕ
 end_line = codes "end"
 
-header_is : words header_line ≡ header_words
+header_is : words header_line ≡ header_words version_1
 unfolding header_line words
 header_is = refl
 
@@ -98,6 +99,7 @@ goes_on_by section.Header before parts numbers are = (
     [],
     [],
     record {
+      version = version_1;
       begun = before ++ header_line ∷ [];
       last = end_line;
       whole = refl;
@@ -113,6 +115,7 @@ goes_on_by section.Declarations before parts numbers begun = (
     parts,
     numbers,
     record {
+      version = version_1;
       begun = before;
       last = end_line;
       whole = append-nil (before ++ end_line ∷ []);

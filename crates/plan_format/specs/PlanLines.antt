@@ -1,4 +1,4 @@
--- The lines of a plan text, version 1, each by its words.
+-- The lines of a plan text, each by its words and the version of the text.
 use Rattle.std.specs.Prelude.{ℕ, List, [], ◌∷◌, Result, Ok, Err, codes, if◌then◌else◌}
 use Rattle.std.specs.Str.{bytes_eq}
 use Rattle.texts.specs.Words.{is_remark}
@@ -9,6 +9,7 @@ use Rattle.net_model.specs.declared.format.FormatKind.TheVariants.{UnknownWord, 
 use Rattle.net_model.specs.declared.part.Part.{Part}
 use Rattle.net_model.specs.declared.part.Part.TheVariants as part
 use Rattle.net_model.specs.Limits.{most_number}
+use Rattle.plan_format.specs.PlanParts.{Version, version_word}
 use Rattle.plan_format.specs.declared.plan_line.PlanLine.{PlanLine}
 use Rattle.plan_format.specs.declared.plan_line.PlanLine.TheVariants as line
 
@@ -46,9 +47,9 @@ declares read = do
   Ok (line.Part declared)
 
 -- the line after `stnu`: the version of the text
-abbrev pub header_line : List (List ℕ) → Result PlanLine FormatKind
-header_line (version ∷ []) = if bytes_eq version (codes "1") then Ok line.Header else Err UnknownWord
-header_line others = Err UnknownWord
+abbrev pub header_line : Version → List (List ℕ) → Result PlanLine FormatKind
+header_line version (word ∷ []) = if bytes_eq word (version_word version) then Ok line.Header else Err UnknownWord
+header_line version others = Err UnknownWord
 
 -- the line after `end`: nothing
 abbrev pub end_line : List (List ℕ) → Result PlanLine FormatKind
@@ -56,9 +57,9 @@ end_line [] = Ok line.End
 end_line others = Err WordCount
 
 -- a line by its first word
-abbrev pub line_of : List ℕ → List (List ℕ) → Result PlanLine FormatKind
-line_of first others =
-    if bytes_eq first (codes "stnu") then header_line others
+abbrev pub line_of : Version → List ℕ → List (List ℕ) → Result PlanLine FormatKind
+line_of version first others =
+    if bytes_eq first (codes "stnu") then header_line version others
     else (if bytes_eq first (codes "point") then declares (point_line others)
     else (if bytes_eq first (codes "bound") then declares (bound_line others)
     else (if bytes_eq first (codes "link") then declares (link_line others)
@@ -66,6 +67,6 @@ line_of first others =
     else Err UnknownWord))))
 
 -- a line of a plan text, read alone
-unfoldable pub plan_line : List (List ℕ) → Result PlanLine FormatKind
-plan_line [] = Ok line.Blank
-plan_line (first ∷ others) = if is_remark first then Ok line.Blank else line_of first others
+unfoldable pub plan_line : Version → List (List ℕ) → Result PlanLine FormatKind
+plan_line version [] = Ok line.Blank
+plan_line version (first ∷ others) = if is_remark first then Ok line.Blank else line_of version first others

@@ -2,7 +2,7 @@
 use Rattle.std.specs.Prelude.{◌≡◌, ℕ, ◌+◌, List, ◌++◌, Some, None, slice_get, Result, Ok, Err, codes}
 use Rattle.std.specs.Fmt.{decimal}
 use Rattle.net_model.specs.Network.{Plan}
-use Rattle.net_model.specs.Building.{built, place_of, word_of}
+use Rattle.net_model.specs.Building.{declared_net, place_of, word_of}
 use Rattle.net_model.specs.declared.fault.BuildFault.{BuildFault}
 use Rattle.net_model.specs.declared.format.FormatFault.{FormatFault}
 use Rattle.net_model.specs.declared.part.Part.{Part}
@@ -23,12 +23,12 @@ pub record DeclaresNetwork (lines : List (List ℕ)) (net : Plan) (rest : List (
   pub numbers : List ℕ
   pub whole : lines ≡ plan ++ rest
   pub is_plan : IsPlanText plan parts numbers
-  pub builds : built parts ≡ Ok net
+  pub builds : declared_net parts ≡ Ok net
 
 -- of these parts, each with the number of its line, the first one that is refused stands in this line, for this cause
 pub record IsRefusedPart (parts : List Part) (numbers : List ℕ) (line : ℕ) (fault : BuildFault) : Type 0 where
   pub index : ℕ
-  pub refused : built parts ≡ Err fault
+  pub refused : declared_net parts ≡ Err fault
   pub place : place_of fault ≡ Some (index + 1)
   pub at_line : slice_get numbers index ≡ Some line
 
@@ -49,7 +49,7 @@ pub record RefusesPart (lines : List (List ℕ)) (line : ℕ) (fault : BuildFaul
 
 -- the answer is what the parts build, unless memory ran out
 abbrev pub BuildsParts : Result Plan DeclarationFault → List Part → List ℕ → Type 0
-BuildsParts (Ok net) parts numbers = built parts ≡ Ok net
+BuildsParts (Ok net) parts numbers = declared_net parts ≡ Ok net
 BuildsParts (Err (declaration.Refused line fault)) parts numbers = IsRefusedPart parts numbers line fault
 BuildsParts (Err declaration.OutOfMemory) parts numbers = Unit {0}
 

@@ -10,9 +10,17 @@ part_words (part.Point name) = codes "point" ∷ name ∷ []
 part_words (part.Bound name from to most) = codes "bound" ∷ name ∷ from ∷ to ∷ signed_decimal most ∷ []
 part_words (part.Link from low high to) = codes "link" ∷ from ∷ signed_decimal low ∷ signed_decimal high ∷ to ∷ []
 
--- the words of the header and of the last line
-abbrev pub header_words : List (List ℕ)
-header_words = codes "stnu" ∷ codes "1" ∷ []
+-- the versions of plan texts
+pub data Version : Type 0 where
+  version_1 : Version
+
+-- the word of a version in the header
+abbrev pub version_word : Version → List ℕ
+version_word version_1 = codes "1"
+
+-- the words of the header of a version, and of the last line
+abbrev pub header_words : Version → List (List ℕ)
+header_words version = codes "stnu" ∷ version_word version ∷ []
 
 abbrev pub end_words : List (List ℕ)
 end_words = codes "end" ∷ []

@@ -15,7 +15,8 @@ use Rattle.plan_format.specs.declared.section.PlanSection.{PlanSection}
 use Rattle.plan_format.specs.declared.section.PlanSection.TheVariants as section
 use Rattle.plan_format.specs.declared.read.Parts.{Parts}
 use Rattle.plan_format.specs.PlanLines.{plan_line}
-use Rattle.plan_format.specs.PlanGrammar.{IsLine, IsBegun, IsPlanText, Says}
+use Rattle.plan_format.specs.PlanParts.{Version, version_1}
+use Rattle.plan_format.specs.PlanGrammar.{IsBlank, IsBegun, IsPlanText, Says}
 use Rattle.plan_format.specs.PlanFaults.{IsFirstFault, IsFaultOf}
 
 -- what was read: the section that is reached, the parts, and the number of the line of each
@@ -41,9 +42,14 @@ in_section section.Declarations (Ok (line.Part part)) = Ok (line.Part part)
 in_section section.Declarations (Ok line.End) = Ok line.End
 in_section section.Declarations (Err kind) = Err kind
 
+-- the version by which a line in a section is read
+abbrev pub version_in : PlanSection → Version
+version_in section.Header = version_1
+version_in section.Declarations = version_1
+
 -- a line in a section, by its words
 abbrev pub line_in : PlanSection → List (List ℕ) → Result PlanLine FormatKind
-line_in section words = in_section section (plan_line words)
+line_in section words = in_section section (plan_line (version_in section) words)
 
 -- with one line more, which has this number
 abbrev pub advanced : Progress → ℕ → PlanLine → Progress
@@ -65,8 +71,8 @@ SaysLine (Err word.OutOfMemory) read = Unit {0}
 
 -- what lines of a section are, by the grammar: blank ones before the header, or a text that has begun
 abbrev pub IsReached : PlanSection → List (List ℕ) → List Part → List ℕ → Type 0
-IsReached section.Header lines parts numbers = All (IsLine line.Blank) lines × (parts ≡ []) × (numbers ≡ [])
-IsReached section.Declarations lines parts numbers = IsBegun lines parts numbers
+IsReached section.Header lines parts numbers = All IsBlank lines × (parts ≡ []) × (numbers ≡ [])
+IsReached section.Declarations lines parts numbers = IsBegun (version_in section.Declarations) lines parts numbers
 
 -- these lines were read, with which a plan text may begin, and this is what they declare
 abbrev pub IsFront : List (List ℕ) → Progress → Type 0

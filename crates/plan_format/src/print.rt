@@ -14,7 +14,8 @@ use texts::push_line;
 
 /// The plan text of a network: the header, the points, the bounds and the links, each list in its order, and `end`,
 /// with one blank between words and a line end after each line. Where the numbers of the network are at most 1,000,000,000 in size, as
-/// those of a built network are, it reads back to the same three lists. `AllocError` comes only for want of memory.
+/// those of a built network are, it reads back to the same three lists; it does not tell the delay. `AllocError` comes only for want of
+/// memory.
 #[tactic(auto, unfolding(crate::specs::PlanPrinting::printed_plan))]
 pub fn print_plan(alloc: Global, net: &Network) -> Result<Vec<u8>, AllocError>
     ensures text { IfOk result (λ text. text.items ≡ printed_plan net.now) }

@@ -1,6 +1,6 @@
 -- The pieces of a text between its line ends, and texts of which each piece has a byte that marks it: neither blank nor of the word `end`.
-use Rattle.std.proofs.Common.{◌≡◌, ℕ, ◌+◌, ◌==◌, ◌&&◌, ◌||◌, Bool, true, false, not, nat_lt, List, [], ◌∷◌, ◌++◌, refl, sym, ap, ◌∙◌, subst, true≢false, append_assoc, codes, arith, rules, if◌then◌else◌}
-use Rattle.std.specs.List.{All, flat_map, join_with_byte, list_any, list_all}
+use Rattle.std.proofs.Common.{◌≡◌, ℕ, ◌==◌, ◌&&◌, ◌||◌, Bool, true, false, not, nat_lt, List, [], ◌∷◌, ◌++◌, refl, sym, ap, ◌∙◌, subst, true≢false, append_assoc, codes, arith, rules, if◌then◌else◌}
+use Rattle.std.specs.List.{All, flat_map, join_with_byte, list_any}
 use Rattle.std.proofs.lemmas.Bool.{and_parts, eqb-true}
 use Rattle.std.proofs.lemmas.Bool.Decides.{nat_tests}
 use Rattle.std.proofs.lemmas.Grind.{flat_map-append}

@@ -1,13 +1,12 @@
 -- Each line of a document of a network, in the pretty layout, has a mark, so none is the line `end`.
-use Rattle.std.proofs.Common.{◌≡◌, ◌≢◌, ℕ, suc, zero, ◌+◌, ◌*◌, ◌<◌, ◌≤◌, ◌^◌, ◌==◌, ◌&&◌, ◌||◌, Bool, true, false, not, nat_lt, nat_le, List, [], ◌∷◌, ◌++◌, map, length, replicate, ℤ, pos, negsuc, unsigned_abs, refl, sym, ap, ◌∙◌, subst, true≢false, arith, rules, append_assoc, codes, cond, if◌then◌else◌, IsTrue}
-use Rattle.std.specs.Fmt.{decimal, signed_decimal}
-use Rattle.std.specs.List.{All, AllByRecursion, list_any, list_all, slice_index_or}
+use Rattle.std.proofs.Common.{◌≡◌, ◌≢◌, ℕ, suc, zero, ◌*◌, ◌<◌, ◌≤◌, ◌^◌, ◌==◌, ◌&&◌, ◌||◌, Bool, true, false, not, nat_lt, List, [], ◌∷◌, ◌++◌, map, length, replicate, ℤ, pos, negsuc, refl, sym, ap, ◌∙◌, subst, true≢false, arith, append_assoc, codes, if◌then◌else◌, IsTrue}
+use Rattle.std.specs.Fmt.{decimal}
+use Rattle.std.specs.List.{All, AllByRecursion, list_all, slice_index_or}
 use Rattle.std.specs.Str.Parse.{AllDigits}
 use Rattle.std.specs.Char.{digit_value}
 use Rattle.std.proofs.lemmas.Bool.{and_parts, leb-true}
 use Rattle.std.proofs.lemmas.Bool.Decides.{nat_tests}
 use Rattle.std.proofs.lemmas.Fmt.{decimal_is_IsNumeral}
-use Rattle.std.proofs.lemmas.List.{append-nil}
 use Rattle.std.proofs.lemmas.List.Elements.{All-head, All-tail}
 use Rattle.std.proofs.lemmas.List.Folds.{list_all-append}
 use Rattle.net_model.specs.Limits.{within_limit, most_number}
@@ -16,9 +15,8 @@ use Rattle.net_model.specs.Network.{Plan, IsPlan, IsBound, IsLink, HasPlanNumber
 use Rattle.net_model.specs.NetworkParts.{point_name}
 use Rattle.net_model.specs.declared.part.Bound.{Bound}
 use Rattle.net_model.specs.declared.part.Link.{Link}
-use Rattle.json.specs.Json as json
-use Rattle.json.specs.Layout.{Last, nothing, bracket, name, value, pretty, pretty_from, piece, step, gap, line, depth_at, is_value}
-use Rattle.json.specs.Print.{token_text, separator, begins, quoted, escape, escape_byte}
+use Rattle.json.specs.Layout.{Last, nothing, bracket, name, value, pretty_from, piece, step, gap, line, depth_at, is_value}
+use Rattle.json.specs.Print.{token_text, begins, escape, escape_byte}
 use Rattle.json.specs.Token.{Token}
 use Rattle.json.specs.Token as token
 use Rattle.json.specs.Tree.{json_tokens, items_tokens, members_tokens}

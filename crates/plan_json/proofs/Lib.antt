@@ -6,3 +6,5 @@ pub mod ReadLemmas
 pub mod StandLemmas
 pub mod ViewLemmas
 pub mod WritingLemmas
+pub mod GrammarLemmas
+pub mod OneReadingLemmas

@@ -1,5 +1,5 @@
 -- The parts that a document declares can be declared: their names are names, and their numbers are within their limit.
-use Rattle.std.proofs.Common.{◌≡◌, ℕ, ◌+◌, ℤ, Bool, true, false, List, [], ◌∷◌, ◌++◌, Option, Some, None, Result, Ok, Err, IsTrue, refl, sym, ap, ◌∙◌, subst, codes, if◌then◌else◌}
+use Rattle.std.proofs.Common.{◌≡◌, ℕ, ◌+◌, ℤ, Bool, true, false, List, [], ◌∷◌, ◌++◌, Option, Some, None, Result, Ok, Err, IsTrue, refl, subst, if◌then◌else◌}
 use Rattle.std.specs.List.{All}
 use Rattle.std.specs.Option.{option_map}
 use Rattle.std.proofs.lemmas.List.Elements.{All-nil, All-cons, All-append}
@@ -7,7 +7,7 @@ use Rattle.net_model.specs.Limits.{within_limit}
 use Rattle.net_model.specs.Names.{is_name}
 use Rattle.net_model.specs.declared.part.Part.{Part}
 use Rattle.net_model.specs.declared.part.Part.TheVariants as part
-use Rattle.plan_json.specs.Document.{Fault as Wrong, BoundForm, LinkForm, Lists, ◌>>=◌, bad_name, bound_form, bound_part, document_parts, item_part, items_parts, link_form, link_part, lists_parts, member_of, name_in, number_in, number_limit, or_fault, place_after, point_part, shape_at, top_of, unless}
+use Rattle.plan_json.specs.Document.{Fault as Wrong, Lists, ◌>>=◌, bad_name, bound_form, bound_part, document_parts, item_part, items_parts, link_form, link_part, lists_parts, member_of, name_in, number_in, number_limit, or_fault, place_after, point_part, shape_at, top_of, unless}
 use Rattle.net_model.specs.NetworkParts.{IsDeclarable}
 use Rattle.plan_json.specs.Reading.{declared, json_value}
 use Rattle.plan_json.specs.declared.place.PartList.{PartList}

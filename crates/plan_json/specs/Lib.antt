@@ -1,4 +1,5 @@
 pub mod Document
+pub mod DocumentGrammar
 pub mod Reading
 pub mod Words
 pub mod Writing

@@ -7,7 +7,7 @@ use Rattle.json.specs.Layout.{pretty}
 use Rattle.json.specs.Tree.{json_tokens}
 use Rattle.net_model.specs.Network.{Plan, IsPlan, HasPlanNumbers}
 use Rattle.net_model.specs.NetworkParts.{point_name, parts_of}
-use Rattle.net_model.specs.Building.{built}
+use Rattle.net_model.specs.Building.{declared_net}
 use Rattle.net_model.specs.declared.part.Bound.{Bound}
 use Rattle.net_model.specs.declared.part.Link.{Link}
 use Rattle.net_model.specs.declared.part.Part.{Part}
@@ -50,11 +50,11 @@ document_of net = object (members_of_document net)
 abbrev pub document_text : Data → List ℕ
 document_text document = pretty (json_tokens (outline document))
 
--- a text that is read back as parts that build the network
+-- a text that is read back as parts that build the network; it does not tell its delay
 pub record ReadsBack (text : List ℕ) (net : Plan) : Type 0 where
   pub parts : List Part
   pub said : declared text ≡ Some (Ok parts)
-  pub same : built parts ≡ Ok net
+  pub same : declared_net parts ≡ Ok (record net { delay = 0 })
 
 -- A text that can stand before a line `end` in an input, and is read there whole: its lines, none of which has `end` as its only word, with
 -- byte 10 between.

@@ -1,5 +1,6 @@
 //! Laws about documents, each the contract of a function without parameters.
 
+ghost use Rattle.plan_json.specs.DocumentGrammar.{DocumentsAreReadAsDeclared, DocumentsGiveOneReading};
 ghost use Rattle.plan_json.specs.Reading.{DeclaredPartsAreDeclarable};
 ghost use Rattle.plan_json.specs.Writing.{DocumentsReadBack, DocumentsStandInInputs};
 
@@ -19,4 +20,16 @@ pub fn documents_stand_in_inputs()
 #[tactic(auto, using(crate::proofs::PartsLemmas::said_declarable))]
 pub fn declared_parts_are_declarable()
     ensures { DeclaredPartsAreDeclarable }
+{}
+
+/// What is read of a document is what it declares, or its first fault.
+#[tactic(auto, using(crate::proofs::GrammarLemmas::document_read))]
+pub fn documents_are_read_as_declared()
+    ensures { DocumentsAreReadAsDeclared }
+{}
+
+/// A document declares parts or has a first fault, never both, and one alone.
+#[tactic(auto, using(crate::proofs::OneReadingLemmas::one_reading))]
+pub fn documents_give_one_reading()
+    ensures { DocumentsGiveOneReading }
 {}

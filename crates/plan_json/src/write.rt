@@ -12,8 +12,9 @@ use serde_json::{Value, json};
 use std::alloc::{AllocError, Global};
 
 /// The document of a network, in the pretty layout of `serde_json`: an object of `bounds`, `links`, `points` and `stnu`, with the members
-/// of each item in alphabetical order, and no line end after it. It reads back to the same three lists. The numbers of the network are at
-/// most 1,000,000,000 in size, as those of a built network are. `AllocError` comes only for want of memory.
+/// of each item in alphabetical order, and no line end after it. It reads back to the same three lists; it does not tell the
+/// delay. The numbers of the network are at most 1,000,000,000 in size, as those of a built network are. `AllocError` comes only for want of
+/// memory.
 #[tactic(auto, using(crate::proofs::WritingLemmas::text_is, crate::proofs::WritingLemmas::reads_back))]
 pub fn to_json(alloc: Global, net: &Network) -> Result<Vec<u8>, AllocError>
     requires { HasPlanNumbers net.now }

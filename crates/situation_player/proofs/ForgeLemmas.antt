@@ -96,7 +96,7 @@ place_of first names name are (k, inside, at) =
 
 -- ---- points
 abbrev only : List (List ℕ) → Plan
-only points = record { points = points; bounds = []; links = [] }
+only points = record { points = points; bounds = []; links = []; delay = 0 }
 
 fresh_point : (names : List (List ℕ)) (name : List ℕ) → All (λ n. point_rank n < point_rank name) names → position (bytes_eq name) names ≡ None
 fresh_point names name all = None_from_fails (bytes_eq name) names (λ k d inside. ranks_differ point_rank (get_or names k d) name (all k d inside))

@@ -20,8 +20,10 @@ use Rattle.net_model.specs.declared.part.Link.{Link}
 use Rattle.net_model.specs.declared.part.Part.{Part}
 use Rattle.net_model.specs.declared.part.Part.TheVariants as part
 use Rattle.net_model.specs.declared.fault.BuildFault.{BuildFault}
+use Rattle.net_model.proofs.EditLemmas.{shown_within_limit}
 use Rattle.net_model.proofs.NetworkLemmas.{IsPlan-more_points, IsPlan-more_bounds, IsPlan-more_links}
 use Rattle.plan_format.specs.PlanGrammar.{IsBegun, header, blank, declares}
+use Rattle.plan_format.specs.PlanParts.{Version}
 use Rattle.plan_format.specs.PlanNetwork.{DeclaresNetwork}
 use Rattle.net_model.specs.NetworkParts.{IsDeclarable}
 
@@ -123,6 +125,10 @@ fits : (n : ℤ) (b : Bool) → within_limit n ≡ b → not b ≡ false → wit
 fits n true is small = grind (arith, nat_tests)
 fits n false is small = absurd (cc)
 
+in_limit : (n : ℤ) (b : Bool) → within_limit n ≡ b → not b ≡ false → within_limit n ≡ true
+in_limit n true is small = is
+in_limit n false is small = absurd (cc)
+
 place_within : {X : Type 0} (test : X → Bool) (xs : List X) (d : X) (found : Option ℕ) (point : PointId) → position test xs ≡ found → option_map (λ k. record { 0 = k }) found ≡ Some point → point.0 < length xs
 place_within test xs d (Some k) point is same =
     let at : k ≡ point.0 = ap (λ (p : Option PointId). unwrap_or (option_map (λ (i : PointId). i.0) p) 0) same in
@@ -158,7 +164,7 @@ bound_sound net name from to most is sound =
     unless_refused IsPlan (not (within_limit most)) _ _ (λ fitting.
     unless_refused IsPlan (nat_le most_bounds (length net.bounds)) _ _ (λ roomy.
     let bound : Bound = record { name = name; from = x; to = y; most = most } in
-    let good : IsBound net bound = record { named = is; from_point = named_within net from x begins; to_point = named_within net to y ends; within = fits most (within_limit most) refl fitting } in
+    let good : IsBound net bound = record { named = is; from_point = named_within net from x begins; to_point = named_within net to y ends; within = fits most (within_limit most) refl fitting; shown_within = shown_within_limit most net.delay sound.short_delay (in_limit most (within_limit most) refl fitting) } in
     IsPlan-more_bounds net bound sound good (none_is (bound_named net name) fresh) (grind (arith, nat_tests)))))))
 
 interval_is : (low high : ℤ) → (int_lt low (pos 1) || int_lt high low) ≡ false → (pos 1 ≤ℤ low) × (low ≤ℤ high)
@@ -183,6 +189,7 @@ link_sound net from low high to sound =
       positive = durations.0;
       interval = durations.1;
       within = fits high (within_limit high) refl fitting;
+      shown_within = shown_within_limit high net.delay sound.short_delay (in_limit high (within_limit high) refl fitting);
     } in
     IsPlan-more_links net link sound good (none_is (activation net c) first) (grind (arith, nat_tests)))))))))
 
@@ -202,12 +209,12 @@ parts_sound place net made (part ∷ parts) spelled sound builds =
     (λ more also rest. parts_sound (place + 1) more made parts (All-tail IsDeclarable part parts spelled) also rest) builds
 
 -- the parts of a plan text can be spelled
-spelled_parts : (lines : List (List ℕ)) (parts : List Part) (numbers : List ℕ) → IsBegun lines parts numbers → All IsDeclarable parts
-spelled_parts lines parts numbers (header blanks first all is) = All-nil IsDeclarable
-spelled_parts lines parts numbers (blank before next ps ns begins is) = spelled_parts before ps ns begins
-spelled_parts lines parts numbers (declares before next ps more ns begins declared) =
+spelled_parts : (version : Version) (lines : List (List ℕ)) (parts : List Part) (numbers : List ℕ) → IsBegun version lines parts numbers → All IsDeclarable parts
+spelled_parts version lines parts numbers (header blanks first all is) = All-nil IsDeclarable
+spelled_parts version lines parts numbers (blank before next ps ns begins is) = spelled_parts version before ps ns begins
+spelled_parts version lines parts numbers (declares before next ps more ns begins declared) =
     let one : All IsDeclarable (declared.0 ∷ []) = All-cons IsDeclarable declared.0 [] declared.2.1 (All-nil IsDeclarable) in
-    All-append IsDeclarable ps more (spelled_parts before ps ns begins) (subst (All IsDeclarable) (sym declared.1) one)
+    All-append IsDeclarable ps more (spelled_parts version before ps ns begins) (subst (All IsDeclarable) (sym declared.1) one)
 
 empty_sound : IsPlan empty
 empty_sound = record {
@@ -220,6 +227,7 @@ empty_sound = record {
   few_points = omega arith;
   few_bounds = omega arith;
   few_links = omega arith;
+  short_delay = omega arith;
 }
 
 -- what parts build that can be spelled is sound
@@ -228,4 +236,4 @@ built_sound parts net spelled builds = parts_sound 0 empty net parts spelled emp
 
 -- a network that lines declare is sound
 pub declared_sound : (lines : List (List ℕ)) (net : Plan) (rest : List (List ℕ)) → DeclaresNetwork lines net rest → IsPlan net
-declared_sound lines net rest is = built_sound is.parts net (spelled_parts is.is_plan.begun is.parts is.numbers is.is_plan.begins) is.builds
+declared_sound lines net rest is = built_sound is.parts net (spelled_parts is.is_plan.version is.is_plan.begun is.parts is.numbers is.is_plan.begins) is.builds

@@ -14,8 +14,9 @@ use Rattle.net_model.specs.declared.format.FormatKind.{FormatKind}
 use Rattle.net_model.specs.declared.part.Part.{Part}
 use Rattle.net_model.proofs.PlaceLemmas.{built_place}
 use Rattle.plan_format.specs.PlanFaults.{IsFirstFault}
-use Rattle.plan_format.specs.PlanGrammar.{IsLine, IsBegun, header, blank, declares}
+use Rattle.plan_format.specs.PlanGrammar.{IsBlank, IsBegun, header, blank, declares}
 use Rattle.plan_format.specs.PlanNetwork.{DeclaresNetwork, RefusesPart, IsRefusedPart, network, faulty, refused}
+use Rattle.plan_format.specs.PlanParts.{Version}
 use Rattle.plan_format.specs.PlanReading.{Progress, IsFront, advanced, begun, fault_after, line_in, missing}
 use Rattle.plan_format.specs.declared.plan_line.PlanLine.{PlanLine}
 use Rattle.plan_format.specs.declared.plan_line.PlanLine.TheVariants as line
@@ -107,14 +108,14 @@ module _ (past : ℕ) where
       goes_by lines next read (line_in read.section (words next)) to refl front (subst (λ (text : PlanText). plan_reader.reads text (number_after past lines) next ≡ Goes to) same goes)
 
   stands : (lines : List (List ℕ)) (state : PlanText) → Leads plan_reader plan_begun past lines state → Stands lines state
-  stands lines state leads = stands_by plan_reader plan_begun past Stands (begun, (All-nil (IsLine line.Blank), refl, refl), refl) stands_step lines state leads
+  stands lines state leads = stands_by plan_reader plan_begun past Stands (begun, (All-nil IsBlank, refl, refl), refl) stands_step lines state leads
 
   -- ---- a line is refused
-  numbered : (lines : List (List ℕ)) (parts : List Part) (numbers : List ℕ) → IsBegun lines parts numbers → length numbers ≡ length parts
-  numbered lines parts numbers (header blanks first all is) = refl
-  numbered lines parts numbers (blank before next ps ns begins is) = numbered before parts numbers begins
-  numbered lines parts numbers (declares before next ps more ns begins declared) =
-      let so_far = numbered before ps ns begins in
+  numbered : (version : Version) (lines : List (List ℕ)) (parts : List Part) (numbers : List ℕ) → IsBegun version lines parts numbers → length numbers ≡ length parts
+  numbered version lines parts numbers (header blanks first all is) = refl
+  numbered version lines parts numbers (blank before next ps ns begins is) = numbered version before parts numbers begins
+  numbered version lines parts numbers (declares before next ps more ns begins declared) =
+      let so_far = numbered version before ps ns begins in
       let marks : length (map (λ (part : Part). length before + 1) more) ≡ length more = length-map more (λ (part : Part). length before + 1) in
       let a = length-append ps more in
       let b = length-append ns (map (λ (part : Part). length before + 1) more) in
@@ -147,7 +148,7 @@ module _ (past : ℕ) where
   refused_end lines next read (Err why) fault is front builds refuses =
       let same : PartFault (line_of_part (map (λ (n : ℕ). past + n) read.lines) why) why ≡ fault = cc in
       let plan_text = advance lines next (length lines + 1) line.End read refl is front in
-      let at = refused_at read.parts read.lines why (place_of why) builds (numbered plan_text.begun read.parts read.lines plan_text.begins) refl in (
+      let at = refused_at read.parts read.lines why (place_of why) builds (numbered plan_text.version plan_text.begun read.parts read.lines plan_text.begins) refl in (
         at.number,
         why,
         sym same ∙ ap (λ (n : ℕ). PartFault n why) at.told,

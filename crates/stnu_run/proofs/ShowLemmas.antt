@@ -28,7 +28,7 @@ use Rattle.stnu_run.specs.declared.showing.Show.{Show}
 pub text_put : (net : Plan) (put : List ℕ) → IsPlan net → HasPlanNumbers net → put ≡ printed_plan net → PutsPlan Text net put ends.Done
 text_put net put plan numbers is = record {
   is = is;
-  again = subst (λ (text : List ℕ). (plan_in Text).declares (lines text) net []) (sym is) (declares_back net plan numbers);
+  again = subst (λ (text : List ℕ). (plan_in Text).declares (lines text) (record net { delay = 0 }) []) (sym is) (declares_back net plan numbers);
   done = refl;
 }
 
@@ -40,7 +40,7 @@ end_ends : words (codes "end") ≡ end_words
 end_ends = sym (words_is (codes "end"))
 
 document_declares : DocumentsStandInInputs → (net : Plan) → IsPlan net → HasPlanNumbers net → ReadsBack (document_text (document_of net)) net
-    → DeclaresDocument (lines (document_text (document_of net) ++ 10 ∷ printed_line end_words)) net []
+    → DeclaresDocument (lines (document_text (document_of net) ++ 10 ∷ printed_line end_words)) (record net { delay = 0 }) []
 document_declares law net plan numbers back =
     let stands = law net plan numbers in
     record {
@@ -62,7 +62,7 @@ document_put law net text put plan numbers is back puts =
     let read : ReadsBack (document_text (document_of net)) net = subst (λ (t : List ℕ). ReadsBack t net) is back in
     record {
       is = all;
-      again = subst (λ (t : List ℕ). (plan_in Json).declares (lines t) net []) (sym all) (document_declares law net plan numbers read);
+      again = subst (λ (t : List ℕ). (plan_in Json).declares (lines t) (record net { delay = 0 }) []) (sym all) (document_declares law net plan numbers read);
       done = refl;
     }
 

@@ -2,7 +2,7 @@
 use Rattle.std.specs.Prelude.{◌≡◌, ℕ, ◌-◌, List, [], ◌∷◌, ◌++◌, length, Option, Some, None, Result, Ok, Err}
 use Rattle.std.specs.List.{All, join_with_byte}
 use Rattle.texts.specs.Words.{words}
-use Rattle.net_model.specs.Building.{built, place_of}
+use Rattle.net_model.specs.Building.{declared_net, place_of}
 use Rattle.net_model.specs.Network.{Plan}
 use Rattle.net_model.specs.declared.fault.BuildFault.{BuildFault}
 use Rattle.net_model.specs.declared.format.FormatKind.TheVariants.{NoEnd}
@@ -46,7 +46,7 @@ told (number_limit member place) = json.NumberLimit member place
 abbrev pub IsDocumentFault : Option (Result (List Part) Wrong) → Fault → Type 0
 IsDocumentFault None fault = fault ≡ Document json.NotJson
 IsDocumentFault (Some (Err wrong)) fault = fault ≡ Document (told wrong)
-IsDocumentFault (Some (Ok parts)) fault = (why : BuildFault) × (place : ℕ) × (built parts ≡ Err why) × (place_of why ≡ Some place) × (fault ≡ PartFault place why)
+IsDocumentFault (Some (Ok parts)) fault = (why : BuildFault) × (place : ℕ) × (declared_net parts ≡ Err why) × (place_of why ≡ Some place) × (fault ≡ PartFault place why)
 
 -- the lines begin with a document that declares the network, and the rest comes after the line that ends it
 pub record DeclaresDocument (lines : List (List ℕ)) (net : Plan) (rest : List (List ℕ)) : Type 0 where
@@ -57,7 +57,7 @@ pub record DeclaresDocument (lines : List (List ℕ)) (net : Plan) (rest : List 
   pub inside : All IsInside document
   pub ends : IsEndLine last
   pub says : declared (bytes_of document) ≡ Some (Ok parts)
-  pub builds : built parts ≡ Ok net
+  pub builds : declared_net parts ≡ Ok net
 
 -- The fault of a document of which these lines came, and what comes next: the line that ends it, and the document has the fault; or none,
 -- since the line is too long, or the input too much by it, or ended.

@@ -2,7 +2,7 @@
 use Rattle.std.specs.Prelude.{ℕ, ◌-◌, Bool, true, false, List, [], ◌∷◌, ◌++◌, length, Option, Some, None, Result, Ok, Err, codes, unwrap_or, if◌then◌else◌}
 use Rattle.std.specs.Str.{bytes_eq}
 use Rattle.texts.specs.Words.{words}
-use Rattle.net_model.specs.Building.{built, place_of}
+use Rattle.net_model.specs.Building.{declared_net, place_of}
 use Rattle.net_model.specs.Network.{Plan}
 use Rattle.net_model.specs.declared.fault.BuildFault.{BuildFault}
 use Rattle.net_model.specs.declared.format.FormatKind.TheVariants.{NoEnd}
@@ -42,7 +42,7 @@ parts_step (Err fault) = Refused (PartFault (unwrap_or (place_of fault) 0) fault
 abbrev pub document_step : Option (Result (List Part) Wrong) → Step DocumentSoFar Plan Fault
 document_step None = Refused (Document json.NotJson)
 document_step (Some (Err wrong)) = Refused (Document (told wrong))
-document_step (Some (Ok parts)) = parts_step (built parts)
+document_step (Some (Ok parts)) = parts_step (declared_net parts)
 
 -- what a line brings
 abbrev pub line_step : DocumentSoFar → List ℕ → Step DocumentSoFar Plan Fault

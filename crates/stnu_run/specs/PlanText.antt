@@ -3,7 +3,7 @@ use Rattle.std.specs.Prelude.{ℕ, ◌-◌, List, Result, Ok, Err, unwrap_or, sl
 use Rattle.std.specs.Option.{option_and_then}
 use Rattle.texts.specs.Words.{words}
 use Rattle.net_model.specs.Network.{Plan}
-use Rattle.net_model.specs.Building.{built, place_of}
+use Rattle.net_model.specs.Building.{declared_net, place_of}
 use Rattle.net_model.specs.declared.fault.BuildFault.{BuildFault}
 use Rattle.net_model.specs.declared.format.FormatKind.{FormatKind}
 use Rattle.plan_format.specs.PlanReading.{begun, line_in, advanced, missing}
@@ -33,7 +33,7 @@ built_step lines (Err fault) = Refused (Part (line_of_part lines fault) fault)
 
 -- what a line brings, by what it says in its place
 abbrev pub plan_step : PlanText → ℕ → Result PlanLine FormatKind → Step PlanText Plan Fault
-plan_step text number (Ok line.End) = built_step text.reader.lines (built text.reader.parts)
+plan_step text number (Ok line.End) = built_step text.reader.lines (declared_net text.reader.parts)
 plan_step text number (Ok said) = Goes (record { reader = advanced text.reader number said })
 plan_step text number (Err kind) = Refused (Format number kind)
 

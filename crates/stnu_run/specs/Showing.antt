@@ -25,10 +25,10 @@ shown_plan Text net = printed_plan net
 shown_plan Json net = document_text (document_of net) ++ 10 ∷ printed_line end_words
 
 -- The plan of a network is put in this form, and the run is done. `again`: what is put, read as an input of this form, declares the same
--- network, and nothing stands after it.
+-- network without its delay, which no plan tells, and nothing stands after it.
 pub record PutsPlan (form : PlanForm) (net : Plan) (put : List ℕ) (end : End) : Type 0 where
   pub is : put ≡ shown_plan form net
-  pub again : (plan_in form).declares (lines put) net []
+  pub again : (plan_in form).declares (lines put) (record net { delay = 0 }) []
   pub done : end ≡ ends.Done
 
 -- the answer to a network

@@ -17,4 +17,5 @@ invariant_of-self-2 c =
       ending = refl;
       bounds = c.push_reserved.ensures.items ∙ ap (λ bounds. bounds ++ c.args.bound ∷ []) c.in_ok-reserve.ensures.items;
       bound_names = keys ∙ ap (λ names. insert_key bytes_eq names c.args.bound.name) c.in_ok-reserve-2.ensures.keys;
+      delay = refl;
     })

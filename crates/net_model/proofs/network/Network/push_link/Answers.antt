@@ -15,4 +15,5 @@ invariant_of-self-2 c =
       bound_names = refl;
       links = c.push_reserved.ensures.items ∙ ap (λ links. links ++ c.args.link ∷ []) c.in_ok-reserve.ensures.items;
       ending = ap (λ (id : ℕ). set c.self.inside.ending.items c.args.link.to.0 (Some (record { 0 = id }))) count;
+      delay = refl;
     })

@@ -17,4 +17,5 @@ invariant_of-self-2 c =
       points = c.push_reserved.ensures.items ∙ ap (λ points. points ++ c.args.name.now ∷ []) c.in_ok-reserve.ensures.items;
       point_names = keys ∙ ap (λ names. insert_key bytes_eq names c.args.name.now) c.in_ok-reserve-3.ensures.keys;
       ending = c.push_reserved-2.ensures.items ∙ ap (λ links. links ++ None ∷ []) c.in_ok-reserve-2.ensures.items;
+      delay = refl;
     })
