@@ -3,7 +3,6 @@ use Rattle.std.proofs.Common.{◌≡◌, ℕ, ◌+◌, ◌-◌, ◌<◌, ◌≤�
 use Rattle.std.specs.Prelude.{IfSome, nat_le, is_none}
 use Rattle.std.proofs.lemmas.Bool.{le-leb, true≢false}
 use Rattle.std.proofs.lemmas.Bool.Decides.{nat_tests}
-use Rattle.std.proofs.lemmas.List.Elements.{All-set}
 use Rattle.std.proofs.lemmas.List.Sums.{sum_by-set}
 use Rattle.std.proofs.lemmas.Option.{none-some}
 use Rattle.net_model.specs.declared.ids.PointId.{PointId}
@@ -13,9 +12,9 @@ use Rattle.execution_model.specs.Feeding.{completed_at}
 use Rattle.execution_model.specs.Paced.{ArePaced, IsMadeOneByOne, done, next}
 use Rattle.execution_model.specs.declared.feeding.Act.{Act}
 use Rattle.execution_model.proofs.AtOnceLemmas.{one_by_one_is_at_once}
-use Rattle.execution_model.proofs.MomentLemmas.{come_not_due, due_parts, length-completed_at}
+use Rattle.execution_model.proofs.MomentLemmas.{come_not_due, due_parts}
 use Rattle.execution_model.proofs.OneByOneLemmas.{acts_come_one_by_one}
-use Rattle.live_executor.specs.Course.{has_fallen_due, NoneDueBefore, IsLowestDue, IsFirstMoment, IsFirstBefore, IsCourseOf, AreSomeMade, HasRun, left_of}
+use Rattle.live_executor.specs.Course.{has_fallen_due, NoneDueBefore, IsLowestDue, IsFirstMoment, IsFirstBefore, CourseSoFar, StandsAt, Reaches, MayComeAt, Executes, MakesActs, Runs, AreSomeMade, HasRun, left_of}
 use Rattle.due_queue.specs.First.{IsFirstDue}
 use Rattle.live_executor.specs.Due.{has_begun}
 use Rattle.live_executor.specs.Limits.{end_of_time}
@@ -107,147 +106,179 @@ awake_at_end setting now any moments counts due awake come = record {
             let begins : has_begun (moment_of due point) (now + d) ≡ true = ap (λ (o : Option ℕ). has_begun o (now + d)) is ∙ le-leb d (now + d) (omega arith) in
             absurd (true≢false (sym begins ∙ (sym ((awake.known point inside).0 (now + d) (omega arith)) ∙ never point inside (now + d))))
 
+-- ---- how an execution goes on
+-- it stands right at a later moment too, as long as no point is due before
+pub stands_later : (network : KeptNetwork) (now later : ℕ) (course : CourseSoFar) → StandsAt network now course → now ≤ later → NoneDueBefore course.due later → StandsAt network later course
+stands_later network now later course stands from none = record {
+  awake = awake_later network.setting now later course.moments course.counts course.due stands.awake from none;
+  awaited = stands.awaited;
+  count = stands.count;
+  early = stands.early;
+  few = stands.few;
+  paced = stands.paced;
+}
+
+-- whatever acts and points are kept
+pub stands_with : (network : KeptNetwork) (now : ℕ) (course : CourseSoFar) (acts : List Act) (came : List PointId) → StandsAt network now course → StandsAt network now (record course { acts = acts; came = came })
+stands_with network now course acts came stands =
+    record { awake = stands.awake; awaited = stands.awaited; count = stands.count; early = stands.early; few = stands.few; paced = stands.paced }
+
+pub goes_nowhere : (network : KeptNetwork) (t : ℕ) (course : CourseSoFar) → StandsAt network t course → Reaches network t course.moments [] course course
+goes_nowhere network t course stands = record { moments_are = refl; acts_are = sym (append-nil course.acts); stands = stands; trace = λ before since. since }
+
+pub goes_further : (network : KeptNetwork) (t u : ℕ) (old now new : CourseSoFar) (between after : Moments) (acts more : List Act) → Reaches network t between acts old now → Reaches network u after more now new
+    → Reaches network u after (acts ++ more) old new
+goes_further network t u old now new between after acts more one next_one = record {
+  moments_are = next_one.moments_are;
+  acts_are = next_one.acts_are ∙ (ap (λ (before : List Act). before ++ more) one.acts_are ∙ append_assoc old.acts acts more);
+  stands = next_one.stands;
+  trace = λ before since. next_one.trace before (one.trace before since);
+}
+
 -- ---- the acts of a moment
-module _ (network : KeptNetwork) (same : ExecutesTheSame network) (t : ℕ) (moments : Moments) (counts : List ℕ) (due : Moments) (course : IsCourseOf network t moments counts due) where
+module _ (network : KeptNetwork) (same : ExecutesTheSame network) (t : ℕ) (now : CourseSoFar) (stands : StandsAt network t now) where
   abbrev made : Setting
   made = made_setting network
 
-  known_due : (point : PointId) → point.0 < length moments → is_due made moments t point ≡ has_fallen_due due t point
-  known_due point inside = sym (due_same network same moments course.paced t point) ∙ (course.awake.known point (omega (arith, inside, course.awake.moments_count))).0 t (omega arith)
+  known_due : (point : PointId) → point.0 < length now.moments → is_due made now.moments t point ≡ has_fallen_due now.due t point
+  known_due point inside =
+      sym (due_same network same now.moments stands.paced t point) ∙ (stands.awake.known point (omega (arith, inside, stands.awake.moments_count))).0 t (omega arith)
 
-  module _ (point : PointId) (lowest : IsLowestDue due t (Some point)) where
-    pub lowest_inside : point.0 < length moments
-    lowest_inside = (let low = lowest.0 in omega (arith, low, course.awake.due_count, course.awake.moments_count))
+  module _ (point : PointId) (lowest : IsLowestDue now.due t (Some point)) where
+    lowest_inside : point.0 < length now.moments
+    lowest_inside = (let low = lowest.0 in omega (arith, low, stands.awake.due_count, stands.awake.moments_count))
 
-    lowest_due : is_due made moments t point ≡ true
+    lowest_due : is_due made now.moments t point ≡ true
     lowest_due = known_due point lowest_inside ∙ lowest.1
 
-    pub lowest_new : moment_of moments point ≡ None
-    lowest_new = (due_parts made moments t point lowest_due).1
+    pub lowest_may_come : t < end_of_time → MayComeAt network t now point
+    lowest_may_come soon = record {
+      is_new = (due_parts made now.moments t point lowest_due).1;
+      inside = omega (arith, lowest_inside, stands.count);
+      paced = (acts_come_one_by_one made same.rank now.moments same.ranked stands.paced stands.count t point (omega (arith, lowest_inside, stands.count)) lowest_due).1;
+      soon = soon;
+    }
 
-    pub one_act_more : (old : Moments) (old_acts acts now_acts : List Act) → AreSomeMade network t old moments old_acts acts
-        → now_acts ≡ acts ++ record { moment = t; point = point } ∷ [] → AreSomeMade network t old (completed_at moments t point) old_acts now_acts
-    one_act_more old old_acts acts now_acts so_far pushed = record {
+    pub one_less_left : (new : CourseSoFar) → Executes network t point now new → left_of new.moments < left_of now.moments
+    one_less_left new goes =
+        let left = left_completed now.moments t point lowest_inside (due_parts made now.moments t point lowest_due).1 in
+        let same_left : left_of new.moments ≡ left_of (completed_at now.moments t point) = ap (λ (moments : Moments). left_of moments) goes.moments_are in
+        omega (arith, left, same_left)
+
+    pub one_act_more : (old new : CourseSoFar) → AreSomeMade network t old now → Executes network t point now new → AreSomeMade network t old new
+    one_act_more old new so_far goes = record {
       made = so_far.made ++ act ∷ [];
-      acts = pushed ∙ (ap (λ (before : List Act). before ++ act ∷ []) so_far.acts ∙ append_assoc old_acts so_far.made (act ∷ []));
-      leads = λ rest after goes. subst (λ (all : List Act). IsMadeOneByOne made t old all after) (sym (append_assoc so_far.made (act ∷ []) rest))
-          (so_far.leads (act ∷ rest) after (next moments after point rest (omega (arith, lowest_inside, course.count)) lowest_due lower goes));
+      goes = record { moments_are = refl; acts_are = all.acts_are; stands = all.stands; trace = all.trace };
+      leads = λ rest after comes. subst (λ (acts : List Act). IsMadeOneByOne made t old.moments acts after) (sym (append_assoc so_far.made (act ∷ []) rest))
+          (so_far.leads (act ∷ rest) after
+          (next now.moments after point rest (omega (arith, lowest_inside, stands.count)) lowest_due lower
+          (subst (λ (moments : Moments). IsMadeOneByOne made t moments rest after) goes.moments_are comes)));
     }
       where
         act : Act
         act = record { moment = t; point = point }
 
-        lower : (other : PointId) → other.0 < point.0 → is_due made moments t other ≡ false
-        lower other less = known_due other (omega (arith, less, lowest_inside)) ∙ lowest.2 (known_none_before network.setting t t moments counts due course.awake) other less
+        all : Reaches network t (completed_at now.moments t point) (so_far.made ++ act ∷ []) old new
+        all = goes_further network t t old now new now.moments (completed_at now.moments t point) so_far.made (act ∷ []) so_far.goes goes
 
-    pub course_more : (counts_after : List ℕ) (due_after : Moments) → t < end_of_time → IsAwake network.setting t (completed_at moments t point) counts_after due_after
-        → IsCourseOf network t (completed_at moments t point) counts_after due_after
-    course_more counts_after due_after below awake = record {
-      awake = awake;
-      count = length-completed_at moments t point ∙ course.count;
-      early = All-set (λ (m : Option ℕ). IfSome m (λ a. a < end_of_time)) moments point.0 (Some t) below course.early;
-      few = (let long = length-completed_at moments t point in omega (arith, long, course.few));
-      paced = (acts_come_one_by_one made same.rank moments same.ranked course.paced course.count t point (omega (arith, lowest_inside, course.count)) lowest_due).1;
-    }
+        lower : (other : PointId) → other.0 < point.0 → is_due made now.moments t other ≡ false
+        lower other less = known_due other (omega (arith, less, lowest_inside)) ∙ lowest.2 (known_none_before network.setting t t now.moments now.counts now.due stands.awake) other less
 
-  module _ (none : IsLowestDue due t None) where
-    all_made : (point : PointId) → point.0 < length network.made → is_due made moments t point ≡ false
-    all_made point inside = known_due point (omega (arith, inside, course.count)) ∙ none point (omega (arith, inside, course.count, course.awake.due_count, course.awake.moments_count))
+  module _ (none : IsLowestDue now.due t None) where
+    all_made : (point : PointId) → point.0 < length network.made → is_due made now.moments t point ≡ false
+    all_made point inside = known_due point (omega (arith, inside, stands.count)) ∙ none point (omega (arith, inside, stands.count, stands.awake.due_count, stands.awake.moments_count))
 
-    pub course_next : IsCourseOf network (t + 1) moments counts due
-    course_next = record {
-      awake = awake_later network.setting t (t + 1) moments counts due course.awake (omega arith) (λ point moment inside is.
-          let from : t ≤ moment = known_none_before network.setting t t moments counts due course.awake point moment inside is in
-          let not_yet : nat_le moment t ≡ false = sym (ap (λ (o : Option ℕ). has_begun o t) is) ∙ none point inside in
-          let after : t < moment = grind (arith, nat_tests) in
-          omega (arith, after));
-      count = course.count;
-      early = course.early;
-      few = course.few;
-      paced = course.paced;
-    }
+    stands_next : StandsAt network (t + 1) now
+    stands_next = stands_later network t (t + 1) now stands (omega arith) (λ point moment inside is.
+        let from : t ≤ moment = known_none_before network.setting t t now.moments now.counts now.due stands.awake point moment inside is in
+        let not_yet : nat_le moment t ≡ false = sym (ap (λ (o : Option ℕ). has_begun o t) is) ∙ none point inside in
+        let after : t < moment = grind (arith, nat_tests) in
+        omega (arith, after))
 
-    pub acts_made : (old : Moments) (old_acts acts : List Act) → ArePaced made old → length old ≡ length network.made → AreSomeMade network t old moments old_acts acts
-        → (moments ≡ acted made old t) × (acts ≡ old_acts ++ acts_at made old t)
-    acts_made old old_acts acts paced long so_far =
-        let whole : IsMadeOneByOne made t old so_far.made moments = subst (λ (all : List Act). IsMadeOneByOne made t old all moments) (append-nil so_far.made) (so_far.leads [] moments (done moments all_made)) in
-        let all = one_by_one_is_at_once made same.rank old moments t so_far.made same.ranked paced long whole in
-        (all.0, so_far.acts ∙ ap (λ (later : List Act). old_acts ++ later) all.1)
+    pub acts_made : (old : CourseSoFar) → StandsAt network t old → AreSomeMade network t old now → MakesActs network t old now
+    acts_made old before so_far =
+        let whole : IsMadeOneByOne made t old.moments so_far.made now.moments =
+        subst (λ (all : List Act). IsMadeOneByOne made t old.moments all now.moments) (append-nil so_far.made) (so_far.leads [] now.moments (done now.moments all_made)) in
+        let all = one_by_one_is_at_once made same.rank old.moments now.moments t so_far.made same.ranked before.paced before.count whole in
+        record {
+          moments_are = all.0;
+          acts_are = so_far.goes.acts_are ∙ ap (λ (later : List Act). old.acts ++ later) all.1;
+          stands = stands_next;
+          trace = so_far.goes.trace;
+        }
 
-pub none_made : (network : KeptNetwork) (t : ℕ) (old : Moments) (old_acts : List Act) → AreSomeMade network t old old old_acts old_acts
-none_made network t old old_acts = record { made = []; acts = sym (append-nil old_acts); leads = λ rest after goes. goes }
+pub none_made : (network : KeptNetwork) (t : ℕ) (old : CourseSoFar) → StandsAt network t old → AreSomeMade network t old old
+none_made network t old stands = record { made = []; goes = goes_nowhere network t old stands; leads = λ rest after comes. comes }
 
 -- ---- time
-module _ (network : KeptNetwork) (same : ExecutesTheSame network) (from until : ℕ) (old : Moments) (old_acts : List Act) where
-  pub not_run : (counts : List ℕ) (due : Moments) → from ≤ until → IsCourseOf network from old counts due → HasRun network from until old old counts due old_acts old_acts
-  not_run counts due range course =
+module _ (network : KeptNetwork) (same : ExecutesTheSame network) (from until : ℕ) (old : CourseSoFar) where
+  pub not_run : from ≤ until → StandsAt network from old → HasRun network from until old old
+  not_run range stands =
       let zero_time : from - from ≡ 0 = omega arith in
       record {
         next = from;
         later = omega arith;
         earlier = range;
-        moments = sym (ap (time_runs (made_setting network) old from) zero_time);
-        acts = sym (ap (λ n. old_acts ++ acts_while (made_setting network) old from n) zero_time ∙ append-nil old_acts);
-        course = course;
+        runs = record {
+          moments_are = sym (ap (time_runs (made_setting network) old.moments from) zero_time);
+          acts_are = sym (ap (λ n. old.acts ++ acts_while (made_setting network) old.moments from n) zero_time ∙ append-nil old.acts);
+          stands = stands;
+          trace = λ before since. since;
+        };
       }
 
-  module _ (moments : Moments) (counts : List ℕ) (due : Moments) (acts : List Act) (run : HasRun network from until old moments counts due old_acts acts) where
-    idle : (later : ℕ) → NoneDueBefore due later → (u : ℕ) → run.next ≤ u → u < later → IsIdle (made_setting network) moments u
-    idle later none u above below point inside =
-        sym (due_same network same moments run.course.paced u point)
-        ∙ idle_before network.setting run.next later moments counts due run.course.awake u above below none point (omega (arith, inside, run.course.count, run.course.awake.moments_count))
+  module _ (now : CourseSoFar) (run : HasRun network from until old now) where
+    abbrev stands : StandsAt network run.next now
+    stands = run.runs.stands
 
-    module _ (moment : ℕ) (first : IsFirstBefore due until (Some moment)) where
-      abbrev its_first : IsFirstMoment due (Some moment)
+    idle : (later : ℕ) → NoneDueBefore now.due later → (u : ℕ) → run.next ≤ u → u < later → IsIdle (made_setting network) now.moments u
+    idle later none u above below point inside =
+        sym (due_same network same now.moments stands.paced u point)
+        ∙ idle_before network.setting run.next later now.moments now.counts now.due stands.awake u above below none point (omega (arith, inside, stands.count, stands.awake.moments_count))
+
+    module _ (moment : ℕ) (first : IsFirstBefore now.due until (Some moment)) where
+      abbrev its_first : IsFirstMoment now.due (Some moment)
       its_first = first.1
 
       next_no_later : run.next ≤ moment
-      next_no_later = (let (point, inside, is) = its_first.1 in known_none_before network.setting run.next run.next moments counts due run.course.awake point moment inside is)
+      next_no_later = (let (point, inside, is) = its_first.1 in known_none_before network.setting run.next run.next now.moments now.counts now.due stands.awake point moment inside is)
 
-      pub course_at : IsCourseOf network moment moments counts due
-      course_at = record {
-        awake = awake_later network.setting run.next moment moments counts due run.course.awake next_no_later its_first.0;
-        count = run.course.count;
-        early = run.course.early;
-        few = run.course.few;
-        paced = run.course.paced;
-      }
+      pub stands_at : StandsAt network moment now
+      stands_at = stands_later network run.next moment now stands next_no_later its_first.0
 
-      pub fewer_left : left_of (acted (made_setting network) moments moment) < left_of moments
-      fewer_left =
-          let (point, inside, is) = its_first.1 in
-          let within : point.0 < length moments = omega (arith, inside, run.course.awake.due_count, run.course.awake.moments_count) in
-          let begins : has_fallen_due due moment point ≡ true = ap (λ (o : Option ℕ). has_begun o moment) is ∙ le-leb moment moment (omega arith) in
-          left_acted (made_setting network) moments moment point run.course.count (omega (arith, within, run.course.count))
-          (known_due network same moment moments counts due course_at point within ∙ begins)
+      module _ (new : CourseSoFar) (acts : MakesActs network moment now new) where
+        pub fewer_left : left_of new.moments < left_of now.moments
+        fewer_left =
+            let (point, inside, is) = its_first.1 in
+            let within : point.0 < length now.moments = omega (arith, inside, stands.awake.due_count, stands.awake.moments_count) in
+            let begins : has_fallen_due now.due moment point ≡ true = ap (λ (o : Option ℕ). has_begun o moment) is ∙ le-leb moment moment (omega arith) in
+            subst (λ (moments : Moments). left_of moments < left_of now.moments) (sym acts.moments_are)
+            (left_acted (made_setting network) now.moments moment point stands.count (omega (arith, within, stands.count)) (known_due network same moment now stands_at point within ∙ begins))
 
-      pub run_on : (now : Moments) (now_acts : List Act) (counts_after : List ℕ) (due_after : Moments) → now ≡ acted (made_setting network) moments moment
-          → now_acts ≡ acts ++ acts_at (made_setting network) moments moment → IsCourseOf network (moment + 1) now counts_after due_after
-          → HasRun network from until old now counts_after due_after old_acts now_acts
-      run_on now now_acts counts_after due_after is acts_are course =
-          let setting = made_setting network in
-          let leap = leaps setting old from run.next moment moments run.later next_no_later run.course.count run.moments (idle moment its_first.0) in
-          record {
-            next = moment + 1;
-            later = (let low = run.later in omega (arith, low, next_no_later));
-            earlier = (let before = first.0 in omega (arith, before));
-            moments = is ∙ leap.0;
-            acts = acts_are ∙ (ap (λ (before : List Act). before ++ acts_at setting moments moment) run.acts
-                ∙ (append_assoc old_acts (acts_while setting old from (run.next - from)) (acts_at setting moments moment) ∙ ap (λ (later : List Act). old_acts ++ later) leap.1));
-            course = course;
-          }
+        pub run_on : HasRun network from until old new
+        run_on =
+            let setting = made_setting network in
+            let leap = leaps setting old.moments from run.next moment now.moments run.later next_no_later stands.count run.runs.moments_are (idle moment its_first.0) in
+            let so_far = acts_while setting old.moments from (run.next - from) in
+            record {
+              next = moment + 1;
+              later = (let low = run.later in omega (arith, low, next_no_later));
+              earlier = (let before = first.0 in omega (arith, before));
+              runs = record {
+                moments_are = acts.moments_are ∙ leap.0;
+                acts_are = acts.acts_are ∙ (ap (λ (before : List Act). before ++ acts_at setting now.moments moment) run.runs.acts_are
+                    ∙ (append_assoc old.acts so_far (acts_at setting now.moments moment) ∙ ap (λ (later : List Act). old.acts ++ later) leap.1));
+                stands = acts.stands;
+                trace = λ before since. acts.trace before (run.runs.trace before since);
+              };
+            }
 
-    pub run_ends : IsFirstBefore due until None → (moments ≡ time_runs (made_setting network) old from (until - from))
-        × (acts ≡ old_acts ++ acts_while (made_setting network) old from (until - from)) × IsCourseOf network until moments counts due
+    pub run_ends : IsFirstBefore now.due until None → Runs network from until old now
     run_ends none =
-        let rest = rests (made_setting network) old from run.next until moments run.later run.earlier run.course.count run.moments (idle until none) in (
-          rest.0,
-          run.acts ∙ ap (λ (later : List Act). old_acts ++ later) rest.1,
-          record {
-            awake = awake_later network.setting run.next until moments counts due run.course.awake run.earlier none;
-            count = run.course.count;
-            early = run.course.early;
-            few = run.course.few;
-            paced = run.course.paced;
-          },
-        )
+        let rest = rests (made_setting network) old.moments from run.next until now.moments run.later run.earlier stands.count run.runs.moments_are (idle until none) in
+        record {
+          moments_are = rest.0;
+          acts_are = run.runs.acts_are ∙ ap (λ (later : List Act). old.acts ++ later) rest.1;
+          stands = stands_later network run.next until now stands run.earlier none;
+          trace = run.runs.trace;
+        }

@@ -10,12 +10,11 @@ use Rattle.execution_model.specs.Execution.{Setting, is_due, points_of, acts_at,
 use Rattle.execution_model.specs.Feeding.{last_of}
 use Rattle.execution_model.specs.declared.feeding.Act.{Act}
 use Rattle.execution_model.proofs.MomentLemmas.{no_acts_same, length-acted}
-use Rattle.live_executor.specs.Awaited.{AreLatest}
-use Rattle.live_executor.specs.Course.{left_of, IsCourseOf}
+use Rattle.live_executor.specs.Course.{CourseSoFar, RunsOut, handed_over, left_of}
 use Rattle.live_executor.specs.Kept.{GoesOn, moment_after}
 use Rattle.live_executor.specs.Limits.{AreBefore, end_of_time}
 use Rattle.live_executor.specs.Sound.{KeptNetwork, made_setting}
-use Rattle.live_executor.proofs.CourseLemmas.{awake_at_end}
+use Rattle.live_executor.proofs.CourseLemmas.{awake_at_end, stands_with}
 use Rattle.live_executor.proofs.MomentLemmas.{acted_before}
 use Rattle.live_executor.proofs.SettleLemmas.{left_cons}
 
@@ -83,38 +82,30 @@ some_of : (o : Option ℕ) → IsSome o → (m : ℕ) × (o ≡ Some m)
 some_of None is = absurd cc
 some_of (Some m) is = (m, refl)
 
--- the moments so far before the end of an execution, by its last moment
-pub record IsAtLast (network : KeptNetwork) (moments : Moments) (last : Option ℕ) (from : ℕ) : Type 0 where
-  pub whole : length moments ≡ length network.made
-  pub before : AreBefore (moment_after last) moments
-  pub first : from ≡ moment_after last
-  pub soon : from ≤ end_of_time
+-- an execution goes on whichever acts it hands over
+pub goes_on_with : (network : KeptNetwork) (from : ℕ) (course : CourseSoFar) → GoesOn network from course → GoesOn network from (handed_over course)
+goes_on_with network from course goes = record { stands = stands_with network from course [] course.came goes.stands; before = goes.before; time_left = goes.time_left }
 
--- what has come of them when time has run out, and the acts that were made
-pub record HasRunOut (network : KeptNetwork) (old : Moments) (from : ℕ) (now : Moments) (acts : List Act) : Type 0 where
-  pub moments : now ≡ time_runs (made_setting network) old from (end_of_time - from)
-  pub acts_are : acts ≡ acts_while (made_setting network) old from (end_of_time - from)
-  pub come : All IsSome now
-
--- at the end the execution goes on
-pub goes_at_end : (network : KeptNetwork) (old now : Moments) (last : Option ℕ) (from : ℕ) (counts : List ℕ) (due latest : Moments) (acts : List Act) → IsAtLast network old last from
-    → HasRunOut network old from now acts → IsCourseOf network end_of_time now counts due → AreLatest network.setting now latest → GoesOn network now counts due latest (last_of last acts)
-goes_at_end network old now last from counts due latest acts at_last out course awaited =
-    let first = at_last.first in
-    let soon = at_last.soon in
-    let is = out.moments in
-    let acts_are = out.acts_are in
-    let come = out.come in
-    let end = ends_at (made_setting network) last old from (end_of_time - from) at_last.whole (omega (arith, first)) at_last.before in
+-- it goes on at its end
+pub goes_at_end : (network : KeptNetwork) (old now : CourseSoFar) (last : Option ℕ) → GoesOn network (moment_after last) old → RunsOut network (moment_after last) old now
+    → GoesOn network (moment_after (last_of last now.acts)) (handed_over now)
+goes_at_end network old now last goes out =
+    let from = moment_after last in
+    let soon : from ≤ end_of_time = (let low = goes.time_left in omega (arith, low)) in
+    let stands = out.runs.stands in
+    let moments_are = out.runs.moments_are in
+    let acts_are : now.acts ≡ acts_while (made_setting network) old.moments from (end_of_time - from) = out.runs.acts_are in
+    let end = ends_at (made_setting network) last old.moments from (end_of_time - from) goes.stands.count (omega arith) goes.before in
     record {
-      course = record {
-        awake = awake_at_end network.setting end_of_time (moment_after (last_of last acts)) now counts due course.awake (λ point inside. some_of (moment_of now point) (come point.0 None inside));
-        count = course.count;
-        early = course.early;
-        few = course.few;
-        paced = course.paced;
+      stands = record {
+        awake = awake_at_end network.setting end_of_time (moment_after (last_of last now.acts)) now.moments now.counts now.due stands.awake
+            (λ point inside. some_of (moment_of now.moments point) (out.come point.0 None inside));
+        awaited = stands.awaited;
+        count = stands.count;
+        early = stands.early;
+        few = stands.few;
+        paced = stands.paced;
       };
-      awaited = awaited;
-      early = rw (is, acts_are) end.early;
-      time_left = (let none = none_left_of now come in let low = end.within in let same = ap (λ (all : List Act). moment_after (last_of last all)) acts_are in omega (arith, none, low, same, soon));
+      before = rw (moments_are, acts_are) end.early;
+      time_left = (let none = none_left_of now.moments out.come in let low = end.within in let same = ap (λ (all : List Act). moment_after (last_of last all)) acts_are in omega (arith, none, low, same, soon));
     }

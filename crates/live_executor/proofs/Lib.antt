@@ -13,4 +13,5 @@ pub mod WakeLemmas
 pub mod WakesLemmas
 pub mod ListLemmas
 pub mod UndoLemmas
+pub mod ComingLemmas
 pub mod AwaitedLemmas

@@ -1,6 +1,6 @@
 -- How late the moments of an execution are.
-use Rattle.std.proofs.Common.{◌≡◌, ℕ, zero, suc, ◌+◌, ◌-◌, ◌<◌, ◌≤◌, Bool, true, false, cond, List, [], ◌∷◌, length, get_or, Option, Some, None, arith, inl, inr, subst, sym, refl, ap, add-one, ◌++◌, Result, Ok, Err}
-use Rattle.std.specs.Prelude.{IfSome, is_none, nat_lt, if◌then◌else◌}
+use Rattle.std.proofs.Common.{◌≡◌, ℕ, zero, suc, ◌+◌, ◌-◌, ◌<◌, ◌≤◌, Bool, true, false, cond, List, [], ◌∷◌, length, get_or, Option, Some, None, arith, inl, inr, subst, sym, refl, ap, add-one, ◌++◌, ◌∙◌, append-nil, Result, Ok, Err}
+use Rattle.std.specs.Prelude.{IfSome, OnOk, is_none, nat_lt, if◌then◌else◌}
 use Rattle.std.specs.Option.{option_map, option_map_or}
 use Rattle.std.proofs.lemmas.Bool.{cases_lt, ltb-true, ltb-false}
 use Rattle.std.proofs.lemmas.List.{get_or_past}
@@ -14,12 +14,12 @@ use Rattle.execution_model.specs.Feeding.{Execution, next_moment, refusal_of_mom
 use Rattle.execution_model.specs.declared.feeding.Act.{Act}
 use Rattle.execution_model.specs.declared.feeding.Why.{Why}
 use Rattle.execution_model.specs.declared.feeding.Why.TheVariants as why
-use Rattle.live_executor.specs.Awaited.{AreLatest}
-use Rattle.live_executor.specs.Course.{IsCourseOf}
+use Rattle.live_executor.specs.Course.{CourseSoFar, StandsAt, MakesActs, Runs, cleared}
 use Rattle.live_executor.specs.Kept.{GoesOn, moment_after}
 use Rattle.live_executor.specs.Limits.{AreBefore}
-use Rattle.live_executor.specs.Sound.{KeptNetwork}
-use Rattle.live_executor.specs.Taking.{completed, IsTried}
+use Rattle.live_executor.specs.Sound.{KeptNetwork, made_setting}
+use Rattle.live_executor.specs.Taking.{completed, IsTried, Settles, Advances}
+use Rattle.live_executor.proofs.UndoLemmas.{none_since}
 
 pub moment_before : (b : ℕ) (moments : Moments) → AreBefore b moments → (point : PointId) → IfSome (moment_of moments point) (λ a. a < b)
 moment_before b moments before point = elim (cases_lt point.0 (length moments)) [
@@ -82,8 +82,31 @@ IsTriedWith setting first from moment answer moments acts r =
       | Err why ↦ answer ≡ Err why
     ]
 
+-- a feed that was tried is refused as the completions are, or taken, and then the acts are made
+module _ (network : KeptNetwork) (from moment : ℕ) (listed : List PointId) (old ran now : CourseSoFar) (runs : Runs network from moment (cleared old) ran) where
+  abbrev made : Setting
+  made = made_setting network
+
+  pub advances_not : (why : Why) (answer : Result (Unit {0}) Why) → answer ≡ Err why → Settles network moment listed (Err why) ran now → Advances network from moment listed answer old now
+  advances_not why answer is settles = record {
+    tried = subst (IsTriedWith made old.moments from moment answer now.moments now.acts) (sym (ap (λ (moments : Moments). completed made moments moment listed) (sym runs.moments_are) ∙ settles.taken)) is;
+    stands = subst (λ (a : Result (Unit {0}) Why). OnOk a (StandsAt network (moment + 1) now)) (sym is) tt;
+    since = settles.goes.trace old.moments (runs.trace old.moments (none_since old.moments [] refl));
+  }
+
+  pub advances : (new : CourseSoFar) → Settles network moment listed (Ok tt) ran now → MakesActs network moment now new → Advances network from moment listed (Ok tt) old new
+  advances new settles acts = record {
+    tried = subst (IsTriedWith made old.moments from moment (Ok tt) new.moments new.acts) (sym (ap (λ (moments : Moments). completed made moments moment listed) (sym runs.moments_are) ∙ settles.taken)) (
+      refl,
+      acts.moments_are,
+      acts.acts_are ∙ ap (λ (before : List Act). before ++ acts_at made now.moments moment) (settles.goes.acts_are ∙ (append-nil ran.acts ∙ runs.acts_are)),
+    );
+    stands = acts.stands;
+    since = acts.trace old.moments (settles.goes.trace old.moments (runs.trace old.moments (none_since old.moments [] refl)));
+  }
+
 -- a feed that was tried and taken keeps the moments up to its own
-module _ (setting : Setting) (first : Moments) (from moment : ℕ) (listed : List PointId) (moments : Moments) (acts : List Act) (range : from ≤ moment) (before : AreBefore from first) where
+module _ (setting : Setting) (first : Moments) (from moment : ℕ) (listed : List PointId) (new : CourseSoFar) (range : from ≤ moment) (before : AreBefore from first) where
   run_before : AreBefore (moment + 1) (time_runs setting first from (moment - from))
   run_before =
       let same : from + (moment - from) ≡ moment = omega arith in
@@ -96,22 +119,20 @@ module _ (setting : Setting) (first : Moments) (from moment : ℕ) (listed : Lis
       completions_before setting (time_runs setting first from (moment - from)) moment (moment + 1) listed taken (omega arith) run_before
       (completed_taken setting moment taken (completions_taken setting (time_runs setting first from (moment - from)) moment listed) is)
 
-  by_result : (r : Result Moments Why) → ((taken : Moments) → r ≡ Ok taken → AreBefore (moment + 1) taken) → IsTriedWith setting first from moment (Ok tt) moments acts r
-      → AreBefore (moment + 1) moments
+  by_result : (r : Result Moments Why) → ((taken : Moments) → r ≡ Ok taken → AreBefore (moment + 1) taken) → IsTriedWith setting first from moment (Ok tt) new.moments new.acts r
+      → AreBefore (moment + 1) new.moments
   by_result (Ok taken) early is = subst (AreBefore (moment + 1)) (sym is.1) (acted_before setting (moment + 1) moment taken (omega arith) (early taken refl))
   by_result (Err why) early is = cc
 
-  pub tried_before : IsTried setting first from moment listed (Ok tt) moments acts → AreBefore (moment + 1) moments
+  tried_before : IsTried setting first from moment listed (Ok tt) new.moments new.acts → AreBefore (moment + 1) new.moments
   tried_before is = by_result (completed setting (time_runs setting first from (moment - from)) moment listed) taken_before is
 
   -- after it the execution goes on
-  pub goes_after : (network : KeptNetwork) (counts : List ℕ) (due latest : Moments) → moment ≤ most_moment → IsTried setting first from moment listed (Ok tt) moments acts
-      → IsCourseOf network (moment + 1) moments counts due → AreLatest network.setting moments latest → GoesOn network moments counts due latest (Some moment)
-  goes_after network counts due latest within is course awaited = record {
-    course = course;
-    awaited = awaited;
-    early = tried_before is;
-    time_left = (let left = count_by-le-length is_none moments in let few = course.few in omega (arith, within, left, few));
+  pub goes_after : (network : KeptNetwork) → moment ≤ most_moment → IsTried setting first from moment listed (Ok tt) new.moments new.acts → StandsAt network (moment + 1) new → GoesOn network (moment + 1) new
+  goes_after network within is stands = record {
+    stands = stands;
+    before = tried_before is;
+    time_left = (let left = count_by-le-length is_none new.moments in let few = stands.few in omega (arith, within, left, few));
   }
 
 -- a moment that is not refused

@@ -1,14 +1,37 @@
--- The lowest point that should have completed.
-use Rattle.std.proofs.Common.{◌≡◌, ℕ, ◌<◌, ◌≤◌, true, false, length, Option, Some, None, ap, ◌∙◌}
+-- Completions of a moment, and the lowest point that should have completed.
+use Rattle.std.proofs.Common.{◌≡◌, ℕ, ◌<◌, ◌≤◌, true, false, [], length, Option, Some, None, refl, arith, ap, ◌∙◌}
 use Rattle.std.specs.Prelude.{nat_le}
 use Rattle.std.specs.Option.{option_map, option_map_or, option_and_then}
 use Rattle.std.proofs.lemmas.Bool.{le-leb}
 use Rattle.net_model.specs.declared.ids.PointId.{PointId}
 use Rattle.closure_model.proofs.OrderLemmas.{found_at, found_nowhere}
+use Rattle.net_model.specs.Limits.{most_moment}
 use Rattle.net_model.specs.Moments.{Moments}
 use Rattle.execution_model.specs.Execution.{Setting}
-use Rattle.execution_model.specs.Feeding.{latest_of, is_overdue, overdue_why, first_overdue}
+use Rattle.execution_model.specs.Feeding.{completed_at, refusal_of, latest_of, is_overdue, overdue_why, first_overdue}
 use Rattle.execution_model.specs.declared.feeding.Why.TheVariants as why
+use Rattle.execution_model.proofs.PacedLemmas.{completed_paced}
+use Rattle.execution_model.proofs.TimelyLemmas.{in_time_from}
+use Rattle.live_executor.specs.Course.{CourseSoFar, StandsAt, Reaches, MayComeAt, Comes}
+use Rattle.live_executor.specs.Sound.{KeptNetwork, made_setting, ExecutesTheSame}
+use Rattle.live_executor.proofs.CourseLemmas.{goes_further}
+
+-- a listed point that is not refused may come
+pub free_may_come : (network : KeptNetwork) → ExecutesTheSame network → (moment : ℕ) (course : CourseSoFar) (point : PointId) → StandsAt network moment course → point.0 < length network.made → moment ≤ most_moment
+    → refusal_of (made_setting network) course.moments moment point ≡ None → MayComeAt network moment course point
+free_may_come network same moment course point stands inside within free = record {
+  is_new = (in_time_from (made_setting network) course.moments moment point free).is_open;
+  inside = inside;
+  paced = completed_paced (made_setting network) same.rank same.ranked course.moments stands.paced stands.count moment point free;
+  soon = omega (arith, within);
+}
+
+-- and after those that came before
+pub comes_after : (network : KeptNetwork) (moment : ℕ) (point : PointId) (old now new : CourseSoFar) → Reaches network moment now.moments [] old now → Comes network moment point now new
+    → Reaches network moment new.moments [] old new
+comes_after network moment point old now new before comes =
+    let all = goes_further network moment moment old now new now.moments (completed_at now.moments moment point) [] [] before comes in
+    record { moments_are = refl; acts_are = all.acts_are; stands = all.stands; trace = all.trace }
 
 pub overdue_at : (setting : Setting) (moments : Moments) (moment k latest : ℕ) → k < length setting.dispatch → latest_of setting moments (record { 0 = k }) ≡ Some latest → latest ≤ moment
     → ((j : ℕ) → j < k → is_overdue setting moments moment (record { 0 = j }) ≡ false) → first_overdue setting moments moment ≡ Some (why.Overdue (record { 0 = k }) latest)

@@ -1,15 +1,18 @@
--- The moments so far as they are kept, and how they change.
-use Rattle.std.specs.Prelude.{◌≡◌, ℕ, ◌-◌, ◌<◌, ◌≤◌, Bool, true, false, List, ◌++◌, length, Option, Some, None, is_none}
-use Rattle.std.specs.List.{count_by}
+-- How an execution stands, and how it goes on.
+use Rattle.std.specs.Prelude.{◌≡◌, ℕ, ◌+◌, ◌-◌, ◌<◌, ◌≤◌, Bool, true, false, List, [], ◌∷◌, ◌++◌, length, Option, Some, None, IsSome, is_none}
+use Rattle.std.specs.List.{All, count_by}
 use Rattle.net_model.specs.Limits.{most_points}
 use Rattle.net_model.specs.declared.ids.PointId.{PointId}
 use Rattle.net_model.specs.Moments.{Moments, moment_of}
-use Rattle.execution_model.specs.Execution.{time_runs, acts_while}
+use Rattle.execution_model.specs.Execution.{acts_at, acted, time_runs, acts_while}
+use Rattle.execution_model.specs.Feeding.{completed_at}
 use Rattle.execution_model.specs.Paced.{ArePaced, IsMadeOneByOne}
 use Rattle.execution_model.specs.declared.feeding.Act.{Act}
+use Rattle.live_executor.specs.Awaited.{AreLatest}
 use Rattle.live_executor.specs.Due.{has_begun}
 use Rattle.live_executor.specs.Limits.{AreBefore, end_of_time}
 use Rattle.live_executor.specs.Sound.{KeptNetwork, made_setting}
+use Rattle.live_executor.specs.Trace.{KeepsTrace}
 use Rattle.live_executor.specs.Waking.{IsAwake}
 
 -- how many points have not come
@@ -41,26 +44,93 @@ abbrev pub IsFirstBefore : Moments → (until : ℕ) → Option ℕ → Type 0
 IsFirstBefore due until None = NoneDueBefore due until
 IsFirstBefore due until (Some first) = (first < until) × IsFirstMoment due (Some first)
 
--- what is kept of the moments so far, when a moment comes: of the points that wait, by what is kept of the network; the moments are none
--- too late, and keep to what was made
-pub record IsCourseOf (network : KeptNetwork) (now : ℕ) (moments : Moments) (counts : List ℕ) (due : Moments) : Type 0 where
-  pub awake : IsAwake network.setting now moments counts due
-  pub count : length moments ≡ length network.made
-  pub early : AreBefore end_of_time moments
-  pub few : length moments ≤ most_points
-  pub paced : ArePaced (made_setting network) moments
+-- how far an execution has come: the moments so far; for each point how many of its conditions are open, from when on it is due, and by
+-- when it must complete; and since some moment the acts that were made and the points that came
+pub record CourseSoFar : Type 0 where
+  pub moments : Moments
+  pub counts : List ℕ
+  pub due : Moments
+  pub latest : Moments
+  pub acts : List Act
+  pub came : List PointId
+
+-- a list that had as many places as there are points has one left for each point that has not come
+pub record HasRoomLeft {X : Type 0} (moments : Moments) (list : List X) (places : ℕ) : Type 0 where
+  pub few : length list + left_of moments ≤ length moments
+  pub reserved : length moments ≤ places
+
+-- what is kept of an execution: a count for each point, and room for the acts and the points to come
+pub record IsKeptCourse (moments : Moments) (counts : List ℕ) (acts : List Act) (places_of_acts : ℕ) (came : List PointId) (places_of_points : ℕ) : Type 0 where
+  pub counted : length counts ≡ length moments
+  pub acts_fit : HasRoomLeft moments acts places_of_acts
+  pub points_fit : HasRoomLeft moments came places_of_points
+  pub inside : All (λ (point : PointId). point.0 < length moments) came
+
+-- it stands right when a moment comes: what is kept of the points that wait and of those that are awaited, by what is kept of the network;
+-- the moments are none too late, and keep to what was made
+pub record StandsAt (network : KeptNetwork) (now : ℕ) (course : CourseSoFar) : Type 0 where
+  pub awake : IsAwake network.setting now course.moments course.counts course.due
+  pub awaited : AreLatest network.setting course.moments course.latest
+  pub count : length course.moments ≡ length network.made
+  pub early : AreBefore end_of_time course.moments
+  pub few : length course.moments ≤ most_points
+  pub paced : ArePaced (made_setting network) course.moments
+
+-- it keeps no acts and points any more
+abbrev pub cleared : CourseSoFar → CourseSoFar
+cleared course = record course { acts = []; came = [] }
+
+-- its acts are handed over
+abbrev pub handed_over : CourseSoFar → CourseSoFar
+handed_over course = record course { acts = [] }
+
+-- an execution comes to a moment: these are the moments so far then, and these acts were made; it stands right, and may be taken back to
+-- whatever it might be taken back to before
+pub record Reaches (network : KeptNetwork) (now : ℕ) (moments : Moments) (acts : List Act) (old new : CourseSoFar) : Type 0 where
+  pub moments_are : new.moments ≡ moments
+  pub acts_are : new.acts ≡ old.acts ++ acts
+  pub stands : StandsAt network now new
+  pub trace : KeepsTrace old.came old.moments new.came new.moments
+
+-- a point may come at a moment: it has not come, and then the moments still keep to what was made
+pub record MayComeAt (network : KeptNetwork) (t : ℕ) (course : CourseSoFar) (point : PointId) : Type 0 where
+  pub is_new : moment_of course.moments point ≡ None
+  pub inside : point.0 < length network.made
+  pub paced : ArePaced (made_setting network) (completed_at course.moments t point)
+  pub soon : t < end_of_time
+
+-- a point comes
+abbrev pub Comes : KeptNetwork → (t : ℕ) → PointId → (old new : CourseSoFar) → Type 0
+Comes network t point old new = Reaches network t (completed_at old.moments t point) [] old new
+
+-- a point is executed
+abbrev pub Executes : KeptNetwork → (t : ℕ) → PointId → (old new : CourseSoFar) → Type 0
+Executes network t point old new = Reaches network t (completed_at old.moments t point) (record { moment = t; point = point } ∷ []) old new
+
+-- the acts of a moment are made
+abbrev pub MakesActs : KeptNetwork → (t : ℕ) → (old new : CourseSoFar) → Type 0
+MakesActs network t old new = Reaches network (t + 1) (acted (made_setting network) old.moments t) (acts_at (made_setting network) old.moments t) old new
+
+-- time runs from a moment to the one before another
+abbrev pub Runs : KeptNetwork → (from until : ℕ) → (old new : CourseSoFar) → Type 0
+Runs network from until old new =
+    Reaches network until (time_runs (made_setting network) old.moments from (until - from)) (acts_while (made_setting network) old.moments from (until - from)) old new
+
+-- time runs out: to the end of time, and each point has come
+pub record RunsOut (network : KeptNetwork) (from : ℕ) (old new : CourseSoFar) : Type 0 where
+  pub runs : Runs network from end_of_time (cleared old) new
+  pub come : All IsSome new.moments
 
 -- some acts of t were made, the lowest point first
-pub record AreSomeMade (network : KeptNetwork) (t : ℕ) (old now : Moments) (old_acts now_acts : List Act) : Type 0 where
+pub record AreSomeMade (network : KeptNetwork) (t : ℕ) (old now : CourseSoFar) : Type 0 where
   pub made : List Act
-  pub acts : now_acts ≡ old_acts ++ made
-  pub leads : (rest : List Act) (after : Moments) → IsMadeOneByOne (made_setting network) t now rest after → IsMadeOneByOne (made_setting network) t old (made ++ rest) after
+  pub goes : Reaches network t now.moments made old now
+  pub leads : (rest : List Act) (after : Moments) → IsMadeOneByOne (made_setting network) t now.moments rest after
+      → IsMadeOneByOne (made_setting network) t old.moments (made ++ rest) after
 
 -- time has run from a moment on to some later one
-pub record HasRun (network : KeptNetwork) (from until : ℕ) (old now : Moments) (counts : List ℕ) (due : Moments) (old_acts now_acts : List Act) : Type 0 where
+pub record HasRun (network : KeptNetwork) (from until : ℕ) (old now : CourseSoFar) : Type 0 where
   pub next : ℕ
   pub later : from ≤ next
   pub earlier : next ≤ until
-  pub moments : now ≡ time_runs (made_setting network) old from (next - from)
-  pub acts : now_acts ≡ old_acts ++ acts_while (made_setting network) old from (next - from)
-  pub course : IsCourseOf network next now counts due
+  pub runs : Runs network from next old now

@@ -4,7 +4,7 @@ pub mod Waking
 pub mod Wakes
 pub mod Awaited
 pub mod Sound
-pub mod Course
 pub mod Trace
-pub mod Taking
+pub mod Course
 pub mod Kept
+pub mod Taking

@@ -39,13 +39,13 @@ impl Model for Executor {
 
     ghost view = { λ kept. record {
       setting = made_setting kept.dispatched;
-      moments = kept.course.moments.items;
+      moments = kept.course.moments;
       last = kept.last;
       acts = kept.acts.items;
       refused = kept.refused;
     } };
 
-    ghost invariant = { λ kept. IsKeptExecution kept.dispatched kept.course.moments.items kept.course.waiting.counts.items kept.course.waiting.due kept.course.awaited.latest kept.acts.items (vec_capacity kept.acts) kept.last kept.refused };
+    ghost invariant = { λ kept. IsKeptExecution kept.dispatched kept.course kept.acts.items (vec_capacity kept.acts) kept.last kept.refused };
 }
 
 impl Executor {
@@ -82,7 +82,7 @@ impl Executor {
         requires { point.0 < length self.now.setting.dispatch }
         ensures { result ≡ moment_of self.now.moments point }
     {
-        self.course.moments[point.0 as usize]
+        self.course.moment_of(point)
     }
 
     /// The next moment at which a point will be executed if nothing completes before, or `None` where there is none, and after a

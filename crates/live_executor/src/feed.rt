@@ -1,14 +1,9 @@
 //! A feed, which is taken back if it is refused.
 
-ghost use Rattle.std.specs.Prelude.{◌≡◌, ◌+◌, ◌<◌, ◌≤◌, [], length, OnOk, OnErr};
-ghost use Rattle.std.specs.List.{All};
-ghost use Rattle.net_model.specs.Limits.{most_moment};
-ghost use Rattle.live_executor.specs.Awaited.{AreLatest};
-ghost use Rattle.live_executor.specs.Course.{IsCourseOf};
-ghost use Rattle.live_executor.specs.Limits.{end_of_time};
-ghost use Rattle.live_executor.specs.Sound.{made_setting};
-ghost use Rattle.live_executor.specs.Taking.{given_or, completed, IsTried};
-ghost use Rattle.live_executor.specs.Trace.{KeepsTrace};
+ghost use Rattle.std.specs.Prelude.{◌≤◌};
+ghost use Rattle.live_executor.specs.Course.{StandsAt};
+ghost use Rattle.live_executor.specs.Kept.{GoesOn};
+ghost use Rattle.live_executor.specs.Taking.{MayBeListed, Settles, Advances, Feeds};
 
 use crate::course::Course;
 use crate::dispatched::Dispatched;
@@ -23,23 +18,12 @@ impl Course {
         moment: u64,
         listed: &[PointId],
     ) -> Result<(), Why>
-        requires listed { All (λ point. point.0 < length dispatched.now.setting.dispatch) listed.now }
-        requires course { IsCourseOf dispatched.now moment self.old.moments.items self.old.waiting.counts.items self.old.waiting.due }
-        requires latest { AreLatest dispatched.now.setting self.old.moments.items self.old.awaited.latest }
-        requires moment { moment < end_of_time }
-        ensures taken { completed (made_setting dispatched.now) self.old.moments.items moment listed.now ≡ given_or self.new.moments.items result }
-        ensures count { length self.new.moments.items ≡ length self.old.moments.items }
-        ensures acts { self.new.acts.items ≡ self.old.acts.items }
-        ensures course { OnOk result (IsCourseOf dispatched.now moment self.new.moments.items self.new.waiting.counts.items self.new.waiting.due) }
-        ensures latest { OnOk result (AreLatest dispatched.now.setting self.new.moments.items self.new.awaited.latest) }
-        ensures trace { KeepsTrace self.old.came.items self.old.moments.items self.new.came.items self.new.moments.items }
+        requires stands { StandsAt dispatched.now moment self.old }
+        requires listed { MayBeListed dispatched.now moment listed.now }
+        ensures { Settles dispatched.now moment listed.now result self.old self.new }
     {
-        dispatched.executes_the_same();
         self.complete(dispatched, moment, listed)?;
-        match self
-            .awaited
-            .first_overdue(dispatched, self.moments.as_slice(), moment)
-        {
+        match self.first_overdue(dispatched, moment) {
             Some(why) => Err(why),
             None => Ok(()),
         }
@@ -54,18 +38,11 @@ impl Course {
         moment: u64,
         listed: &[PointId],
     ) -> Result<(), Why>
-        requires listed { All (λ point. point.0 < length dispatched.now.made) listed.now }
-        requires course { IsCourseOf dispatched.now from self.old.moments.items self.old.waiting.counts.items self.old.waiting.due }
-        requires latest { AreLatest dispatched.now.setting self.old.moments.items self.old.awaited.latest }
+        requires goes_on { GoesOn dispatched.now from self.old }
+        requires listed { MayBeListed dispatched.now moment listed.now }
         requires range { from ≤ moment }
-        requires within { moment ≤ most_moment }
-        ensures tried { IsTried (made_setting dispatched.now) self.old.moments.items from moment listed.now result self.new.moments.items self.new.acts.items }
-        ensures count { length self.new.moments.items ≡ length self.old.moments.items }
-        ensures back { OnErr result (self.new.moments.items ≡ self.old.moments.items) }
-        ensures course { OnOk result (IsCourseOf dispatched.now (moment + 1) self.new.moments.items self.new.waiting.counts.items self.new.waiting.due) }
-        ensures latest { OnOk result (AreLatest dispatched.now.setting self.new.moments.items self.new.awaited.latest) }
+        ensures { Feeds dispatched.now from moment listed.now result self.old self.new }
     {
-        self.begin();
         if let Err(why) = self.advance(dispatched, from, moment, listed) {
             self.take_back();
             return Err(why);
@@ -81,18 +58,12 @@ impl Course {
         moment: u64,
         listed: &[PointId],
     ) -> Result<(), Why>
-        requires listed { All (λ point. point.0 < length dispatched.now.made) listed.now }
-        requires course { IsCourseOf dispatched.now from self.old.moments.items self.old.waiting.counts.items self.old.waiting.due }
-        requires latest { AreLatest dispatched.now.setting self.old.moments.items self.old.awaited.latest }
+        requires stands { StandsAt dispatched.now from self.old }
+        requires listed { MayBeListed dispatched.now moment listed.now }
         requires range { from ≤ moment }
-        requires within { moment ≤ most_moment }
-        requires fresh { self.old.acts.items ≡ [] }
-        ensures tried { IsTried (made_setting dispatched.now) self.old.moments.items from moment listed.now result self.new.moments.items self.new.acts.items }
-        ensures count { length self.new.moments.items ≡ length self.old.moments.items }
-        ensures course { OnOk result (IsCourseOf dispatched.now (moment + 1) self.new.moments.items self.new.waiting.counts.items self.new.waiting.due) }
-        ensures latest { OnOk result (AreLatest dispatched.now.setting self.new.moments.items self.new.awaited.latest) }
-        ensures trace { KeepsTrace self.old.came.items self.old.moments.items self.new.came.items self.new.moments.items }
+        ensures { Advances dispatched.now from moment listed.now result self.old self.new }
     {
+        self.begin();
         self.run(dispatched, from, moment);
         self.settle(dispatched, moment, listed)?;
         self.act(dispatched, moment);

@@ -1,17 +1,13 @@
 //! The completions of a feed, and why it is refused.
 
-ghost use Rattle.std.specs.Prelude.{◌≡◌, ◌+◌, ◌<◌, ◌≤◌, Ok, Err, Some, None, find, length};
-ghost use Rattle.std.specs.List.{All};
-ghost use Rattle.std.specs.Prelude.{unsigned_abs};
+ghost use Rattle.std.specs.Prelude.{◌≡◌, ◌+◌, ◌<◌, ◌≤◌, find, length, unsigned_abs};
 ghost use Rattle.net_model.specs.Limits.{most_size};
 ghost use Rattle.execution_model.specs.Execution.{points_of};
-ghost use Rattle.execution_model.specs.Feeding.{refusal_of_duration, refusal_of_completion, refusal_of, activated_before, completions_taken, is_open};
-ghost use Rattle.live_executor.specs.Awaited.{AreLatest};
-ghost use Rattle.live_executor.specs.Waking.{IsAwake};
+ghost use Rattle.execution_model.specs.Feeding.{refusal_of_duration, refusal_of_completion, refusal_of, activated_before, is_open};
+ghost use Rattle.live_executor.specs.Course.{StandsAt};
 ghost use Rattle.live_executor.specs.Limits.{AreBefore, end_of_time};
-ghost use Rattle.live_executor.specs.Sound.{IsLinkOf, IsSound, made_setting};
-ghost use Rattle.live_executor.specs.Taking.{given_or};
-ghost use Rattle.live_executor.specs.Trace.{KeepsTrace};
+ghost use Rattle.live_executor.specs.Sound.{IsLinkOf, made_setting};
+ghost use Rattle.live_executor.specs.Taking.{MayBeListed, Completes};
 
 use crate::course::Course;
 use crate::dispatched::Dispatched;
@@ -39,20 +35,21 @@ fn refusal_of_duration(moment: u64, point: PointId, link: &Link, activated: u64)
 impl Course {
     /// The moment of the activation of a link, where it was before a moment.
     fn activated_before(&self, moment: u64, link: &Link) -> Option<u64>
-        requires { link.now.from.0 < length self.now.moments.items }
-        ensures { result ≡ activated_before self.now.moments.items moment link.now }
+        requires { link.now.from.0 < length self.now.moments }
+        ensures { result ≡ activated_before self.now.moments moment link.now }
     {
-        self.moments[link.from.0 as usize].filter(|activated| *activated < moment)
+        self.moment_of(link.from)
+            .filter(|activated| *activated < moment)
     }
 
     /// Why a point is refused over its link, if it completes at a moment.
     fn refusal_over(&self, moment: u64, point: PointId, link: &Link) -> Option<Why>
-        requires point { point.0 < length self.now.moments.items }
-        requires link { IsLinkOf (length self.now.moments.items) link.now }
-        requires early { AreBefore end_of_time self.now.moments.items }
-        ensures { result ≡ refusal_of_completion self.now.moments.items moment point link.now }
+        requires point { point.0 < length self.now.moments }
+        requires link { IsLinkOf (length self.now.moments) link.now }
+        requires early { AreBefore end_of_time self.now.moments }
+        ensures { result ≡ refusal_of_completion self.now.moments moment point link.now }
     {
-        if let Some(completed) = self.moments[point.0 as usize] {
+        if let Some(completed) = self.moment_of(point) {
             return Some(Why::Twice(point, completed));
         }
         match self.activated_before(moment, link) {
@@ -63,11 +60,12 @@ impl Course {
 
     /// Why a point is refused, if it completes at a moment.
     fn refusal_of(&self, dispatched: &Dispatched, moment: u64, point: PointId) -> Option<Why>
-        requires point { point.0 < length dispatched.now.setting.dispatch }
-        requires count { length self.now.moments.items ≡ length dispatched.now.setting.dispatch }
-        requires early { AreBefore end_of_time self.now.moments.items }
-        ensures { result ≡ refusal_of (made_setting dispatched.now) self.now.moments.items moment point }
+        requires stands { StandsAt dispatched.now moment self.now }
+        requires point { point.0 < length dispatched.now.made }
+        ensures { result ≡ refusal_of (made_setting dispatched.now) self.now.moments moment point }
     {
+        // The proof reads here of how many points there are.
+        let _ = dispatched.points();
         match dispatched.link_to(point) {
             Some(link) => self.refusal_over(moment, point, &link),
             None => Some(Why::NotContingent(point)),
@@ -81,19 +79,11 @@ impl Course {
         moment: u64,
         listed: &[PointId],
     ) -> Result<(), Why>
-        requires listed { All (λ point. point.0 < length dispatched.now.setting.dispatch) listed.now }
-        requires awake { IsAwake dispatched.now.setting moment self.old.moments.items self.old.waiting.counts.items self.old.waiting.due }
-        requires latest { AreLatest dispatched.now.setting self.old.moments.items self.old.awaited.latest }
-        requires early { AreBefore end_of_time self.old.moments.items }
-        requires moment { moment < end_of_time }
-        ensures taken { completions_taken (made_setting dispatched.now) self.old.moments.items moment listed.now ≡ given_or self.new.moments.items result }
-        ensures awake { IsAwake dispatched.now.setting moment self.new.moments.items self.new.waiting.counts.items self.new.waiting.due }
-        ensures latest { AreLatest dispatched.now.setting self.new.moments.items self.new.awaited.latest }
-        ensures early { AreBefore end_of_time self.new.moments.items }
-        ensures count { length self.new.moments.items ≡ length self.old.moments.items }
-        ensures acts { self.new.acts.items ≡ self.old.acts.items }
-        ensures trace { KeepsTrace self.old.came.items self.old.moments.items self.new.came.items self.new.moments.items }
+        requires stands { StandsAt dispatched.now moment self.old }
+        requires listed { MayBeListed dispatched.now moment listed.now }
+        ensures { Completes dispatched.now moment listed.now result self.old self.new }
     {
+        dispatched.executes_the_same();
         for point in listed {
             if let Some(why) = self.refusal_of(dispatched, moment, *point) {
                 return Err(why);
@@ -105,8 +95,8 @@ impl Course {
 
     /// The lowest contingent point that has not completed, if there is one.
     pub(crate) fn first_open(&self, dispatched: &Dispatched) -> Option<PointId>
-        requires { length self.now.moments.items ≡ length dispatched.now.setting.dispatch }
-        ensures { result ≡ find (is_open (made_setting dispatched.now) self.now.moments.items) (points_of (made_setting dispatched.now)) }
+        requires { length self.now.moments ≡ length dispatched.now.setting.dispatch }
+        ensures { result ≡ find (is_open (made_setting dispatched.now) self.now.moments) (points_of (made_setting dispatched.now)) }
     {
         for number in 0..dispatched.points() {
             let point = PointId(number);
@@ -120,10 +110,10 @@ impl Course {
     /// Whether a point is contingent and has not completed.
     fn is_open(&self, dispatched: &Dispatched, point: PointId) -> bool
         requires point { point.0 < length dispatched.now.setting.dispatch }
-        requires count { length self.now.moments.items ≡ length dispatched.now.setting.dispatch }
-        ensures { result ≡ is_open dispatched.now.setting self.now.moments.items point }
+        requires count { length self.now.moments ≡ length dispatched.now.setting.dispatch }
+        ensures { result ≡ is_open dispatched.now.setting self.now.moments point }
     {
-        if self.moments[point.0 as usize].is_some() {
+        if self.moment_of(point).is_some() {
             return false;
         }
         dispatched.link_to(point).is_some()

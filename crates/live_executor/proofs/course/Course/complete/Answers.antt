@@ -1,17 +1,23 @@
-use Rattle.std.proofs.Common.{◌≡◌, ◌+◌, ◌<◌, ◌∙◌, ℕ, Option, length, get_or, drop, ap, sym, subst}
-use Rattle.std.specs.List.{All}
+use Rattle.std.proofs.Common.{◌+◌, ◌∙◌, List, Option, get_or, drop, refl, ap, sym}
 use Rattle.std.specs.Option.{option_map_or}
-use Rattle.std.specs.Prelude.{Some, Err, IfSome, List}
+use Rattle.std.specs.Prelude.{Err}
 use Rattle.std.proofs.lemmas.List.{drop_more}
-use Rattle.std.proofs.lemmas.List.Elements.{All-set}
 use Rattle.net_model.specs.declared.ids.PointId.{PointId}
 use Rattle.net_model.specs.Moments.{Moments}
 use Rattle.execution_model.specs.Feeding.{completed_at, completions_taken}
 use Rattle.execution_model.specs.declared.feeding.Why.{Why}
-use Rattle.execution_model.proofs.MomentLemmas.{length-completed_at}
-use Rattle.live_executor.specs.Limits.{AreBefore, end_of_time}
 use Rattle.live_executor.specs.Sound.{made_setting}
+use Rattle.live_executor.proofs.CourseLemmas.{goes_nowhere}
+use Rattle.live_executor.proofs.TakingLemmas.{free_may_come, comes_after}
 use Rattle.live_executor.proofs.course.Course.complete.Goals as goal
+
+pub loop-point-init : goal.loop-point-init
+loop-point-init c = record { taken = refl; goes = goes_nowhere c.args.dispatched.now c.args.moment c.args.self.now c.requires.stands }
+
+pub come-requires-clause-may : goal.come-requires-clause-may
+come-requires-clause-may c =
+    let point : PointId = get_or c.args.listed.now c.loop-point.point-index (record { 0 = 0 }) in
+    free_may_come c.args.dispatched.now c.executes_the_same.ensures c.args.moment c.loop-point.self point c.loop-point.invariant.goes.stands (c.requires.listed.inside c.loop-point.point-index (record { 0 = 0 }) c.loop-point-test.true) c.requires.listed.within (sym c.refusal_of.ensures ∙ c.in_default.is)
 
 pub loop-point-preserved : goal.loop-point-preserved
 loop-point-preserved c =
@@ -24,16 +30,11 @@ loop-point-preserved c =
     let moment = c.args.moment in
     let point : PointId = get_or listed n d in
     let others : List PointId = drop (n + 1) listed in
-    let now : Moments = c.loop-point.self.moments.items in
-    let next = completions_taken setting (completed_at now moment point) moment others in
+    let now = c.loop-point.self in
+    let next = completions_taken setting (completed_at now.moments moment point) moment others in
     record {
-      goes_on = i.goes_on
-          ∙ (ap (completions_taken setting now moment) (drop_more listed n d c.loop-point-test.true)
-          ∙ (ap (λ (o : Option Why). option_map_or Err o next) (sym c.refusal_of.ensures ∙ c.in_default.is) ∙ ap (λ (moments : Moments). completions_taken setting moments moment others) (sym e.moments)));
-      awake = e.awake;
-      latest = e.latest;
-      count = ap (λ (moments : Moments). length moments) e.moments ∙ (length-completed_at now moment point ∙ i.count);
-      early = subst (AreBefore end_of_time) (sym e.moments) (All-set (λ (m : Option ℕ). IfSome m (λ a. a < end_of_time)) now point.0 (Some moment) c.requires.moment i.early);
-      acts = e.acts ∙ i.acts;
-      trace = λ before since. e.trace before (i.trace before since);
+      taken = i.taken
+          ∙ (ap (completions_taken setting now.moments moment) (drop_more listed n d c.loop-point-test.true)
+          ∙ (ap (λ (o : Option Why). option_map_or Err o next) (sym c.refusal_of.ensures ∙ c.in_default.is) ∙ ap (λ (moments : Moments). completions_taken setting moments moment others) (sym e.moments_are)));
+      goes = comes_after c.args.dispatched.now moment point c.args.self.now now c.come.new.self i.goes e;
     }

@@ -6,8 +6,8 @@ use Rattle.live_executor.proofs.course.Course.first_open.Goals as goal
 
 pub returns-then-is_open : goal.returns-then-is_open
 returns-then-is_open c =
-    sym (found_at (is_open (made_setting c.args.dispatched.now) c.args.self.now.moments.items) (length c.args.dispatched.now.made) c.loop-number.number (omega arith) (sym c.if-is_open.ensures) c.loop-number.invariant)
+    sym (found_at (is_open (made_setting c.args.dispatched.now) c.args.self.now.moments) (length c.args.dispatched.now.made) c.loop-number.number (omega arith) (sym c.if-is_open.ensures) c.loop-number.invariant)
 
 pub returns : goal.returns
 returns c =
-    sym (found_nowhere (is_open (made_setting c.args.dispatched.now) c.args.self.now.moments.items) (length c.args.dispatched.now.made) (λ j less. c.loop-number.invariant j (omega arith)))
+    sym (found_nowhere (is_open (made_setting c.args.dispatched.now) c.args.self.now.moments) (length c.args.dispatched.now.made) (λ j less. c.loop-number.invariant j (omega arith)))

@@ -4,4 +4,4 @@ use Rattle.live_executor.specs.Sound.{made_setting}
 use Rattle.live_executor.proofs.course.Course.first_open.Given as goal
 
 abbrev pub invariant-loop-number : goal.invariant-loop-number
-invariant-loop-number l = (j : ℕ) → j < l.number → is_open (made_setting l.dispatched) l.self.moments.items (record { 0 = j }) ≡ false
+invariant-loop-number l = (j : ℕ) → j < l.number → is_open (made_setting l.dispatched) l.self.moments (record { 0 = j }) ≡ false

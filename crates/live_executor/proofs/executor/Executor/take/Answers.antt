@@ -1,31 +1,41 @@
-use Rattle.std.proofs.Common.{◌≡◌, ◌≤◌, ◌∙◌, None, ap, sym, subst, length, arith}
-use Rattle.net_model.specs.Moments.{Moments}
+use Rattle.std.proofs.Common.{◌≡◌, ◌+◌, ◌<◌, ◌∙◌, None, ap, sym, subst, length, arith}
+use Rattle.std.specs.List.{All}
+use Rattle.net_model.specs.declared.ids.PointId.{PointId}
 use Rattle.execution_model.specs.Feeding.{Execution, next_moment}
-use Rattle.live_executor.specs.Kept.{moment_after}
-use Rattle.live_executor.specs.Limits.{AreBefore}
-use Rattle.live_executor.specs.Sound.{made_setting}
-use Rattle.live_executor.proofs.MomentLemmas.{goes_after, may_be_fed}
+use Rattle.live_executor.specs.Course.{CourseSoFar}
+use Rattle.live_executor.specs.Kept.{GoesOn, moment_after}
+use Rattle.live_executor.proofs.LastLemmas.{goes_on_with}
+use Rattle.live_executor.proofs.MomentLemmas.{may_be_fed}
 use Rattle.live_executor.proofs.executor.Executor.take.Goals as goal
+
+pub try_feed-tried-requires-clause-goes_on : goal.try_feed-tried-requires-clause-goes_on
+try_feed-tried-requires-clause-goes_on c =
+    let kept = c.self.inside in
+    let going : kept.refused ≡ None = ap (λ (e : Execution). e.refused) c.self.view_is ∙ c.requires.going in
+    let first : c.next_moment-from.result ≡ moment_after kept.last = c.next_moment-from.ensures ∙ ap (λ (e : Execution). next_moment e) (sym c.self.view_is) in
+    subst (λ from. GoesOn kept.dispatched from kept.course) (sym first) (c.self.invariant.goes_on going)
+
+pub try_feed-tried-requires-clause-listed : goal.try_feed-tried-requires-clause-listed
+try_feed-tried-requires-clause-listed c = record {
+  inside = subst (λ (e : Execution). All (λ (point : PointId). point.0 < length e.setting.dispatch) c.args.completions.now) (sym c.self.view_is) c.requires.listed;
+  within = (may_be_fed c.args.self.now c.args.moment (sym c.refusal_of_moment.ensures ∙ c.in_default.is)).1;
+}
+
+pub try_feed-tried-requires-clause-range : goal.try_feed-tried-requires-clause-range
+try_feed-tried-requires-clause-range c =
+    let may = may_be_fed c.args.self.now c.args.moment (sym c.refusal_of_moment.ensures ∙ c.in_default.is) in
+    let low = may.0 in
+    omega (arith, c.next_moment-from.ensures, low)
 
 pub invariant_of-self-in-Ok : goal.invariant_of-self-in-Ok
 invariant_of-self-in-Ok c =
-    let kept = c.self.inside in
-    let going : kept.refused ≡ None = ap (λ (e : Execution). e.refused) c.self.view_is ∙ c.requires.going in
-    let goes = c.self.invariant.goes_on going in
-    let network = kept.dispatched in
-    let from = c.next_moment-from in
-    let first = kept.course.moments.items in
+    let network = c.self.inside.dispatched in
     let after = c.try_feed-tried.new.self in
-    let from_is : from.result ≡ moment_after kept.last = from.ensures ∙ ap (λ (e : Execution). next_moment e) (sym c.self.view_is) in
-    let may = may_be_fed c.args.self.now c.args.moment (sym c.refusal_of_moment.ensures ∙ c.in_default.is) in
-    let range : from.result ≤ c.args.moment = (let low = may.0 in omega (arith, from.ensures, low)) in
-    let early = subst (λ n. AreBefore n first) (sym from_is) goes.early in
-    let fed = goes_after (made_setting network) first from.result c.args.moment c.args.completions.now after.moments.items after.acts.items range early
-    network after.waiting.counts.items after.waiting.due after.awaited.latest may.1 c.in-Ok.ensures.tried c.in-Ok.ensures.course c.in-Ok.ensures.latest in
+    let goes = c.in-Ok.ensures.goes_on in
     record {
-      count = ap (λ (moments : Moments). length moments) c.hand_over.ensures.moments ∙ (c.in-Ok.ensures.count ∙ c.self.invariant.count);
-      few = c.hand_over.ensures.few;
-      reserved = c.hand_over.ensures.reserved;
-      soon = (let left = fed.time_left in omega (arith, left));
-      goes_on = λ still. rw (c.hand_over.ensures.moments, c.hand_over.ensures.waiting, c.hand_over.ensures.awaited) fed;
+      count = ap (λ (course : CourseSoFar). length course.moments) c.hand_over.ensures.course ∙ goes.stands.count;
+      few = (let few = c.hand_over.ensures.room.few in omega (arith, few));
+      reserved = c.hand_over.ensures.room.reserved;
+      soon = (let left = goes.time_left in omega (arith, left));
+      goes_on = λ still. rw c.hand_over.ensures.course (goes_on_with network (c.args.moment + 1) after goes);
     }
