@@ -14,3 +14,4 @@ pub mod WakesLemmas
 pub mod ListLemmas
 pub mod UndoLemmas
 pub mod AwaitedLemmas
+pub mod OfClosureLemmas

@@ -19,21 +19,21 @@ use Rattle.command_engine.specs.declared.endings.End.TheVariants as ends
 use Rattle.command_engine.specs.declared.machines.Onward.{Onward}
 use Rattle.command_engine.proofs.InputLemmas.{IsGivenAt, OutcomeIs, declared_read, outcome_is, outcome_answered}
 use Rattle.command_engine.proofs.PhaseLemmas.{run_is}
-use Rattle.stnu_run.specs.Course.{Course}
-use Rattle.stnu_run.specs.Day.{IsWholeDay, IsRefusedDay}
-use Rattle.stnu_run.specs.EventAnswers.{due_line}
-use Rattle.stnu_run.specs.EventFaults.{HasEventFault}
-use Rattle.stnu_run.specs.Executing.{executing_machine}
-use Rattle.stnu_run.specs.Faults.{refusing, fault_end}
+use Rattle.event_execution.specs.Course.{Course}
+use Rattle.event_execution.specs.Day.{IsWholeDay, IsRefusedDay}
+use Rattle.event_execution.specs.EventAnswers.{due_line}
+use Rattle.event_execution.specs.EventFaults.{HasEventFault}
+use Rattle.event_execution.specs.Executing.{executing_machine}
+use Rattle.common_answers.specs.Faults.{refusing, fault_end}
 use Rattle.stnu_run.specs.PlanInput.{input_begun, input_reader, plan_in}
 use Rattle.stnu_run.specs.RunPromise.{OpensExecution, plan_opens, RunPromise}
 use Rattle.stnu_run.specs.Running.{run_begins, run_machine, run_start}
-use Rattle.stnu_run.specs.Verdict.{controllable_line, PutsRefuted}
-use Rattle.stnu_run.specs.declared.faults.Fault.{Fault}
+use Rattle.common_answers.specs.VerdictLines.{controllable_line, PutsRefuted}
+use Rattle.common_answers.specs.declared.faults.Fault.{Fault}
 use Rattle.stnu_run.specs.declared.plan_input.PlanForm.{PlanForm}
-use Rattle.stnu_run.proofs.DayLemmas.{ExecutionLaws}
-use Rattle.stnu_run.proofs.DueLemmas.{due_answered}
-use Rattle.stnu_run.proofs.ExecutionLemmas.{Opened, IsOpened, Lasts, lasts, execution_keeps, whole_by, refused_so, fault_so, fault_not}
+use Rattle.event_execution.proofs.DayLemmas.{ExecutionLaws}
+use Rattle.event_execution.proofs.DueLemmas.{due_answered}
+use Rattle.event_execution.proofs.ExecutionLemmas.{Opened, IsOpened, Lasts, lasts, execution_keeps, whole_by, refused_so, fault_so, fault_not}
 use Rattle.stnu_run.proofs.PlanInputLemmas.{input_by}
 
 module _ (form : PlanForm) where

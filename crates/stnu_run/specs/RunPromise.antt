@@ -12,17 +12,17 @@ use Rattle.command_engine.specs.Inputs.{AnswersText, DeclaresBy, DeclaresWithinL
 use Rattle.command_engine.specs.declared.endings.End.{End}
 use Rattle.command_engine.specs.declared.endings.End.TheVariants as ends
 use Rattle.stnu_run.specs.Causes.{Causes, IsTextRefused, IsDayRefused}
-use Rattle.stnu_run.specs.Day.{Opening, IsWholeDay, IsRefusedDay}
-use Rattle.stnu_run.specs.Due.{AnswersDue}
-use Rattle.stnu_run.specs.EventAnswers.{due_line}
-use Rattle.stnu_run.specs.EventFaults.{HasEventFault}
-use Rattle.stnu_run.specs.ExecutionPromise.{ExecutionPromise}
-use Rattle.stnu_run.specs.Faults.{refusing}
+use Rattle.event_execution.specs.Day.{Opening, IsWholeDay, IsRefusedDay}
+use Rattle.event_execution.specs.Due.{AnswersDue}
+use Rattle.event_execution.specs.EventAnswers.{due_line}
+use Rattle.event_execution.specs.EventFaults.{HasEventFault}
+use Rattle.event_execution.specs.ExecutionPromise.{ExecutionPromise}
+use Rattle.common_answers.specs.Faults.{refusing}
 use Rattle.stnu_run.specs.PlanInput.{plan_in}
 use Rattle.stnu_run.specs.Programs.{Program, or_nothing, serves}
 use Rattle.stnu_run.specs.Running.{run_machine, run_start}
-use Rattle.stnu_run.specs.Verdict.{controllable_line, PutsRefuted}
-use Rattle.stnu_run.specs.declared.faults.Fault.{Fault}
+use Rattle.common_answers.specs.VerdictLines.{controllable_line, PutsRefuted}
+use Rattle.common_answers.specs.declared.faults.Fault.{Fault}
 use Rattle.stnu_run.specs.declared.plan_input.PlanForm.{PlanForm}
 
 -- An execution is opened: it is put that the network is controllable, and it is, with the first due moment, before all else; or that it is
