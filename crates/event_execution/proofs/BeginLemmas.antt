@@ -1,5 +1,5 @@
 -- The beginning of an execution, by the closure of its network.
-use Rattle.std.proofs.Common.{◌≡◌, List, [], ap, subst, ◌∙◌}
+use Rattle.std.proofs.Common.{◌≡◌, ℕ, List, [], ap, subst, ◌∙◌}
 use Rattle.net_model.specs.Network.{Plan}
 use Rattle.net_model.specs.declared.ids.PointId.{PointId}
 use Rattle.closure_model.specs.Tables.{Graph}
