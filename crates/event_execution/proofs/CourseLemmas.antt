@@ -8,7 +8,7 @@ use Rattle.net_model.specs.declared.format.FormatKind.{FormatKind}
 use Rattle.net_model.specs.declared.format.FormatKind.TheVariants.{NoEnd}
 use Rattle.texts.specs.Limits.{most_line}
 use Rattle.plan_port.specs.Lines.{Coming, Comes, TooLong, TooMuch, coming}
-use Rattle.event_stream.specs.EventText.{EventLine, blank, completed, done, IsLine, AreWordsOf, IsFaultOfWords}
+use Rattle.event_stream.specs.EventText.{EventLine, blank, completed, done, AreWordsOf, IsFaultOf, IsFaultOfWords}
 use Rattle.event_stream.specs.Laws.{OneReading}
 use Rattle.net_model.specs.Moments.{Moments}
 use Rattle.execution_model.specs.Feeding.{Execution, taken, after_feed, first_open, IsDueAnswer}
@@ -27,6 +27,7 @@ use Rattle.command_engine.specs.Inputs.{texts, room_after}
 use Rattle.common_answers.specs.ToRead.{Come}
 use Rattle.common_answers.specs.declared.faults.Fault.{Fault}
 use Rattle.common_answers.specs.declared.faults.Fault.TheVariants.{Format, LineTooLong as LongLine, InputTooMuch as MuchInput}
+use Rattle.event_execution.specs.Handing.{Handing, handed_line, Tells}
 use Rattle.event_execution.proofs.EventLemmas.{at, EndsBy, no_line, too_long, too_much, one_blank, one_feed, one_refused, one_done, one_unfinished, one_fault}
 
 -- ---- lists of feeds
@@ -75,37 +76,35 @@ SaysListings net execution (listing ∷ others) said =
     × SaysListings net (after_feed execution listing.moment moments) others more
 
 -- after lines that list a stream, the execution is fed it, and the run goes on over the other lines
-pub record OverEvents (net : Plan) (execution final : Execution) (listings : List Listing) (rest : List InputLine) (number room : ℕ) (put : List ℕ) (end : End) : Type 0 where
+pub record OverEvents (handing : Handing) (net : Plan) (execution final : Execution) (listings : List Listing) (rest : List InputLine) (number room : ℕ) (put : List ℕ) (end : End) : Type 0 where
   pub said : List ℕ
   pub more : List ℕ
-  pub listed : List PointId
   pub says : SaysListings net execution listings said
   pub all : put ≡ said ++ more
-  pub later : Run executing_machine (at net final listed number room) rest more end
+  pub later : Run executing_machine (at net final handing number room) rest more end
   pub none : final.refused ≡ None
 
 -- a run over lines that list a stream and others, of an execution that takes each of their feeds
-pub record RunsOver (net : Plan) (execution final : Execution) (listings : List Listing) (events rest : List InputLine) (listed : List PointId) (number room : ℕ) (put : List ℕ) (end : End) : Type 0 where
+pub record RunsOver (handing : Handing) (net : Plan) (execution final : Execution) (listings : List Listing) (events rest : List InputLine) (number room : ℕ) (put : List ℕ) (end : End) : Type 0 where
   pub none : execution.refused ≡ None
-  pub lists : ListLines net (texts events) listings
+  pub lists : ListLines handing net (texts events) listings
   pub fed : fed_all execution listings ≡ Ok final
-  pub run : Run executing_machine (at net execution listed number room) (events ++ rest) put end
+  pub run : Run executing_machine (at net execution handing number room) (events ++ rest) put end
 
-over_none : (net : Plan) (execution final : Execution) (listings : List Listing) (rest : List InputLine) (listed : List PointId) (number room : ℕ) (put : List ℕ) (end : End)
+over_none : (handing : Handing) (net : Plan) (execution final : Execution) (listings : List Listing) (rest : List InputLine) (number room : ℕ) (put : List ℕ) (end : End)
     → execution.refused ≡ None → listings ≡ [] → fed_all execution listings ≡ Ok final
-    → Run executing_machine (at net execution listed number room) rest put end → OverEvents net execution final listings rest number room put end
-over_none net execution final [] rest listed number room put end none nothing fed run =
+    → Run executing_machine (at net execution handing number room) rest put end → OverEvents handing net execution final listings rest number room put end
+over_none handing net execution final [] rest number room put end none nothing fed run =
     let same : execution ≡ final = cc in
     record {
       said = [];
       more = put;
-      listed = listed;
       says = refl;
       all = refl;
-      later = subst (λ (e : Execution). Run executing_machine (at net e listed number room) rest put end) same run;
+      later = subst (λ (e : Execution). Run executing_machine (at net e handing number room) rest put end) same run;
       none = subst (λ (e : Execution). e.refused ≡ None) same none;
     }
-over_none net execution final (listing ∷ others) rest listed number room put end none nothing fed run = absurd cc
+over_none handing net execution final (listing ∷ others) rest number room put end none nothing fed run = absurd cc
 
 -- the decision of a line that ends a run, by what it tells
 abbrev pub Decides : Execution → EventLine → End → Type 0
@@ -114,40 +113,40 @@ Decides final (completed moment points) end = (cause : Why) × (taken final mome
 Decides final done end = ((first_open final ≡ None) × (end ≡ ends.Done)) ⊎ ((point : PointId) × (first_open final ≡ Some point) × (end ≡ ends.EventRefused))
 
 -- what comes next ends a run so: a line tells what is decided so, or there is a fault
-abbrev pub IsDecided : Plan → Execution → (number room : ℕ) → List InputLine → End → Type 0
-IsDecided net final number room rest end =
-    ((last : InputLine) × (others : List InputLine) × (told : EventLine) × (rest ≡ last ∷ others) × (coming most_line room last ≡ Comes) × IsLine net told last.text × Decides final told end)
+abbrev pub IsDecided : Handing → Plan → Execution → (number room : ℕ) → List InputLine → End → Type 0
+IsDecided handing net final number room rest end =
+    ((last : InputLine) × (others : List InputLine) × (told : EventLine) × (rest ≡ last ∷ others) × (coming most_line room last ≡ Comes) × Tells handing net told last.text × Decides final told end)
     ⊎ ((fault : Fault) × IsNextFault net (number + 1) room rest fault × (end ≡ fault_end fault))
 
 -- a run ends after lines that list a stream
-pub record EndsAt (net : Plan) (lines : List InputLine) (number room : ℕ) (execution : Execution) (end : End) : Type 0 where
+pub record EndsAt (handing : Handing) (net : Plan) (lines : List InputLine) (number room : ℕ) (execution : Execution) (end : End) : Type 0 where
   pub events : List InputLine
   pub rest : List InputLine
   pub listings : List Listing
   pub final : Execution
   pub divided : lines ≡ events ++ rest
   pub come : Come room events
-  pub lists : ListLines net (texts events) listings
+  pub lists : ListLines handing net (texts events) listings
   pub fed : fed_all execution listings ≡ Ok final
-  pub decided : IsDecided net final (number + length events) (room_after room events) rest end
+  pub decided : IsDecided handing net final (number + length events) (room_after room events) rest end
 
-module _ (reading : (net : Plan) (line : List (List ℕ)) → OneReading net line) (net : Plan) where
+module _ (reading : (net : Plan) (line : List (List ℕ)) → OneReading net line) (handing : Handing) (net : Plan) where
   module _ (line : InputLine) (events rest : List InputLine) (final : Execution) (number room : ℕ) (end : End) (comes : coming most_line room line ≡ Comes) where
     -- what the run is over the lines after one
     abbrev OverOthers : Type 0
     OverOthers =
-        (others : List Listing) (next : Execution) (points : List PointId) (more : List ℕ) → RunsOver net next final others events rest points (number + 1) (room - line_size line) more end
-        → OverEvents net next final others rest (number + 1 + length events) (room_after (room - line_size line) events) more end
+        (others : List Listing) (next : Execution) (more : List ℕ) → RunsOver handing net next final others events rest (number + 1) (room - line_size line) more end
+        → OverEvents handing net next final others rest (number + 1 + length events) (room_after (room - line_size line) events) more end
 
-    over_line : (listings : List Listing) (execution : Execution) (listed : List PointId) (put : List ℕ) → RunsOver net execution final listings (line ∷ events) rest listed number room put end → OverOthers
-        → OverEvents net execution final listings rest (number + 1 + length events) (room_after (room - line_size line) events) put end
-    over_line listings execution listed put over later = by_line over.lists
+    over_line : (listings : List Listing) (execution : Execution) (put : List ℕ) → RunsOver handing net execution final listings (line ∷ events) rest number room put end → OverOthers
+        → OverEvents handing net execution final listings rest (number + 1 + length events) (room_after (room - line_size line) events) put end
+    over_line listings execution put over later = by_line over.lists
       where
-        by_line : ListLines net (texts (line ∷ events)) listings → OverEvents net execution final listings rest (number + 1 + length events) (room_after (room - line_size line) events) put end
+        by_line : ListLines handing net (texts (line ∷ events)) listings → OverEvents handing net execution final listings rest (number + 1 + length events) (room_after (room - line_size line) events) put end
         by_line (inl (is, lists)) =
-            later listings execution listed put (record { none = over.none; lists = lists; fed = over.fed; run = one_blank reading net execution listed number room over.none line (events ++ rest) put end comes over.run is })
+            later listings execution put (record { none = over.none; lists = lists; fed = over.fed; run = one_blank reading net execution handing number room over.none line (events ++ rest) put end comes over.run is })
         by_line (inr (moment, points, others, is, same, lists)) =
-            subst (λ (ls : List Listing). OverEvents net execution final ls rest (number + 1 + length events) (room_after (room - line_size line) events) put end) (sym same)
+            subst (λ (ls : List Listing). OverEvents handing net execution final ls rest (number + 1 + length events) (room_after (room - line_size line) events) put end) (sym same)
             (by (taken execution moment points) refl)
           where
             first : Listing
@@ -157,16 +156,15 @@ module _ (reading : (net : Plan) (line : List (List ℕ)) → OneReading net lin
             all_fed = subst (λ (ls : List Listing). fed_all execution ls ≡ Ok final) same over.fed
 
             by : (result : Result Moments Why) → taken execution moment points ≡ result
-                → OverEvents net execution final (first ∷ others) rest (number + 1 + length events) (room_after (room - line_size line) events) put end
+                → OverEvents handing net execution final (first ∷ others) rest (number + 1 + length events) (room_after (room - line_size line) events) put end
             by (Err cause) takes = absurd (cc (fed_stops execution first others cause takes, all_fed))
             by (Ok moments) takes =
-                let went = one_feed reading net execution listed number room over.none line (events ++ rest) put end comes over.run moment points moments is takes in
-                let on = later others (after_feed execution moment moments) points went.1 (record { none = over.none; lists = lists; fed = sym (fed_step execution first others moments takes) ∙ all_fed; run = went.4 }) in
+                let went = one_feed reading net execution handing number room over.none line (events ++ rest) put end comes over.run moment points moments is takes in
+                let on = later others (after_feed execution moment moments) went.1 (record { none = over.none; lists = lists; fed = sym (fed_step execution first others moments takes) ∙ all_fed; run = went.4 }) in
                 let before : List ℕ = acts_text net (after_feed execution moment moments).acts in
                 record {
                   said = before ++ (due_line went.0 ++ on.said);
                   more = on.more;
-                  listed = on.listed;
                   says = (moments, went.0, on.said, takes, went.2, refl, on.says);
                   all =
                       went.3 ∙ (ap (λ (s : List ℕ). before ++ (due_line went.0 ++ s)) on.all
@@ -176,21 +174,21 @@ module _ (reading : (net : Plan) (line : List (List ℕ)) → OneReading net lin
                 }
 
   -- a run goes over lines that list a stream whose feeds are all taken
-  pub over_events : (events rest : List InputLine) (listings : List Listing) (execution final : Execution) (listed : List PointId) (number room : ℕ) (put : List ℕ) (end : End)
-      → Come room events → RunsOver net execution final listings events rest listed number room put end
-      → OverEvents net execution final listings rest (number + length events) (room_after room events) put end
-  over_events [] rest listings execution final listed number room put end come over =
+  pub over_events : (events rest : List InputLine) (listings : List Listing) (execution final : Execution) (number room : ℕ) (put : List ℕ) (end : End)
+      → Come room events → RunsOver handing net execution final listings events rest number room put end
+      → OverEvents handing net execution final listings rest (number + length events) (room_after room events) put end
+  over_events [] rest listings execution final number room put end come over =
       let same : number ≡ number + 0 = omega arith in
-      subst (λ (n : ℕ). OverEvents net execution final listings rest n room put end) same
-      (over_none net execution final listings rest listed number room put end over.none over.lists over.fed over.run)
-  over_events (line ∷ events) rest listings execution final listed number room put end come over =
+      subst (λ (n : ℕ). OverEvents handing net execution final listings rest n room put end) same
+      (over_none handing net execution final listings rest number room put end over.none over.lists over.fed over.run)
+  over_events (line ∷ events) rest listings execution final number room put end come over =
       let same : number + 1 + length events ≡ number + length (line ∷ events) = omega arith in
-      subst (λ (n : ℕ). OverEvents net execution final listings rest n (room_after (room - line_size line) events) put end) same
-      (over_line line events rest final number room end come.0 listings execution listed put over
-      (λ others next points more on. over_events events rest others next final points (number + 1) (room - line_size line) more end come.1 on))
+      subst (λ (n : ℕ). OverEvents handing net execution final listings rest n (room_after (room - line_size line) events) put end) same
+      (over_line line events rest final number room end come.0 listings execution put over
+      (λ others next more on. over_events events rest others next final (number + 1) (room - line_size line) more end come.1 on))
 
   -- ---- how a run ends
-  ends_here : (lines : List InputLine) (number room : ℕ) (execution : Execution) (end : End) → IsDecided net execution number room lines end → EndsAt net lines number room execution end
+  ends_here : (lines : List InputLine) (number room : ℕ) (execution : Execution) (end : End) → IsDecided handing net execution number room lines end → EndsAt handing net lines number room execution end
   ends_here lines number room execution end decided =
       let same : number ≡ number + 0 = omega arith in
       record {
@@ -202,19 +200,19 @@ module _ (reading : (net : Plan) (line : List (List ℕ)) → OneReading net lin
         come = tt;
         lists = refl;
         fed = refl;
-        decided = subst (λ (n : ℕ). IsDecided net execution n room lines end) same decided;
+        decided = subst (λ (n : ℕ). IsDecided handing net execution n room lines end) same decided;
       }
 
   -- one line more lists so, and one feed more is taken so
   abbrev ListsMore : InputLine → (List Listing → List Listing) → Type 0
-  ListsMore line listings = (lines : List (List ℕ)) (others : List Listing) → ListLines net lines others → ListLines net (line.text ∷ lines) (listings others)
+  ListsMore line listings = (lines : List (List ℕ)) (others : List Listing) → ListLines handing net lines others → ListLines handing net (line.text ∷ lines) (listings others)
 
   abbrev FeedsMore : Execution → Execution → (List Listing → List Listing) → Type 0
   FeedsMore execution next listings = (others : List Listing) (final : Execution) → fed_all next others ≡ Ok final → fed_all execution (listings others) ≡ Ok final
 
   after_line : (line : InputLine) (lines : List InputLine) (number room : ℕ) (execution next : Execution) (listings : List Listing → List Listing) (end : End)
       → coming most_line room line ≡ Comes
-      → ListsMore line listings → FeedsMore execution next listings → EndsAt net lines (number + 1) (room - line_size line) next end → EndsAt net (line ∷ lines) number room execution end
+      → ListsMore line listings → FeedsMore execution next listings → EndsAt handing net lines (number + 1) (room - line_size line) next end → EndsAt handing net (line ∷ lines) number room execution end
   after_line line lines number room execution next listings end comes lists fed one =
       let same : number + 1 + length one.events ≡ number + length (line ∷ one.events) = omega arith in
       record {
@@ -226,80 +224,87 @@ module _ (reading : (net : Plan) (line : List (List ℕ)) → OneReading net lin
         come = (comes, one.come);
         lists = lists (texts one.events) one.listings one.lists;
         fed = fed one.listings one.final one.fed;
-        decided = subst (λ (n : ℕ). IsDecided net one.final n (room_after (room - line_size line) one.events) one.rest end) same one.decided;
+        decided = subst (λ (n : ℕ). IsDecided handing net one.final n (room_after (room - line_size line) one.events) one.rest end) same one.decided;
       }
 
   told_here : (line : InputLine) (lines : List InputLine) (number room : ℕ) (execution : Execution) (end : End) (told : EventLine) → coming most_line room line ≡ Comes
-      → IsLine net told line.text
-      → Decides execution told end → EndsAt net (line ∷ lines) number room execution end
+      → Tells handing net told line.text
+      → Decides execution told end → EndsAt handing net (line ∷ lines) number room execution end
   told_here line lines number room execution end told comes is decides = ends_here (line ∷ lines) number room execution end (inl (line, lines, told, refl, comes, is, decides))
 
   -- a line tells something, or has a fault
   abbrev TellsOrFails : InputLine → Type 0
-  TellsOrFails line = ((told : EventLine) × AreWordsOf net told (words line.text)) ⊎ ((kind : FormatKind) × IsFaultOfWords net (words line.text) kind)
+  TellsOrFails line = ((told : EventLine) × Tells handing net told line.text) ⊎ ((kind : FormatKind) × IsFaultOf net line.text kind)
+
+  tells_or_fails : (line : InputLine) → TellsOrFails line
+  tells_or_fails line = by (reading net (words line.text)).either
+    where
+      by : ((told : EventLine) × AreWordsOf net told (words line.text)) ⊎ ((kind : FormatKind) × IsFaultOfWords net (words line.text) kind) → TellsOrFails line
+      by (inl (read, is)) = inl (handed_line handing read, (read, is, refl))
+      by (inr fault) = inr fault
 
   -- a run of an execution over lines, and how each ends over the lines after one
-  abbrev Runs : Execution → List PointId → ℕ → ℕ → List InputLine → List ℕ → End → Type 0
-  Runs execution listed number room lines put end = Run executing_machine (at net execution listed number room) lines put end
+  abbrev Runs : Execution → ℕ → ℕ → List InputLine → List ℕ → End → Type 0
+  Runs execution number room lines put end = Run executing_machine (at net execution handing number room) lines put end
 
   abbrev EachEnds : InputLine → List InputLine → ℕ → ℕ → End → Type 0
   EachEnds line lines number room end =
-      (next : Execution) (points : List PointId) (more : List ℕ) → next.refused ≡ None
-      → Runs next points (number + 1) (room - line_size line) lines more end → EndsAt net lines (number + 1) (room - line_size line) next end
+      (next : Execution) (more : List ℕ) → next.refused ≡ None
+      → Runs next (number + 1) (room - line_size line) lines more end → EndsAt handing net lines (number + 1) (room - line_size line) next end
 
-  line_ends : (line : InputLine) (lines : List InputLine) (execution : Execution) (listed : List PointId) (number room : ℕ) (put : List ℕ) (end : End) (how : Coming)
+  line_ends : (line : InputLine) (lines : List InputLine) (execution : Execution) (number room : ℕ) (put : List ℕ) (end : End) (how : Coming)
       → execution.refused ≡ None → coming most_line room line ≡ how
-      → TellsOrFails line → Runs execution listed number room (line ∷ lines) put end → EachEnds line lines number room end
-      → EndsAt net (line ∷ lines) number room execution end
-  line_ends line lines execution listed number room put end Comes none comes (inl (blank, is)) run later =
+      → TellsOrFails line → Runs execution number room (line ∷ lines) put end → EachEnds line lines number room end
+      → EndsAt handing net (line ∷ lines) number room execution end
+  line_ends line lines execution number room put end Comes none comes (inl (blank, is)) run later =
       after_line line lines number room execution execution (λ others. others) end comes (λ lines others lists. inl (is, lists)) (λ others final fed. fed)
-      (later execution listed put none (one_blank reading net execution listed number room none line lines put end comes run is))
-  line_ends line lines execution listed number room put end Comes none comes (inl (completed moment points, is)) run later = by (taken execution moment points) refl
+      (later execution put none (one_blank reading net execution handing number room none line lines put end comes run is))
+  line_ends line lines execution number room put end Comes none comes (inl (completed moment points, is)) run later = by (taken execution moment points) refl
     where
       listing : Listing
       listing = record { moment = moment; points = points }
 
-      by : (result : Result Moments Why) → taken execution moment points ≡ result → EndsAt net (line ∷ lines) number room execution end
+      by : (result : Result Moments Why) → taken execution moment points ≡ result → EndsAt handing net (line ∷ lines) number room execution end
       by (Err cause) refuses =
           told_here line lines number room execution end (completed moment points) comes is
-          (cause, refuses, (one_refused reading net execution listed number room none line lines put end comes run moment points cause is refuses).1)
+          (cause, refuses, (one_refused reading net execution handing number room none line lines put end comes run moment points cause is refuses).1)
       by (Ok moments) takes =
-          let went = one_feed reading net execution listed number room none line lines put end comes run moment points moments is takes in
+          let went = one_feed reading net execution handing number room none line lines put end comes run moment points moments is takes in
           after_line line lines number room execution (after_feed execution moment moments) (λ others. listing ∷ others) end comes
           (λ lines others lists. inr (moment, points, others, is, refl, lists)) (λ others final fed. fed_step execution listing others moments takes ∙ fed)
-          (later (after_feed execution moment moments) points went.1 none went.4)
-  line_ends line lines execution listed number room put end Comes none comes (inl (done, is)) run later = by (first_open execution) refl
+          (later (after_feed execution moment moments) went.1 none went.4)
+  line_ends line lines execution number room put end Comes none comes (inl (done, is)) run later = by (first_open execution) refl
     where
-      by : (first : Option PointId) → first_open execution ≡ first → EndsAt net (line ∷ lines) number room execution end
+      by : (first : Option PointId) → first_open execution ≡ first → EndsAt handing net (line ∷ lines) number room execution end
       by None closed =
-          told_here line lines number room execution end done comes is (inl (closed, (one_done reading net execution listed number room none line lines put end comes run is closed).3))
+          told_here line lines number room execution end done comes is (inl (closed, (one_done reading net execution handing number room none line lines put end comes run is closed).3))
       by (Some point) opens =
           told_here line lines number room execution end done comes is
-          (inr (point, opens, (one_unfinished reading net execution listed number room none line lines put end comes run point is opens).1))
-  line_ends line lines execution listed number room put end Comes none comes (inr (kind, fault)) run later =
+          (inr (point, opens, (one_unfinished reading net execution handing number room none line lines put end comes run point is opens).1))
+  line_ends line lines execution number room put end Comes none comes (inr (kind, fault)) run later =
       ends_here (line ∷ lines) number room execution end
-      (inr (Format (number + 1) kind, inr (inr (kind, comes, fault, refl)), (one_fault reading net execution listed number room none line lines put end comes run kind fault).1))
-  line_ends line lines execution listed number room put end TooLong none comes either run later =
-      ends_here (line ∷ lines) number room execution end (inr (LongLine (number + 1), inl (comes, refl), (too_long net execution listed number room line lines put end comes run).1))
-  line_ends line lines execution listed number room put end TooMuch none comes either run later =
-      ends_here (line ∷ lines) number room execution end (inr (MuchInput (number + 1), inr (inl (comes, refl)), (too_much net execution listed number room line lines put end comes run).1))
+      (inr (Format (number + 1) kind, inr (inr (kind, comes, fault, refl)), (one_fault reading net execution handing number room none line lines put end comes run kind fault).1))
+  line_ends line lines execution number room put end TooLong none comes either run later =
+      ends_here (line ∷ lines) number room execution end (inr (LongLine (number + 1), inl (comes, refl), (too_long net execution handing number room line lines put end comes run).1))
+  line_ends line lines execution number room put end TooMuch none comes either run later =
+      ends_here (line ∷ lines) number room execution end (inr (MuchInput (number + 1), inr (inl (comes, refl)), (too_much net execution handing number room line lines put end comes run).1))
 
   -- a run ends at a line of events that is decided, or by a fault
-  pub ends_so : (lines : List InputLine) (execution : Execution) (listed : List PointId) (number room : ℕ) (put : List ℕ) (end : End) → execution.refused ≡ None
-      → Run executing_machine (at net execution listed number room) lines put end → EndsAt net lines number room execution end
-  ends_so [] execution listed number room put end none run =
-      ends_here [] number room execution end (inr (Format (number + 1) NoEnd, refl, (no_line net execution listed number room put end run).1))
-  ends_so (line ∷ lines) execution listed number room put end none run =
-      line_ends line lines execution listed number room put end (coming most_line room line) none refl (reading net (words line.text)).either run
-      (λ next points more unrefused on. ends_so lines next points (number + 1) (room - line_size line) more end unrefused on)
+  pub ends_so : (lines : List InputLine) (execution : Execution) (number room : ℕ) (put : List ℕ) (end : End) → execution.refused ≡ None
+      → Run executing_machine (at net execution handing number room) lines put end → EndsAt handing net lines number room execution end
+  ends_so [] execution number room put end none run =
+      ends_here [] number room execution end (inr (Format (number + 1) NoEnd, refl, (no_line net execution handing number room put end run).1))
+  ends_so (line ∷ lines) execution number room put end none run =
+      line_ends line lines execution number room put end (coming most_line room line) none refl (tells_or_fails line) run
+      (λ next more unrefused on. ends_so lines next (number + 1) (room - line_size line) more end unrefused on)
 
   -- and where what comes next has a fault, it ends by that
-  pub fault_there : (rest : List InputLine) (execution : Execution) (listed : List PointId) (number room : ℕ) (put : List ℕ) (end : End) (fault : Fault) → execution.refused ≡ None
-      → IsNextFault net (number + 1) room rest fault → Run executing_machine (at net execution listed number room) rest put end → EndsBy fault put end
-  fault_there [] execution listed number room put end fault none is run = subst (λ (f : Fault). EndsBy f put end) (sym is) (no_line net execution listed number room put end run)
-  fault_there (line ∷ rest) execution listed number room put end fault none (inl (long, is)) run =
-      subst (λ (f : Fault). EndsBy f put end) (sym is) (too_long net execution listed number room line rest put end long run)
-  fault_there (line ∷ rest) execution listed number room put end fault none (inr (inl (much, is))) run =
-      subst (λ (f : Fault). EndsBy f put end) (sym is) (too_much net execution listed number room line rest put end much run)
-  fault_there (line ∷ rest) execution listed number room put end fault none (inr (inr (kind, comes, faulty, is))) run =
-      subst (λ (f : Fault). EndsBy f put end) (sym is) (one_fault reading net execution listed number room none line rest put end comes run kind faulty)
+  pub fault_there : (rest : List InputLine) (execution : Execution) (number room : ℕ) (put : List ℕ) (end : End) (fault : Fault) → execution.refused ≡ None
+      → IsNextFault net (number + 1) room rest fault → Run executing_machine (at net execution handing number room) rest put end → EndsBy fault put end
+  fault_there [] execution number room put end fault none is run = subst (λ (f : Fault). EndsBy f put end) (sym is) (no_line net execution handing number room put end run)
+  fault_there (line ∷ rest) execution number room put end fault none (inl (long, is)) run =
+      subst (λ (f : Fault). EndsBy f put end) (sym is) (too_long net execution handing number room line rest put end long run)
+  fault_there (line ∷ rest) execution number room put end fault none (inr (inl (much, is))) run =
+      subst (λ (f : Fault). EndsBy f put end) (sym is) (too_much net execution handing number room line rest put end much run)
+  fault_there (line ∷ rest) execution number room put end fault none (inr (inr (kind, comes, faulty, is))) run =
+      subst (λ (f : Fault). EndsBy f put end) (sym is) (one_fault reading net execution handing number room none line rest put end comes run kind faulty)

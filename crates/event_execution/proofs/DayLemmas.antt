@@ -8,7 +8,7 @@ use Rattle.net_model.specs.declared.ids.PointId.{PointId}
 use Rattle.closure_model.specs.Tables.{Graph}
 use Rattle.strategy_model.specs.Control.{IsEarliest}
 use Rattle.dispatch_net.proofs.ExecutionLemmas.{dispatchable_length}
-use Rattle.event_stream.specs.EventText.{EventLine, blank, completed, done, IsLine}
+use Rattle.event_stream.specs.EventText.{EventLine, blank, completed, done}
 use Rattle.event_stream.specs.Laws.{OneReading}
 use Rattle.execution_model.specs.Acts.{scheduled, ActsAreEarliest, LastActsAreEarliest}
 use Rattle.net_model.specs.Moments.{Moments, moment_of}
@@ -30,7 +30,9 @@ use Rattle.command_engine.specs.declared.endings.End.TheVariants as ends
 use Rattle.event_execution.specs.Day.{ListLines, IsUnfaithfulWith, PutsListings}
 use Rattle.event_execution.specs.Due.{moment_after}
 use Rattle.event_execution.specs.EventAnswers.{acts_text, due_line}
+use Rattle.event_execution.specs.Handing.{Handing, Tells}
 use Rattle.event_execution.proofs.CourseLemmas.{SaysListings, Decides, fed_step, fed_stops, fed_both}
+use Rattle.event_execution.proofs.HandingLemmas.{told_within}
 use Rattle.event_execution.proofs.DueLemmas.{shows_first, fed_moment, due_answered}
 
 -- the laws on which the promise of an execution rests
@@ -43,12 +45,12 @@ pub record ExecutionLaws : Type 0 where
   pub last : LastActsAreEarliest
 
 -- lines of events list no moment beyond the limit
-pub lists_within : (net : Plan) (lines : List (List ℕ)) (listings : List Listing) → ListLines net lines listings → AreWithinLimit listings
-lists_within net [] listings lists = subst AreWithinLimit (sym lists) (All-nil (λ (listing : Listing). listing.moment ≤ most_moment))
-lists_within net (line ∷ lines) listings (inl (is, lists)) = lists_within net lines listings lists
-lists_within net (line ∷ lines) listings (inr (moment, points, others, is, same, lists)) =
+pub lists_within : (handing : Handing) (net : Plan) (lines : List (List ℕ)) (listings : List Listing) → ListLines handing net lines listings → AreWithinLimit listings
+lists_within handing net [] listings lists = subst AreWithinLimit (sym lists) (All-nil (λ (listing : Listing). listing.moment ≤ most_moment))
+lists_within handing net (line ∷ lines) listings (inl (is, lists)) = lists_within handing net lines listings lists
+lists_within handing net (line ∷ lines) listings (inr (moment, points, others, is, same, lists)) =
     subst AreWithinLimit (sym same)
-    (All-cons (λ (listing : Listing). listing.moment ≤ most_moment) (record { moment = moment; points = points }) others is.within (lists_within net lines others lists))
+    (All-cons (λ (listing : Listing). listing.moment ≤ most_moment) (record { moment = moment; points = points }) others (told_within handing net moment points line is) (lists_within handing net lines others lists))
 
 module _ (laws : ExecutionLaws) (net : Plan) (table : Graph) (order : List PointId) (by : IsDispatchedByClosure net table order) where
   abbrev start : Execution
@@ -154,14 +156,14 @@ module _ (laws : ExecutionLaws) (net : Plan) (table : Graph) (order : List Point
   faithful_closed listings final fed = (laws.done net table order listings final by fed).0
 
   -- a run that ends by a refused event ends where a line tells what no faithful stream does
-  pub unfaithful_there : (listings : List Listing) (final : Execution) (told : EventLine) (line : List ℕ) (end : End) → AreWithinLimit listings → IsLine net told line
+  pub unfaithful_there : (handing : Handing) (listings : List Listing) (final : Execution) (told : EventLine) (line : List ℕ) (end : End) → AreWithinLimit listings → Tells handing net told line
       → fed_all start listings ≡ Ok final
       → Decides final told end → end ≡ ends.EventRefused → IsUnfaithfulWith net listings told
-  unfaithful_there listings final blank line end within is fed decides refused = absurd decides
-  unfaithful_there listings final (completed moment points) line end within is fed (cause, refuses, so) refused =
-      refused_unfaithful listings final moment points cause within is.within fed refuses
-  unfaithful_there listings final done line end within is fed (inl (closed, so)) refused = absurd (cc (so, refused))
-  unfaithful_there listings final done line end within is fed (inr (point, opens, so)) refused =
+  unfaithful_there handing listings final blank line end within is fed decides refused = absurd decides
+  unfaithful_there handing listings final (completed moment points) line end within is fed (cause, refuses, so) refused =
+      refused_unfaithful listings final moment points cause within (told_within handing net moment points line is) fed refuses
+  unfaithful_there handing listings final done line end within is fed (inl (closed, so)) refused = absurd (cc (so, refused))
+  unfaithful_there handing listings final done line end within is fed (inr (point, opens, so)) refused =
       λ faithful. let closed = faithful_closed listings final fed faithful in absurd (cc (closed, opens))
 
   -- one that is whole ends where the stream is done, and faithful

@@ -8,7 +8,7 @@ use Rattle.net_model.specs.declared.format.FormatKind.{FormatKind}
 use Rattle.net_model.specs.declared.format.FormatKind.TheVariants.{NoEnd}
 use Rattle.texts.specs.Limits.{most_line}
 use Rattle.plan_port.specs.Lines.{Comes, TooLong, TooMuch, coming}
-use Rattle.event_stream.specs.EventText.{EventLine, blank, completed, done, IsLine, IsFaultOf}
+use Rattle.event_stream.specs.EventText.{EventLine, blank, completed, done, IsFaultOf}
 use Rattle.event_stream.specs.Laws.{OneReading}
 use Rattle.net_model.specs.Moments.{Moments}
 use Rattle.execution_model.specs.Feeding.{Execution, taken, after_feed, IsFed, first_open, IsFinished, IsWhole, IsDueAnswer}
@@ -23,17 +23,19 @@ use Rattle.command_engine.specs.declared.endings.End.TheVariants as ends
 use Rattle.command_engine.specs.declared.machines.Onward.{Onward}
 use Rattle.command_engine.specs.declared.machines.Onward.TheVariants.{Goes, Ends}
 use Rattle.event_execution.specs.Course.{Course}
+use Rattle.event_execution.specs.Handing.{Handing, Tells}
 use Rattle.event_execution.specs.EventAnswers.{acts_text, due_line, complete_line, why_words, unfinished_words, event_line, event_fault_line}
 use Rattle.event_execution.specs.EventFaults.{event_refusal}
 use Rattle.event_execution.specs.Executing.{RefusesEvent, AnswersFeed, AnswersEnd, AnswersEvent, TakesEvent, executing_machine}
 use Rattle.common_answers.specs.Faults.{fault_end}
 use Rattle.common_answers.specs.declared.faults.Fault.{Fault}
 use Rattle.common_answers.specs.declared.faults.Fault.TheVariants.{Format, LineTooLong as LongLine, InputTooMuch as MuchInput}
+use Rattle.event_execution.proofs.HandingLemmas.{told_once, no_fault}
 use Rattle.event_execution.proofs.ReplyLemmas.{Continues, Replied, replied, last_reply}
 
 -- where the execution of a network stands in a run
-abbrev pub at : Plan → Execution → List PointId → (number room : ℕ) → Here Course
-at net execution listed number room = record { state = record { net = net; execution = execution; listed = listed }; number = number; room = room }
+abbrev pub at : Plan → Execution → Handing → (number room : ℕ) → Here Course
+at net execution handing number room = record { state = record { net = net; execution = execution; handing = handing }; number = number; room = room }
 
 -- ---- the answer to what a line tells
 -- a feed, by the refusal so far and the moments that are taken
@@ -77,7 +79,7 @@ module _ (state : Course) (number : ℕ) (none : state.execution.refused ≡ Non
   GoesAfterFeed moment points moments =
       (due : Option ℕ) × IsDueAnswer (after_feed state.execution moment moments) due
       × (answer ≡ acts_text state.net (after_feed state.execution moment moments).acts ++ due_line due)
-      × (onward ≡ Goes (record state { execution = after_feed state.execution moment moments; listed = points }))
+      × (onward ≡ Goes (record state { execution = after_feed state.execution moment moments }))
 
   -- a feed that is taken
   taken_goes : (moment : ℕ) (points : List PointId) (moments : Moments) → taken state.execution moment points ≡ Ok moments
@@ -85,8 +87,8 @@ module _ (state : Course) (number : ℕ) (none : state.execution.refused ≡ Non
       → GoesAfterFeed moment points moments
   taken_goes moment points moments is (answered, after, so, answers) =
       let by = fed_so state.execution moment points answered after (Ok moments) none is so in
-      let there = subst (λ (e : Execution). AnswersFeed state number answered (record state { execution = e; listed = points }) answer onward) by.1 answers in
-      let now = subst (λ (f : Fed). AnswersFeed state number f (record state { execution = after_feed state.execution moment moments; listed = points }) answer onward) by.0 there in
+      let there = subst (λ (e : Execution). AnswersFeed state number answered (record state { execution = e }) answer onward) by.1 answers in
+      let now = subst (λ (f : Fed). AnswersFeed state number f (record state { execution = after_feed state.execution moment moments }) answer onward) by.0 there in
       (now.0, now.1, now.2, now.3)
 
   -- one that is refused ends the run so
@@ -94,14 +96,14 @@ module _ (state : Course) (number : ℕ) (none : state.execution.refused ≡ Non
       → RefusesEvent number (why_words state.net cause) answer onward
   refused_ends moment points cause is (answered, after, so, answers) =
       let by = fed_so state.execution moment points answered after (Err cause) none is so in
-      subst (λ (f : Fed). AnswersFeed state number f (record state { execution = after; listed = points }) answer onward) by.0 answers
+      subst (λ (f : Fed). AnswersFeed state number f (record state { execution = after }) answer onward) by.0 answers
 
   -- an end with no open point: the acts that remain
   done_whole : first_open state.execution ≡ None → AnswersEvent state number done answer onward
       → (after : Execution) × IsWhole state.execution after × (answer ≡ acts_text state.net after.acts ++ complete_line) × (onward ≡ Ends ends.Done)
   done_whole is (answered, after, so, answers) =
       let by = finished_so state.execution answered after None none is so in
-      let now = subst (λ (f : Finished). AnswersEnd state.net number f after answer onward) by.0 answers in
+      let now = subst (λ (f : Finished). AnswersEnd state.net number f after.acts answer onward) by.0 answers in
       (after, by.1, now.0, now.1)
 
   -- one with an open point ends the run as refused
@@ -109,7 +111,7 @@ module _ (state : Course) (number : ℕ) (none : state.execution.refused ≡ Non
       → RefusesEvent number (unfinished_words state.net point) answer onward
   done_unfinished point is (answered, after, so, answers) =
       let by = finished_so state.execution answered after (Some point) none is so in
-      subst (λ (f : Finished). AnswersEnd state.net number f after answer onward) by.0 answers
+      subst (λ (f : Finished). AnswersEnd state.net number f after.acts answer onward) by.0 answers
 
 -- ---- a run over a line, and others
 -- a run ends by a fault, with its line
@@ -121,93 +123,93 @@ abbrev pub EndsRefused : ℕ → (words : List (List ℕ)) → List ℕ → End 
 EndsRefused number words put end = (put ≡ event_line number words) × (end ≡ ends.EventRefused)
 
 -- where no line comes, the run ends by a fault
-pub no_line : (net : Plan) (execution : Execution) (listed : List PointId) (number room : ℕ) (put : List ℕ) (end : End)
-    → Run executing_machine (at net execution listed number room) [] put end → EndsBy (Format (number + 1) NoEnd) put end
-no_line net execution listed number room put end run =
-    let last = last_reply executing_machine (at net execution listed number room) put end run in
+pub no_line : (net : Plan) (execution : Execution) (handing : Handing) (number room : ℕ) (put : List ℕ) (end : End)
+    → Run executing_machine (at net execution handing number room) [] put end → EndsBy (Format (number + 1) NoEnd) put end
+no_line net execution handing number room put end run =
+    let last = last_reply executing_machine (at net execution handing number room) put end run in
     let same : end ≡ last.0 = cc (last.1) in
     (last.2.0, same ∙ last.2.1)
 
-pub too_long : (net : Plan) (execution : Execution) (listed : List PointId) (number room : ℕ) (line : InputLine) (lines : List InputLine) (put : List ℕ) (end : End)
-    → coming most_line room line ≡ TooLong → Run executing_machine (at net execution listed number room) (line ∷ lines) put end → EndsBy (LongLine (number + 1)) put end
-too_long net execution listed number room line lines put end long run =
-    let here = at net execution listed number room in
+pub too_long : (net : Plan) (execution : Execution) (handing : Handing) (number room : ℕ) (line : InputLine) (lines : List InputLine) (put : List ℕ) (end : End)
+    → coming most_line room line ≡ TooLong → Run executing_machine (at net execution handing number room) (line ∷ lines) put end → EndsBy (LongLine (number + 1)) put end
+too_long net execution handing number room line lines put end long run =
+    let here = at net execution handing number room in
     let one = replied executing_machine here line lines put end TooLong long run in
     let on = subst (λ (o : Onward Course). Continues executing_machine here line lines put end o one.answer) one.replies.1 one.on in
     (on.0 ∙ one.replies.2.0, on.1 ∙ one.replies.2.1)
 
-pub too_much : (net : Plan) (execution : Execution) (listed : List PointId) (number room : ℕ) (line : InputLine) (lines : List InputLine) (put : List ℕ) (end : End)
-    → coming most_line room line ≡ TooMuch → Run executing_machine (at net execution listed number room) (line ∷ lines) put end → EndsBy (MuchInput (number + 1)) put end
-too_much net execution listed number room line lines put end much run =
-    let here = at net execution listed number room in
+pub too_much : (net : Plan) (execution : Execution) (handing : Handing) (number room : ℕ) (line : InputLine) (lines : List InputLine) (put : List ℕ) (end : End)
+    → coming most_line room line ≡ TooMuch → Run executing_machine (at net execution handing number room) (line ∷ lines) put end → EndsBy (MuchInput (number + 1)) put end
+too_much net execution handing number room line lines put end much run =
+    let here = at net execution handing number room in
     let one = replied executing_machine here line lines put end TooMuch much run in
     let on = subst (λ (o : Onward Course). Continues executing_machine here line lines put end o one.answer) one.replies.1 one.on in
     (on.0 ∙ one.replies.2.0, on.1 ∙ one.replies.2.1)
 
 module _ (reading : (net : Plan) (line : List (List ℕ)) → OneReading net line) where
   -- what a line tells decides the answer
-  told_answers : (state : Course) (number : ℕ) (told : EventLine) (line answer : List ℕ) (onward : Onward Course) → IsLine state.net told line → TakesEvent state number line answer onward
+  told_answers : (state : Course) (number : ℕ) (told : EventLine) (line answer : List ℕ) (onward : Onward Course) → Tells state.handing state.net told line → TakesEvent state number line answer onward
       → AnswersEvent state number told answer onward
   told_answers state number told line answer onward is (inl (other, also, answers)) =
-      subst (λ (t : EventLine). AnswersEvent state number t answer onward) ((reading state.net (words line)).one_telling other told also is) answers
-  told_answers state number told line answer onward is (inr (kind, fault, puts, so)) = absurd ((reading state.net (words line)).not_both told kind is fault)
+      subst (λ (t : EventLine). AnswersEvent state number t answer onward) (told_once reading state.handing state.net line other told also is) answers
+  told_answers state number told line answer onward is (inr (kind, fault, puts, so)) = absurd (no_fault reading state.handing state.net line told kind is fault)
 
   fault_answers : (state : Course) (number : ℕ) (kind : FormatKind) (line answer : List ℕ) (onward : Onward Course) → IsFaultOf state.net line kind
       → TakesEvent state number line answer onward → (answer ≡ event_fault_line number kind) × (onward ≡ Ends (fault_end (Format number kind)))
-  fault_answers state number kind line answer onward is (inl (told, also, answers)) = absurd ((reading state.net (words line)).not_both told kind also is)
+  fault_answers state number kind line answer onward is (inl (told, also, answers)) = absurd (no_fault reading state.handing state.net line told kind also is)
   fault_answers state number kind line answer onward is (inr (other, fault, puts, so)) =
       let same = (reading state.net (words line)).one_fault other kind fault is in
       (puts ∙ ap (event_fault_line number) same, so ∙ ap (λ (k : FormatKind). Ends (fault_end (Format number k))) same)
 
-  module _ (net : Plan) (execution : Execution) (listed : List PointId) (number room : ℕ) (none : execution.refused ≡ None) (line : InputLine) (lines : List InputLine) (put : List ℕ) (end : End)
-      (comes : coming most_line room line ≡ Comes) (run : Run executing_machine (at net execution listed number room) (line ∷ lines) put end) where
+  module _ (net : Plan) (execution : Execution) (handing : Handing) (number room : ℕ) (none : execution.refused ≡ None) (line : InputLine) (lines : List InputLine) (put : List ℕ) (end : End)
+      (comes : coming most_line room line ≡ Comes) (run : Run executing_machine (at net execution handing number room) (line ∷ lines) put end) where
     abbrev here : Here Course
-    here = at net execution listed number room
+    here = at net execution handing number room
 
     one : Replied executing_machine here line lines put end Comes
     one = replied executing_machine here line lines put end Comes comes run
 
-    tells : (told : EventLine) → IsLine net told line.text → AnswersEvent here.state (number + 1) told one.answer one.onward
+    tells : (told : EventLine) → Tells handing net told line.text → AnswersEvent here.state (number + 1) told one.answer one.onward
     tells told is = told_answers here.state (number + 1) told line.text one.answer one.onward is one.replies
 
     on_as : (onward : Onward Course) → one.onward ≡ onward → Continues executing_machine here line lines put end onward one.answer
     on_as onward is = subst (λ (o : Onward Course). Continues executing_machine here line lines put end o one.answer) is one.on
 
-    pub one_blank : IsLine net blank line.text → Run executing_machine (at net execution listed (number + 1) (room - line_size line)) lines put end
+    pub one_blank : Tells handing net blank line.text → Run executing_machine (at net execution handing (number + 1) (room - line_size line)) lines put end
     one_blank is =
         let answers = tells blank is in
         let on = on_as (Goes here.state) answers.1 in
-        subst (λ (p : List ℕ). Run executing_machine (at net execution listed (number + 1) (room - line_size line)) lines p end) (sym (on.1 ∙ ap (λ (a : List ℕ). a ++ on.0) answers.0)) on.2
+        subst (λ (p : List ℕ). Run executing_machine (at net execution handing (number + 1) (room - line_size line)) lines p end) (sym (on.1 ∙ ap (λ (a : List ℕ). a ++ on.0) answers.0)) on.2
 
     -- what was put for a feed, and the run over the lines after it
     abbrev pub RunsAfterFeed : ℕ → List PointId → Moments → Type 0
     RunsAfterFeed moment points moments =
         (due : Option ℕ) × (more : List ℕ) × IsDueAnswer (after_feed execution moment moments) due
         × (put ≡ acts_text net (after_feed execution moment moments).acts ++ (due_line due ++ more))
-        × Run executing_machine (at net (after_feed execution moment moments) points (number + 1) (room - line_size line)) lines more end
+        × Run executing_machine (at net (after_feed execution moment moments) handing (number + 1) (room - line_size line)) lines more end
 
-    pub one_feed : (moment : ℕ) (points : List PointId) (moments : Moments) → IsLine net (completed moment points) line.text → taken execution moment points ≡ Ok moments
+    pub one_feed : (moment : ℕ) (points : List PointId) (moments : Moments) → Tells handing net (completed moment points) line.text → taken execution moment points ≡ Ok moments
         → RunsAfterFeed moment points moments
     one_feed moment points moments is takes =
         let goes = taken_goes here.state (number + 1) none one.answer one.onward moment points moments takes (tells (completed moment points) is) in
         let on = on_as _ goes.3 in
         (goes.0, on.0, goes.1, on.1 ∙ (ap (λ (a : List ℕ). a ++ on.0) goes.2 ∙ append_assoc (acts_text net (after_feed execution moment moments).acts) (due_line goes.0) on.0), on.2)
 
-    pub one_refused : (moment : ℕ) (points : List PointId) (cause : Why) → IsLine net (completed moment points) line.text → taken execution moment points ≡ Err cause
+    pub one_refused : (moment : ℕ) (points : List PointId) (cause : Why) → Tells handing net (completed moment points) line.text → taken execution moment points ≡ Err cause
         → EndsRefused (number + 1) (why_words net cause) put end
     one_refused moment points cause is refuses =
         let answers = refused_ends here.state (number + 1) none one.answer one.onward moment points cause refuses (tells (completed moment points) is) in
         let on = on_as (Ends ends.EventRefused) answers.1 in
         (on.0 ∙ answers.0, on.1)
 
-    pub one_done : IsLine net done line.text → first_open execution ≡ None
+    pub one_done : Tells handing net done line.text → first_open execution ≡ None
         → (after : Execution) × IsWhole execution after × (put ≡ acts_text net after.acts ++ complete_line) × (end ≡ ends.Done)
     one_done is closed =
         let whole = done_whole here.state (number + 1) none one.answer one.onward closed (tells done is) in
         let on = on_as (Ends ends.Done) whole.3 in
         (whole.0, whole.1, on.0 ∙ whole.2, on.1)
 
-    pub one_unfinished : (point : PointId) → IsLine net done line.text → first_open execution ≡ Some point → EndsRefused (number + 1) (unfinished_words net point) put end
+    pub one_unfinished : (point : PointId) → Tells handing net done line.text → first_open execution ≡ Some point → EndsRefused (number + 1) (unfinished_words net point) put end
     one_unfinished point is opens =
         let answers = done_unfinished here.state (number + 1) none one.answer one.onward point opens (tells done is) in
         let on = on_as (Ends ends.EventRefused) answers.1 in

@@ -12,7 +12,7 @@ use Rattle.strategy_model.specs.Control.{IsControllable, IsEarliest}
 use Rattle.strategy_model.specs.Situations.{Satisfies}
 use Rattle.texts.specs.Limits.{most_line}
 use Rattle.plan_port.specs.Lines.{Comes, coming}
-use Rattle.event_stream.specs.EventText.{EventLine, blank, completed, done, IsLine}
+use Rattle.event_stream.specs.EventText.{EventLine, blank, completed, done}
 use Rattle.execution_model.specs.Acts.{scheduled}
 use Rattle.net_model.specs.Moments.{Moments}
 use Rattle.execution_model.specs.Feeding.{Execution, started, taken, first_open, IsDueAnswer}
@@ -32,6 +32,7 @@ use Rattle.event_execution.specs.Due.{moment_after, AnswersDue}
 use Rattle.event_execution.specs.EventAnswers.{acts_text, due_line, complete_line, why_words, unfinished_words, event_line}
 use Rattle.event_execution.specs.EventFaults.{event_refusal, IsNextFault, HasEventFault}
 use Rattle.event_execution.specs.Executing.{executing_machine}
+use Rattle.event_execution.specs.Handing.{Handing, as_named, Tells}
 use Rattle.event_execution.specs.ExecutionPromise.{PutsLast, IsRefusedBy, EndsRefused, ExecutionPromise}
 use Rattle.common_answers.specs.Faults.{fault_end}
 use Rattle.common_answers.specs.VerdictLines.{controllable_line}
@@ -42,6 +43,7 @@ use Rattle.event_execution.proofs.CourseLemmas.{OverEvents, over_events, Decides
 use Rattle.event_execution.proofs.DayLemmas.{ExecutionLaws, lists_within, puts_listings, all_come, acts_left, faithful_fed, fed_faithful, taken_faithful, closed_faithful, faithful_closed, unfaithful_there, whole_there}
 use Rattle.event_execution.proofs.DueLemmas.{fed_by, due_answered}
 use Rattle.event_execution.proofs.EventLemmas.{at, EndsRefused as RefusesSo, one_refused, one_done, one_unfinished}
+use Rattle.event_execution.proofs.HandingLemmas.{told_within}
 use Rattle.event_execution.proofs.ReplyLemmas.{room_both}
 
 -- a fault ends no run as one whose event is refused, or that is whole
@@ -85,10 +87,10 @@ pub record Opened (net : Plan) (number room : ℕ) (rest : List InputLine) (put 
   pub first : IsDueAnswer (started (setting_of net table)) due
   pub more : List ℕ
   pub all : put ≡ controllable_line ++ (due_line due ++ more)
-  pub later : RunOver executing_machine (at net (started (setting_of net table)) [] number room) rest more end
+  pub later : RunOver executing_machine (at net (started (setting_of net table)) as_named number room) rest more end
 
 -- an execution is opened by these lines, after these bytes: of a controllable network, by its closure; and it goes on over the other lines
-pub record IsOpened (net : Plan) (used rest : List InputLine) (before put : List ℕ) (end : End) : Type 0 where
+pub record IsOpened (handing : Handing) (net : Plan) (used rest : List InputLine) (before put : List ℕ) (end : End) : Type 0 where
   pub controllable : IsControllable net
   pub table : Graph
   pub order : List PointId
@@ -97,7 +99,7 @@ pub record IsOpened (net : Plan) (used rest : List InputLine) (before put : List
   pub first : IsDueAnswer (started (setting_of net table)) due
   pub more : List ℕ
   pub all : put ≡ before ++ (controllable_line ++ (due_line due ++ more))
-  pub later : RunOver executing_machine (at net (started (setting_of net table)) [] (length used) (room_after most_input used)) rest more end
+  pub later : RunOver executing_machine (at net (started (setting_of net table)) handing (length used) (room_after most_input used)) rest more end
 
 module _ (laws : ExecutionLaws) where
   -- the earliest schedule satisfies the network
@@ -108,10 +110,10 @@ module _ (laws : ExecutionLaws) where
 
   -- ---- from the lines of an input
   module _ (opens : Opening) (input : List InputLine) (put : List ℕ) (end : End)
-      (leads : (used rest : List InputLine) (net : Plan) (before : List ℕ) → input ≡ used ++ rest → opens used rest net before → IsControllable net → IsOpened net used rest before put end) where
+      (leads : (used rest : List InputLine) (net : Plan) (before : List ℕ) → input ≡ used ++ rest → opens.opens used rest net before → IsControllable net → IsOpened opens.handing net used rest before put end) where
     module _ (net : Plan) (listings : List Listing) (day : IsUnderway opens input net listings) (controls : IsControllable net) where
-      opened : IsOpened net day.used (day.events ++ day.rest) day.before put end
-      opened = leads day.used (day.events ++ day.rest) net day.before day.divided day.opened controls
+      opened : IsOpened opens.handing net day.lines.used (day.lines.events ++ day.lines.rest) day.lines.before put end
+      opened = leads day.lines.used (day.lines.events ++ day.lines.rest) net day.lines.before day.lines.divided day.lines.opened controls
 
       by_closure : IsDispatchedByClosure net opened.table opened.order
       by_closure = opened.by_closure
@@ -123,26 +125,26 @@ module _ (laws : ExecutionLaws) where
       first_due = due_answered net _ _ by_closure [] first refl refl opened.due opened.first
 
       within : AreWithinLimit listings
-      within = lists_within net (texts day.events) listings day.lists
+      within = lists_within opens.handing net (texts day.lines.events) listings day.lists
 
       -- the execution is fed the stream, and the run goes on
       record FedAll : Type 0 where
         pub final : Execution
         pub fed : fed_all first listings ≡ Ok final
-        pub over : OverEvents net first final listings day.rest (length (day.used ++ day.events)) (room_after most_input (day.used ++ day.events)) opened.more end
+        pub over : OverEvents opens.handing net first final listings day.lines.rest (length (day.lines.used ++ day.lines.events)) (room_after most_input (day.lines.used ++ day.lines.events)) opened.more end
 
       fed_over : IsFaithful net (going_on listings) → FedAll
       fed_over faithful =
           let (final, fed) = faithful_fed laws net _ _ by_closure listings within faithful in
-          let start_room : ℕ = room_after most_input day.used in
-          let over = over_events laws.reading net day.events day.rest listings first final [] (length day.used) start_room opened.more end day.come
+          let start_room : ℕ = room_after most_input day.lines.used in
+          let over = over_events laws.reading opens.handing net day.lines.events day.lines.rest listings first final (length day.lines.used) start_room opened.more end day.lines.come
           (record { none = refl; lists = day.lists; fed = fed; run = opened.later }) in
           record {
             final = final;
             fed = fed;
             over =
-                subst (λ (number : ℕ). OverEvents net first final listings day.rest number (room_after most_input (day.used ++ day.events)) opened.more end) (sym (length-append day.used day.events))
-                (subst (λ (room : ℕ). OverEvents net first final listings day.rest (length day.used + length day.events) room opened.more end) (sym (room_both most_input day.used day.events)) over);
+                subst (λ (number : ℕ). OverEvents opens.handing net first final listings day.lines.rest number (room_after most_input (day.lines.used ++ day.lines.events)) opened.more end) (sym (length-append day.lines.used day.lines.events))
+                (subst (λ (room : ℕ). OverEvents opens.handing net first final listings day.lines.rest (length day.lines.used + length day.lines.events) room opened.more end) (sym (room_both most_input day.lines.used day.lines.events)) over);
           }
 
       -- what is put last by the run over the other lines is put last
@@ -150,20 +152,20 @@ module _ (laws : ExecutionLaws) where
       put_last all line is =
           let said : List ℕ = all.over.said in
           let due : List ℕ = due_line opened.due in (
-            day.before ++ (controllable_line ++ (due ++ said)),
-            opened.all ∙ (ap (λ (m : List ℕ). day.before ++ (controllable_line ++ (due ++ m))) (all.over.all ∙ ap (λ (m : List ℕ). said ++ m) is)
-                ∙ (ap (λ (m : List ℕ). day.before ++ (controllable_line ++ m)) (sym (append_assoc due said line))
-                ∙ (ap (λ (m : List ℕ). day.before ++ m) (sym (append_assoc controllable_line (due ++ said) line)) ∙ sym (append_assoc day.before (controllable_line ++ (due ++ said)) line)))),
+            day.lines.before ++ (controllable_line ++ (due ++ said)),
+            opened.all ∙ (ap (λ (m : List ℕ). day.lines.before ++ (controllable_line ++ (due ++ m))) (all.over.all ∙ ap (λ (m : List ℕ). said ++ m) is)
+                ∙ (ap (λ (m : List ℕ). day.lines.before ++ (controllable_line ++ m)) (sym (append_assoc due said line))
+                ∙ (ap (λ (m : List ℕ). day.lines.before ++ m) (sym (append_assoc controllable_line (due ++ said) line)) ∙ sym (append_assoc day.lines.before (controllable_line ++ (due ++ said)) line)))),
           )
 
       -- a fault of what comes next ends the run so
-      fault_next : FedAll → (fault : Fault) → IsNextFault net (length (day.used ++ day.events) + 1) (room_after most_input (day.used ++ day.events)) day.rest fault
+      fault_next : FedAll → (fault : Fault) → IsNextFault net (length (day.lines.used ++ day.lines.events) + 1) (room_after most_input (day.lines.used ++ day.lines.events)) day.lines.rest fault
           → PutsLast (event_refusal fault) put × (end ≡ fault_end fault)
       fault_next all fault next =
-          let ends = fault_there laws.reading net day.rest all.final all.over.listed (length (day.used ++ day.events)) _ all.over.more end fault all.over.none next all.over.later in
+          let ends = fault_there laws.reading opens.handing net day.lines.rest all.final (length (day.lines.used ++ day.lines.events)) _ all.over.more end fault all.over.none next all.over.later in
           (put_last all (event_refusal fault) ends.0, ends.1)
 
-      puts_so_far : (situation : List ℕ) (fits : Fits net (going_on listings) situation) → PutsSoFar net fits.schedule day.before listings put
+      puts_so_far : (situation : List ℕ) (fits : Fits net (going_on listings) situation) → PutsSoFar net fits.schedule day.lines.before listings put
       puts_so_far situation fits =
           let all = fed_over (situation, fits) in
           record {
@@ -172,15 +174,15 @@ module _ (laws : ExecutionLaws) where
             said = all.over.said;
             more = all.over.more;
             listed = puts_listings laws net _ _ by_closure situation fits.schedule fits.earliest listings [] first all.over.said refl refl fits.shows all.over.says;
-            all = opened.all ∙ ap (λ (m : List ℕ). day.before ++ (controllable_line ++ (due_line opened.due ++ m))) all.over.all;
+            all = opened.all ∙ ap (λ (m : List ℕ). day.lines.before ++ (controllable_line ++ (due_line opened.due ++ m))) all.over.all;
           }
 
-      module _ (last : InputLine) (others : List InputLine) (next : day.rest ≡ last ∷ others)
-          (comes : coming most_line (room_after most_input (day.used ++ day.events)) last ≡ Comes) where
+      module _ (last : InputLine) (others : List InputLine) (next : day.lines.rest ≡ last ∷ others)
+          (comes : coming most_line (room_after most_input (day.lines.used ++ day.lines.events)) last ≡ Comes) where
         later_run : (all : FedAll)
-            → RunOver executing_machine (at net all.final all.over.listed (length (day.used ++ day.events)) (room_after most_input (day.used ++ day.events))) (last ∷ others) all.over.more end
+            → RunOver executing_machine (at net all.final opens.handing (length (day.lines.used ++ day.lines.events)) (room_after most_input (day.lines.used ++ day.lines.events))) (last ∷ others) all.over.more end
         later_run all =
-            let here = at net all.final all.over.listed (length (day.used ++ day.events)) (room_after most_input (day.used ++ day.events)) in
+            let here = at net all.final opens.handing (length (day.lines.used ++ day.lines.events)) (room_after most_input (day.lines.used ++ day.lines.events)) in
             subst (λ (ls : List InputLine). RunOver executing_machine here ls all.over.more end) next all.over.later
 
         -- a line that tells what no faithful stream does ends the run as a refused event, for this cause
@@ -188,9 +190,9 @@ module _ (laws : ExecutionLaws) where
           pub all : FedAll
           pub words : List (List ℕ)
           pub why : IsRefusedBy net all.final told words
-          pub ends_so : RefusesSo (length (day.used ++ day.events) + 1) words all.over.more end
+          pub ends_so : RefusesSo (length (day.lines.used ++ day.lines.events) + 1) words all.over.more end
 
-        refused_there : FedAll → (told : EventLine) → IsLine net told last.text → IsUnfaithfulWith net listings told → RefusedThere told
+        refused_there : FedAll → (told : EventLine) → Tells opens.handing net told last.text → IsUnfaithfulWith net listings told → RefusedThere told
         refused_there all blank is unfaithful = absurd unfaithful
         refused_there all (completed moment points) is unfaithful = by (taken all.final moment points) refl
           where
@@ -199,9 +201,9 @@ module _ (laws : ExecutionLaws) where
               all = all;
               words = why_words net cause;
               why = (cause, refuses, refl);
-              ends_so = one_refused laws.reading net all.final all.over.listed (length (day.used ++ day.events)) _ all.over.none last others all.over.more end comes (later_run all) moment points cause is refuses;
+              ends_so = one_refused laws.reading net all.final opens.handing (length (day.lines.used ++ day.lines.events)) _ all.over.none last others all.over.more end comes (later_run all) moment points cause is refuses;
             }
-            by (Ok moments) takes = absurd (unfaithful (taken_faithful laws net _ _ by_closure listings all.final moment points moments within is.within all.fed takes))
+            by (Ok moments) takes = absurd (unfaithful (taken_faithful laws net _ _ by_closure listings all.final moment points moments within (told_within opens.handing net moment points last.text is) all.fed takes))
         refused_there all done is unfaithful = by (first_open all.final) refl
           where
             by : (open_point : Option PointId) → first_open all.final ≡ open_point → RefusedThere done
@@ -209,17 +211,17 @@ module _ (laws : ExecutionLaws) where
               all = all;
               words = unfinished_words net point;
               why = (point, opens, refl);
-              ends_so = one_unfinished laws.reading net all.final all.over.listed (length (day.used ++ day.events)) _ all.over.none last others all.over.more end comes (later_run all) point is opens;
+              ends_so = one_unfinished laws.reading net all.final opens.handing (length (day.lines.used ++ day.lines.events)) _ all.over.none last others all.over.more end comes (later_run all) point is opens;
             }
             by None shut = absurd (unfaithful (closed_faithful laws net _ _ by_closure listings all.final all.fed shut))
 
         -- the end of a faithful stream makes the execution whole
-        puts_day : IsLine net done last.text → (situation : List ℕ) (fits : Fits net (ended listings) situation) → PutsDay net fits.schedule day.before listings put end
+        puts_day : Tells opens.handing net done last.text → (situation : List ℕ) (fits : Fits net (ended listings) situation) → PutsDay net fits.schedule day.lines.before listings put end
         puts_day is situation fits =
             let shows = done_shows net fits.schedule listings fits.shows in
             let all = fed_over (situation, record { schedule = fits.schedule; earliest = fits.earliest; shows = shows }) in
             let shut = faithful_closed laws net _ _ by_closure listings all.final all.fed (situation, fits) in
-            let whole = one_done laws.reading net all.final all.over.listed (length (day.used ++ day.events)) _ all.over.none last others all.over.more end comes (later_run all) is shut in
+            let whole = one_done laws.reading net all.final opens.handing (length (day.lines.used ++ day.lines.events)) _ all.over.none last others all.over.more end comes (later_run all) is shut in
             let left = acts_left laws net _ _ by_closure situation fits.schedule fits.earliest listings all.final all.fed fits.shows whole.0 whole.1 in
             let rest : all.over.more ≡ acts_text net (scheduled net fits.schedule (moment_after listings) whole.1.count) ++ complete_line =
             whole.2 ∙ ap (λ (acts : List Act). acts_text net acts ++ complete_line) left in
@@ -230,7 +232,7 @@ module _ (laws : ExecutionLaws) where
               count = whole.1.count;
               listed = puts_listings laws net _ _ by_closure situation fits.schedule fits.earliest listings [] first all.over.said refl refl shows all.over.says;
               whole = all_come laws net _ _ by_closure situation fits.schedule fits.earliest listings all.final all.fed fits.shows whole.0 whole.1;
-              all = opened.all ∙ ap (λ (m : List ℕ). day.before ++ (controllable_line ++ (due_line opened.due ++ m))) (all.over.all ∙ ap (λ (m : List ℕ). all.over.said ++ m) rest);
+              all = opened.all ∙ ap (λ (m : List ℕ). day.lines.before ++ (controllable_line ++ (due_line opened.due ++ m))) (all.over.all ∙ ap (λ (m : List ℕ). all.over.said ++ m) rest);
               ends = whole.3;
             }
 
@@ -268,13 +270,13 @@ module _ (laws : ExecutionLaws) where
     pub rest : List InputLine
     pub before : List ℕ
     pub divided : input ≡ used ++ rest
-    pub opened : opens used rest net before
-    pub opening : IsOpened net used rest before put end
-    pub ending : EndsAt net rest (length used) (room_after most_input used) (started (setting_of net opening.table)) end
+    pub opened : opens.opens used rest net before
+    pub opening : IsOpened opens.handing net used rest before put end
+    pub ending : EndsAt opens.handing net rest (length used) (room_after most_input used) (started (setting_of net opening.table)) end
 
   -- every one that is opened ends
-  pub lasts : (opens : Opening) (input used rest : List InputLine) (net : Plan) (before put : List ℕ) (end : End) → input ≡ used ++ rest → opens used rest net before
-      → IsOpened net used rest before put end → Lasts opens input put end
+  pub lasts : (opens : Opening) (input used rest : List InputLine) (net : Plan) (before put : List ℕ) (end : End) → input ≡ used ++ rest → opens.opens used rest net before
+      → IsOpened opens.handing net used rest before put end → Lasts opens input put end
   lasts opens input used rest net before put end divided opened opening = record {
     net = net;
     used = used;
@@ -283,7 +285,7 @@ module _ (laws : ExecutionLaws) where
     divided = divided;
     opened = opened;
     opening = opening;
-    ending = ends_so laws.reading net rest (started (setting_of net opening.table)) [] (length used) (room_after most_input used) opening.more end refl opening.later;
+    ending = ends_so laws.reading opens.handing net rest (started (setting_of net opening.table)) (length used) (room_after most_input used) opening.more end refl opening.later;
   }
 
   module _ (opens : Opening) (input : List InputLine) (put : List ℕ) (end : End) (one : Lasts opens input put end) where
@@ -291,20 +293,22 @@ module _ (laws : ExecutionLaws) where
     closure_of = one.opening.by_closure
 
     within_of : AreWithinLimit one.ending.listings
-    within_of = lists_within one.net (texts one.ending.events) one.ending.listings one.ending.lists
+    within_of = lists_within opens.handing one.net (texts one.ending.events) one.ending.listings one.ending.lists
 
     faithful_of : IsFaithful one.net (going_on one.ending.listings)
     faithful_of = fed_faithful laws one.net _ _ closure_of one.ending.listings one.ending.final within_of one.ending.fed
 
     abbrev underway_of : IsUnderway opens input one.net one.ending.listings
     underway_of = record {
-      used = one.used;
-      events = one.ending.events;
-      rest = one.ending.rest;
-      before = one.before;
-      divided = one.divided ∙ ap (λ (ls : List InputLine). one.used ++ ls) one.ending.divided;
-      opened = subst (λ (ls : List InputLine). opens one.used ls one.net one.before) one.ending.divided one.opened;
-      come = one.ending.come;
+      lines = record {
+        used = one.used;
+        events = one.ending.events;
+        rest = one.ending.rest;
+        before = one.before;
+        divided = one.divided ∙ ap (λ (ls : List InputLine). one.used ++ ls) one.ending.divided;
+        opened = subst (λ (ls : List InputLine). opens.opens one.used ls one.net one.before) one.ending.divided one.opened;
+        come = one.ending.come;
+      };
       lists = one.ending.lists;
     }
 
@@ -322,18 +326,18 @@ module _ (laws : ExecutionLaws) where
     counted_of = ap (λ (n : ℕ). n + 1) (sym (length-append one.used one.ending.events))
 
     day_of : (last : InputLine) (others : List InputLine) (told : EventLine) → one.ending.rest ≡ last ∷ others → coming most_line room_there last ≡ Comes
-        → IsLine one.net told last.text → IsDay opens input one.net one.ending.listings told
+        → Tells opens.handing one.net told last.text → IsDay opens input one.net one.ending.listings told
     day_of last others told next comes is =
         record { underway = underway_of; last = last; others = others; next = next; comes = subst (λ (room : ℕ). coming most_line room last ≡ Comes) left_of comes; tells = is }
 
-    pub whole_by : end ≡ ends.Done → IsDecided one.net one.ending.final number_there room_there one.ending.rest end
+    pub whole_by : end ≡ ends.Done → IsDecided opens.handing one.net one.ending.final number_there room_there one.ending.rest end
         → IsWholeDay opens input one.net one.ending.listings
     whole_by whole (inl (last, others, told, next, comes, is, decides)) =
         let there = whole_there laws one.net _ _ closure_of one.ending.listings one.ending.final told end one.ending.fed decides whole in
         record { day = subst (IsDay opens input one.net one.ending.listings) there.0 (day_of last others told next comes is); controllable = one.opening.controllable; faithful = there.1 }
     whole_by whole (inr (fault, next, is)) = absurd (fault_not fault end is (inr whole))
 
-    pub refused_so : end ≡ ends.EventRefused → IsDecided one.net one.ending.final number_there room_there one.ending.rest end
+    pub refused_so : end ≡ ends.EventRefused → IsDecided opens.handing one.net one.ending.final number_there room_there one.ending.rest end
         → IsRefusedDay opens input
     refused_so refused (inl (last, others, told, next, comes, is, decides)) = record {
       net = one.net;
@@ -342,12 +346,12 @@ module _ (laws : ExecutionLaws) where
       day = day_of last others told next comes is;
       controllable = one.opening.controllable;
       faithful = faithful_of;
-      unfaithful = unfaithful_there laws one.net _ _ closure_of one.ending.listings one.ending.final told last.text end within_of is one.ending.fed decides refused;
+      unfaithful = unfaithful_there laws one.net _ _ closure_of opens.handing one.ending.listings one.ending.final told last.text end within_of is one.ending.fed decides refused;
     }
     refused_so refused (inr (fault, next, is)) = absurd (fault_not fault end is (inl refused))
 
     pub fault_so : (end ≡ ends.Fault) ⊎ (end ≡ ends.Limit)
-        → IsDecided one.net one.ending.final number_there room_there one.ending.rest end
+        → IsDecided opens.handing one.net one.ending.final number_there room_there one.ending.rest end
         → (fault : Fault) × HasEventFault opens input fault
     fault_so so (inl (last, others, told, next, comes, is, decides)) = absurd (not_decided one.ending.final told end decides so)
     fault_so so (inr (fault, next, is)) = (

@@ -1,16 +1,14 @@
 -- The answers to feeds, to the end and to lines of events, by what the executor and the reader of lines ensure.
-use Rattle.std.proofs.Common.{◌≡◌, ◌⊎◌, inl, inr, ℕ, ◌<◌, List, Option, Some, None, Result, Ok, Err, length, refl, ap, sym, subst, ◌∙◌}
+use Rattle.std.proofs.Common.{◌≡◌, ◌⊎◌, inl, inr, ℕ, ◌<◌, ◌≤◌, List, Option, Some, None, Result, Ok, Err, length, refl, ap, sym, subst, ◌∙◌}
 use Rattle.std.specs.List.{All}
 use Rattle.std.specs.Option.{IfSome}
 use Rattle.net_model.specs.Network.{Plan, IsPoint}
 use Rattle.net_model.specs.declared.ids.PointId.{PointId}
 use Rattle.net_model.specs.declared.format.FormatKind.{FormatKind}
-use Rattle.event_stream.specs.EventText.{completed, said, kept, IsLine, IsFaultOf}
-use Rattle.event_stream.specs.declared.event.Event.{Event}
-use Rattle.event_stream.specs.declared.event.Event.TheVariants.{Blank, At, Done}
+use Rattle.event_stream.specs.EventText.{EventLine, completed, IsLine, IsFaultOf}
 use Rattle.net_model.specs.Moments.{Moments}
 use Rattle.execution_model.specs.Execution.{Setting}
-use Rattle.execution_model.specs.Feeding.{Execution, next_moment, taken, after_feed, IsFed, first_open, IsWhole, IsFinished}
+use Rattle.execution_model.specs.Feeding.{Execution, next_moment, taken, after_feed, IsFed, first_open, IsWhole, IsFinished, IsDueAnswer}
 use Rattle.execution_model.specs.declared.feeding.Act.{Act}
 use Rattle.execution_model.specs.declared.feeding.Why.{Why}
 use Rattle.execution_model.specs.declared.feeding.Fed.{Fed}
@@ -20,12 +18,13 @@ use Rattle.execution_model.specs.declared.feeding.Finished.TheVariants as finish
 use Rattle.command_engine.specs.declared.endings.End.{End}
 use Rattle.command_engine.specs.declared.endings.End.TheVariants as ends
 use Rattle.command_engine.specs.declared.machines.Onward.{Onward}
-use Rattle.command_engine.specs.declared.machines.Onward.TheVariants.{Ends}
-use Rattle.event_execution.specs.Course.{Course}
-use Rattle.event_execution.specs.EventAnswers.{why_words, event_line, event_fault_line, NamesPoints}
-use Rattle.event_execution.specs.Executing.{AnswersEvent, EndsAmong, TakesEvent}
+use Rattle.command_engine.specs.declared.machines.Onward.TheVariants.{Goes, Ends}
+use Rattle.event_execution.specs.Course.{Course, course_of}
+use Rattle.event_execution.specs.EventAnswers.{event_fault_line, NamesPoints}
+use Rattle.event_execution.specs.Executing.{AnswersEvent, EndsAmong, FeedsAmong, PutsFed, TakesEvent}
 use Rattle.common_answers.specs.Faults.{fault_end}
 use Rattle.common_answers.specs.declared.faults.Fault.TheVariants.{Format}
+use Rattle.event_execution.proofs.HandingLemmas.{as_it_is}
 use Rattle.event_execution.proofs.CauseLemmas.{IsActOf, acts_while_of_points, fed_acts_of_points, open_point, cause_names}
 
 -- ---- feeds
@@ -70,13 +69,33 @@ module _ (execution : Execution) (moment : ℕ) (listed : List PointId) (answer 
           let one : cause ≡ why = cc in
           subst (NamesPoints net) one (cause_names net execution same moment listed cause all took)
 
-pub refused_answers : (state : Course) (number moment : ℕ) (answer : Fed) (after : Execution) (why : Why) (put : List ℕ) (end : End) → IsFed state.execution moment state.listed answer after
-    → (answer ≡ fed.Refused why) ⊎ (answer ≡ fed.Ended why) → put ≡ event_line number (why_words state.net why) → end ≡ ends.EventRefused
-    → AnswersEvent state number (completed moment state.listed) put (Ends end)
-refused_answers state number moment answer after why put end is (inl so) puts ended =
-    (fed.Refused why, after, subst (λ (f : Fed). IsFed state.execution moment state.listed f after) so is, (puts, ap (λ (e : End). Ends e) ended))
-refused_answers state number moment answer after why put end is (inr so) puts ended =
-    (fed.Ended why, after, subst (λ (f : Fed). IsFed state.execution moment state.listed f after) so is, (puts, ap (λ (e : End). Ends e) ended))
+-- what a feed of an execution of a network speaks of are points of the network
+pub feeds_among : (net : Plan) (execution : Execution) (moment : ℕ) (listed : List PointId) (answer : Fed) (after : Execution) → execution.refused ≡ None
+    → length execution.setting.dispatch ≡ length net.points → All (IsPoint net) listed → IsFed execution moment listed answer after → length after.acts ≤ length after.setting.dispatch
+    → FeedsAmong net answer after.acts
+feeds_among net execution moment listed fed.Acts after going same all is few =
+    let taken = fed_acts execution moment listed fed.Acts after going is refl in (
+      subst (λ (n : ℕ). length after.acts ≤ n) (ap (λ (s : Setting). length s.dispatch) taken.setting ∙ same) few,
+      subst (λ (n : ℕ). All (λ (act : Act). act.point.0 < n) after.acts) same taken.acts,
+    )
+feeds_among net execution moment listed (fed.Refused why) after going same all is few = fed_cause execution moment listed (fed.Refused why) after going net why same all is (inl refl)
+feeds_among net execution moment listed (fed.Ended why) after going same all is few = fed_cause execution moment listed (fed.Ended why) after going net why same all is (inr refl)
+
+-- how a run goes on after a feed that ends it so, or does not
+abbrev pub onward_of : Course → Execution → Option End → Onward Course
+onward_of state after None = Goes (record state { execution = after })
+onward_of state after (Some end) = Ends end
+
+-- what is put for a feed is the answer to a line that tells it
+pub fed_answers : (state : Course) (number moment : ℕ) (listed : List PointId) (answer : Fed) (after : Execution) (due : Option ℕ) (put : List ℕ) (ended : Option End)
+    → IsFed state.execution moment listed answer after → IsDueAnswer after due → PutsFed state.net number answer after.acts due put ended
+    → AnswersEvent state number (completed moment listed) put (onward_of state after ended)
+fed_answers state number moment listed fed.Acts after due put None is next puts = (fed.Acts, after, is, (due, next, puts.0, refl))
+fed_answers state number moment listed fed.Acts after due put (Some end) is next puts = absurd (cc (puts.1))
+fed_answers state number moment listed (fed.Refused why) after due put None is next puts = absurd (cc (puts.1))
+fed_answers state number moment listed (fed.Refused why) after due put (Some end) is next puts = let same : end ≡ ends.EventRefused = cc (puts.1) in (fed.Refused why, after, is, (puts.0, ap (λ (e : End). Ends e) same))
+fed_answers state number moment listed (fed.Ended why) after due put None is next puts = absurd (cc (puts.1))
+fed_answers state number moment listed (fed.Ended why) after due put (Some end) is next puts = let same : end ≡ ends.EventRefused = cc (puts.1) in (fed.Ended why, after, is, (puts.0, ap (λ (e : End). Ends e) same))
 
 -- ---- the end
 module _ (execution : Execution) (answer : Finished) (after : Execution) (going : execution.refused ≡ None) where
@@ -112,37 +131,27 @@ module _ (execution : Execution) (answer : Finished) (after : Execution) (going 
 
 -- what the end of an execution of a network speaks of are points of the network
 pub ends_among : (net : Plan) (execution : Execution) (answer : Finished) (after : Execution) → execution.refused ≡ None → length execution.setting.dispatch ≡ length net.points
-    → IsFinished execution answer after → (length after.setting.dispatch ≡ length net.points) × EndsAmong net answer after
-ends_among net execution answer after going same is = by (first_open execution) answer refl (finished_by execution answer after going is)
+    → IsFinished execution answer after → length after.acts ≤ length after.setting.dispatch → EndsAmong net answer after.acts
+ends_among net execution answer after going same is few = by (first_open execution) answer refl (finished_by execution answer after going is)
   where
-    by : (o : Option PointId) (a : Finished) → a ≡ answer → FinishedBy execution answer after going o → (length after.setting.dispatch ≡ length net.points) × EndsAmong net a after
+    by : (o : Option PointId) (a : Finished) → a ≡ answer → FinishedBy execution answer after going o → EndsAmong net a after.acts
     by None finished.Complete so finished_so =
-        let (acts, setting) = finished_acts execution answer after going is (sym so) in
-        (ap (λ (s : Setting). length s.dispatch) setting ∙ same, subst (λ (n : ℕ). All (λ (act : Act). act.point.0 < n) after.acts) same acts)
+        let (acts, setting) = finished_acts execution answer after going is (sym so) in (
+          subst (λ (n : ℕ). length after.acts ≤ n) (ap (λ (s : Setting). length s.dispatch) setting ∙ same) few,
+          subst (λ (n : ℕ). All (λ (act : Act). act.point.0 < n) after.acts) same acts,
+        )
     by (Some first) (finished.Unfinished point) so (unfinished, kept) =
-        (ap (λ (e : Execution). length e.setting.dispatch) kept ∙ same, subst (λ (n : ℕ). point.0 < n) same (unfinished_point execution answer after going point is (sym so)))
+        subst (λ (n : ℕ). point.0 < n) same (unfinished_point execution answer after going point is (sym so))
     by None (finished.Unfinished point) so (complete, whole) = absurd (cc)
     by None (finished.Ended cause) so (complete, whole) = absurd (cc)
     by (Some first) finished.Complete so (unfinished, kept) = absurd (cc)
     by (Some first) (finished.Ended cause) so (unfinished, kept) = absurd (cc)
 
 -- ---- lines of events
--- a state with other points listed
-abbrev pub with_listed : Course → List PointId → Course
-with_listed state listed = record { net = state.net; execution = state.execution; listed = listed }
-
--- what a line tells is answered by the state in which its points are listed
-pub told_answers : (state : Course) (number : ℕ) (line : List ℕ) (event : Event) (listed : List PointId) (put : List ℕ) (onward : Onward Course)
-    → IsLine state.net (said event listed) line → listed ≡ kept (said event listed) state.listed
-    → AnswersEvent (with_listed state listed) number (said event listed) put onward → TakesEvent state number line put onward
-told_answers state number line Blank listed put onward is same answers =
-    inl (
-      said Blank listed,
-      is,
-      subst (λ (l : List PointId). AnswersEvent (record { net = state.net; execution = state.execution; listed = l }) number (said Blank listed) put onward) same answers,
-    )
-told_answers state number line (At moment) listed put onward is same answers = inl (said (At moment) listed, is, answers)
-told_answers state number line Done listed put onward is same answers = inl (said Done listed, is, answers)
+-- what a line tells is answered so
+pub told_answers : (net : Plan) (execution : Execution) (number : ℕ) (line : List ℕ) (told : EventLine) (put : List ℕ) (onward : Onward Course)
+    → IsLine net told line → AnswersEvent (course_of net execution) number told put onward → TakesEvent (course_of net execution) number line put onward
+told_answers net execution number line told put onward is answers = inl (told, (told, is, as_it_is told), answers)
 
 -- a line that tells nothing is answered by its fault
 pub fault_answers : (state : Course) (number : ℕ) (line : List ℕ) (kind : FormatKind) (put : List ℕ) (end : End) → IsFaultOf state.net line kind

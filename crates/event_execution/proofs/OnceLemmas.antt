@@ -26,12 +26,13 @@ use Rattle.command_engine.specs.Single.{IsSingle}
 use Rattle.command_engine.specs.declared.machines.Onward.{Onward}
 use Rattle.command_engine.specs.declared.machines.Onward.TheVariants.{Goes, Ends}
 use Rattle.common_answers.specs.VerdictLines.{controllable_line}
-use Rattle.event_execution.specs.Course.{Course}
+use Rattle.event_execution.specs.Course.{Course, course_of}
 use Rattle.event_execution.specs.EventAnswers.{acts_text, due_line, event_fault_line}
 use Rattle.event_execution.specs.Executing.{AnswersFeed, AnswersEnd, AnswersEvent, TakesEvent, executing_machine}
 use Rattle.common_answers.specs.Faults.{fault_end}
 use Rattle.common_answers.specs.declared.faults.Fault.TheVariants.{Format}
 use Rattle.event_execution.specs.Begin.{BeginsExecution}
+use Rattle.event_execution.proofs.HandingLemmas.{told_once, no_fault}
 
 -- ---- the next due moment is one
 next_due_one : (execution : Execution) (due other : Option ℕ) → IsNextDue execution due → IsNextDue execution other → due ≡ other
@@ -151,36 +152,36 @@ feed_once state number fed.Acts after a b x y (due, is, put, goes) (other, also,
 feed_once state number (fed.Refused cause) after a b x y one other = (one.0 ∙ sym other.0, one.1 ∙ sym other.1)
 feed_once state number (fed.Ended cause) after a b x y one other = (one.0 ∙ sym other.0, one.1 ∙ sym other.1)
 
-end_once : (state : Course) (number : ℕ) (answered : Finished) (after : Execution) (a b : List ℕ) (x y : Onward Course)
-    → AnswersEnd state.net number answered after a x → AnswersEnd state.net number answered after b y → (a ≡ b) × (x ≡ y)
-end_once state number finished.Complete after a b x y one other = (one.0 ∙ sym other.0, one.1 ∙ sym other.1)
-end_once state number (finished.Unfinished point) after a b x y one other = (one.0 ∙ sym other.0, one.1 ∙ sym other.1)
-end_once state number (finished.Ended cause) after a b x y one other = (one.0 ∙ sym other.0, one.1 ∙ sym other.1)
+end_once : (state : Course) (number : ℕ) (answered : Finished) (acts : List Act) (a b : List ℕ) (x y : Onward Course)
+    → AnswersEnd state.net number answered acts a x → AnswersEnd state.net number answered acts b y → (a ≡ b) × (x ≡ y)
+end_once state number finished.Complete acts a b x y one other = (one.0 ∙ sym other.0, one.1 ∙ sym other.1)
+end_once state number (finished.Unfinished point) acts a b x y one other = (one.0 ∙ sym other.0, one.1 ∙ sym other.1)
+end_once state number (finished.Ended cause) acts a b x y one other = (one.0 ∙ sym other.0, one.1 ∙ sym other.1)
 
 event_once : (state : Course) (number : ℕ) (told : EventLine) (a b : List ℕ) (x y : Onward Course)
     → AnswersEvent state number told a x → AnswersEvent state number told b y → (a ≡ b) × (x ≡ y)
 event_once state number blank a b x y one other = (one.0 ∙ sym other.0, one.1 ∙ sym other.1)
 event_once state number (completed moment points) a b x y (answered, after, is, answers) (other, also, it, others) =
     let same = fed_one state.execution moment points answered other after also is it in
-    let of : Execution → Course = λ execution. record state { execution = execution; listed = points } in
+    let of : Execution → Course = λ execution. record state { execution = execution } in
     let moved : AnswersFeed state number other (of also) a x =
     subst (λ (e : Execution). AnswersFeed state number other (of e) a x) same.1 (subst (λ (f : Fed). AnswersFeed state number f (of after) a x) same.0 answers) in
     feed_once state number other (of also) a b x y moved others
 event_once state number done a b x y (answered, after, is, answers) (other, also, it, others) =
     let same = finished_one state.execution answered other after also is it in
-    let moved : AnswersEnd state.net number other also a x =
-    subst (λ (e : Execution). AnswersEnd state.net number other e a x) same.1 (subst (λ (f : Finished). AnswersEnd state.net number f after a x) same.0 answers) in
-    end_once state number other also a b x y moved others
+    let moved : AnswersEnd state.net number other also.acts a x =
+    subst (λ (e : Execution). AnswersEnd state.net number other e.acts a x) same.1 (subst (λ (f : Finished). AnswersEnd state.net number f after.acts a x) same.0 answers) in
+    end_once state number other also.acts a b x y moved others
 
 -- ---- each line is answered in one way
 module _ (reading : (net : Plan) (line : List (List ℕ)) → OneReading net line) where
   line_once : (state : Course) (number : ℕ) (line a b : List ℕ) (x y : Onward Course)
       → TakesEvent state number line a x → TakesEvent state number line b y → (a ≡ b) × (x ≡ y)
   line_once state number line a b x y (inl (told, is, answers)) (inl (other, it, others)) =
-      let same = (reading state.net (words line)).one_telling told other is it in
+      let same = told_once reading state.handing state.net line told other is it in
       event_once state number other a b x y (subst (λ (t : EventLine). AnswersEvent state number t a x) same answers) others
-  line_once state number line a b x y (inl (told, is, answers)) (inr (kind, it, put, ended)) = absurd ((reading state.net (words line)).not_both told kind is it)
-  line_once state number line a b x y (inr (kind, is, put, ended)) (inl (other, it, others)) = absurd ((reading state.net (words line)).not_both other kind it is)
+  line_once state number line a b x y (inl (told, is, answers)) (inr (kind, it, put, ended)) = absurd (no_fault reading state.handing state.net line told kind is it)
+  line_once state number line a b x y (inr (kind, is, put, ended)) (inl (other, it, others)) = absurd (no_fault reading state.handing state.net line other kind it is)
   line_once state number line a b x y (inr (kind, is, put, ended)) (inr (other, it, also, so)) =
       let same = (reading state.net (words line)).one_fault kind other is it in
       (put ∙ (ap (event_fault_line number) same ∙ sym also), ended ∙ (ap (λ (k : FormatKind). let onward : Onward Course = Ends (fault_end (Format number k)) in onward) same ∙ sym so))
@@ -196,6 +197,6 @@ pub begun_one : (net : Plan) (a b : List ℕ) (x y : Onward Course) → BeginsEx
 begun_one net a b x y one other =
     let same : one.table ≡ other.table = closure_is_one net one.table other.table one.by_closure.closure other.by_closure.closure in
     let from : Graph → Execution = λ table. started (setting_of net table) in
-    let onward : Graph → Onward Course = λ table. Goes (record { net = net; execution = from table; listed = [] }) in
+    let onward : Graph → Onward Course = λ table. Goes (course_of net (from table)) in
     let due = due_one (from other.table) one.due other.due (subst (λ (t : Graph). IsDueAnswer (from t) one.due) same one.first) other.first in
     (one.put ∙ (ap (λ (d : Option ℕ). controllable_line ++ due_line d) due ∙ sym other.put), one.goes ∙ (ap onward same ∙ sym other.goes))

@@ -1,5 +1,5 @@
 -- The first fault of the lines of events of an input, with its line.
-use Rattle.std.specs.Prelude.{◌≡◌, ◌⊎◌, ℕ, ◌+◌, List, [], ◌∷◌, ◌++◌, length}
+use Rattle.std.specs.Prelude.{◌≡◌, ◌⊎◌, ℕ, List, [], ◌∷◌}
 use Rattle.texts.specs.Lines.{InputLine}
 use Rattle.net_model.specs.Network.{Plan}
 use Rattle.net_model.specs.declared.format.FormatKind.{FormatKind}
@@ -10,9 +10,7 @@ use Rattle.plan_port.specs.Lines.{Comes, TooLong, TooMuch, coming}
 use Rattle.event_stream.specs.EventText.{IsFaultOf}
 use Rattle.execution_model.specs.Laws.{going_on}
 use Rattle.execution_model.specs.Streams.{Listing, IsFaithful}
-use Rattle.command_engine.specs.Inputs.{room_after}
-use Rattle.command_engine.specs.Limits.{most_input}
-use Rattle.event_execution.specs.Day.{Opening, IsUnderway}
+use Rattle.event_execution.specs.Day.{Opening, IsUnderway, next_number, room_then}
 use Rattle.event_execution.specs.EventAnswers.{event_fault_line}
 use Rattle.common_answers.specs.Faults.{fault_line}
 use Rattle.common_answers.specs.declared.faults.Fault.{Fault}
@@ -39,4 +37,4 @@ pub record HasEventFault (opens : Opening) (input : List InputLine) (fault : Fau
   pub underway : IsUnderway opens input net listings
   pub controllable : IsControllable net
   pub faithful : IsFaithful net (going_on listings)
-  pub next : IsNextFault net (length (underway.used ++ underway.events) + 1) (room_after most_input (underway.used ++ underway.events)) underway.rest fault
+  pub next : IsNextFault net (next_number underway.lines) (room_then underway.lines) underway.lines.rest fault

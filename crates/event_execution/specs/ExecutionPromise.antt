@@ -29,15 +29,19 @@ IsRefusedBy net execution blank words = ⊥
 IsRefusedBy net execution (completed moment points) words = (cause : Why) × (taken execution moment points ≡ Err cause) × (words ≡ why_words net cause)
 IsRefusedBy net execution done words = (point : PointId) × (first_open execution ≡ Some point) × (words ≡ unfinished_words net point)
 
--- The run ends by a refused event, and the line is put last that refuses the line of events, by its number, with the cause for which the
--- execution, once it was fed the listings before, refuses it.
-pub record EndsRefused {opens : Opening} {input : List InputLine} (refused : IsRefusedDay opens input) (put : List ℕ) (end : End) : Type 0 where
+-- An execution ends by a refused event, and the line is put last that refuses the line of this number, which tells this after these
+-- listings, with the cause for which the execution, once it was fed them, refuses it.
+pub record RefusesLine (net : Plan) (listings : List Listing) (told : EventLine) (number : ℕ) (put : List ℕ) (end : End) : Type 0 where
   pub execution : Execution
-  pub fed : IsFedBy refused.net refused.listings execution
+  pub fed : IsFedBy net listings execution
   pub words : List (List ℕ)
-  pub why : IsRefusedBy refused.net execution refused.told words
-  pub last : PutsLast (event_line (number_of refused) words) put
+  pub why : IsRefusedBy net execution told words
+  pub last : PutsLast (event_line number words) put
   pub ends_so : end ≡ ends.EventRefused
+
+-- the run ends so by the line of an input that is refused
+abbrev pub EndsRefused : {opens : Opening} {input : List InputLine} → IsRefusedDay opens input → (put : List ℕ) → End → Type 0
+EndsRefused refused put end = RefusesLine refused.net refused.listings refused.told (number_of refused) put end
 
 -- What is promised of the executions that lines of an input open. `underway`: while the stream goes on and is faithful, the acts of the
 -- earliest schedule of the situation that the stream fits are put, whatever comes after. `executes`: for a controllable network and a
@@ -46,8 +50,8 @@ pub record EndsRefused {opens : Opening} {input : List InputLine} (refused : IsR
 -- cause, where a line tells what no faithful stream does. `faulty`: it ends by a fault, with its line, where the lines of events have one.
 pub record ExecutionPromise (opens : Opening) (input : List InputLine) (put : List ℕ) (end : End) : Type 0 where
   pub underway : (net : Plan) (listings : List Listing) (situation : List ℕ) → (day : IsUnderway opens input net listings)
-      → (fits : Fits net (going_on listings) situation) → PutsSoFar net fits.schedule day.before listings put
+      → (fits : Fits net (going_on listings) situation) → PutsSoFar net fits.schedule day.lines.before listings put
   pub executes : (net : Plan) (listings : List Listing) (situation : List ℕ) → (whole : IsWholeDay opens input net listings)
-      → (fits : Fits net (ended listings) situation) → Satisfies net fits.schedule × PutsDay net fits.schedule whole.day.underway.before listings put end
+      → (fits : Fits net (ended listings) situation) → Satisfies net fits.schedule × PutsDay net fits.schedule whole.day.underway.lines.before listings put end
   pub refuses : (refused : IsRefusedDay opens input) → EndsRefused refused put end
   pub faulty : (fault : Fault) → HasEventFault opens input fault → PutsLast (event_refusal fault) put × (end ≡ fault_end fault)

@@ -1,3 +1,4 @@
+pub mod Handing
 pub mod Course
 pub mod EventAnswers
 pub mod Executing

@@ -7,7 +7,8 @@ ghost use Rattle.execution_model.specs.Feeding.{started, IsDueAnswer};
 ghost use Rattle.live_executor.specs.Sound.{IsDispatchOf};
 ghost use Rattle.event_stream.specs.EventText.{completed, done, said, HasPoints};
 ghost use Rattle.command_engine.specs.declared.machines.Onward.TheVariants.{Ends};
-ghost use Rattle.event_execution.specs.Executing.{executing_machine, answer_room, AnswersEnd, AnswersEvent, EndsAmong, GoesWith};
+ghost use Rattle.event_execution.specs.Executing.{executing_machine, answer_room, AnswersEnd, AnswersEvent, EndsAmong, FeedsAmong, GoesWith, PutsFed};
+ghost use Rattle.event_execution.specs.Course.{IsCourse, course_of};
 
 use crate::event_answers::{
     MOST_ACT, put_acts, put_complete, put_due, refuse_end, refuse_event, refuse_line,
@@ -16,7 +17,7 @@ use common_answers::stop_fault;
 use command_engine::{Answer, Command, End, LEAST_ROOM, Onward, Refusal, Stop};
 use dispatch_net::Dispatch;
 use event_stream::{Event, EventReader};
-use execution_model::{Fed, Finished};
+use execution_model::{Act, Fed, Finished};
 use live_executor::Executor;
 use net_model::{FormatKind, Network};
 use plan_port::MOST_LINE;
@@ -33,13 +34,13 @@ pub struct Executing {
 }
 
 impl Model for Executing {
-    ghost use Rattle.event_execution.specs.Course.{Course, IsCourse};
+    ghost use Rattle.event_execution.specs.Course.{Course, IsCourse, course_of};
 
     ghost Value = { Course };
 
-    ghost view = { λ executing. record { net = executing.net; execution = executing.executor; listed = executing.events } };
+    ghost view = { λ executing. course_of executing.net executing.executor };
 
-    ghost invariant = { λ executing. IsCourse (record { net = executing.net; execution = executing.executor; listed = executing.events }) };
+    ghost invariant = { λ executing. IsCourse (course_of executing.net executing.executor) };
 }
 
 impl Executing {
@@ -52,7 +53,7 @@ impl Executing {
     ) -> Result<Executing, AllocError>
         requires dispatch { IsDispatchOf net dispatch }
         requires points { length dispatch.made ≡ length net.points }
-        ensures { IfOk result (λ state. state ≡ record { net = net; execution = started (record { links = net.links; dispatch = dispatch.made }); listed = [] }) }
+        ensures { IfOk result (λ state. state ≡ course_of net (started (record { links = net.links; dispatch = dispatch.made }))) }
     {
         let executor = Executor::start(alloc, &net, dispatch)?;
         let events = EventReader::new(alloc)?;
@@ -101,13 +102,8 @@ impl Command for Executing {
             mut events,
         } = self;
         let told = events.read(line, &net);
-        let state = Executing {
-            net,
-            executor,
-            events,
-        };
         match told {
-            Ok(event) => Ok(answer_event(state, answer, number, event)),
+            Ok(event) => Ok(answer_event(net, executor, events, answer, number, event)),
             Err(kind) => Ok(Onward::Ends(refuse_line(answer, number, kind))),
         }
     }
@@ -119,90 +115,118 @@ impl Command for Executing {
     }
 }
 
-/// Answers what a line of events told; the points that it listed are those that were listed last.
+/// Answers what a line of events told, of which the reader has the points that it names.
 fn answer_event(
-    state: Executing,
+    net: Network,
+    executor: Executor,
+    events: EventReader,
     answer: &mut Answer,
     number: u32,
     event: Event,
 ) -> Onward<Executing>
     requires empty { answer.old.text ≡ [] }
-    requires room { answer_room state.net ≤ answer.old.capacity }
-    requires points { HasPoints state.net event state.listed }
-    ensures answers { AnswersEvent state number (said event state.listed) answer.new.text result }
+    requires room { answer_room net ≤ answer.old.capacity }
+    requires course { IsCourse (course_of net executor) }
+    requires points { HasPoints net event events }
+    ensures answers { AnswersEvent (course_of net executor) number (said event events) answer.new.text result }
     ensures capacity { answer.old.capacity ≤ answer.new.capacity }
-    ensures kept { GoesWith state.net result }
+    ensures kept { GoesWith net result }
 {
     match event {
-        Event::Blank => Onward::Goes(state),
-        Event::At(moment) => feed(state, answer, number, moment),
-        Event::Done => Onward::Ends(finish(state, answer, number)),
+        Event::Blank => Onward::Goes(Executing {
+            net,
+            executor,
+            events,
+        }),
+        Event::At(moment) => feed(net, executor, events, answer, number, moment),
+        Event::Done => Onward::Ends(finish(&net, executor, answer, number)),
     }
 }
 
-/// Feeds the points that were listed last, at a moment, and puts the acts and the next due moment, or why the feed is refused.
-fn feed(state: Executing, answer: &mut Answer, number: u32, moment: u64) -> Onward<Executing>
+/// Feeds the points that the reader has, at a moment, and puts the acts and the next due moment, or why the feed is refused.
+fn feed(
+    net: Network,
+    mut executor: Executor,
+    events: EventReader,
+    answer: &mut Answer,
+    number: u32,
+    moment: u64,
+) -> Onward<Executing>
     requires empty { answer.old.text ≡ [] }
-    requires room { answer_room state.net ≤ answer.old.capacity }
-    requires points { All (IsPoint state.net) state.listed }
-    ensures answers { AnswersEvent state number (completed moment state.listed) answer.new.text result }
+    requires room { answer_room net ≤ answer.old.capacity }
+    requires course { IsCourse (course_of net executor) }
+    requires points { All (IsPoint net) events }
+    ensures answers { AnswersEvent (course_of net executor) number (completed moment events) answer.new.text result }
     ensures capacity { answer.old.capacity ≤ answer.new.capacity }
-    ensures kept { GoesWith state.net result }
+    ensures kept { GoesWith net result }
 {
-    let Executing {
-        net,
-        mut executor,
-        events,
-    } = state;
-    match executor.feed(moment, events.completions()) {
-        Fed::Acts => {
-            put_acts(answer, &net, executor.acts());
-            put_due(answer, executor.next_due());
-            Onward::Goes(Executing {
-                net,
-                executor,
-                events,
-            })
-        }
-        Fed::Refused(why) | Fed::Ended(why) => {
-            Onward::Ends(refuse_event(answer, &net, number, why))
-        }
+    let fed = executor.feed(moment, events.completions());
+    match put_fed(answer, &net, number, fed, executor.acts(), executor.next_due()) {
+        None => Onward::Goes(Executing {
+            net,
+            executor,
+            events,
+        }),
+        Some(end) => Onward::Ends(end),
     }
 }
 
 /// Ends the execution, and puts the acts that remain, or why it can't end.
-fn finish(state: Executing, answer: &mut Answer, number: u32) -> End
+fn finish(net: &Network, mut executor: Executor, answer: &mut Answer, number: u32) -> End
     requires empty { answer.old.text ≡ [] }
-    requires room { answer_room state.net ≤ answer.old.capacity }
-    ensures answers { AnswersEvent state number done answer.new.text (Ends result) }
+    requires room { answer_room net.now ≤ answer.old.capacity }
+    requires course { IsCourse (course_of net.now executor) }
+    ensures answers { AnswersEvent (course_of net.now executor) number done answer.new.text (Ends result) }
     ensures capacity { answer.old.capacity ≤ answer.new.capacity }
 {
-    let Executing {
-        net,
-        mut executor,
-        ..
-    } = state;
     let finished = executor.finish();
-    put_end(answer, &net, &executor, number, finished)
+    put_end(answer, net, number, finished, executor.acts())
 }
 
-/// Puts the answer to the end of an execution.
-fn put_end(
+/// Puts the answer to a feed of an execution into the buffer, which is empty: its acts and the next due moment after it, or why it is
+/// refused, in the line of this number. `None` where the execution goes on, else how that ends.
+pub fn put_fed(
     answer: &mut Answer,
     net: &Network,
-    executor: &Executor,
+    number: u32,
+    fed: Fed,
+    acts: &[Act],
+    due: Option<u64>,
+) -> Option<End>
+    requires empty { answer.old.text ≡ [] }
+    requires room { answer_room net.now ≤ answer.old.capacity }
+    requires points { FeedsAmong net.now fed acts.now }
+    ensures answers { PutsFed net.now number fed acts.now due answer.new.text result }
+    ensures capacity { answer.old.capacity ≤ answer.new.capacity }
+{
+    match fed {
+        Fed::Acts => {
+            put_acts(answer, net, acts);
+            put_due(answer, due);
+            None
+        }
+        Fed::Refused(why) | Fed::Ended(why) => Some(refuse_event(answer, net, number, why)),
+    }
+}
+
+/// Puts the answer to the end of an execution into the buffer, which is empty: the acts that remained, or why it can't end, in the line of
+/// this number; and how that ends.
+pub fn put_end(
+    answer: &mut Answer,
+    net: &Network,
     number: u32,
     finished: Finished,
+    acts: &[Act],
 ) -> End
     requires empty { answer.old.text ≡ [] }
     requires room { answer_room net.now ≤ answer.old.capacity }
-    requires points { (length executor.now.setting.dispatch ≡ length net.now.points) × EndsAmong net.now finished executor.now }
-    ensures answers { AnswersEnd net.now number finished executor.now answer.new.text (Ends result) }
+    requires points { EndsAmong net.now finished acts.now }
+    ensures answers { AnswersEnd net.now number finished acts.now answer.new.text (Ends result) }
     ensures capacity { answer.old.capacity ≤ answer.new.capacity }
 {
     match finished {
         Finished::Complete => {
-            put_acts(answer, net, executor.acts());
+            put_acts(answer, net, acts);
             put_complete(answer);
             End::Done
         }

@@ -6,4 +6,4 @@ mod event_answers;
 mod executing;
 
 pub use begin::begin_dispatched;
-pub use executing::Executing;
+pub use executing::{Executing, put_end, put_fed};

@@ -28,6 +28,7 @@ use Rattle.command_engine.specs.declared.endings.End.TheVariants as ends
 use Rattle.command_engine.specs.declared.machines.Onward.{Onward}
 use Rattle.command_engine.proofs.InputLemmas.{IsGivenAt, OutcomeIs, declared_read, outcome_is, outcome_answered}
 use Rattle.command_engine.proofs.PhaseLemmas.{StillServes, answered_so, run_is}
+use Rattle.event_execution.specs.Handing.{as_named}
 use Rattle.event_execution.specs.Day.{IsWholeDay, IsRefusedDay}
 use Rattle.event_execution.specs.EventFaults.{HasEventFault}
 use Rattle.event_execution.specs.Executing.{executing_machine}
@@ -55,7 +56,7 @@ use Rattle.stnu_run.proofs.SessionOnceLemmas.{OneWay, all_once}
 -- ---- places in an input
 -- an execution that begins after some lines is opened by these
 is_opened : (net : Plan) (used rest : List InputLine) (before more put : List ℕ) (end : End) (number room : ℕ) → number ≡ length used → room ≡ room_after most_input used → put ≡ before ++ more → Opened net number room rest more end
-    → IsOpened net used rest before put end
+    → IsOpened as_named net used rest before put end
 is_opened net used rest before more put end number room counted left all opened = record {
   controllable = opened.controllable;
   table = opened.table;
@@ -66,8 +67,8 @@ is_opened net used rest before more put end number room counted left all opened 
   more = opened.more;
   all = all ∙ ap (λ (m : List ℕ). before ++ m) opened.all;
   later =
-      subst (λ (r : ℕ). RunOver executing_machine (at net (started (setting_of net opened.table)) [] (length used) r) rest opened.more end) left
-      (subst (λ (n : ℕ). RunOver executing_machine (at net (started (setting_of net opened.table)) [] n room) rest opened.more end) counted opened.later);
+      subst (λ (r : ℕ). RunOver executing_machine (at net (started (setting_of net opened.table)) as_named (length used) r) rest opened.more end) left
+      (subst (λ (n : ℕ). RunOver executing_machine (at net (started (setting_of net opened.table)) as_named n room) rest opened.more end) counted opened.later);
 }
 
 -- the lines up to `go`
@@ -219,7 +220,7 @@ module _ (form : PlanForm) where
           ((ready_line ++ one.said, one.all ∙ ap (λ (m : List ℕ). (ready_line ++ one.said) ++ m) ended.0), ended.1)
 
       -- `go` on a controllable network opens its execution
-      leads : (used rest : List InputLine) (net : Plan) (before : List ℕ) → input_lines input ≡ used ++ rest → (session_opens form) used rest net before → IsControllable net → IsOpened net used rest before put end
+      leads : (used rest : List InputLine) (net : Plan) (before : List ℕ) → input_lines input ≡ used ++ rest → (session_opens form).opens used rest net before → IsControllable net → IsOpened as_named net used rest before put end
       leads used rest net before divided opens controls =
           let so : IsEdited form (input_lines input) opens.first net opens.steps = record {
             plan = opens.plan;

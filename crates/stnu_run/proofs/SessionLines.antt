@@ -26,6 +26,7 @@ use Rattle.command_engine.specs.declared.endings.End.TheVariants as ends
 use Rattle.command_engine.specs.declared.machines.Onward.{Onward}
 use Rattle.command_engine.specs.declared.machines.Onward.TheVariants.{Goes, Ends}
 use Rattle.command_engine.proofs.WrapLemmas.{Wraps, served_lines, served_run}
+use Rattle.event_execution.specs.Course.{course_of}
 use Rattle.event_execution.specs.EventAnswers.{due_line}
 use Rattle.event_execution.specs.Executing.{executing_machine}
 use Rattle.common_answers.specs.Faults.{fault_line, fault_end}
@@ -170,7 +171,7 @@ pub record EndsSession (standing : Standing) (lines : List InputLine) (number ro
 opened_by : (standing : Standing) (line : InputLine) (lines : List InputLine) (number room : ℕ) (put answer : List ℕ) (onward : Onward InSession) (end : End) → BeginsByGo standing answer onward
     → Continues session_machine (at_edit standing number room) line lines put end onward answer → Opened (net_of standing) (number + 1) (room - line_size line) lines put end
 opened_by standing line lines number room put answer onward end (controls, (inner, begins, is)) continues =
-    let goes : onward ≡ Goes (Executing (record { net = net_of standing; execution = started (setting_of (net_of standing) begins.table); listed = [] })) = is ∙ ap (wrapped Executing) begins.goes in
+    let goes : onward ≡ Goes (Executing (course_of (net_of standing) (started (setting_of (net_of standing) begins.table)))) = is ∙ ap (wrapped Executing) begins.goes in
     let on = subst (λ (o : Onward InSession). Continues session_machine (at_edit standing number room) line lines put end o answer) goes continues in
     record {
       controllable = controls;

@@ -19,6 +19,7 @@ use Rattle.command_engine.specs.Limits.{most_input}
 use Rattle.command_engine.specs.declared.endings.End.{End}
 use Rattle.command_engine.specs.declared.endings.End.TheVariants as ends
 use Rattle.stnu_run.specs.Causes.{Causes, IsTextRefused, IsDayRefused}
+use Rattle.event_execution.specs.Handing.{as_named}
 use Rattle.event_execution.specs.Day.{Opening, IsWholeDay, IsRefusedDay}
 use Rattle.event_execution.specs.EventFaults.{HasEventFault}
 use Rattle.event_execution.specs.ExecutionPromise.{PutsLast, ExecutionPromise}
@@ -127,7 +128,7 @@ module _ (form : PlanForm) where
     pub says : SaysAll first steps before
 
   abbrev pub session_opens : Opening
-  session_opens used rest net before = OpensByGo used rest net before
+  session_opens = record { handing = as_named; opens = λ used rest net before. OpensByGo used rest net before }
 
   -- the lines of a session have a fault after those that tell steps
   pub record HasStepFault (input : List InputLine) (fault : Fault) : Type 0 where
