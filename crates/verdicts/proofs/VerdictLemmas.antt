@@ -1,10 +1,10 @@
 -- What decides the verdict of a network, and what a certificate of it says.
-use Rattle.std.proofs.Common.{◌≡◌, ℕ, List, refl, ap, ◌∙◌, inl, inr}
+use Rattle.std.proofs.Common.{◌≡◌, ℕ, List, Option, Some, None, refl, ap, ◌∙◌, inl, inr}
 use Rattle.net_model.specs.Network.{Plan}
 use Rattle.controllability.specs.Laws.{CyclesOfTablesExclude, OrderedClosuresAreControllable}
 use Rattle.strategy_model.specs.Plays.{IsInstant}
 use Rattle.strategy_model.specs.Control.{IsControllable}
-use Rattle.table_closing.specs.Closing.{IsClosedBy, HasDerivableCycle}
+use Rattle.table_closing.specs.Closing.{ClosesTo}
 use Rattle.table_closing.specs.declared.closing.Closed.{Closed}
 use Rattle.closure_model.specs.OrderLaws.{OrderedTablesArePlaced}
 use Rattle.cert_format.specs.CertificateWords.{HasWeights}
@@ -16,17 +16,15 @@ use Rattle.refutations.specs.Refuting.{Refutes}
 use Rattle.table_proofs.specs.Certified.{Certifies, Proves}
 use Rattle.table_proofs.specs.Proving.{table_proof_of}
 use Rattle.command_engine.specs.declared.endings.End.{End}
-use Rattle.verdicts.specs.Verdict.{Decides, IsVerdict, PutsDecided}
+use Rattle.verdicts.specs.Verdict.{Decides, IsDecidedByClosure, IsVerdict, PutsDecided}
 use Rattle.common_answers.specs.VerdictLines.{PutsRefuted}
 use Rattle.verdicts.specs.declared.verdict.Verdict.TheVariants.{Controllable}
 
--- a closure with an order decides it
-pub closed_decides : OrderedClosuresAreControllable → (net : Plan) (closed : Closed) → IsInstant net → IsClosedBy net closed → IsVerdict net (Controllable net closed)
-closed_decides decide net closed instant is = (refl, decide net closed.table closed.order instant is.closure is.order, record { instant = instant; closure = is.closure; ordered = is.order }, is.placed)
-
--- so does a derivable cycle
-pub cycle_decides : CyclesOfTablesExclude → (net : Plan) → IsInstant net → HasDerivableCycle net → ¬ IsControllable net
-cycle_decides exclude net instant found controls = exclude net found.table found.cycle instant found.derivable found.is controls
+-- a closure with an order decides it, and so does a derivable cycle
+pub closes_decides : OrderedClosuresAreControllable → CyclesOfTablesExclude → (net : Plan) → IsInstant net → (found : Option Closed) → ClosesTo net found → IsDecidedByClosure net found
+closes_decides decide exclude net instant (Some closed) is =
+    (decide net closed.table closed.order instant is.closure is.order, record { instant = instant; closure = is.closure; ordered = is.order }, is.placed)
+closes_decides decide exclude net instant None found = λ controls. exclude net found.table found.cycle instant found.derivable found.is controls
 
 -- the verdict of a network that is handed back is its own
 pub own_verdict : (net same : Plan) (closed : Closed) → IsVerdict net (Controllable same closed) → IsVerdict same (Controllable same closed)

@@ -6,7 +6,7 @@ ghost use Rattle.work_board.specs.Limits.{most_seats};
 ghost use Rattle.dispatch_net.specs.OfClosure.{IsDispatchOfClosure};
 ghost use Rattle.execution_model.specs.Laws.{IsDispatchedByClosure};
 ghost use Rattle.refutations.specs.Refuting.{Refutes};
-ghost use Rattle.verdicts.specs.Verdict.{IsVerdict};
+ghost use Rattle.verdicts.specs.Verdict.{IsDecidedByClosure, IsVerdict};
 
 use cert_format::Certificate;
 use controllability::laws::{cycles_of_tables_exclude, ordered_closures_are_controllable};
@@ -40,17 +40,31 @@ pub fn decide<R: Threads + Sync, G: Gate>(
     requires { (1 ≤ workers) × (workers ≤ most_seats) }
     ensures { IfOk result (IsVerdict net) }
 {
-    ordered_closures_are_controllable();
-    cycles_of_tables_exclude();
-    // The proof reads here that the network is sound.
-    let _ = net.points();
-    match close(rt, alloc, &net, workers)? {
+    match decide_by_closure(rt, alloc, &net, workers)? {
         Some(closed) => Ok(Verdict::Controllable(net, closed)),
         None => {
             let certificate = refute(rt, alloc, net, workers, gate)?;
             Ok(Verdict::Refuted(certificate))
         }
     }
+}
+
+/// Decides whether a network is controllable, and makes no certificate: the closure with the order of its points where it is, and `None`
+/// exactly where it is not. So many workers test the table. `AllocError` comes only for want of memory.
+pub fn decide_by_closure<R: Threads + Sync>(
+    rt: &R,
+    alloc: Global,
+    net: &Network,
+    workers: u32,
+) -> Result<Option<Closed>, AllocError>
+    requires { 1 ≤ workers }
+    ensures { IfOk result (IsDecidedByClosure net.now) }
+{
+    ordered_closures_are_controllable();
+    cycles_of_tables_exclude();
+    // The proof reads here that the network is sound.
+    let _ = net.points();
+    close(rt, alloc, net, workers)
 }
 
 /// The certificate that refutes a network, which is not controllable, by the rounds of so many workers, 1 to 64; the gate is called before
