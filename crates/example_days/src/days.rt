@@ -2,7 +2,7 @@
 
 ghost use Rattle.std.specs.Prelude.{IfOk};
 ghost use Rattle.strategy_model.specs.Situations.{IsSituation};
-ghost use Rattle.plan_session.specs.Sessions.{IsDispatchOfClosure};
+ghost use Rattle.dispatch_net.specs.OfClosure.{IsDispatchOfClosure};
 ghost use Rattle.situation_player.specs.Playing.{IsStartedByClosure};
 
 use dispatch_net::Dispatch;

@@ -22,3 +22,4 @@ pub mod AtOnceLemmas
 pub mod SameLemmas
 pub mod RankedLemmas
 pub mod SlimFeedLemmas
+pub mod OfClosureLemmas

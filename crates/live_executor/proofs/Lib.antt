@@ -15,3 +15,4 @@ pub mod ListLemmas
 pub mod UndoLemmas
 pub mod ComingLemmas
 pub mod AwaitedLemmas
+pub mod OfClosureLemmas

@@ -29,7 +29,8 @@ use Rattle.refutations.specs.Certifying.{IsCertificateBy}
 use Rattle.refutations.specs.Refuting.{Refutes}
 use Rattle.dispatch_net.specs.Dispatchable.{DispatchLists, IsDispatchBy}
 use Rattle.plan_session.specs.declared.answers.Report.{Report}
-use Rattle.plan_session.specs.Sessions.{Opened, State, EndsWell, IsPlacedBy, IsSound, Opens, FollowsEdit, IsDispatchOfClosure}
+use Rattle.dispatch_net.specs.OfClosure.{IsDispatchOfClosure}
+use Rattle.plan_session.specs.Sessions.{Opened, State, EndsWell, IsPlacedBy, IsSound, Opens, FollowsEdit}
 
 -- what an outcome says of a table is what its ending does
 pub says_well : (net : Plan) (support : Support) (outcome : Outcome) → Says net support outcome → EndsWell net support (ending_of outcome)

@@ -5,7 +5,6 @@ use Rattle.net_model.specs.Network.{Plan, IsPlan, HasPlanNumbers}
 use Rattle.net_model.specs.Editing.{edited}
 use Rattle.net_model.specs.declared.edit.Edit.{Edit}
 use Rattle.net_model.specs.declared.edit.EditFault.TheVariants as edit_fault
-use Rattle.net_model.specs.declared.ids.PointId.{PointId}
 use Rattle.strategy_model.specs.Control.{IsControllable}
 use Rattle.closure_model.specs.Closure.{IsClosure}
 use Rattle.closure_model.specs.Derivations.{Support, StandsOn, base_support}
@@ -18,7 +17,6 @@ use Rattle.support_records.specs.Followed.{IsFollowed}
 use Rattle.support_records.specs.declared.store.Withdrawn.{Withdrawn}
 use Rattle.cert_format.specs.declared.certificate.Certificate.{Certificate}
 use Rattle.table_proofs.specs.Certified.{Certifies}
-use Rattle.dispatch_net.specs.Dispatchable.{DispatchLists, IsDispatchBy}
 use Rattle.plan_session.specs.declared.answers.Report.{Report}
 use Rattle.plan_session.specs.declared.answers.SessionFault.{SessionFault}
 use Rattle.plan_session.specs.declared.answers.SessionFault.TheVariants as fault
@@ -127,15 +125,6 @@ abbrev pub AnswersProof : State → Result Certificate AskFault → Type 0
 AnswersProof session (Ok cert) = IsOpen session × Certifies session.net cert
 AnswersProof session (Err ask_fault.Broken) = IsBroken session
 AnswersProof session (Err ask_fault.OutOfMemory) = IsOpen session
-
--- the dispatchable network of the closure of a network, which has an order
-pub record IsDispatchOfClosure (net : Plan) (dispatch : DispatchLists) : Type 0 where
-  pub table : Graph
-  pub order : List PointId
-  pub closure : IsClosure net table
-  pub ordered : IsOrder table order
-  pub by : IsDispatchBy net table dispatch
-  pub whole : length dispatch.made ≡ length net.points
 
 -- what a session lends is what is opened of its network, and that is sound
 pub record Lends (session : State) (support : Support) : Type 0 where

@@ -6,7 +6,8 @@ ghost use Rattle.refutations.specs.Refuting.{Refutes};
 ghost use Rattle.table_proofs.specs.Certified.{Proves};
 ghost use Rattle.work_board.specs.Limits.{most_seats};
 ghost use Rattle.parallel_rounds.specs.Propagated.{rounds_of};
-ghost use Rattle.plan_session.specs.Sessions.{IsSound, Opens, FollowsEdit, IsDispatchOfClosure};
+ghost use Rattle.dispatch_net.specs.OfClosure.{IsDispatchOfClosure};
+ghost use Rattle.plan_session.specs.Sessions.{IsSound, Opens, FollowsEdit};
 
 use crate::answers::Report;
 use cert_format::Certificate;

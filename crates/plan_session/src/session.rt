@@ -6,7 +6,8 @@ ghost use Rattle.cert_format.specs.declared.certificate.Certificate.{Certificate
 ghost use Rattle.refutations.specs.Refuting.{Refutes};
 ghost use Rattle.table_proofs.specs.Certified.{Certifies, Proves};
 ghost use Rattle.work_board.specs.Limits.{most_seats};
-ghost use Rattle.plan_session.specs.Sessions.{IsOpen, IsOpenedOn, AnswersEdit, AnswersReopening, IsVerdictOf, AnswersProof, IsDispatchOfClosure, Lends};
+ghost use Rattle.dispatch_net.specs.OfClosure.{IsDispatchOfClosure};
+ghost use Rattle.plan_session.specs.Sessions.{IsOpen, IsOpenedOn, AnswersEdit, AnswersReopening, IsVerdictOf, AnswersProof, Lends};
 
 use crate::answers::{AskFault, Report, SessionFault, Verdict};
 use crate::propagated::Propagated;

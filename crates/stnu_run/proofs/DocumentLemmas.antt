@@ -23,8 +23,8 @@ use Rattle.command_engine.proofs.LeadLemmas.{stands_by}
 use Rattle.stnu_run.specs.DocumentSoFar.{DocumentSoFar, most_document}
 use Rattle.stnu_run.specs.DocumentTexts.{DeclaresDocument, IsDocumentFault, IsEndLine, IsInside, RefusesDocument, bytes_of, document_texts, left_after, told}
 use Rattle.stnu_run.specs.PlanDocument.{are_end, document_begun, document_reader, document_step, document_stop, parts_step, with_line}
-use Rattle.stnu_run.specs.declared.faults.Fault.{Fault}
-use Rattle.stnu_run.specs.declared.faults.Fault.TheVariants.{Part as PartFault, Document}
+use Rattle.common_answers.specs.declared.faults.Fault.{Fault}
+use Rattle.common_answers.specs.declared.faults.Fault.TheVariants.{Part as PartFault, Document}
 use Rattle.stnu_run.proofs.NetworkLemmas.{no_memory}
 
 -- ---- the line that ends a document

@@ -6,7 +6,8 @@ use Rattle.net_model.specs.declared.edit.EditFault.{EditFault}
 use Rattle.strategy_model.specs.Control.{IsControllable}
 use Rattle.dispatch_net.specs.Dispatchable.{DispatchLists}
 use Rattle.edit_script.specs.declared.step.Step.TheVariants as step
-use Rattle.plan_session.specs.Sessions.{State, Accepts, IsDispatchOfClosure}
+use Rattle.dispatch_net.specs.OfClosure.{IsDispatchOfClosure}
+use Rattle.plan_session.specs.Sessions.{State, Accepts}
 use Rattle.plan_session.specs.declared.answers.Report.{Report}
 use Rattle.stnu_run.specs.SessionAnswers.{table_text}
 use Rattle.stnu_run.specs.Sessions.{SaysTable, StandsAfterEdit, StandsAfter}

@@ -15,11 +15,11 @@ use Rattle.command_engine.specs.declared.endings.End.TheVariants as ends
 use Rattle.stnu_run.specs.Causes.{EndsByCause, IsAnswer, IsDayRefused, IsTextRefused, text_causes}
 use Rattle.stnu_run.specs.CheckPromise.{PutsVerdict}
 use Rattle.stnu_run.specs.Checking.{PutsYes}
-use Rattle.stnu_run.specs.Day.{Opening, IsRefusedDay, IsWholeDay, number_of}
-use Rattle.stnu_run.specs.EventAnswers.{event_line}
-use Rattle.stnu_run.specs.EventFaults.{HasEventFault, event_refusal}
-use Rattle.stnu_run.specs.ExecutionPromise.{ExecutionPromise, PutsLast}
-use Rattle.stnu_run.specs.Faults.{fault_line, refusing}
+use Rattle.event_execution.specs.Day.{Opening, IsRefusedDay, IsWholeDay, number_of}
+use Rattle.event_execution.specs.EventAnswers.{event_line}
+use Rattle.event_execution.specs.EventFaults.{HasEventFault, event_refusal}
+use Rattle.event_execution.specs.ExecutionPromise.{ExecutionPromise, PutsLast}
+use Rattle.common_answers.specs.Faults.{fault_line, refusing}
 use Rattle.stnu_run.specs.JudgePromise.{PutsJudgement}
 use Rattle.stnu_run.specs.Judging.{judgement_end}
 use Rattle.stnu_run.specs.PlanInput.{plan_in}
@@ -27,7 +27,7 @@ use Rattle.stnu_run.specs.PlayPromise.{PutsPlay}
 use Rattle.stnu_run.specs.RunPromise.{OpensExecution, RunPromise, plan_opens, run_causes}
 use Rattle.stnu_run.specs.SessionPromise.{HasStepFault, IsWholeSession, SessionPromise, session_causes, session_opens}
 use Rattle.stnu_run.specs.declared.checking.CheckFlags.{CheckFlags}
-use Rattle.stnu_run.specs.declared.faults.Fault.{Fault}
+use Rattle.common_answers.specs.declared.faults.Fault.{Fault}
 use Rattle.stnu_run.specs.declared.plan_input.PlanForm.{PlanForm}
 use Rattle.stnu_run.specs.declared.playing.PlayWords.{PlayWords}
 

@@ -20,12 +20,12 @@ use Rattle.command_engine.specs.declared.pairs.Then.TheVariants.{First}
 use Rattle.command_engine.proofs.InputLemmas.{answers_text}
 use Rattle.command_engine.proofs.PairGrammarLemmas.{pair_by}
 use Rattle.stnu_run.specs.CertificateTexts.{certificate_begun, certificate_reader}
-use Rattle.stnu_run.specs.Faults.{fault_line, refusing}
+use Rattle.common_answers.specs.Faults.{fault_line, refusing}
 use Rattle.stnu_run.specs.Judging.{judge_answers, judge_machine, judge_start, judgement_line}
 use Rattle.stnu_run.specs.JudgePromise.{JudgePromise, PutsJudgement}
 use Rattle.stnu_run.specs.PlanInput.{input_begun, input_reader, plan_in}
 use Rattle.stnu_run.specs.ToJudge.{certificate_texts, judge_grammar}
-use Rattle.stnu_run.specs.declared.faults.Fault.{Fault}
+use Rattle.common_answers.specs.declared.faults.Fault.{Fault}
 use Rattle.stnu_run.specs.declared.judging.Judge.{Judge}
 use Rattle.stnu_run.specs.declared.plan_input.PlanForm.{PlanForm}
 use Rattle.stnu_run.proofs.CertificateLemmas.{certificate_by}

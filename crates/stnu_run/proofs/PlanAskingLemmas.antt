@@ -7,7 +7,7 @@ use Rattle.command_engine.specs.Inputs.{AnswersText, AnswersOrRefuses}
 use Rattle.command_engine.specs.Runs.{Runs}
 use Rattle.command_engine.specs.declared.endings.End.{End}
 use Rattle.command_engine.proofs.InputLemmas.{answers_text}
-use Rattle.stnu_run.specs.Faults.{refusing}
+use Rattle.common_answers.specs.Faults.{refusing}
 use Rattle.stnu_run.specs.PlanAsking.{asking}
 use Rattle.stnu_run.specs.PlanInput.{input_begun, input_reader, plan_in}
 use Rattle.stnu_run.specs.declared.plan_input.PlanForm.{PlanForm}

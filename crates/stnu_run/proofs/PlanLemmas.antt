@@ -32,9 +32,9 @@ use Rattle.command_engine.proofs.GrammarLemmas.{IsOnce, KeepsTo, reads_by}
 use Rattle.command_engine.proofs.LeadLemmas.{stands_by}
 use Rattle.stnu_run.specs.PlanText.{line_of_part, built_step, plan_begun, plan_step, plan_reader}
 use Rattle.stnu_run.specs.ToCheck.{IsPlanFault, RefusesPlan, plan_texts}
-use Rattle.stnu_run.specs.ToRead.{RefusesFormat}
-use Rattle.stnu_run.specs.declared.faults.Fault.{Fault}
-use Rattle.stnu_run.specs.declared.faults.Fault.TheVariants.{Format, Part as PartFault}
+use Rattle.common_answers.specs.ToRead.{RefusesFormat}
+use Rattle.common_answers.specs.declared.faults.Fault.{Fault}
+use Rattle.common_answers.specs.declared.faults.Fault.TheVariants.{Format, Part as PartFault}
 use Rattle.stnu_run.specs.declared.plan_text.PlanText.{PlanText}
 use Rattle.stnu_run.proofs.NetworkLemmas.{no_memory}
 

@@ -7,22 +7,22 @@ use Rattle.strategy_model.specs.Situations.{Satisfies}
 use Rattle.execution_model.specs.Feeding.{Execution, started}
 use Rattle.dispatch_net.specs.Dispatchable.{DispatchLists}
 use Rattle.dispatch_net.specs.declared.dispatch.Conditions.{Conditions}
-use Rattle.plan_session.specs.Sessions.{IsDispatchOfClosure}
+use Rattle.dispatch_net.specs.OfClosure.{IsDispatchOfClosure}
 use Rattle.situation_player.specs.Playing.{IsStartedByClosure}
 use Rattle.net_model.specs.Network.{IsPlan}
 use Rattle.command_engine.specs.Inputs.{AnswersText}
 use Rattle.command_engine.specs.declared.endings.End.{End}
-use Rattle.stnu_run.specs.Faults.{refusing}
+use Rattle.common_answers.specs.Faults.{refusing}
 use Rattle.stnu_run.specs.PlanInput.{plan_in}
 use Rattle.stnu_run.specs.PlayPromise.{AreEarliestTimes, PlayPromise, PutsPlay}
 use Rattle.stnu_run.specs.Playing.{PutsTimes, play_answers, times_text}
-use Rattle.stnu_run.specs.Verdict.{controllable_line}
+use Rattle.common_answers.specs.VerdictLines.{controllable_line}
 use Rattle.stnu_run.specs.Which.{situation_of}
 use Rattle.stnu_run.specs.declared.playing.PlayWords.{PlayWords}
 use Rattle.stnu_run.specs.declared.which.Which.{Which}
-use Rattle.stnu_run.proofs.BeginLemmas.{by_closure}
+use Rattle.execution_model.proofs.OfClosureLemmas.{by_closure}
 use Rattle.stnu_run.proofs.DecidedLemmas.{after_line, yes_by, refutes_by}
-use Rattle.stnu_run.proofs.RefutationLemmas.{answers_once}
+use Rattle.verdicts.proofs.RefutationLemmas.{answers_once}
 
 -- ---- the promise
 

@@ -19,21 +19,22 @@ use Rattle.command_engine.specs.declared.endings.End.TheVariants as ends
 use Rattle.command_engine.specs.declared.machines.Onward.{Onward}
 use Rattle.command_engine.proofs.InputLemmas.{IsGivenAt, OutcomeIs, declared_read, outcome_is, outcome_answered}
 use Rattle.command_engine.proofs.PhaseLemmas.{run_is}
-use Rattle.stnu_run.specs.Course.{Course}
-use Rattle.stnu_run.specs.Day.{IsWholeDay, IsRefusedDay}
-use Rattle.stnu_run.specs.EventAnswers.{due_line}
-use Rattle.stnu_run.specs.EventFaults.{HasEventFault}
-use Rattle.stnu_run.specs.Executing.{executing_machine}
-use Rattle.stnu_run.specs.Faults.{refusing, fault_end}
+use Rattle.event_execution.specs.Handing.{as_named}
+use Rattle.event_execution.specs.Course.{Course}
+use Rattle.event_execution.specs.Day.{IsWholeDay, IsRefusedDay}
+use Rattle.event_execution.specs.EventAnswers.{due_line}
+use Rattle.event_execution.specs.EventFaults.{HasEventFault}
+use Rattle.event_execution.specs.Executing.{executing_machine}
+use Rattle.common_answers.specs.Faults.{refusing, fault_end}
 use Rattle.stnu_run.specs.PlanInput.{input_begun, input_reader, plan_in}
 use Rattle.stnu_run.specs.RunPromise.{OpensExecution, plan_opens, RunPromise}
 use Rattle.stnu_run.specs.Running.{run_begins, run_machine, run_start}
-use Rattle.stnu_run.specs.Verdict.{controllable_line, PutsRefuted}
-use Rattle.stnu_run.specs.declared.faults.Fault.{Fault}
+use Rattle.common_answers.specs.VerdictLines.{controllable_line, PutsRefuted}
+use Rattle.common_answers.specs.declared.faults.Fault.{Fault}
 use Rattle.stnu_run.specs.declared.plan_input.PlanForm.{PlanForm}
-use Rattle.stnu_run.proofs.DayLemmas.{ExecutionLaws}
-use Rattle.stnu_run.proofs.DueLemmas.{due_answered}
-use Rattle.stnu_run.proofs.ExecutionLemmas.{Opened, IsOpened, Lasts, lasts, execution_keeps, whole_by, refused_so, fault_so, fault_not}
+use Rattle.event_execution.proofs.DayLemmas.{ExecutionLaws}
+use Rattle.event_execution.proofs.DueLemmas.{due_answered}
+use Rattle.event_execution.proofs.ExecutionLemmas.{Opened, IsOpened, Lasts, lasts, execution_keeps, whole_by, refused_so, fault_so, fault_not}
 use Rattle.stnu_run.proofs.PlanInputLemmas.{input_by}
 
 module _ (form : PlanForm) where
@@ -78,7 +79,7 @@ module _ (form : PlanForm) where
   opened_or net number room rest put end (answer, more, onward, begins, all, on) = begun net number room rest put answer more onward end all on begins
 
   -- where it is opened after these lines, it is one that they open
-  opened_after : (net : Plan) (used rest : List InputLine) (before put : List ℕ) (end : End) → before ≡ [] → Opened net (length used) (room_after most_input used) rest put end → IsOpened net used rest before put end
+  opened_after : (net : Plan) (used rest : List InputLine) (before put : List ℕ) (end : End) → before ≡ [] → Opened net (length used) (room_after most_input used) rest put end → IsOpened as_named net used rest before put end
   opened_after net used rest before put end nothing opened = record {
     controllable = opened.controllable;
     table = opened.table;
@@ -118,13 +119,13 @@ module _ (form : PlanForm) where
 
     module _ (input put : List ℕ) (end : End) (follows : Follows (outcome_of (input_lines input)) put end) where
       -- lines of a plan of a controllable network open its execution
-      leads : (used rest : List InputLine) (net : Plan) (before : List ℕ) → input_lines input ≡ used ++ rest → (plan_opens form) used rest net before → IsControllable net → IsOpened net used rest before put end
+      leads : (used rest : List InputLine) (net : Plan) (before : List ℕ) → input_lines input ≡ used ++ rest → (plan_opens form).opens used rest net before → IsControllable net → IsOpened as_named net used rest before put end
       leads used rest net before divided (declares, nothing) controls = by (opened_or net (length used) (room_after most_input used) rest put end here)
         where
           here : Follows (Given net (length used) (room_after most_input used) rest) put end
           here = subst (λ (o : Outcome Plan Fault). Follows o put end) (declared_read input_reader (input_begun form) (plan_in form) (input_by form 0) (input_lines input) used rest net divided declares) follows
 
-          by : Opened net (length used) (room_after most_input used) rest put end ⊎ RefutedSo net put end → IsOpened net used rest before put end
+          by : Opened net (length used) (room_after most_input used) rest put end ⊎ RefutedSo net put end → IsOpened as_named net used rest before put end
           by (inl opened) = opened_after net used rest before put end nothing opened
           by (inr refuted) = absurd (refuted.refutes.never controls)
 

@@ -28,34 +28,35 @@ use Rattle.command_engine.specs.declared.endings.End.TheVariants as ends
 use Rattle.command_engine.specs.declared.machines.Onward.{Onward}
 use Rattle.command_engine.proofs.InputLemmas.{IsGivenAt, OutcomeIs, declared_read, outcome_is, outcome_answered}
 use Rattle.command_engine.proofs.PhaseLemmas.{StillServes, answered_so, run_is}
-use Rattle.stnu_run.specs.Day.{IsWholeDay, IsRefusedDay}
-use Rattle.stnu_run.specs.EventFaults.{HasEventFault}
-use Rattle.stnu_run.specs.Executing.{executing_machine}
-use Rattle.stnu_run.specs.ExecutionPromise.{PutsLast}
-use Rattle.stnu_run.specs.Faults.{refusing, fault_line, fault_end}
+use Rattle.event_execution.specs.Handing.{as_named}
+use Rattle.event_execution.specs.Day.{IsWholeDay, IsRefusedDay}
+use Rattle.event_execution.specs.EventFaults.{HasEventFault}
+use Rattle.event_execution.specs.Executing.{executing_machine}
+use Rattle.event_execution.specs.ExecutionPromise.{PutsLast}
+use Rattle.common_answers.specs.Faults.{refusing, fault_line, fault_end}
 use Rattle.stnu_run.specs.PlanInput.{input_begun, input_reader, plan_in}
 use Rattle.stnu_run.specs.SessionAnswers.{ready_line}
 use Rattle.stnu_run.specs.SessionPromise.{TellSteps, IsEdited, IsNext, SaysSteps, SaysAll, SaysFirst, OpensByGo, session_opens, IsStepFault, HasStepFault, PutsReady, IsWholeSession, SessionPromise, SaysWhole}
 use Rattle.stnu_run.specs.Sessions.{net_of, OpensOn, session_begins, session_machine, session_start, command_machine}
 use Rattle.stnu_run.specs.Standing.{Standing}
-use Rattle.stnu_run.specs.ToRead.{Come}
-use Rattle.stnu_run.specs.declared.faults.Fault.{Fault}
+use Rattle.common_answers.specs.ToRead.{Come}
+use Rattle.common_answers.specs.declared.faults.Fault.{Fault}
 use Rattle.stnu_run.specs.declared.plan_input.PlanForm.{PlanForm}
 use Rattle.stnu_run.specs.declared.session.InSession.{InSession}
 use Rattle.stnu_run.specs.declared.session.InSession.TheVariants.{Editing, Executing}
-use Rattle.stnu_run.proofs.CourseLemmas.{Decides, IsDecided}
-use Rattle.stnu_run.proofs.DayLemmas.{ExecutionLaws}
-use Rattle.stnu_run.proofs.EventLemmas.{at}
-use Rattle.stnu_run.proofs.ExecutionLemmas.{Opened, IsOpened, Lasts, lasts, execution_keeps, whole_by, refused_so, fault_so, fault_not, fault_ends_so}
+use Rattle.event_execution.proofs.CourseLemmas.{Decides, IsDecided}
+use Rattle.event_execution.proofs.DayLemmas.{ExecutionLaws}
+use Rattle.event_execution.proofs.EventLemmas.{at}
+use Rattle.event_execution.proofs.ExecutionLemmas.{Opened, IsOpened, Lasts, lasts, execution_keeps, whole_by, refused_so, fault_so, fault_not, fault_ends_so}
 use Rattle.stnu_run.proofs.PlanInputLemmas.{input_by}
-use Rattle.stnu_run.proofs.ReplyLemmas.{come_first, come_then, come_both, room_both}
+use Rattle.event_execution.proofs.ReplyLemmas.{come_first, come_then, come_both, room_both}
 use Rattle.stnu_run.proofs.SessionLines.{at_edit, EndsSession, HowEnds, at_end, by_fault, by_go, session_ends, over_steps, step_fault, end_there, go_there, StillEdited, still_edited}
 use Rattle.stnu_run.proofs.SessionOnceLemmas.{OneWay, all_once}
 
 -- ---- places in an input
 -- an execution that begins after some lines is opened by these
 is_opened : (net : Plan) (used rest : List InputLine) (before more put : List ℕ) (end : End) (number room : ℕ) → number ≡ length used → room ≡ room_after most_input used → put ≡ before ++ more → Opened net number room rest more end
-    → IsOpened net used rest before put end
+    → IsOpened as_named net used rest before put end
 is_opened net used rest before more put end number room counted left all opened = record {
   controllable = opened.controllable;
   table = opened.table;
@@ -66,8 +67,8 @@ is_opened net used rest before more put end number room counted left all opened 
   more = opened.more;
   all = all ∙ ap (λ (m : List ℕ). before ++ m) opened.all;
   later =
-      subst (λ (r : ℕ). RunOver executing_machine (at net (started (setting_of net opened.table)) [] (length used) r) rest opened.more end) left
-      (subst (λ (n : ℕ). RunOver executing_machine (at net (started (setting_of net opened.table)) [] n room) rest opened.more end) counted opened.later);
+      subst (λ (r : ℕ). RunOver executing_machine (at net (started (setting_of net opened.table)) as_named (length used) r) rest opened.more end) left
+      (subst (λ (n : ℕ). RunOver executing_machine (at net (started (setting_of net opened.table)) as_named n room) rest opened.more end) counted opened.later);
 }
 
 -- the lines up to `go`
@@ -219,7 +220,7 @@ module _ (form : PlanForm) where
           ((ready_line ++ one.said, one.all ∙ ap (λ (m : List ℕ). (ready_line ++ one.said) ++ m) ended.0), ended.1)
 
       -- `go` on a controllable network opens its execution
-      leads : (used rest : List InputLine) (net : Plan) (before : List ℕ) → input_lines input ≡ used ++ rest → (session_opens form) used rest net before → IsControllable net → IsOpened net used rest before put end
+      leads : (used rest : List InputLine) (net : Plan) (before : List ℕ) → input_lines input ≡ used ++ rest → (session_opens form).opens used rest net before → IsControllable net → IsOpened as_named net used rest before put end
       leads used rest net before divided opens controls =
           let so : IsEdited form (input_lines input) opens.first net opens.steps = record {
             plan = opens.plan;

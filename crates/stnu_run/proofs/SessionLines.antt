@@ -26,21 +26,22 @@ use Rattle.command_engine.specs.declared.endings.End.TheVariants as ends
 use Rattle.command_engine.specs.declared.machines.Onward.{Onward}
 use Rattle.command_engine.specs.declared.machines.Onward.TheVariants.{Goes, Ends}
 use Rattle.command_engine.proofs.WrapLemmas.{Wraps, served_lines, served_run}
-use Rattle.stnu_run.specs.EventAnswers.{due_line}
-use Rattle.stnu_run.specs.Executing.{executing_machine}
-use Rattle.stnu_run.specs.Faults.{fault_line, fault_end}
+use Rattle.event_execution.specs.Course.{course_of}
+use Rattle.event_execution.specs.EventAnswers.{due_line}
+use Rattle.event_execution.specs.Executing.{executing_machine}
+use Rattle.common_answers.specs.Faults.{fault_line, fault_end}
 use Rattle.stnu_run.specs.SessionPromise.{accepted_or, net_after, StillEdits, TellSteps, SaysSteps, IsStepFault}
 use Rattle.stnu_run.specs.Sessions.{net_of, SaysStep, StandsAfterEdit, StandsAfter, EditsOn, BeginsByGo, AnswersStep, session_machine}
 use Rattle.stnu_run.specs.Standing.{Standing}
-use Rattle.stnu_run.specs.ToRead.{Come}
-use Rattle.stnu_run.specs.Verdict.{controllable_line}
-use Rattle.stnu_run.specs.declared.faults.Fault.{Fault}
-use Rattle.stnu_run.specs.declared.faults.Fault.TheVariants.{Format, LineTooLong as LongLine, InputTooMuch as MuchInput}
+use Rattle.common_answers.specs.ToRead.{Come}
+use Rattle.common_answers.specs.VerdictLines.{controllable_line}
+use Rattle.common_answers.specs.declared.faults.Fault.{Fault}
+use Rattle.common_answers.specs.declared.faults.Fault.TheVariants.{Format, LineTooLong as LongLine, InputTooMuch as MuchInput}
 use Rattle.stnu_run.specs.declared.session.InSession.{InSession}
 use Rattle.stnu_run.specs.declared.session.InSession.TheVariants.{Editing, Executing}
-use Rattle.stnu_run.proofs.EventLemmas.{at}
-use Rattle.stnu_run.proofs.ReplyLemmas.{Continues, replied, last_reply}
-use Rattle.stnu_run.proofs.ExecutionLemmas.{Opened}
+use Rattle.event_execution.proofs.EventLemmas.{at}
+use Rattle.event_execution.proofs.ReplyLemmas.{Continues, replied, last_reply}
+use Rattle.event_execution.proofs.ExecutionLemmas.{Opened}
 use Rattle.stnu_run.proofs.SessionOnceLemmas.{told_step, fault_step}
 
 -- where a session stands in a run, while its network is edited
@@ -170,7 +171,7 @@ pub record EndsSession (standing : Standing) (lines : List InputLine) (number ro
 opened_by : (standing : Standing) (line : InputLine) (lines : List InputLine) (number room : ℕ) (put answer : List ℕ) (onward : Onward InSession) (end : End) → BeginsByGo standing answer onward
     → Continues session_machine (at_edit standing number room) line lines put end onward answer → Opened (net_of standing) (number + 1) (room - line_size line) lines put end
 opened_by standing line lines number room put answer onward end (controls, (inner, begins, is)) continues =
-    let goes : onward ≡ Goes (Executing (record { net = net_of standing; execution = started (setting_of (net_of standing) begins.table); listed = [] })) = is ∙ ap (wrapped Executing) begins.goes in
+    let goes : onward ≡ Goes (Executing (course_of (net_of standing) (started (setting_of (net_of standing) begins.table)))) = is ∙ ap (wrapped Executing) begins.goes in
     let on = subst (λ (o : Onward InSession). Continues session_machine (at_edit standing number room) line lines put end o answer) goes continues in
     record {
       controllable = controls;

@@ -24,18 +24,18 @@ use Rattle.command_engine.specs.declared.machines.Onward.{Onward}
 use Rattle.command_engine.specs.declared.machines.Onward.TheVariants.{Goes, Ends}
 use Rattle.command_engine.specs.declared.machines.Stop.{Stop}
 use Rattle.command_engine.proofs.PhaseLemmas.{within_same}
-use Rattle.stnu_run.specs.Executing.{executing_machine}
-use Rattle.stnu_run.specs.Faults.{fault_line, fault_end}
-use Rattle.stnu_run.specs.Running.{BeginsExecution}
+use Rattle.event_execution.specs.Executing.{executing_machine}
+use Rattle.common_answers.specs.Faults.{fault_line, fault_end}
+use Rattle.event_execution.specs.Begin.{BeginsExecution}
 use Rattle.stnu_run.specs.SessionAnswers.{ready_line, table_text}
 use Rattle.stnu_run.specs.SessionPromise.{SaysSteps, SaysAll}
 use Rattle.stnu_run.specs.Sessions.{net_of, SaysEdit, SaysVerdict, SaysProof, SaysTable, SaysStep, StandsEdited, StandsAfterEdit, StandsAfter, EditsOn, BeginsByGo, AnswersStep, TakesStep, session_machine, OpensOn, session_begins}
 use Rattle.stnu_run.specs.Standing.{Standing}
-use Rattle.stnu_run.specs.declared.faults.Fault.TheVariants.{Format}
+use Rattle.common_answers.specs.declared.faults.Fault.TheVariants.{Format}
 use Rattle.stnu_run.specs.declared.session.InSession.{InSession}
 use Rattle.stnu_run.specs.declared.session.InSession.TheVariants.{Editing, Executing}
 use Rattle.table_proofs.proofs.LawProofs.{certificates_are_one}
-use Rattle.stnu_run.proofs.RunOnceLemmas.{begun_one, executing_single}
+use Rattle.event_execution.proofs.OnceLemmas.{begun_one, executing_single}
 
 -- ---- the answer to a line
 edit_said_once : (net : Plan) (made : Result Plan EditFault) (a b : List ℕ) → SaysEdit net made a → SaysEdit net made b → a ≡ b

@@ -12,7 +12,7 @@ use Rattle.command_engine.specs.declared.endings.Status.TheVariants.{Ended, Read
 use Rattle.stnu_run.specs.Causes.{Causes, EndsByCause, IsAnswer}
 use Rattle.stnu_run.specs.DefinedRuns.{program_named, program_for, program_of, command_of, when◌run◌else◌}
 use Rattle.stnu_run.specs.ExactBytes.{BytesAreExact}
-use Rattle.stnu_run.specs.ExecutionPromise.{PutsLast}
+use Rattle.event_execution.specs.ExecutionPromise.{PutsLast}
 use Rattle.stnu_run.specs.Programs.{Program, serves, tells, told_number, written_number, Defines, DefinesOne, HasCauses, RunsEndByCause, ServesProgram}
 use Rattle.stnu_run.specs.Requests.{refuses_words, program_asked}
 use Rattle.stnu_run.specs.Statuses.{IsRefusal, HasCauseInInput, StatusHasCause}

@@ -6,13 +6,13 @@ use Rattle.command_engine.specs.Inputs.{DeclaresWithinLimits, IsFirstRefusal}
 use Rattle.command_engine.specs.declared.endings.End.{End}
 use Rattle.command_engine.specs.declared.endings.End.TheVariants as ends
 use Rattle.execution_model.specs.Feeding.{Execution}
-use Rattle.stnu_run.specs.Day.{Opening, IsRefusedDay, number_of}
-use Rattle.stnu_run.specs.Due.{IsFedBy}
-use Rattle.stnu_run.specs.EventAnswers.{event_line}
-use Rattle.stnu_run.specs.EventFaults.{HasEventFault, event_refusal}
-use Rattle.stnu_run.specs.ExecutionPromise.{IsRefusedBy, PutsLast}
-use Rattle.stnu_run.specs.Faults.{fault_end, fault_line}
-use Rattle.stnu_run.specs.declared.faults.Fault.{Fault}
+use Rattle.event_execution.specs.Day.{Opening, IsRefusedDay, number_of}
+use Rattle.event_execution.specs.Due.{IsFedBy}
+use Rattle.event_execution.specs.EventAnswers.{event_line}
+use Rattle.event_execution.specs.EventFaults.{HasEventFault, event_refusal}
+use Rattle.event_execution.specs.ExecutionPromise.{IsRefusedBy, PutsLast}
+use Rattle.common_answers.specs.Faults.{fault_end, fault_line}
+use Rattle.common_answers.specs.declared.faults.Fault.{Fault}
 
 -- a run ends by an answer: it is done, or refused by what the command was asked
 abbrev pub IsAnswer : End → Type 0

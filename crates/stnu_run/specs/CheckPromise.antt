@@ -9,11 +9,12 @@ use Rattle.table_proofs.specs.Certified.{Proves}
 use Rattle.command_engine.specs.Inputs.{AnswersText}
 use Rattle.command_engine.specs.declared.endings.End.{End}
 use Rattle.stnu_run.specs.Checking.{PutsYes, check_answers}
-use Rattle.stnu_run.specs.Faults.{refusing}
+use Rattle.common_answers.specs.Faults.{refusing}
 use Rattle.stnu_run.specs.PlanAsking.{plan_program}
 use Rattle.stnu_run.specs.PlanInput.{plan_in}
 use Rattle.stnu_run.specs.Programs.{Program}
-use Rattle.stnu_run.specs.Verdict.{controllable_line, refuted_line, PutsDecided}
+use Rattle.common_answers.specs.VerdictLines.{controllable_line, refuted_line}
+use Rattle.verdicts.specs.Verdict.{PutsDecided}
 use Rattle.stnu_run.specs.declared.checking.CheckFlags.{CheckFlags}
 
 -- the verdict of a network is put, and where it is controllable a certificate that proves it where that is wanted

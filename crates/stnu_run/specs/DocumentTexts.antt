@@ -15,8 +15,8 @@ use Rattle.plan_json.specs.declared.fault.JsonFault.TheVariants as json
 use Rattle.command_engine.specs.Grammars.{Grammar, Next, Line, NoLine, number_after}
 use Rattle.command_engine.specs.declared.machines.Stop.TheVariants.{LineTooLong as LongStop, InputTooMuch as MuchStop, InputEnded}
 use Rattle.stnu_run.specs.DocumentSoFar.{most_document}
-use Rattle.stnu_run.specs.declared.faults.Fault.{Fault}
-use Rattle.stnu_run.specs.declared.faults.Fault.TheVariants.{Format, Part as PartFault, Document, DocumentTooLong, InputTooMuch}
+use Rattle.common_answers.specs.declared.faults.Fault.{Fault}
+use Rattle.common_answers.specs.declared.faults.Fault.TheVariants.{Format, Part as PartFault, Document, DocumentTooLong, InputTooMuch}
 
 -- the line that ends a document: its only word is `end`
 abbrev pub IsEndLine : List ℕ → Type 0

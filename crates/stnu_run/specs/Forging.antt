@@ -19,7 +19,7 @@ use Rattle.command_words.specs.Arguments.{Arguments, operand_at, option_at}
 use Rattle.command_words.specs.Syntax.{Syntax, Text}
 use Rattle.stnu_run.specs.Counts.{count_within, number_within}
 use Rattle.stnu_run.specs.Programs.{Program, tells}
-use Rattle.stnu_run.specs.Verdict.{controllable_line, refuted_line}
+use Rattle.common_answers.specs.VerdictLines.{controllable_line, refuted_line}
 use Rattle.stnu_run.specs.Which.{situation_of}
 use Rattle.stnu_run.specs.Workers.{workers_of, workers_name}
 use Rattle.stnu_run.specs.declared.forging.ForgeWords.{ForgeWords}

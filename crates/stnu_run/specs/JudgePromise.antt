@@ -8,7 +8,7 @@ use Rattle.cert_format.specs.declared.certificate.Certificate.{Certificate}
 use Rattle.cert_checker.specs.Judgement.{judgement_of}
 use Rattle.command_engine.specs.Inputs.{AnswersText}
 use Rattle.command_engine.specs.declared.endings.End.{End}
-use Rattle.stnu_run.specs.Faults.{refusing}
+use Rattle.common_answers.specs.Faults.{refusing}
 use Rattle.stnu_run.specs.Judging.{judgement_line, judgement_end, judge_machine, judge_start}
 use Rattle.stnu_run.specs.PlanInput.{plan_in}
 use Rattle.stnu_run.specs.Causes.{text_causes}

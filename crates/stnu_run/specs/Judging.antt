@@ -17,7 +17,7 @@ use Rattle.command_engine.specs.declared.endings.End.{End}
 use Rattle.command_engine.specs.declared.endings.End.TheVariants as end
 use Rattle.command_engine.specs.declared.pairs.Then.{Then}
 use Rattle.command_engine.specs.declared.pairs.Then.TheVariants.{First}
-use Rattle.stnu_run.specs.Faults.{refusing}
+use Rattle.common_answers.specs.Faults.{refusing}
 use Rattle.stnu_run.specs.PlanInput.{PlanInput, form_by, input_begun, input_reader, json_name}
 use Rattle.stnu_run.specs.CertificateTexts.{certificate_begun, certificate_reader}
 use Rattle.stnu_run.specs.declared.certificate_text.CertificateText.{CertificateText}

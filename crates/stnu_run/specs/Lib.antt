@@ -1,4 +1,3 @@
-pub mod Faults
 pub mod Programs
 pub mod ExactBytes
 pub mod Causes
@@ -7,7 +6,6 @@ pub mod PlanText
 pub mod PlanWords
 pub mod CertificateTexts
 pub mod Judging
-pub mod ToRead
 pub mod ToJudge
 pub mod ToCheck
 pub mod DocumentSoFar
@@ -15,7 +13,6 @@ pub mod DocumentTexts
 pub mod PlanDocument
 pub mod PlanInput
 pub mod JudgePromise
-pub mod Verdict
 pub mod Checking
 pub mod CheckPromise
 pub mod PlanAsking
@@ -27,14 +24,7 @@ pub mod PlayPromise
 pub mod Forging
 pub mod Requests
 pub mod DefinedRuns
-pub mod Course
-pub mod EventAnswers
-pub mod Executing
 pub mod Running
-pub mod Due
-pub mod Day
-pub mod EventFaults
-pub mod ExecutionPromise
 pub mod RunPromise
 pub mod Workers
 pub mod WordLaws

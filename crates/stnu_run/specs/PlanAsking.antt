@@ -4,7 +4,7 @@ use Rattle.net_model.specs.Network.{Plan}
 use Rattle.command_engine.specs.Asked.{asked_machine}
 use Rattle.command_engine.specs.declared.asking.Asked.{Asked}
 use Rattle.command_engine.specs.declared.endings.End.{End}
-use Rattle.stnu_run.specs.Faults.{refusing}
+use Rattle.common_answers.specs.Faults.{refusing}
 use Rattle.stnu_run.specs.PlanInput.{PlanInput, input_begun, input_reader, plan_in}
 use Rattle.stnu_run.specs.Causes.{text_causes}
 use Rattle.stnu_run.specs.Programs.{Program, or_nothing, serves}

@@ -17,8 +17,8 @@ use Rattle.command_engine.specs.declared.reading.Step.{Step}
 use Rattle.command_engine.specs.declared.reading.Step.TheVariants.{Goes, Gives, Refused}
 use Rattle.stnu_run.specs.DocumentTexts.{told}
 use Rattle.stnu_run.specs.DocumentSoFar.{DocumentSoFar, most_document}
-use Rattle.stnu_run.specs.declared.faults.Fault.{Fault}
-use Rattle.stnu_run.specs.declared.faults.Fault.TheVariants.{Format, Part as PartFault, Document, DocumentTooLong, InputTooMuch}
+use Rattle.common_answers.specs.declared.faults.Fault.{Fault}
+use Rattle.common_answers.specs.declared.faults.Fault.TheVariants.{Format, Part as PartFault, Document, DocumentTooLong, InputTooMuch}
 
 -- before the first line
 abbrev pub document_begun : DocumentSoFar

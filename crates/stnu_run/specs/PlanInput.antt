@@ -11,7 +11,7 @@ use Rattle.stnu_run.specs.DocumentTexts.{document_texts}
 use Rattle.stnu_run.specs.PlanDocument.{document_begun, document_reader}
 use Rattle.stnu_run.specs.PlanText.{plan_begun, plan_reader}
 use Rattle.stnu_run.specs.ToCheck.{plan_texts}
-use Rattle.stnu_run.specs.declared.faults.Fault.{Fault}
+use Rattle.common_answers.specs.declared.faults.Fault.{Fault}
 use Rattle.stnu_run.specs.declared.plan_input.PlanForm.{PlanForm}
 use Rattle.stnu_run.specs.declared.plan_input.PlanForm.TheVariants.{Text, Json}
 use Rattle.stnu_run.specs.declared.plan_text.PlanText.{PlanText}

@@ -13,9 +13,9 @@ use Rattle.texts.specs.Limits.{most_line}
 use Rattle.command_engine.specs.Reading.{Reader}
 use Rattle.command_engine.specs.declared.reading.Step.{Step}
 use Rattle.command_engine.specs.declared.reading.Step.TheVariants.{Goes, Gives, Refused}
-use Rattle.stnu_run.specs.Faults.{stop_fault}
-use Rattle.stnu_run.specs.declared.faults.Fault.{Fault}
-use Rattle.stnu_run.specs.declared.faults.Fault.TheVariants.{Format, Part}
+use Rattle.common_answers.specs.Faults.{stop_fault}
+use Rattle.common_answers.specs.declared.faults.Fault.{Fault}
+use Rattle.common_answers.specs.declared.faults.Fault.TheVariants.{Format, Part}
 use Rattle.stnu_run.specs.declared.plan_text.PlanText.{PlanText}
 
 -- before the first line

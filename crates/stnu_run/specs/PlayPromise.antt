@@ -6,12 +6,13 @@ use Rattle.strategy_model.specs.Control.{IsControllable, IsEarliest}
 use Rattle.strategy_model.specs.Situations.{Satisfies}
 use Rattle.command_engine.specs.Inputs.{AnswersText}
 use Rattle.command_engine.specs.declared.endings.End.{End}
-use Rattle.stnu_run.specs.Faults.{refusing}
+use Rattle.common_answers.specs.Faults.{refusing}
 use Rattle.stnu_run.specs.PlanAsking.{plan_program}
 use Rattle.stnu_run.specs.PlanInput.{plan_in}
 use Rattle.stnu_run.specs.Playing.{PutsTimes, play_answers, times_text}
 use Rattle.stnu_run.specs.Programs.{Program}
-use Rattle.stnu_run.specs.Verdict.{controllable_line, refuted_line, PutsDecided}
+use Rattle.common_answers.specs.VerdictLines.{controllable_line, refuted_line}
+use Rattle.verdicts.specs.Verdict.{PutsDecided}
 use Rattle.stnu_run.specs.Which.{situation_of}
 use Rattle.stnu_run.specs.declared.playing.PlayWords.{PlayWords}
 use Rattle.stnu_run.specs.declared.which.Which.{Which}

@@ -15,7 +15,8 @@ use Rattle.command_words.specs.Syntax.{Syntax}
 use Rattle.command_engine.specs.declared.endings.End.{End}
 use Rattle.command_engine.specs.declared.endings.End.TheVariants.{Done}
 use Rattle.stnu_run.specs.PlanInput.{form_by, json_name}
-use Rattle.stnu_run.specs.Verdict.{controllable_line, PutsRefuted, Decides}
+use Rattle.common_answers.specs.VerdictLines.{controllable_line, PutsRefuted}
+use Rattle.verdicts.specs.Verdict.{Decides}
 use Rattle.stnu_run.specs.Which.{situation_of, which_given}
 use Rattle.stnu_run.specs.Workers.{workers_of, workers_name}
 use Rattle.stnu_run.specs.declared.playing.PlayWords.{PlayWords}

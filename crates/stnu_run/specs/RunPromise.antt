@@ -12,17 +12,18 @@ use Rattle.command_engine.specs.Inputs.{AnswersText, DeclaresBy, DeclaresWithinL
 use Rattle.command_engine.specs.declared.endings.End.{End}
 use Rattle.command_engine.specs.declared.endings.End.TheVariants as ends
 use Rattle.stnu_run.specs.Causes.{Causes, IsTextRefused, IsDayRefused}
-use Rattle.stnu_run.specs.Day.{Opening, IsWholeDay, IsRefusedDay}
-use Rattle.stnu_run.specs.Due.{AnswersDue}
-use Rattle.stnu_run.specs.EventAnswers.{due_line}
-use Rattle.stnu_run.specs.EventFaults.{HasEventFault}
-use Rattle.stnu_run.specs.ExecutionPromise.{ExecutionPromise}
-use Rattle.stnu_run.specs.Faults.{refusing}
+use Rattle.event_execution.specs.Day.{Opening, IsWholeDay, IsRefusedDay}
+use Rattle.event_execution.specs.Due.{AnswersDue}
+use Rattle.event_execution.specs.EventAnswers.{due_line}
+use Rattle.event_execution.specs.EventFaults.{HasEventFault}
+use Rattle.event_execution.specs.ExecutionPromise.{ExecutionPromise}
+use Rattle.event_execution.specs.Handing.{as_named}
+use Rattle.common_answers.specs.Faults.{refusing}
 use Rattle.stnu_run.specs.PlanInput.{plan_in}
 use Rattle.stnu_run.specs.Programs.{Program, or_nothing, serves}
 use Rattle.stnu_run.specs.Running.{run_machine, run_start}
-use Rattle.stnu_run.specs.Verdict.{controllable_line, PutsRefuted}
-use Rattle.stnu_run.specs.declared.faults.Fault.{Fault}
+use Rattle.common_answers.specs.VerdictLines.{controllable_line, PutsRefuted}
+use Rattle.common_answers.specs.declared.faults.Fault.{Fault}
 use Rattle.stnu_run.specs.declared.plan_input.PlanForm.{PlanForm}
 
 -- An execution is opened: it is put that the network is controllable, and it is, with the first due moment, before all else; or that it is
@@ -32,9 +33,10 @@ OpensExecution net put end =
     (IsControllable net × ((due : Option ℕ) × (more : List ℕ) × AnswersDue net [] due × put ≡ controllable_line ++ (due_line due ++ more)))
     ⊎ ((¬ IsControllable net) × ((cert : Certificate) × (judgement_of net cert ≡ Accepted NotControllable) × PutsRefuted cert put end))
 
--- what opens an execution of `run`: the lines of a plan of this form, which all come within the limits; nothing is put before
+-- what opens an execution of `run`: the lines of a plan of this form, which all come within the limits; nothing is put before. The points
+-- of a line are handed to it as the line names them.
 abbrev pub plan_opens : PlanForm → Opening
-plan_opens form used rest net before = DeclaresBy (plan_in form) used rest net × (before ≡ [])
+plan_opens form = record { handing = as_named; opens = λ used rest net before. DeclaresBy (plan_in form) used rest net × (before ≡ []) }
 
 -- What `run` promises, of a plan of this form. `opens`: it opens the execution of the network that the input declares, or puts the first
 -- refusal of the input. `execution`: what is promised of an execution that is opened so. `completes`: only for a controllable network and a

@@ -1,43 +1,24 @@
 -- The command `run`: a plan, and after it lines of events, over which its network is executed.
-use Rattle.std.specs.Prelude.{◌≡◌, ℕ, List, [], ◌∷◌, ◌++◌, Option}
+use Rattle.std.specs.Prelude.{◌≡◌, ℕ, List, Option}
 use Rattle.net_model.specs.Network.{Plan}
-use Rattle.net_model.specs.declared.ids.PointId.{PointId}
-use Rattle.closure_model.specs.Tables.{Graph}
 use Rattle.cert_format.specs.declared.certificate.Certificate.{Certificate}
-use Rattle.execution_model.specs.Feeding.{Execution, started, IsDueAnswer}
-use Rattle.execution_model.specs.Laws.{setting_of, IsDispatchedByClosure}
 use Rattle.command_words.specs.Arguments.{Arguments}
 use Rattle.command_words.specs.Syntax.{Syntax}
 use Rattle.command_engine.specs.Machine.{Machine}
 use Rattle.command_engine.specs.Phases.{text_then_phase_machine}
 use Rattle.command_engine.specs.declared.endings.End.{End}
 use Rattle.command_engine.specs.declared.machines.Onward.{Onward}
-use Rattle.command_engine.specs.declared.machines.Onward.TheVariants.{Goes, Ends}
+use Rattle.command_engine.specs.declared.machines.Onward.TheVariants.{Ends}
 use Rattle.command_engine.specs.declared.phases.TextThenPhase.{TextThenPhase}
 use Rattle.command_engine.specs.declared.phases.TextThenPhase.TheVariants.{Reading}
-use Rattle.stnu_run.specs.Course.{Course}
-use Rattle.stnu_run.specs.EventAnswers.{due_line}
-use Rattle.stnu_run.specs.Executing.{executing_machine}
-use Rattle.stnu_run.specs.Faults.{refusing}
+use Rattle.event_execution.specs.Course.{Course}
+use Rattle.event_execution.specs.Executing.{executing_machine}
+use Rattle.common_answers.specs.Faults.{refusing}
 use Rattle.stnu_run.specs.PlanInput.{PlanInput, input_begun, input_reader}
 use Rattle.stnu_run.specs.PlanWords.{asked_form, plan_words}
-use Rattle.stnu_run.specs.Verdict.{controllable_line, PutsRefuted, Decides}
+use Rattle.common_answers.specs.VerdictLines.{PutsRefuted}
+use Rattle.verdicts.specs.Verdict.{Decides}
 use Rattle.stnu_run.specs.declared.plan_input.PlanForm.{PlanForm}
-
--- the beginning of an execution: it is put that the network is controllable, and the first due moment; and it is executed by the lower
--- bounds and waits of its closure
-pub record BeginsExecution (net : Plan) (answer : List ℕ) (onward : Onward Course) : Type 0 where
-  pub table : Graph
-  pub order : List PointId
-  pub by_closure : IsDispatchedByClosure net table order
-  pub due : Option ℕ
-  pub first : IsDueAnswer (started (setting_of net table)) due
-  pub put : answer ≡ controllable_line ++ due_line due
-  pub goes : onward ≡ Goes (record { net = net; execution = started (setting_of net table); listed = [] })
-
--- it is put that a network is controllable, and the first due moment of its execution
-abbrev pub PutsBegun : Execution → List ℕ → Type 0
-PutsBegun execution put = (due : Option ℕ) × IsDueAnswer execution due × (put ≡ controllable_line ++ due_line due)
 
 -- it is put that a network is not controllable, and a certificate, and the run ends
 abbrev pub EndsRefuted : Certificate → List ℕ → Onward Course → Type 0

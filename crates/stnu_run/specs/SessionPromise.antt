@@ -19,18 +19,19 @@ use Rattle.command_engine.specs.Limits.{most_input}
 use Rattle.command_engine.specs.declared.endings.End.{End}
 use Rattle.command_engine.specs.declared.endings.End.TheVariants as ends
 use Rattle.stnu_run.specs.Causes.{Causes, IsTextRefused, IsDayRefused}
-use Rattle.stnu_run.specs.Day.{Opening, IsWholeDay, IsRefusedDay}
-use Rattle.stnu_run.specs.EventFaults.{HasEventFault}
-use Rattle.stnu_run.specs.ExecutionPromise.{PutsLast, ExecutionPromise}
-use Rattle.stnu_run.specs.Faults.{refusing, fault_line, fault_end}
+use Rattle.event_execution.specs.Handing.{as_named}
+use Rattle.event_execution.specs.Day.{Opening, IsWholeDay, IsRefusedDay}
+use Rattle.event_execution.specs.EventFaults.{HasEventFault}
+use Rattle.event_execution.specs.ExecutionPromise.{PutsLast, ExecutionPromise}
+use Rattle.common_answers.specs.Faults.{refusing, fault_line, fault_end}
 use Rattle.stnu_run.specs.PlanInput.{plan_in}
 use Rattle.stnu_run.specs.Programs.{Program, Promise, serves}
 use Rattle.stnu_run.specs.SessionAnswers.{ready_line}
 use Rattle.stnu_run.specs.Sessions.{SaysStep, StandsAfter, OpensOn, command_machine, session_start}
 use Rattle.stnu_run.specs.Standing.{Standing}
-use Rattle.stnu_run.specs.ToRead.{Come}
-use Rattle.stnu_run.specs.declared.faults.Fault.{Fault}
-use Rattle.stnu_run.specs.declared.faults.Fault.TheVariants.{Format, LineTooLong, InputTooMuch}
+use Rattle.common_answers.specs.ToRead.{Come}
+use Rattle.common_answers.specs.declared.faults.Fault.{Fault}
+use Rattle.common_answers.specs.declared.faults.Fault.TheVariants.{Format, LineTooLong, InputTooMuch}
 use Rattle.stnu_run.specs.declared.plan_input.PlanForm.{PlanForm}
 
 -- ---- the lines of a session while its network is edited
@@ -127,7 +128,7 @@ module _ (form : PlanForm) where
     pub says : SaysAll first steps before
 
   abbrev pub session_opens : Opening
-  session_opens used rest net before = OpensByGo used rest net before
+  session_opens = record { handing = as_named; opens = λ used rest net before. OpensByGo used rest net before }
 
   -- the lines of a session have a fault after those that tell steps
   pub record HasStepFault (input : List InputLine) (fault : Fault) : Type 0 where

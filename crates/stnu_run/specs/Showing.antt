@@ -11,7 +11,7 @@ use Rattle.command_words.specs.Syntax.{Syntax}
 use Rattle.command_engine.specs.Inputs.{AnswersText}
 use Rattle.command_engine.specs.declared.endings.End.{End}
 use Rattle.command_engine.specs.declared.endings.End.TheVariants as ends
-use Rattle.stnu_run.specs.Faults.{refusing}
+use Rattle.common_answers.specs.Faults.{refusing}
 use Rattle.stnu_run.specs.PlanAsking.{plan_program}
 use Rattle.stnu_run.specs.PlanInput.{form_by, json_name, plan_in}
 use Rattle.stnu_run.specs.Programs.{Program}

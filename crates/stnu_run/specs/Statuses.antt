@@ -5,7 +5,7 @@ use Rattle.command_engine.specs.Endings.{end_number}
 use Rattle.command_engine.specs.Serves.{WhereBothTold}
 use Rattle.command_engine.specs.declared.endings.End.{End}
 use Rattle.command_engine.specs.declared.endings.End.TheVariants.{Fault, Limit, EventRefused}
-use Rattle.stnu_run.specs.ExecutionPromise.{PutsLast}
+use Rattle.event_execution.specs.ExecutionPromise.{PutsLast}
 use Rattle.stnu_run.specs.Programs.{Program, serves, tells, Defines, HasCauses}
 use Rattle.stnu_run.specs.declared.status.Status.{Status}
 

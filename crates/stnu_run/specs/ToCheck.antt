@@ -8,9 +8,9 @@ use Rattle.plan_format.specs.PlanNetwork.{DeclaresNetwork, RefusesPart}
 use Rattle.plan_format.specs.PlanReading.{Progress, IsFront}
 use Rattle.texts.specs.Limits.{most_line}
 use Rattle.command_engine.specs.Grammars.{Grammar, Next, Line, NoLine}
-use Rattle.stnu_run.specs.ToRead.{RefusesFormat}
-use Rattle.stnu_run.specs.declared.faults.Fault.{Fault}
-use Rattle.stnu_run.specs.declared.faults.Fault.TheVariants.{Part}
+use Rattle.common_answers.specs.ToRead.{RefusesFormat}
+use Rattle.common_answers.specs.declared.faults.Fault.{Fault}
+use Rattle.common_answers.specs.declared.faults.Fault.TheVariants.{Part}
 
 -- lines after which more is wanted: the front of a plan
 abbrev pub IsPlanFront : List (List ℕ) → Type 0

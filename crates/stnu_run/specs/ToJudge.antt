@@ -8,8 +8,8 @@ use Rattle.texts.specs.Limits.{most_line}
 use Rattle.command_engine.specs.Grammars.{Grammar}
 use Rattle.command_engine.specs.Pairs.{then_grammar}
 use Rattle.stnu_run.specs.PlanInput.{plan_in}
-use Rattle.stnu_run.specs.ToRead.{RefusesFormat}
-use Rattle.stnu_run.specs.declared.faults.Fault.{Fault}
+use Rattle.common_answers.specs.ToRead.{RefusesFormat}
+use Rattle.common_answers.specs.declared.faults.Fault.{Fault}
 use Rattle.stnu_run.specs.declared.plan_input.PlanForm.{PlanForm}
 
 -- lines after which more is wanted: the front of a certificate

@@ -3,13 +3,14 @@
 ghost use Rattle.std.specs.Prelude.{◌≡◌, [], IfOk};
 ghost use Rattle.stnu_run.specs.CheckPromise.{CheckPromise, PutsVerdict};
 ghost use Rattle.stnu_run.specs.Checking.{check_answers, check_asked, check_syntax, PutsYes};
-ghost use Rattle.stnu_run.specs.Verdict.{IsVerdict};
-ghost use Rattle.stnu_run.specs.declared.verdict.Verdict.TheVariants.{Controllable};
+ghost use Rattle.verdicts.specs.Verdict.{IsVerdict};
+ghost use Rattle.verdicts.specs.declared.verdict.Verdict.TheVariants.{Controllable};
 
 use crate::plan_asking::PlanQuestion;
 use crate::plan_input::{PlanForm, PlanInput};
 use crate::requests::Request;
-use crate::verdict::{Verdict, decide, put_controllable, put_proved, put_refuted};
+use common_answers::{put_controllable, put_proved, put_refuted};
+use verdicts::Verdict;
 use crate::workers::Workers;
 use closure_model::order_laws::ordered_tables_are_placed;
 use command_engine::{Answer, Asked, End, Question};
@@ -118,7 +119,7 @@ fn put_verdict<R: Threads + Sync>(
     requires { answer.old.text ≡ [] }
     ensures { IfOk result (check_answers check.now net answer.new.text) }
 {
-    match decide(rt, alloc, net, &check.workers)? {
+    match check.workers.decide(rt, alloc, net)? {
         Verdict::Controllable(net, closed) => {
             put_yes(alloc, answer, &net, &closed, check.flags.proof)
         }

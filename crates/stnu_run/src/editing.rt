@@ -2,12 +2,12 @@
 
 ghost use Rattle.std.specs.Prelude.{◌≡◌, [], true, false, IfOk, OnOk};
 ghost use Rattle.strategy_model.specs.Control.{IsControllable};
-ghost use Rattle.plan_session.specs.Sessions.{IsDispatchOfClosure};
+ghost use Rattle.dispatch_net.specs.OfClosure.{IsDispatchOfClosure};
 ghost use Rattle.edit_script.specs.declared.step.Step.TheVariants as step;
 ghost use Rattle.stnu_run.specs.Sessions.{net_of, IsQuestion, OpensOn, SaysProof, SaysStep, SaysTable, StandsAfter};
 
 use crate::session_answers::{push_refused, push_report, push_table};
-use crate::verdict::push_verdict;
+use common_answers::push_verdict;
 use crate::workers::Workers;
 use cert_format::print_certificate;
 use command_engine::{Answer, Word};

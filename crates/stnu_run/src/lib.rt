@@ -6,9 +6,6 @@ mod checking;
 mod counts;
 mod dispatch;
 mod editing;
-mod event_answers;
-mod executing;
-mod faults;
 mod forging;
 mod judging;
 mod laws;
@@ -25,7 +22,6 @@ mod session_answers;
 mod showing;
 mod status;
 mod telling;
-mod verdict;
 mod which;
 mod workers;
 

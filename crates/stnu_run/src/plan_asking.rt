@@ -6,7 +6,7 @@ ghost use Rattle.command_engine.specs.Inputs.{AnswersText};
 ghost use Rattle.command_engine.specs.Single.{IsSingleAnswer};
 ghost use Rattle.command_engine.specs.declared.endings.End.{End};
 ghost use Rattle.stnu_run.specs.Causes.{IsAnswer, text_causes};
-ghost use Rattle.stnu_run.specs.Faults.{refusing};
+ghost use Rattle.common_answers.specs.Faults.{refusing};
 ghost use Rattle.stnu_run.specs.PlanAsking.{asking};
 ghost use Rattle.stnu_run.specs.PlanInput.{plan_in};
 ghost use Rattle.stnu_run.specs.Programs.{or_nothing};

@@ -8,7 +8,7 @@ ghost use Rattle.command_engine.specs.declared.machines.Stop.{Stop};
 ghost use Rattle.stnu_run.specs.DocumentTexts.{document_texts};
 ghost use Rattle.stnu_run.specs.PlanDocument.{are_end, document_begun, document_reader, document_step, document_stop, parts_step, with_line};
 
-use crate::faults::Fault;
+use common_answers::Fault;
 use command_engine::{InGrammar, Step, Stop, Text};
 use net_model::{FormatKind, Network, Part};
 use plan_json::{JsonFault, from_json};

@@ -3,19 +3,19 @@
 ghost use Rattle.std.specs.Prelude.{◌≡◌, ◌++◌, [], length, IfOk, OnOk};
 ghost use Rattle.strategy_model.specs.Control.{IsControllable, IsEarliest};
 ghost use Rattle.strategy_model.specs.Situations.{moment_in};
-ghost use Rattle.plan_session.specs.Sessions.{IsDispatchOfClosure};
+ghost use Rattle.dispatch_net.specs.OfClosure.{IsDispatchOfClosure};
 ghost use Rattle.stnu_run.specs.PlayPromise.{PlayPromise, PutsPlay};
 ghost use Rattle.stnu_run.specs.Playing.{PutsTimes, play_answers, play_asked, play_syntax, time_line, times_text};
-ghost use Rattle.stnu_run.specs.Verdict.{IsVerdict};
+ghost use Rattle.verdicts.specs.Verdict.{IsVerdict};
 ghost use Rattle.stnu_run.specs.Which.{situation_of};
-ghost use Rattle.stnu_run.specs.declared.verdict.Verdict.TheVariants.{Controllable};
+ghost use Rattle.verdicts.specs.declared.verdict.Verdict.TheVariants.{Controllable};
 
 use crate::plan_asking::PlanQuestion;
 use crate::plan_input::{PlanForm, PlanInput};
 use crate::requests::Request;
-use crate::running::dispatch_by;
 use crate::session_answers::point_name;
-use crate::verdict::{Verdict, decide, put_refuted};
+use common_answers::put_refuted;
+use verdicts::{Verdict, dispatch_by};
 use crate::which::Which;
 use crate::workers::Workers;
 use command_engine::{Answer, Asked, End, Question, Word};
@@ -129,7 +129,7 @@ fn put_day<R: Threads + Sync>(
     requires { answer.old.text ≡ [] }
     ensures { IfOk result (play_answers play.now net answer.new.text) }
 {
-    match decide(rt, alloc, net, &play.workers)? {
+    match play.workers.decide(rt, alloc, net)? {
         Verdict::Controllable(net, closed) => {
             put_times(alloc, answer, &net, &closed, play.words.which)
         }

@@ -1,25 +1,23 @@
 //! The command `run`: a plan, and then the execution of its network over lines of events.
 
-ghost use Rattle.std.specs.Prelude.{◌≡◌, ◌≤◌, [], length, IfOk, OnOk};
+ghost use Rattle.std.specs.Prelude.{◌≡◌, [], IfOk};
 ghost use Rattle.command_engine.specs.Machine.{HasRoom};
-ghost use Rattle.execution_model.specs.Feeding.{IsDueAnswer};
 ghost use Rattle.execution_model.specs.Laws.{IsDispatchedByClosure};
-ghost use Rattle.plan_session.specs.Sessions.{IsDispatchOfClosure};
-ghost use Rattle.stnu_run.specs.Executing.{executing_machine, answer_room};
+ghost use Rattle.event_execution.specs.Executing.{executing_machine};
 ghost use Rattle.stnu_run.specs.Programs.{or_nothing};
 ghost use Rattle.stnu_run.specs.RunPromise.{RunPromise, run_causes};
-ghost use Rattle.stnu_run.specs.Running.{run_asked, run_begins, run_start, run_syntax, BeginsExecution, PutsBegun};
+ghost use Rattle.stnu_run.specs.Running.{run_asked, run_begins, run_start, run_syntax};
+ghost use Rattle.event_execution.specs.Begin.{BeginsExecution};
 
-use crate::event_answers::put_due;
-use crate::executing::Executing;
+use event_execution::{Executing, begin_dispatched};
 use crate::plan_input::{PlanForm, PlanInput};
 use crate::promising::Promising;
 use crate::requests::Request;
-use crate::verdict::{Verdict, decide, put_refuted};
+use common_answers::put_refuted;
+use verdicts::{Verdict, dispatch_by};
 use crate::workers::Workers;
-use command_engine::{Answer, Begin, Onward, TextThenPhase, Word};
+use command_engine::{Answer, Begin, Onward, TextThenPhase};
 use command_words::{Arguments, Syntax};
-use dispatch_net::Dispatch;
 use event_stream::laws::lines_have_one_reading;
 use execution_model::laws as execution_laws;
 use net_model::Network;
@@ -83,7 +81,7 @@ impl Begin<Network> for Run {
         answer: &mut Answer,
         value: Network,
     ) -> Result<Onward<Executing>, AllocError> {
-        match decide(rt, alloc, value, &self.workers)? {
+        match self.workers.decide(rt, alloc, value)? {
             Verdict::Controllable(net, closed) => begin_execution(alloc, answer, net, &closed),
             Verdict::Refuted(certificate) => {
                 Ok(Onward::Ends(put_refuted(alloc, answer, &certificate)?))
@@ -136,47 +134,4 @@ fn begin_execution(
 {
     let dispatch = dispatch_by(alloc, &net, closed)?;
     begin_dispatched(alloc, answer, net, dispatch)
-}
-
-/// The dispatchable network of a controllable network by its closure. `AllocError` comes only for want of memory.
-pub(crate) fn dispatch_by(
-    alloc: Global,
-    net: &Network,
-    closed: &Closed,
-) -> Result<Dispatch, AllocError>
-    requires { IsDispatchedByClosure net.now closed.now.table closed.now.order }
-    ensures { IfOk result (IsDispatchOfClosure net.now) }
-{
-    Dispatch::of(alloc, net, &closed.table, closed.order.as_slice())
-}
-
-/// The same by the dispatchable network of its closure.
-pub(crate) fn begin_dispatched(
-    alloc: Global,
-    answer: &mut Answer,
-    net: Network,
-    dispatch: Dispatch,
-) -> Result<Onward<Executing>, AllocError>
-    requires empty { answer.old.text ≡ [] }
-    requires dispatch { IsDispatchOfClosure net dispatch }
-    ensures begins { IfOk result (BeginsExecution net answer.new.text) }
-    ensures room { IfOk result (λ onward. HasRoom executing_machine onward answer.new.capacity) }
-{
-    // The proof reads here that the network is sound.
-    let _ = net.points();
-    let state = Executing::start(alloc, net, dispatch.slim())?;
-    put_begun(answer, &state)?;
-    Ok(Onward::Goes(state))
-}
-
-/// Puts that a network is controllable, and the first due moment of its execution, and reserves the room that the answers to events need.
-fn put_begun(answer: &mut Answer, state: &Executing) -> Result<(), AllocError>
-    requires { answer.old.text ≡ [] }
-    ensures put { OnOk result (PutsBegun state.now.execution answer.new.text) }
-    ensures room { OnOk result (answer_room state.now.net ≤ answer.new.capacity) }
-{
-    state.reserve(answer)?;
-    answer.put_line(&[Word::Text("controllable")]);
-    put_due(answer, state.next_due());
-    Ok(())
 }

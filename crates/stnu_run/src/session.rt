@@ -9,13 +9,11 @@ ghost use Rattle.stnu_run.specs.Sessions.{session_asked, session_begins, session
 ghost use Rattle.edit_script.specs.declared.step.Step.TheVariants as step;
 
 use crate::editing::Editing;
-use crate::executing::Executing;
-use crate::faults::{Fault, stop_fault};
 use crate::plan_input::{PlanForm, PlanInput};
 use crate::promising::Promising;
 use crate::requests::Request;
-use crate::running::begin_dispatched;
-use crate::verdict::push_verdict;
+use event_execution::{Executing, begin_dispatched};
+use common_answers::{Fault, push_verdict, stop_fault};
 use crate::workers::Workers;
 use command_engine::{Answer, Begin, Command, End, Onward, Refusal, Stop, TextThenPhase, Word};
 use command_words::{Arguments, Syntax};

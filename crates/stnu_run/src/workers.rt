@@ -2,7 +2,7 @@
 
 ghost use Rattle.std.specs.Prelude.{◌≡◌, option_map, IfOk};
 ghost use Rattle.plan_session.specs.Sessions.{IsOpenedOn};
-ghost use Rattle.table_closing.specs.Closing.{ClosesTo};
+ghost use Rattle.verdicts.specs.Verdict.{IsVerdict};
 ghost use Rattle.stnu_run.specs.Workers.{workers_of};
 
 use crate::counts::count_within;
@@ -12,7 +12,7 @@ use plan_session::Session;
 use std::alloc::{AllocError, Global};
 use std::marker::Model;
 use std::thread::Threads;
-use table_closing::{Closed, close};
+use verdicts::{Verdict, decide};
 
 /// How many workers there may be.
 const MOST_WORKERS: u32 = 64;
@@ -61,16 +61,15 @@ impl Workers {
         Session::open(rt, alloc, net, self.count, &NoGate)
     }
 
-    /// The closure of a network and the order of its points, or `None` exactly where a cycle of negative ordinary edges is derivable.
-    /// `AllocError` comes only for want of memory.
-    pub(crate) fn close<R: Threads + Sync>(
+    /// Decides whether a network is controllable. `AllocError` comes only for want of memory.
+    pub(crate) fn decide<R: Threads + Sync>(
         &self,
         rt: &R,
         alloc: Global,
-        net: &Network,
-    ) -> Result<Option<Closed>, AllocError>
-        ensures { IfOk result (ClosesTo net.now) }
+        net: Network,
+    ) -> Result<Verdict, AllocError>
+        ensures { IfOk result (IsVerdict net) }
     {
-        close(rt, alloc, net, self.count)
+        decide(rt, alloc, net, self.count, &NoGate)
     }
 }

@@ -5,9 +5,10 @@ use Rattle.refutations.specs.Refuting.{Refutes}
 use Rattle.command_engine.specs.declared.endings.End.{End}
 use Rattle.stnu_run.specs.Checking.{PutsYes, check_answers}
 use Rattle.stnu_run.specs.declared.checking.CheckFlags.{CheckFlags}
-use Rattle.stnu_run.specs.Verdict.{IsVerdict, PutsRefuted}
-use Rattle.stnu_run.specs.declared.verdict.Verdict.TheVariants.{Controllable}
-use Rattle.stnu_run.proofs.VerdictLemmas.{own_verdict}
+use Rattle.verdicts.specs.Verdict.{IsVerdict}
+use Rattle.common_answers.specs.VerdictLines.{PutsRefuted}
+use Rattle.verdicts.specs.declared.verdict.Verdict.TheVariants.{Controllable}
+use Rattle.verdicts.proofs.VerdictLemmas.{own_verdict}
 use Rattle.stnu_run.proofs.checking.put_verdict.Goals as goal
 
 pub put_yes-requires-clause-verdict : goal.put_yes-requires-clause-verdict

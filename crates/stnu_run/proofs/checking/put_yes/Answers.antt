@@ -3,8 +3,9 @@ use Rattle.std.proofs.lemmas.Result.{IfOk-weaker}
 use Rattle.net_model.specs.declared.ids.PointId.{PointId}
 use Rattle.table_proofs.specs.Proving.{table_proof_of}
 use Rattle.stnu_run.specs.Checking.{PutsYes}
-use Rattle.stnu_run.specs.Verdict.{PutsProved}
-use Rattle.stnu_run.proofs.VerdictLemmas.{proved_yes, table_proof_proves}
+use Rattle.common_answers.specs.VerdictLines.{PutsProved}
+use Rattle.stnu_run.proofs.CheckOnceLemmas.{proved_yes}
+use Rattle.verdicts.proofs.VerdictLemmas.{table_proof_proves}
 use Rattle.stnu_run.proofs.checking.put_yes.Goals as goal
 
 pub returns : goal.returns

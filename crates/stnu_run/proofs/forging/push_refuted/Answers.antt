@@ -1,7 +1,7 @@
 use Rattle.std.proofs.Common.{ℕ, ◌++◌, codes, ap, ◌∙◌}
 use Rattle.std.proofs.lemmas.Result.{on_ok_weaker}
 use Rattle.stnu_run.specs.Forging.{count_line, size_of}
-use Rattle.stnu_run.specs.Verdict.{refuted_line}
+use Rattle.common_answers.specs.VerdictLines.{refuted_line}
 use Rattle.stnu_run.proofs.ForgeLemmas.{puts_both}
 use Rattle.stnu_run.proofs.forging.push_refuted.Goals as goal
 

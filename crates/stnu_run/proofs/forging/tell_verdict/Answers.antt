@@ -3,7 +3,7 @@ use Rattle.std.proofs.lemmas.Result.{IfOk-weaker}
 use Rattle.net_model.specs.Network.{Plan}
 use Rattle.stnu_run.specs.Forging.{Adds, TellsRefuted, TellsVerdict}
 use Rattle.stnu_run.specs.declared.telling.TellingEnd.{TellingEnd}
-use Rattle.stnu_run.proofs.VerdictLemmas.{decides_yes}
+use Rattle.verdicts.proofs.VerdictLemmas.{decides_yes}
 use Rattle.stnu_run.proofs.forging.tell_verdict.Goals as goal
 
 pub tell_controllable-requires-clause-proves : goal.tell_controllable-requires-clause-proves

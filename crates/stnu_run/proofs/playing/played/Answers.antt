@@ -1,5 +1,6 @@
 use Rattle.std.proofs.Common.{◌∙◌}
-use Rattle.stnu_run.proofs.BeginLemmas.{by_closure, dispatch_of}
+use Rattle.execution_model.proofs.OfClosureLemmas.{by_closure}
+use Rattle.live_executor.proofs.OfClosureLemmas.{dispatch_of}
 use Rattle.stnu_run.proofs.PlayLemmas.{started_by}
 use Rattle.stnu_run.proofs.playing.played.Goals as goal
 

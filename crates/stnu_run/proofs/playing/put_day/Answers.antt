@@ -4,10 +4,11 @@ use Rattle.net_model.specs.Network.{Plan}
 use Rattle.refutations.specs.Refuting.{Refutes}
 use Rattle.command_engine.specs.declared.endings.End.{End}
 use Rattle.stnu_run.specs.Playing.{PutsTimes, play_answers}
-use Rattle.stnu_run.specs.Verdict.{IsVerdict, PutsRefuted}
+use Rattle.verdicts.specs.Verdict.{IsVerdict}
+use Rattle.common_answers.specs.VerdictLines.{PutsRefuted}
 use Rattle.stnu_run.specs.declared.playing.PlayWords.{PlayWords}
-use Rattle.stnu_run.specs.declared.verdict.Verdict.TheVariants.{Controllable}
-use Rattle.stnu_run.proofs.VerdictLemmas.{own_verdict}
+use Rattle.verdicts.specs.declared.verdict.Verdict.TheVariants.{Controllable}
+use Rattle.verdicts.proofs.VerdictLemmas.{own_verdict}
 use Rattle.stnu_run.proofs.playing.put_day.Goals as goal
 
 pub put_times-requires-clause-verdict : goal.put_times-requires-clause-verdict

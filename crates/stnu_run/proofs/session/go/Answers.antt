@@ -1,7 +1,7 @@
 use Rattle.std.proofs.Common.{rules, inl, subst}
 use Rattle.net_model.specs.Network.{Plan}
 use Rattle.strategy_model.specs.Control.{IsControllable}
-use Rattle.stnu_run.specs.Running.{BeginsExecution}
+use Rattle.event_execution.specs.Begin.{BeginsExecution}
 use Rattle.stnu_run.specs.Sessions.{net_of}
 use Rattle.stnu_run.proofs.session.go.Goals as goal
 

@@ -1,4 +1,4 @@
-use Rattle.stnu_run.proofs.RefutationLemmas.{check_answers_once}
+use Rattle.stnu_run.proofs.CheckOnceLemmas.{check_answers_once}
 use Rattle.stnu_run.proofs.checking.CheckPlanQuestion.answers_once.Goals as goal
 
 pub returns : goal.returns

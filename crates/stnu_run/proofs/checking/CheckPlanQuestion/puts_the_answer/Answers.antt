@@ -1,5 +1,5 @@
 use Rattle.stnu_run.specs.Checking.{PutsYes}
-use Rattle.stnu_run.proofs.VerdictLemmas.{verdict_put}
+use Rattle.verdicts.proofs.VerdictLemmas.{verdict_put}
 use Rattle.stnu_run.proofs.checking.CheckPlanQuestion.puts_the_answer.Goals as goal
 
 pub returns : goal.returns

@@ -1,6 +1,6 @@
 use Rattle.command_engine.specs.Pairs.{then_reader}
 use Rattle.stnu_run.specs.CertificateTexts.{certificate_reader}
-use Rattle.stnu_run.specs.Faults.{refusing}
+use Rattle.common_answers.specs.Faults.{refusing}
 use Rattle.stnu_run.specs.JudgePromise.{JudgePromise}
 use Rattle.stnu_run.specs.Judging.{judge_answers, judge_start}
 use Rattle.stnu_run.specs.PlanInput.{input_reader}

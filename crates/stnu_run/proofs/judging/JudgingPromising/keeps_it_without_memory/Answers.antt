@@ -2,7 +2,7 @@ use Rattle.std.proofs.Common.{inl}
 use Rattle.command_engine.proofs.AskedLemmas.{wants_before_answer}
 use Rattle.command_engine.specs.Pairs.{then_reader}
 use Rattle.stnu_run.specs.CertificateTexts.{certificate_reader}
-use Rattle.stnu_run.specs.Faults.{refusing}
+use Rattle.common_answers.specs.Faults.{refusing}
 use Rattle.stnu_run.specs.Judging.{judge_answers, judge_start}
 use Rattle.stnu_run.specs.PlanInput.{input_reader}
 use Rattle.stnu_run.proofs.judging.JudgingPromising.keeps_it_without_memory.Goals as goal

@@ -1,4 +1,4 @@
-use Rattle.stnu_run.specs.Faults.{refusing}
+use Rattle.common_answers.specs.Faults.{refusing}
 use Rattle.stnu_run.specs.PlanAsking.{asking}
 use Rattle.stnu_run.specs.PlanInput.{input_reader, plan_in}
 use Rattle.stnu_run.specs.Causes.{text_causes}

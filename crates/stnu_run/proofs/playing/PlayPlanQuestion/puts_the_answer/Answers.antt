@@ -1,5 +1,5 @@
 use Rattle.stnu_run.specs.Playing.{PutsTimes}
-use Rattle.stnu_run.proofs.VerdictLemmas.{verdict_put}
+use Rattle.verdicts.proofs.VerdictLemmas.{verdict_put}
 use Rattle.stnu_run.proofs.playing.PlayPlanQuestion.puts_the_answer.Goals as goal
 
 pub returns : goal.returns

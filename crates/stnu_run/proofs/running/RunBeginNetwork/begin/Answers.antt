@@ -1,9 +1,10 @@
 use Rattle.std.proofs.Common.{inl, subst}
 use Rattle.std.proofs.lemmas.Result.{IfOk-weaker}
 use Rattle.net_model.specs.Network.{Plan}
-use Rattle.stnu_run.specs.Running.{BeginsExecution, run_begins}
-use Rattle.stnu_run.specs.Verdict.{IsVerdict}
-use Rattle.stnu_run.specs.declared.verdict.Verdict.TheVariants.{Controllable}
+use Rattle.event_execution.specs.Begin.{BeginsExecution}
+use Rattle.stnu_run.specs.Running.{run_begins}
+use Rattle.verdicts.specs.Verdict.{IsVerdict}
+use Rattle.verdicts.specs.declared.verdict.Verdict.TheVariants.{Controllable}
 use Rattle.stnu_run.proofs.running.RunBeginNetwork.begin.Goals as goal
 
 pub begin_execution-requires-clause-closure : goal.begin_execution-requires-clause-closure

@@ -1,11 +1,12 @@
-use Rattle.stnu_run.specs.Executing.{executing_machine}
-use Rattle.stnu_run.specs.Faults.{refusing}
+use Rattle.event_execution.specs.Executing.{executing_machine}
+use Rattle.common_answers.specs.Faults.{refusing}
 use Rattle.stnu_run.specs.PlanInput.{input_reader}
 use Rattle.stnu_run.specs.Programs.{or_nothing}
 use Rattle.stnu_run.specs.RunPromise.{RunPromise, run_causes}
 use Rattle.stnu_run.specs.Running.{run_begins, run_start}
 use Rattle.stnu_run.proofs.ProgramLemmas.{text_then_phase_defines_one}
-use Rattle.stnu_run.proofs.RunOnceLemmas.{run_begins_once, executing_single}
+use Rattle.stnu_run.proofs.RunOnceLemmas.{run_begins_once}
+use Rattle.event_execution.proofs.OnceLemmas.{executing_single}
 use Rattle.stnu_run.proofs.running.RunningPromising.defines_one.Goals as goal
 
 pub returns : goal.returns

@@ -1,4 +1,4 @@
-use Rattle.stnu_run.specs.Faults.{refusing}
+use Rattle.common_answers.specs.Faults.{refusing}
 use Rattle.stnu_run.specs.PlanInput.{input_reader}
 use Rattle.stnu_run.specs.SessionPromise.{session_promise}
 use Rattle.stnu_run.specs.Sessions.{session_begins, session_machine, session_start}

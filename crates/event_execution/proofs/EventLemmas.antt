@@ -1,0 +1,222 @@
+-- The lines of events of a run: what each of them brings, and where the run stands after several.
+use Rattle.std.proofs.Common.{◌≡◌, ℕ, ◌+◌, ◌-◌, List, [], ◌∷◌, ◌++◌, Option, Some, None, Result, Ok, Err, sym, ap, ◌∙◌, subst, inl, inr, append_assoc}
+use Rattle.texts.specs.Lines.{InputLine, line_size}
+use Rattle.texts.specs.Words.{words}
+use Rattle.net_model.specs.Network.{Plan}
+use Rattle.net_model.specs.declared.ids.PointId.{PointId}
+use Rattle.net_model.specs.declared.format.FormatKind.{FormatKind}
+use Rattle.net_model.specs.declared.format.FormatKind.TheVariants.{NoEnd}
+use Rattle.texts.specs.Limits.{most_line}
+use Rattle.plan_port.specs.Lines.{Comes, TooLong, TooMuch, coming}
+use Rattle.event_stream.specs.EventText.{EventLine, blank, completed, done, IsFaultOf}
+use Rattle.event_stream.specs.Laws.{OneReading}
+use Rattle.net_model.specs.Moments.{Moments}
+use Rattle.execution_model.specs.Feeding.{Execution, taken, after_feed, IsFed, first_open, IsFinished, IsWhole, IsDueAnswer}
+use Rattle.execution_model.specs.declared.feeding.Fed.{Fed}
+use Rattle.execution_model.specs.declared.feeding.Fed.TheVariants as fed
+use Rattle.execution_model.specs.declared.feeding.Finished.{Finished}
+use Rattle.execution_model.specs.declared.feeding.Finished.TheVariants as finished
+use Rattle.execution_model.specs.declared.feeding.Why.{Why}
+use Rattle.command_engine.specs.Runs.{Here, Run}
+use Rattle.command_engine.specs.declared.endings.End.{End}
+use Rattle.command_engine.specs.declared.endings.End.TheVariants as ends
+use Rattle.command_engine.specs.declared.machines.Onward.{Onward}
+use Rattle.command_engine.specs.declared.machines.Onward.TheVariants.{Goes, Ends}
+use Rattle.event_execution.specs.Course.{Course}
+use Rattle.event_execution.specs.Handing.{Handing, Tells}
+use Rattle.event_execution.specs.EventAnswers.{acts_text, due_line, complete_line, why_words, unfinished_words, event_line, event_fault_line}
+use Rattle.event_execution.specs.EventFaults.{event_refusal}
+use Rattle.event_execution.specs.Executing.{RefusesEvent, AnswersFeed, AnswersEnd, AnswersEvent, TakesEvent, executing_machine}
+use Rattle.common_answers.specs.Faults.{fault_end}
+use Rattle.common_answers.specs.declared.faults.Fault.{Fault}
+use Rattle.common_answers.specs.declared.faults.Fault.TheVariants.{Format, LineTooLong as LongLine, InputTooMuch as MuchInput}
+use Rattle.event_execution.proofs.HandingLemmas.{told_once, no_fault}
+use Rattle.event_execution.proofs.ReplyLemmas.{Continues, Replied, replied, last_reply}
+
+-- where the execution of a network stands in a run
+abbrev pub at : Plan → Execution → Handing → (number room : ℕ) → Here Course
+at net execution handing number room = record { state = record { net = net; execution = execution; handing = handing }; number = number; room = room }
+
+-- ---- the answer to what a line tells
+-- a feed, by the refusal so far and the moments that are taken
+abbrev FedBy : Option Why → Result Moments Why → Execution → ℕ → Fed → Execution → Type 0
+FedBy refused result execution moment answer after =
+    elim refused [
+      | Some cause ↦ (answer ≡ fed.Ended cause) × (after ≡ execution)
+      | None ↦ elim result [
+        | Err cause ↦ (answer ≡ fed.Refused cause) × (after ≡ record execution { refused = Some cause })
+        | Ok moments ↦ (answer ≡ fed.Acts) × (after ≡ after_feed execution moment moments)
+      ]
+    ]
+
+fed_so : (execution : Execution) (moment : ℕ) (points : List PointId) (answer : Fed) (after : Execution) (result : Result Moments Why) → execution.refused ≡ None
+    → taken execution moment points ≡ result
+    → IsFed execution moment points answer after → FedBy None result execution moment answer after
+fed_so execution moment points answer after result none is so =
+    subst (λ (r : Result Moments Why). FedBy None r execution moment answer after) is
+    (subst (λ (o : Option Why). FedBy o (taken execution moment points) execution moment answer after) none so)
+
+-- an end, by the refusal so far and the first open point
+abbrev FinishedBy : Option Why → Option PointId → Execution → Finished → Execution → Type 0
+FinishedBy refused first execution answer after =
+    elim refused [
+      | Some cause ↦ (answer ≡ finished.Ended cause) × (after ≡ execution)
+      | None ↦ elim first [
+        | Some point ↦ (answer ≡ finished.Unfinished point) × (after ≡ execution)
+        | None ↦ (answer ≡ finished.Complete) × IsWhole execution after
+      ]
+    ]
+
+finished_so : (execution : Execution) (answer : Finished) (after : Execution) (first : Option PointId) → execution.refused ≡ None → first_open execution ≡ first
+    → IsFinished execution answer after → FinishedBy None first execution answer after
+finished_so execution answer after first none is so =
+    subst (λ (o : Option PointId). FinishedBy None o execution answer after) is
+    (subst (λ (o : Option Why). FinishedBy o (first_open execution) execution answer after) none so)
+
+module _ (state : Course) (number : ℕ) (none : state.execution.refused ≡ None) (answer : List ℕ) (onward : Onward Course) where
+  -- the acts of a feed, the next due moment, and the run goes on
+  abbrev GoesAfterFeed : ℕ → List PointId → Moments → Type 0
+  GoesAfterFeed moment points moments =
+      (due : Option ℕ) × IsDueAnswer (after_feed state.execution moment moments) due
+      × (answer ≡ acts_text state.net (after_feed state.execution moment moments).acts ++ due_line due)
+      × (onward ≡ Goes (record state { execution = after_feed state.execution moment moments }))
+
+  -- a feed that is taken
+  taken_goes : (moment : ℕ) (points : List PointId) (moments : Moments) → taken state.execution moment points ≡ Ok moments
+      → AnswersEvent state number (completed moment points) answer onward
+      → GoesAfterFeed moment points moments
+  taken_goes moment points moments is (answered, after, so, answers) =
+      let by = fed_so state.execution moment points answered after (Ok moments) none is so in
+      let there = subst (λ (e : Execution). AnswersFeed state number answered (record state { execution = e }) answer onward) by.1 answers in
+      let now = subst (λ (f : Fed). AnswersFeed state number f (record state { execution = after_feed state.execution moment moments }) answer onward) by.0 there in
+      (now.0, now.1, now.2, now.3)
+
+  -- one that is refused ends the run so
+  refused_ends : (moment : ℕ) (points : List PointId) (cause : Why) → taken state.execution moment points ≡ Err cause → AnswersEvent state number (completed moment points) answer onward
+      → RefusesEvent number (why_words state.net cause) answer onward
+  refused_ends moment points cause is (answered, after, so, answers) =
+      let by = fed_so state.execution moment points answered after (Err cause) none is so in
+      subst (λ (f : Fed). AnswersFeed state number f (record state { execution = after }) answer onward) by.0 answers
+
+  -- an end with no open point: the acts that remain
+  done_whole : first_open state.execution ≡ None → AnswersEvent state number done answer onward
+      → (after : Execution) × IsWhole state.execution after × (answer ≡ acts_text state.net after.acts ++ complete_line) × (onward ≡ Ends ends.Done)
+  done_whole is (answered, after, so, answers) =
+      let by = finished_so state.execution answered after None none is so in
+      let now = subst (λ (f : Finished). AnswersEnd state.net number f after.acts answer onward) by.0 answers in
+      (after, by.1, now.0, now.1)
+
+  -- one with an open point ends the run as refused
+  done_unfinished : (point : PointId) → first_open state.execution ≡ Some point → AnswersEvent state number done answer onward
+      → RefusesEvent number (unfinished_words state.net point) answer onward
+  done_unfinished point is (answered, after, so, answers) =
+      let by = finished_so state.execution answered after (Some point) none is so in
+      subst (λ (f : Finished). AnswersEnd state.net number f after.acts answer onward) by.0 answers
+
+-- ---- a run over a line, and others
+-- a run ends by a fault, with its line
+abbrev pub EndsBy : Fault → List ℕ → End → Type 0
+EndsBy fault put end = (put ≡ event_refusal fault) × (end ≡ fault_end fault)
+
+-- a run ends by a refused event, with its line, in these words
+abbrev pub EndsRefused : ℕ → (words : List (List ℕ)) → List ℕ → End → Type 0
+EndsRefused number words put end = (put ≡ event_line number words) × (end ≡ ends.EventRefused)
+
+-- where no line comes, the run ends by a fault
+pub no_line : (net : Plan) (execution : Execution) (handing : Handing) (number room : ℕ) (put : List ℕ) (end : End)
+    → Run executing_machine (at net execution handing number room) [] put end → EndsBy (Format (number + 1) NoEnd) put end
+no_line net execution handing number room put end run =
+    let last = last_reply executing_machine (at net execution handing number room) put end run in
+    let same : end ≡ last.0 = cc (last.1) in
+    (last.2.0, same ∙ last.2.1)
+
+pub too_long : (net : Plan) (execution : Execution) (handing : Handing) (number room : ℕ) (line : InputLine) (lines : List InputLine) (put : List ℕ) (end : End)
+    → coming most_line room line ≡ TooLong → Run executing_machine (at net execution handing number room) (line ∷ lines) put end → EndsBy (LongLine (number + 1)) put end
+too_long net execution handing number room line lines put end long run =
+    let here = at net execution handing number room in
+    let one = replied executing_machine here line lines put end TooLong long run in
+    let on = subst (λ (o : Onward Course). Continues executing_machine here line lines put end o one.answer) one.replies.1 one.on in
+    (on.0 ∙ one.replies.2.0, on.1 ∙ one.replies.2.1)
+
+pub too_much : (net : Plan) (execution : Execution) (handing : Handing) (number room : ℕ) (line : InputLine) (lines : List InputLine) (put : List ℕ) (end : End)
+    → coming most_line room line ≡ TooMuch → Run executing_machine (at net execution handing number room) (line ∷ lines) put end → EndsBy (MuchInput (number + 1)) put end
+too_much net execution handing number room line lines put end much run =
+    let here = at net execution handing number room in
+    let one = replied executing_machine here line lines put end TooMuch much run in
+    let on = subst (λ (o : Onward Course). Continues executing_machine here line lines put end o one.answer) one.replies.1 one.on in
+    (on.0 ∙ one.replies.2.0, on.1 ∙ one.replies.2.1)
+
+module _ (reading : (net : Plan) (line : List (List ℕ)) → OneReading net line) where
+  -- what a line tells decides the answer
+  told_answers : (state : Course) (number : ℕ) (told : EventLine) (line answer : List ℕ) (onward : Onward Course) → Tells state.handing state.net told line → TakesEvent state number line answer onward
+      → AnswersEvent state number told answer onward
+  told_answers state number told line answer onward is (inl (other, also, answers)) =
+      subst (λ (t : EventLine). AnswersEvent state number t answer onward) (told_once reading state.handing state.net line other told also is) answers
+  told_answers state number told line answer onward is (inr (kind, fault, puts, so)) = absurd (no_fault reading state.handing state.net line told kind is fault)
+
+  fault_answers : (state : Course) (number : ℕ) (kind : FormatKind) (line answer : List ℕ) (onward : Onward Course) → IsFaultOf state.net line kind
+      → TakesEvent state number line answer onward → (answer ≡ event_fault_line number kind) × (onward ≡ Ends (fault_end (Format number kind)))
+  fault_answers state number kind line answer onward is (inl (told, also, answers)) = absurd (no_fault reading state.handing state.net line told kind also is)
+  fault_answers state number kind line answer onward is (inr (other, fault, puts, so)) =
+      let same = (reading state.net (words line)).one_fault other kind fault is in
+      (puts ∙ ap (event_fault_line number) same, so ∙ ap (λ (k : FormatKind). Ends (fault_end (Format number k))) same)
+
+  module _ (net : Plan) (execution : Execution) (handing : Handing) (number room : ℕ) (none : execution.refused ≡ None) (line : InputLine) (lines : List InputLine) (put : List ℕ) (end : End)
+      (comes : coming most_line room line ≡ Comes) (run : Run executing_machine (at net execution handing number room) (line ∷ lines) put end) where
+    abbrev here : Here Course
+    here = at net execution handing number room
+
+    one : Replied executing_machine here line lines put end Comes
+    one = replied executing_machine here line lines put end Comes comes run
+
+    tells : (told : EventLine) → Tells handing net told line.text → AnswersEvent here.state (number + 1) told one.answer one.onward
+    tells told is = told_answers here.state (number + 1) told line.text one.answer one.onward is one.replies
+
+    on_as : (onward : Onward Course) → one.onward ≡ onward → Continues executing_machine here line lines put end onward one.answer
+    on_as onward is = subst (λ (o : Onward Course). Continues executing_machine here line lines put end o one.answer) is one.on
+
+    pub one_blank : Tells handing net blank line.text → Run executing_machine (at net execution handing (number + 1) (room - line_size line)) lines put end
+    one_blank is =
+        let answers = tells blank is in
+        let on = on_as (Goes here.state) answers.1 in
+        subst (λ (p : List ℕ). Run executing_machine (at net execution handing (number + 1) (room - line_size line)) lines p end) (sym (on.1 ∙ ap (λ (a : List ℕ). a ++ on.0) answers.0)) on.2
+
+    -- what was put for a feed, and the run over the lines after it
+    abbrev pub RunsAfterFeed : ℕ → List PointId → Moments → Type 0
+    RunsAfterFeed moment points moments =
+        (due : Option ℕ) × (more : List ℕ) × IsDueAnswer (after_feed execution moment moments) due
+        × (put ≡ acts_text net (after_feed execution moment moments).acts ++ (due_line due ++ more))
+        × Run executing_machine (at net (after_feed execution moment moments) handing (number + 1) (room - line_size line)) lines more end
+
+    pub one_feed : (moment : ℕ) (points : List PointId) (moments : Moments) → Tells handing net (completed moment points) line.text → taken execution moment points ≡ Ok moments
+        → RunsAfterFeed moment points moments
+    one_feed moment points moments is takes =
+        let goes = taken_goes here.state (number + 1) none one.answer one.onward moment points moments takes (tells (completed moment points) is) in
+        let on = on_as _ goes.3 in
+        (goes.0, on.0, goes.1, on.1 ∙ (ap (λ (a : List ℕ). a ++ on.0) goes.2 ∙ append_assoc (acts_text net (after_feed execution moment moments).acts) (due_line goes.0) on.0), on.2)
+
+    pub one_refused : (moment : ℕ) (points : List PointId) (cause : Why) → Tells handing net (completed moment points) line.text → taken execution moment points ≡ Err cause
+        → EndsRefused (number + 1) (why_words net cause) put end
+    one_refused moment points cause is refuses =
+        let answers = refused_ends here.state (number + 1) none one.answer one.onward moment points cause refuses (tells (completed moment points) is) in
+        let on = on_as (Ends ends.EventRefused) answers.1 in
+        (on.0 ∙ answers.0, on.1)
+
+    pub one_done : Tells handing net done line.text → first_open execution ≡ None
+        → (after : Execution) × IsWhole execution after × (put ≡ acts_text net after.acts ++ complete_line) × (end ≡ ends.Done)
+    one_done is closed =
+        let whole = done_whole here.state (number + 1) none one.answer one.onward closed (tells done is) in
+        let on = on_as (Ends ends.Done) whole.3 in
+        (whole.0, whole.1, on.0 ∙ whole.2, on.1)
+
+    pub one_unfinished : (point : PointId) → Tells handing net done line.text → first_open execution ≡ Some point → EndsRefused (number + 1) (unfinished_words net point) put end
+    one_unfinished point is opens =
+        let answers = done_unfinished here.state (number + 1) none one.answer one.onward point opens (tells done is) in
+        let on = on_as (Ends ends.EventRefused) answers.1 in
+        (on.0 ∙ answers.0, on.1)
+
+    pub one_fault : (kind : FormatKind) → IsFaultOf net line.text kind → EndsBy (Format (number + 1) kind) put end
+    one_fault kind is =
+        let answers = fault_answers here.state (number + 1) kind line.text one.answer one.onward is one.replies in
+        let on = on_as (Ends (fault_end (Format (number + 1) kind))) answers.1 in
+        (on.0 ∙ answers.0, on.1)

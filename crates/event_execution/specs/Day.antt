@@ -1,0 +1,125 @@
+-- An input that opens the execution of a network, and lines of events after that which list a stream; and what is put for it by a schedule.
+use Rattle.std.specs.Prelude.{◌≡◌, ◌⊎◌, ℕ, suc, ◌+◌, ◌-◌, ◌<◌, List, [], ◌∷◌, ◌++◌, length, Option}
+use Rattle.std.specs.List.{All}
+use Rattle.texts.specs.Lines.{InputLine}
+use Rattle.net_model.specs.Network.{Plan}
+use Rattle.net_model.specs.declared.ids.PointId.{PointId}
+use Rattle.strategy_model.specs.Control.{IsControllable}
+use Rattle.texts.specs.Limits.{most_line}
+use Rattle.plan_port.specs.Lines.{Comes, coming}
+use Rattle.event_stream.specs.EventText.{EventLine, blank, completed, done}
+use Rattle.execution_model.specs.Acts.{scheduled}
+use Rattle.execution_model.specs.Laws.{going_on, ended}
+use Rattle.execution_model.specs.Streams.{Listing, IsFaithful}
+use Rattle.command_engine.specs.Inputs.{texts, room_after}
+use Rattle.command_engine.specs.Limits.{most_input}
+use Rattle.command_engine.specs.declared.endings.End.{End}
+use Rattle.command_engine.specs.declared.endings.End.TheVariants.{Done}
+use Rattle.event_execution.specs.Due.{moment_after, AnswersDue}
+use Rattle.event_execution.specs.EventAnswers.{acts_text, due_line, complete_line}
+use Rattle.event_execution.specs.Handing.{Handing, Tells}
+use Rattle.common_answers.specs.ToRead.{Come}
+use Rattle.common_answers.specs.VerdictLines.{controllable_line}
+
+-- these lines of events list a stream that goes on, wherever they stand: of each listing the points are those that are handed to the
+-- execution
+abbrev pub ListLines : Handing → Plan → List (List ℕ) → List Listing → Type 0
+ListLines handing net [] listings = listings ≡ []
+ListLines handing net (line ∷ lines) listings =
+    (Tells handing net blank line × ListLines handing net lines listings)
+    ⊎ ((moment : ℕ) × (points : List PointId) × (others : List Listing) × Tells handing net (completed moment points) line
+    × (listings ≡ record { moment = moment; points = points } ∷ others) × ListLines handing net lines others)
+
+-- What opens an execution, which each command says for itself. `handing`: in which order the points of a line are handed to it. `opens`:
+-- these lines, with others after them, open the execution of this network, and these bytes are put before.
+pub record Opening : Type 1 where
+  pub handing : Handing
+  pub opens : (used rest : List InputLine) → Plan → (before : List ℕ) → Type 0
+
+-- Where lines of events stand in an input: after lines that open the execution of a network, one after another, and all come within the
+-- limits.
+pub record StandIn (opens : Opening) (input : List InputLine) (net : Plan) : Type 0 where
+  pub used : List InputLine
+  pub events : List InputLine
+  pub rest : List InputLine
+  pub before : List ℕ
+  pub divided : input ≡ used ++ (events ++ rest)
+  pub opened : opens.opens used (events ++ rest) net before
+  pub come : Come (room_after most_input used) events
+
+-- the number of the line that comes after them, and the bytes that the input may still have then
+abbrev pub next_number : {opens : Opening} {input : List InputLine} {net : Plan} → StandIn opens input net → ℕ
+next_number lines = length (lines.used ++ lines.events) + 1
+
+abbrev pub room_then : {opens : Opening} {input : List InputLine} {net : Plan} → StandIn opens input net → ℕ
+room_then lines = room_after most_input (lines.used ++ lines.events)
+
+-- An input of which lines open the execution of a network, and lines of events after them list a stream that goes on.
+pub record IsUnderway (opens : Opening) (input : List InputLine) (net : Plan) (listings : List Listing) : Type 0 where
+  pub lines : StandIn opens input net
+  pub lists : ListLines opens.handing net (texts lines.events) listings
+
+-- and one more line, which comes too, tells this
+pub record IsDay (opens : Opening) (input : List InputLine) (net : Plan) (listings : List Listing) (told : EventLine) : Type 0 where
+  pub underway : IsUnderway opens input net listings
+  pub last : InputLine
+  pub others : List InputLine
+  pub next : underway.lines.rest ≡ last ∷ others
+  pub comes : coming most_line (room_then underway.lines) last ≡ Comes
+  pub tells : Tells opens.handing net told last.text
+
+-- a stream that goes on is not faithful any more with what a line tells
+abbrev pub IsUnfaithfulWith : Plan → List Listing → EventLine → Type 0
+IsUnfaithfulWith net listings blank = ⊥
+IsUnfaithfulWith net listings (completed moment points) = ¬ IsFaithful net (going_on (listings ++ record { moment = moment; points = points } ∷ []))
+IsUnfaithfulWith net listings done = ¬ IsFaithful net (ended listings)
+
+-- the first line of events that is refused tells what no faithful stream does after those before it
+pub record IsRefusedDay (opens : Opening) (input : List InputLine) : Type 0 where
+  pub net : Plan
+  pub listings : List Listing
+  pub told : EventLine
+  pub day : IsDay opens input net listings told
+  pub controllable : IsControllable net
+  pub faithful : IsFaithful net (going_on listings)
+  pub unfaithful : IsUnfaithfulWith net listings told
+
+-- the number of the line that is refused
+abbrev pub number_of : {opens : Opening} {input : List InputLine} → IsRefusedDay opens input → ℕ
+number_of refused = next_number refused.day.underway.lines
+
+-- the input opens the execution of a controllable network, and lists a faithful stream that is done
+pub record IsWholeDay (opens : Opening) (input : List InputLine) (net : Plan) (listings : List Listing) : Type 0 where
+  pub day : IsDay opens input net listings done
+  pub controllable : IsControllable net
+  pub faithful : IsFaithful net (ended listings)
+
+-- what is put by a schedule for listings after others: for each its acts of the schedule since the one before, and the next due moment
+abbrev pub PutsListings : Plan → List ℕ → (before : List Listing) → List Listing → List ℕ → Type 0
+PutsListings net schedule before [] put = put ≡ []
+PutsListings net schedule before (listing ∷ others) put =
+    (due : Option ℕ) × (more : List ℕ) × AnswersDue net (before ++ listing ∷ []) due
+    × (put ≡ acts_text net (scheduled net schedule (moment_after before) (suc listing.moment - moment_after before)) ++ (due_line due ++ more))
+    × PutsListings net schedule (before ++ listing ∷ []) others more
+
+-- what is put for a stream so far by a schedule, after what was put before: that the network is controllable, the first due moment, and
+-- then the acts of the schedule up to each listing
+pub record PutsSoFar (net : Plan) (schedule before : List ℕ) (listings : List Listing) (put : List ℕ) : Type 0 where
+  pub first : Option ℕ
+  pub said : List ℕ
+  pub more : List ℕ
+  pub due : AnswersDue net [] first
+  pub listed : PutsListings net schedule [] listings said
+  pub all : put ≡ before ++ (controllable_line ++ (due_line first ++ (said ++ more)))
+
+-- what is put for a whole day by a schedule, after what was put before: that the network is controllable, the acts of the schedule up to
+-- each listing, those that remain after the last one, and that the execution is complete
+pub record PutsDay (net : Plan) (schedule before : List ℕ) (listings : List Listing) (put : List ℕ) (end : End) : Type 0 where
+  pub first : Option ℕ
+  pub said : List ℕ
+  pub count : ℕ
+  pub due : AnswersDue net [] first
+  pub listed : PutsListings net schedule [] listings said
+  pub whole : All (λ moment. moment < moment_after listings + count) schedule
+  pub all : put ≡ before ++ (controllable_line ++ (due_line first ++ (said ++ (acts_text net (scheduled net schedule (moment_after listings) count) ++ complete_line))))
+  pub ends : end ≡ Done

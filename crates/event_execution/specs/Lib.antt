@@ -1,0 +1,9 @@
+pub mod Handing
+pub mod Course
+pub mod EventAnswers
+pub mod Executing
+pub mod Begin
+pub mod Due
+pub mod Day
+pub mod EventFaults
+pub mod ExecutionPromise

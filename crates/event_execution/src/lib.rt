@@ -1,0 +1,9 @@
+//! The execution of a network over lines of events: the phase that answers them, what is put for a day, and what is promised of it.
+#![tactic(auto)]
+
+mod begin;
+mod event_answers;
+mod executing;
+
+pub use begin::begin_dispatched;
+pub use executing::{Executing, put_end, put_fed};

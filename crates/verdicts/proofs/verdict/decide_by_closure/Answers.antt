@@ -1,0 +1,11 @@
+use Rattle.std.proofs.lemmas.Result.{IfOk-weaker}
+use Rattle.table_closing.specs.Closing.{ClosesTo}
+use Rattle.verdicts.specs.Verdict.{IsDecidedByClosure}
+use Rattle.verdicts.proofs.VerdictLemmas.{closes_decides}
+use Rattle.verdicts.proofs.verdict.decide_by_closure.Goals as goal
+
+pub returns : goal.returns
+returns g c =
+    let net = c.args.net.now in
+    IfOk-weaker c.close.result (ClosesTo net) (IsDecidedByClosure net)
+    (closes_decides c.ordered_closures_are_controllable.ensures c.cycles_of_tables_exclude.ensures net (record { sound = c.points.ensures.sound })) c.close.ensures

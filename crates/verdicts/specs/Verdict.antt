@@ -1,0 +1,39 @@
+-- The verdict of a network, by what it is decided, and that it is put.
+use Rattle.std.specs.Prelude.{◌≡◌, ◌⊎◌, ℕ, List, Option, Some, None}
+use Rattle.net_model.specs.Network.{Plan}
+use Rattle.closure_model.specs.Orders.{placed_points}
+use Rattle.strategy_model.specs.Control.{IsControllable}
+use Rattle.cert_format.specs.declared.certificate.Certificate.{Certificate}
+use Rattle.cert_checker.specs.Judgement.{judgement_of}
+use Rattle.cert_checker.specs.declared.judgement.Claim.TheVariants.{NotControllable}
+use Rattle.cert_checker.specs.declared.judgement.Judgement.TheVariants.{Accepted}
+use Rattle.table_closing.specs.declared.closing.Closed.{Closed}
+use Rattle.refutations.specs.Refuting.{Refutes}
+use Rattle.execution_model.specs.Laws.{IsDispatchedByClosure}
+use Rattle.command_engine.specs.declared.endings.End.{End}
+use Rattle.common_answers.specs.VerdictLines.{PutsRefuted}
+use Rattle.verdicts.specs.declared.verdict.Verdict.{Verdict}
+use Rattle.verdicts.specs.declared.verdict.Verdict.TheVariants.{Controllable, Refuted}
+
+-- the verdict of a network: it is controllable, and then this is so; or it is not, and then this of the certificate that refutes it
+abbrev pub Decides : Plan → Type 0 → (Certificate → Type 0) → Type 0
+Decides net Yes No = (IsControllable net × Yes) ⊎ ((cert : Certificate) × Refutes net cert × No cert)
+
+-- The verdict of a network is put: that it is controllable, and it is, and then this is so; or that it is not, and it is not, and a
+-- certificate that the judge accepts.
+abbrev pub PutsDecided : Plan → (Yes : Type 0) → List ℕ → End → Type 0
+PutsDecided net Yes put end =
+    (IsControllable net × Yes)
+    ⊎ ((¬ IsControllable net) × ((cert : Certificate) × (judgement_of net cert ≡ Accepted NotControllable) × PutsRefuted cert put end))
+
+-- what its closure, with the order in which the points of that are placed, says of it: it is controllable where there is such a closure, and
+-- only there
+abbrev pub IsDecidedByClosure : Plan → Option Closed → Type 0
+IsDecidedByClosure net (Some closed) = IsControllable net × IsDispatchedByClosure net closed.table closed.order × (closed.order ≡ placed_points closed.table)
+IsDecidedByClosure net None = ¬ IsControllable net
+
+-- what decides it: its closure with the order in which the points of that are placed where it is controllable, else a certificate that
+-- refutes it
+abbrev pub IsVerdict : Plan → Verdict → Type 0
+IsVerdict net (Controllable same closed) = (same ≡ net) × IsControllable same × IsDispatchedByClosure same closed.table closed.order × (closed.order ≡ placed_points closed.table)
+IsVerdict net (Refuted cert) = Refutes net cert

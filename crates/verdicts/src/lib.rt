@@ -1,0 +1,6 @@
+//! The verdict of a network: its closure where some strategy controls it, else the certificate of its refutation.
+#![tactic(auto)]
+
+mod verdict;
+
+pub use verdict::{Verdict, decide, decide_by_closure, dispatch_by, refute};

@@ -1,0 +1,101 @@
+//! The verdict of a network: every command that has one decides it here.
+
+ghost use Rattle.std.specs.Prelude.{◌≤◌, IfOk};
+ghost use Rattle.strategy_model.specs.Control.{IsControllable};
+ghost use Rattle.work_board.specs.Limits.{most_seats};
+ghost use Rattle.dispatch_net.specs.OfClosure.{IsDispatchOfClosure};
+ghost use Rattle.execution_model.specs.Laws.{IsDispatchedByClosure};
+ghost use Rattle.refutations.specs.Refuting.{Refutes};
+ghost use Rattle.verdicts.specs.Verdict.{IsDecidedByClosure, IsVerdict};
+
+use cert_format::Certificate;
+use controllability::laws::{cycles_of_tables_exclude, ordered_closures_are_controllable};
+use dispatch_net::Dispatch;
+use net_model::Network;
+use parallel_rounds::Gate;
+use plan_session::{AskFault, Session};
+use std::alloc::{AllocError, Global};
+use std::thread::Threads;
+use table_closing::{Closed, close};
+
+/// The verdict of a network, and by what it is decided.
+#[derive(Drop)]
+pub enum Verdict {
+    /// Some strategy controls the network, which is handed back.
+    Controllable(Network, Closed),
+    /// None does, and this refutes it.
+    Refuted(Certificate),
+}
+
+/// Decides whether a network is controllable, by closing its table; a session is opened only where it is not, since the nodes of the
+/// certificate are those of its rounds. So many workers, 1 to 64, test the table and make the rows of a round; the gate is called before
+/// each row. `AllocError` comes only for want of memory.
+pub fn decide<R: Threads + Sync, G: Gate>(
+    rt: &R,
+    alloc: Global,
+    net: Network,
+    workers: u32,
+    gate: &G,
+) -> Result<Verdict, AllocError>
+    requires { (1 ≤ workers) × (workers ≤ most_seats) }
+    ensures { IfOk result (IsVerdict net) }
+{
+    match decide_by_closure(rt, alloc, &net, workers)? {
+        Some(closed) => Ok(Verdict::Controllable(net, closed)),
+        None => {
+            let certificate = refute(rt, alloc, net, workers, gate)?;
+            Ok(Verdict::Refuted(certificate))
+        }
+    }
+}
+
+/// Decides whether a network is controllable, and makes no certificate: the closure with the order of its points where it is, and `None`
+/// exactly where it is not. So many workers test the table. `AllocError` comes only for want of memory.
+pub fn decide_by_closure<R: Threads + Sync>(
+    rt: &R,
+    alloc: Global,
+    net: &Network,
+    workers: u32,
+) -> Result<Option<Closed>, AllocError>
+    requires { 1 ≤ workers }
+    ensures { IfOk result (IsDecidedByClosure net.now) }
+{
+    ordered_closures_are_controllable();
+    cycles_of_tables_exclude();
+    // The proof reads here that the network is sound.
+    let _ = net.points();
+    close(rt, alloc, net, workers)
+}
+
+/// The certificate that refutes a network, which is not controllable, by the rounds of so many workers, 1 to 64; the gate is called before
+/// each row. `AllocError` comes only for want of memory.
+pub fn refute<R: Threads + Sync, G: Gate>(
+    rt: &R,
+    alloc: Global,
+    net: Network,
+    workers: u32,
+    gate: &G,
+) -> Result<Certificate, AllocError>
+    requires never { ¬ IsControllable net }
+    requires workers { (1 ≤ workers) × (workers ≤ most_seats) }
+    ensures { IfOk result (Refutes net) }
+{
+    let session = Session::open(rt, alloc, net, workers, gate)?;
+    match session.certificate(rt, alloc) {
+        Ok(certificate) => Ok(certificate),
+        Err(AskFault::OutOfMemory) => Err(AllocError),
+        Err(AskFault::Broken) => unreachable!(),
+    }
+}
+
+/// The dispatchable network of a controllable network by its closure. `AllocError` comes only for want of memory.
+pub fn dispatch_by(
+    alloc: Global,
+    net: &Network,
+    closed: &Closed,
+) -> Result<Dispatch, AllocError>
+    requires { IsDispatchedByClosure net.now closed.now.table closed.now.order }
+    ensures { IfOk result (IsDispatchOfClosure net.now) }
+{
+    Dispatch::of(alloc, net, &closed.table, closed.order.as_slice())
+}
