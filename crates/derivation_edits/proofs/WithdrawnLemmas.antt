@@ -13,11 +13,10 @@ use Rattle.closure_model.specs.declared.derivation.Item.TheVariants as item
 use Rattle.closure_model.specs.declared.derivation.Node.{Node}
 use Rattle.closure_model.specs.declared.derivation.NodeId.{NodeId}
 use Rattle.closure_model.specs.declared.derivation.Rule.{Rule}
-use Rattle.closure_model.proofs.Made.{Made, made_bound, made_link, made_no, made_up, made_low, made_cross, made_drop, made_at, premises_earlier}
-use Rattle.derivation_edits.specs.Following.{IsTaken, RestsOnTaken, place_at, followed, IsPlaced}
+use Rattle.closure_model.proofs.Made.{Made, made_bound, made_link, made_no, made_up, made_low, made_cross, made_drop, made_at}
+use Rattle.derivation_edits.specs.Following.{IsTaken, RestsOnTaken, place_at, IsPlaced}
 use Rattle.derivation_edits.specs.Taken.{renumbering}
 use Rattle.derivation_edits.specs.TakenAway.{HasEditedParts, Takes, RestsOnWhatGoes, EditsWithdrawNodes}
-use Rattle.derivation_edits.proofs.Keeping.{kept_is_what_rests_on_nothing_taken}
 use Rattle.derivation_edits.proofs.TakenLemmas.{edits_take_bounds, edits_take_links}
 
 -- a bound or a link that a network has
@@ -58,19 +57,17 @@ module _ (old : Plan) (edit : Edit) (new : Plan) (before : IsPlan old) (after : 
     rests_on_taken (what, takes, rests) = (what, taken_of what takes, rests)
 
 pub edits_withdraw_nodes : EditsWithdrawNodes
-edits_withdraw_nodes old edit new nodes id node before after has list here = (withdrawn, gone)
+edits_withdraw_nodes old edit new nodes following before after has list are id node here = (withdrawn, gone)
   where
-    kept : IsPlaced (renumbering old edit new) nodes (followed (renumbering old edit new) nodes).places (followed (renumbering old edit new) nodes).kept id node (place_at (followed (renumbering old edit new) nodes).places id)
-    kept = (kept_is_what_rests_on_nothing_taken (renumbering old edit new) nodes (premises_earlier old nodes list)).each id node here
+    kept : IsPlaced (renumbering old edit new) nodes following.places following.kept id node (place_at following.places id)
+    kept = are.each id node here
 
-    withdrawn : place_at (followed (renumbering old edit new) nodes).places id ≡ None → RestsOnWhatGoes old edit new nodes id
-    withdrawn none =
-        rests_on_what_goes old edit new before after has nodes list id
-        (subst (IsPlaced (renumbering old edit new) nodes (followed (renumbering old edit new) nodes).places (followed (renumbering old edit new) nodes).kept id node) none kept)
+    withdrawn : place_at following.places id ≡ None → RestsOnWhatGoes old edit new nodes id
+    withdrawn none = rests_on_what_goes old edit new before after has nodes list id (subst (IsPlaced (renumbering old edit new) nodes following.places following.kept id node) none kept)
 
-    by : (o : Option NodeId) → IsPlaced (renumbering old edit new) nodes (followed (renumbering old edit new) nodes).places (followed (renumbering old edit new) nodes).kept id node o → RestsOnTaken (renumbering old edit new) nodes id → o ≡ None
+    by : (o : Option NodeId) → IsPlaced (renumbering old edit new) nodes following.places following.kept id node o → RestsOnTaken (renumbering old edit new) nodes id → o ≡ None
     by None placed rests = refl
     by (Some place) placed rests = absurd (placed.free rests)
 
-    gone : RestsOnWhatGoes old edit new nodes id → place_at (followed (renumbering old edit new) nodes).places id ≡ None
-    gone rests = by (place_at (followed (renumbering old edit new) nodes).places id) kept (rests_on_taken old edit new before after has nodes list id rests)
+    gone : RestsOnWhatGoes old edit new nodes id → place_at following.places id ≡ None
+    gone rests = by (place_at following.places id) kept (rests_on_taken old edit new before after has nodes list id rests)

@@ -1,6 +1,6 @@
 -- What an edit takes away of a network and what it brings, in words: what it drops, sets or adds, and what stands in both networks with
 -- different numbers.
-use Rattle.std.specs.Prelude.{◌≡◌, ◌≢◌, ◌↔◌, ◌⊎◌, ℕ, ℤ, pos, true, List, map, Ok, Some, None, slice_get}
+use Rattle.std.specs.Prelude.{◌≡◌, ◌≢◌, ◌↔◌, ◌⊎◌, ℕ, ℤ, pos, true, List, map, Ok, Option, Some, None, slice_get}
 use Rattle.std.specs.List.{Contains}
 use Rattle.net_model.specs.Editing.{edited}
 use Rattle.net_model.specs.Network.{Plan, IsPlan}
@@ -15,7 +15,8 @@ use Rattle.closure_model.specs.declared.derivation.Item.{Item}
 use Rattle.closure_model.specs.declared.derivation.Item.TheVariants as item
 use Rattle.closure_model.specs.declared.derivation.Node.{Node}
 use Rattle.closure_model.specs.declared.derivation.NodeId.{NodeId}
-use Rattle.derivation_edits.specs.Following.{place_at, followed}
+use Rattle.derivation_edits.specs.Following.{Following, place_at}
+use Rattle.derivation_edits.specs.FollowingLaws.{AreKept}
 use Rattle.net_model.specs.NetworkParts.{point_name}
 use Rattle.derivation_edits.specs.Taken.{renumbering, is_new_bound, is_new_link}
 
@@ -92,6 +93,10 @@ Takes old edit new (item.Link id) = (link : Link) × (slice_get old.links id.0 �
 abbrev pub RestsOnWhatGoes : (old : Plan) → Edit → (new : Plan) → List Node → NodeId → Type 0
 RestsOnWhatGoes old edit new nodes id = (what : Item) × Takes old edit new what × RestsOn nodes id what
 
+-- exactly the nodes that rest on a bound or a link that an edit takes away have no place among those that are kept
+abbrev pub AreWithdrawn : (old : Plan) → Edit → (new : Plan) → List Node → List (Option NodeId) → Type 0
+AreWithdrawn old edit new nodes places = (id : NodeId) (node : Node) → node_at nodes id ≡ Some node → ((place_at places id ≡ None) ↔ RestsOnWhatGoes old edit new nodes id)
+
 -- Exactly the bounds that an edit takes away have no number in the new network.
 abbrev pub EditsTakeBounds : Type 0
 EditsTakeBounds =
@@ -123,6 +128,5 @@ EditsBringLinks =
 -- Exactly the nodes that rest on a bound or a link that an edit takes away are not kept.
 abbrev pub EditsWithdrawNodes : Type 0
 EditsWithdrawNodes =
-    (old : Plan) (edit : Edit) (new : Plan) (nodes : List Node) (id : NodeId) (node : Node) → IsPlan old → IsPlan new → HasEditedParts old edit new
-    → IsDerivationList old nodes → node_at nodes id ≡ Some node
-    → ((place_at (followed (renumbering old edit new) nodes).places id ≡ None) ↔ RestsOnWhatGoes old edit new nodes id)
+    (old : Plan) (edit : Edit) (new : Plan) (nodes : List Node) (after : Following) → IsPlan old → IsPlan new → HasEditedParts old edit new
+    → IsDerivationList old nodes → AreKept (renumbering old edit new) nodes after → AreWithdrawn old edit new nodes after.places

@@ -1,6 +1,6 @@
 -- Sessions as data, for the types whose model they are.
-use Rattle.std.specs.Prelude.{◌≡◌, ◌⊎◌, List, Option, refl}
-use Rattle.std.specs.Coded.{Coded, code_by, coded_list, coded_option, coded×, coded⊎}
+use Rattle.std.specs.Prelude.{◌≡◌, ◌⊎◌, ℕ, List, Option, refl}
+use Rattle.std.specs.Coded.{Coded, code_by, coded_ℕ, coded_list, coded_option, coded×, coded⊎}
 use Rattle.std.proofs.Common.{inl, inr}
 use Rattle.net_model.specs.Network.{Plan}
 use Rattle.net_model.specs.contracts.network.Network as network
@@ -9,7 +9,7 @@ use Rattle.closure_model.specs.Codes.{point_code}
 use Rattle.closure_model.specs.Derivations.{Support}
 use Rattle.closure_model.specs.ReferenceRounds.{Ending, closed, looped}
 use Rattle.derivation_dag.specs.SupportCode.{support_code}
-use Rattle.plan_session.specs.Sessions.{Opened, State}
+use Rattle.plan_session.specs.Sessions.{Opened, State, SessionView}
 
 abbrev pub points_of : Ending → List PointId ⊎ List PointId
 points_of (closed order) = inl order
@@ -35,3 +35,8 @@ abbrev pub state_code : Coded State
 state_code =
     code_by (Plan × Option Opened) (coded× network.the_row.coded (coded_option opened_code)) (λ session. (session.net, session.opened))
     (λ parts. record { net = parts.0; opened = parts.1 }) (λ _. refl)
+
+abbrev pub session_code : Coded SessionView
+session_code =
+    code_by (State × ℕ) (coded× state_code coded_ℕ) (λ session. (session.state, session.workers)) (λ parts. record { state = parts.0; workers = parts.1 })
+    (λ _. refl)

@@ -12,6 +12,7 @@ use Rattle.closure_model.specs.Orders.{IsOrder, IsCycle, placed_points}
 use Rattle.closure_model.specs.ReferenceRounds.{Ending, closed, looped, RoundsEnd}
 use Rattle.closure_model.specs.Tables.{Graph}
 use Rattle.closure_model.specs.declared.derivation.Node.{Node}
+use Rattle.derivation_edits.specs.TakenAway.{AreWithdrawn}
 use Rattle.table_histories.specs.LaterNodes.{FallFrom}
 use Rattle.support_records.specs.Followed.{IsFollowed}
 use Rattle.support_records.specs.declared.store.Withdrawn.{Withdrawn}
@@ -34,6 +35,11 @@ pub record Opened : Type 0 where
 pub record State : Type 0 where
   pub net : Plan
   pub opened : Option Opened
+
+-- a session as contracts see it: how it stands, and how many workers make its rounds
+pub record SessionView : Type 0 where
+  pub state : State
+  pub workers : ℕ
 
 abbrev pub IsOpen : State → Type 0
 IsOpen session = IsSome session.opened
@@ -87,7 +93,9 @@ pub record FollowsEdit (old : Plan) (edit : Edit) (new : Plan) (before after : O
   pub falls : FallFrom after.support.nodes (record { 0 = length start.nodes })
   pub sound : IsSound new after
 
--- an edit of a session is accepted: the edit makes a network of its network, and what was opened follows the edit
+-- An edit of a session is accepted: the edit makes a network of its network, and what was opened follows the edit. `withdrawn`: exactly the
+-- nodes that rest on a bound or a link that the edit takes away are not kept; it takes away what it drops or sets, and what stands in the
+-- new network with another number.
 pub record Accepts (before : State) (edit : Edit) (report : Report) (after : State) : Type 0 where
   pub net : Plan
   pub made : edited before.net edit ≡ Ok net
@@ -97,6 +105,7 @@ pub record Accepts (before : State) (edit : Edit) (report : Report) (after : Sta
   pub was : before.opened ≡ Some held
   pub opened : Opened
   pub follows : FollowsEdit before.net edit net held opened report
+  pub withdrawn : AreWithdrawn before.net edit net held.support.nodes follows.followed.places
   pub is : after ≡ record { net = net; opened = Some opened }
 
 -- What `apply` answers, and what the session is then. It refuses the edit exactly where the session is not broken and the edit is refused,

@@ -12,6 +12,7 @@ ghost use Rattle.plan_session.specs.Sessions.{IsOpen, IsOpenedOn, AnswersEdit, A
 use crate::answers::{AskFault, Report, SessionFault, Verdict};
 use crate::propagated::Propagated;
 use cert_format::Certificate;
+use derivation_edits::laws::edits_withdraw_nodes;
 use dispatch_net::Dispatch;
 use net_model::{Edit, EditFault, Network};
 use parallel_rounds::{Gate, NoGate};
@@ -23,8 +24,8 @@ use support_records::Store;
 use table_proofs::laws::certificates_are_one;
 
 /// A plan under edits: the network as it stands, and its derivations, of which an edit withdraws what rests on what it takes away.
-/// Contracts see it as the network, and the derivations with how the last rounds ended, unless the session is broken. No answer depends on
-/// the number of workers, and contracts do not see it.
+/// Contracts see it as the network, and the derivations with how the last rounds ended, unless the session is broken, and the number of
+/// workers, on which no answer depends.
 #[derive(Debug, Drop)]
 pub struct Session {
     net: Network,
@@ -35,15 +36,15 @@ pub struct Session {
 }
 
 impl Model for Session {
-    ghost use Rattle.plan_session.specs.Sessions.{State};
-    ghost use Rattle.plan_session.specs.Codes.{state_code};
+    ghost use Rattle.plan_session.specs.Sessions.{SessionView};
+    ghost use Rattle.plan_session.specs.Codes.{session_code};
     ghost use Rattle.plan_session.specs.Kept.{IsKept};
 
-    ghost Value = { State };
+    ghost Value = { SessionView };
 
-    ghost coded = { state_code };
+    ghost coded = { session_code };
 
-    ghost view = { λ session. record { net = session.net; opened = session.opened } };
+    ghost view = { λ session. record { state = record { net = session.net; opened = session.opened }; workers = session.workers } };
 
     ghost invariant = { λ session. IsKept session.net session.workers session.opened session.fresh };
 }
@@ -59,7 +60,8 @@ impl Session {
         gate: &G,
     ) -> Result<Session, AllocError>
         requires { (1 ≤ workers) × (workers ≤ most_seats) }
-        ensures { IfOk result (IsOpenedOn net) }
+        ensures opened { IfOk result (λ session. IsOpenedOn net session.state) }
+        ensures workers { IfOk result (λ session. session.workers ≡ workers) }
     {
         let opened = Propagated::of(rt, alloc, &net, workers, gate)?;
         Ok(Session {
@@ -81,7 +83,8 @@ impl Session {
         edit: &Edit,
         gate: &G,
     ) -> Result<Report, SessionFault>
-        ensures { AnswersEdit self.old edit.now result self.new }
+        ensures answers { AnswersEdit self.old.state edit.now result self.new.state }
+        ensures workers { self.new.workers ≡ self.old.workers }
     {
         if self.opened.is_none() {
             return Err(SessionFault::Broken);
@@ -105,12 +108,16 @@ impl Session {
         new: &mut Network,
         gate: &G,
     ) -> Result<Report, SessionFault>
-        requires open { IsOpen self.old }
-        requires made { edited self.old.net edit.now ≡ Ok new.old }
+        requires open { IsOpen self.old.state }
+        requires made { edited self.old.state.net edit.now ≡ Ok new.old }
         requires plan { IsPlan new.old }
-        requires numbers { HasPlanNumbers self.old.net → HasPlanNumbers new.old }
-        ensures { AnswersEdit self.old edit.now result self.new }
+        requires numbers { HasPlanNumbers self.old.state.net → HasPlanNumbers new.old }
+        ensures answers { AnswersEdit self.old.state edit.now result self.new.state }
+        ensures workers { self.new.workers ≡ self.old.workers }
     {
+        edits_withdraw_nodes();
+        // The proof reads here that the network is sound.
+        let _ = self.net.points();
         let Some(opened) = &mut self.opened else {
             return Err(SessionFault::Broken);
         };
@@ -136,7 +143,8 @@ impl Session {
         alloc: Global,
         gate: &G,
     ) -> Result<(), AllocError>
-        ensures { AnswersReopening self.old result self.new }
+        ensures answers { AnswersReopening self.old.state result self.new.state }
+        ensures workers { self.new.workers ≡ self.old.workers }
     {
         self.opened = None;
         let opened = Propagated::of(rt, alloc, &self.net, self.workers, gate)?;
@@ -147,7 +155,7 @@ impl Session {
 
     /// Whether the network as it stands is controllable. `Broken` exactly where the session is broken.
     pub fn verdict(&self) -> Verdict
-        ensures { IsVerdictOf self.now result }
+        ensures { IsVerdictOf self.now.state result }
     {
         match &self.opened {
             None => Verdict::Broken,
@@ -169,8 +177,8 @@ impl Session {
         rt: &R,
         alloc: Global,
     ) -> Result<Certificate, AskFault>
-        ensures answers { AnswersProof self.now result }
-        ensures one { (other : Certificate) → Certifies self.now.net other → IfOk result (λ cert. cert ≡ other) }
+        ensures answers { AnswersProof self.now.state result }
+        ensures one { (other : Certificate) → Certifies self.now.state.net other → IfOk result (λ cert. cert ≡ other) }
     {
         certificates_are_one();
         match self.verdict() {
@@ -182,9 +190,9 @@ impl Session {
 
     /// The table proof by the closure that the session has.
     fn table_proof(&self, alloc: Global) -> Result<Certificate, AllocError>
-        requires open { IsOpen self.now }
-        requires controllable { IsControllable self.now.net }
-        ensures { IfOk result (Proves self.now.net) }
+        requires open { IsOpen self.now.state }
+        requires controllable { IsControllable self.now.state.net }
+        ensures { IfOk result (Proves self.now.state.net) }
     {
         match &self.opened {
             None => unreachable!(),
@@ -198,8 +206,8 @@ impl Session {
         rt: &R,
         alloc: Global,
     ) -> Result<Certificate, AllocError>
-        requires { ¬ IsControllable self.now.net }
-        ensures { IfOk result (Refutes self.now.net) }
+        requires { ¬ IsControllable self.now.state.net }
+        ensures { IfOk result (Refutes self.now.state.net) }
     {
         match &self.opened {
             Some(opened) if self.fresh => opened.refutation(alloc, &self.net),
@@ -213,9 +221,9 @@ impl Session {
     /// The dispatchable network of the closure of the network as it stands, which is controllable. `AllocError` comes only for want of
     /// memory.
     pub fn dispatch(&self, alloc: Global) -> Result<Dispatch, AllocError>
-        requires open { IsOpen self.now }
-        requires controllable { IsControllable self.now.net }
-        ensures { IfOk result (IsDispatchOfClosure self.now.net) }
+        requires open { IsOpen self.now.state }
+        requires controllable { IsControllable self.now.state.net }
+        ensures { IfOk result (IsDispatchOfClosure self.now.state.net) }
     {
         match &self.opened {
             None => unreachable!(),
@@ -225,15 +233,15 @@ impl Session {
 
     /// The network as it stands.
     pub fn network(&self) -> &Network
-        ensures { result.now ≡ self.now.net }
+        ensures { result.now ≡ self.now.state.net }
     {
         &self.net
     }
 
     /// The derivation list with its table, of a session that is not broken.
     pub fn store(&self) -> &Store
-        requires { IsOpen self.now }
-        ensures { Lends self.now result.now }
+        requires { IsOpen self.now.state }
+        ensures { Lends self.now.state result.now }
     {
         match &self.opened {
             None => unreachable!(),
@@ -243,7 +251,7 @@ impl Session {
 
     /// The network as it stands; the session ends.
     pub fn into_network(self) -> Network
-        ensures { result ≡ self.net }
+        ensures { result ≡ self.state.net }
     {
         let Session { net, .. } = self;
         net

@@ -37,9 +37,9 @@ impl Model for Editing {
 
     ghost coded = { standing_code };
 
-    ghost view = { λ editing. record { session = editing.session; report = editing.report } };
+    ghost view = { λ editing. record { session = editing.session.state; report = editing.report } };
 
-    ghost invariant = { λ editing. IsOpen editing.session };
+    ghost invariant = { λ editing. IsOpen editing.session.state };
 }
 
 impl Editing {

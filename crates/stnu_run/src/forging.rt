@@ -146,8 +146,8 @@ fn tell_verdict<R: Threads + Sync>(
     answer: &mut Answer,
     session: &Session,
 ) -> Result<TellingEnd, AllocError>
-    requires { IsOpen session.now }
-    ensures { IfOk result (λ end. Adds (λ more. TellsVerdict session.now.net more end) answer.old.text answer.new.text) }
+    requires { IsOpen session.now.state }
+    ensures { IfOk result (λ end. Adds (λ more. TellsVerdict session.now.state.net more end) answer.old.text answer.new.text) }
 {
     let certificate = certificate_of(rt, alloc, session)?;
     match session.verdict() {
@@ -165,8 +165,8 @@ fn certificate_of<R: Threads + Sync>(
     alloc: Global,
     session: &Session,
 ) -> Result<Certificate, AllocError>
-    requires { IsOpen session.now }
-    ensures { IfOk result (Certifies session.now.net) }
+    requires { IsOpen session.now.state }
+    ensures { IfOk result (Certifies session.now.state.net) }
 {
     match session.certificate(rt, alloc) {
         Ok(certificate) => Ok(certificate),
@@ -184,9 +184,9 @@ fn tell_controllable<R: Threads + Sync>(
     session: &Session,
     certificate: &Certificate,
 ) -> Result<TellingEnd, AllocError>
-    requires open { IsOpen session.now }
-    requires proves { Proves session.now.net certificate.now }
-    ensures { IfOk result (λ end. Adds (λ more. TellsControllable session.now.net more end) answer.old.text answer.new.text) }
+    requires open { IsOpen session.now.state }
+    requires proves { Proves session.now.state.net certificate.now }
+    ensures { IfOk result (λ end. Adds (λ more. TellsControllable session.now.state.net more end) answer.old.text answer.new.text) }
 {
     let last = last_moment(alloc, session)?;
     push_controllable(answer, certificate, last)?;
@@ -231,9 +231,9 @@ fn push_refuted(answer: &mut Answer, certificate: &Certificate) -> Result<(), Al
 
 /// The last moment of the longest day of the network of a session, which is controllable.
 fn last_moment(alloc: Global, session: &Session) -> Result<u64, AllocError>
-    requires open { IsOpen session.now }
-    requires controllable { IsControllable session.now.net }
-    ensures { IfOk result (IsLastMoment session.now.net) }
+    requires open { IsOpen session.now.state }
+    requires controllable { IsControllable session.now.state.net }
+    ensures { IfOk result (IsLastMoment session.now.state.net) }
 {
     let dispatch = session.dispatch(alloc)?;
     let schedule = played(alloc, session.network(), dispatch, Which::Longest)?;

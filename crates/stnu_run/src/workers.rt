@@ -56,7 +56,8 @@ impl Workers {
         alloc: Global,
         net: Network,
     ) -> Result<Session, AllocError>
-        ensures { IfOk result (IsOpenedOn net) }
+        ensures opened { IfOk result (λ session. IsOpenedOn net session.state) }
+        ensures workers { IfOk result (λ session. session.workers ≡ self.now) }
     {
         Session::open(rt, alloc, net, self.count, &NoGate)
     }

@@ -7,7 +7,7 @@ use Rattle.stnu_run.proofs.forging.tell_controllable.Goals as goal
 
 pub returns : goal.returns
 returns g c =
-    let net = c.args.session.now.net in
+    let net = c.args.session.now.state.net in
     let cert = c.args.certificate.now in
     let last = c.in_ok-last.last in
     let before = c.args.answer.now.text in

@@ -1,8 +1,8 @@
 use Rattle.std.proofs.Common.{rules, sym, subst}
 use Rattle.strategy_model.specs.Control.{IsControllable}
-use Rattle.plan_session.specs.Sessions.{State}
+use Rattle.plan_session.specs.Sessions.{SessionView}
 use Rattle.plan_session.proofs.session.Session.verdict.Goals as goal
 
 pub returns-else-is_controllable : goal.returns-else-is_controllable
 returns-else-is_controllable c =
-    (search rules, λ controls. let is = c.is_controllable.ensures.1 (subst (λ (session : State). IsControllable session.net) (sym c.self.view_is) controls) in absurd cc)
+    (search rules, λ controls. let is = c.is_controllable.ensures.1 (subst (λ (session : SessionView). IsControllable session.state.net) (sym c.self.view_is) controls) in absurd cc)

@@ -10,9 +10,10 @@ use Rattle.stnu_run.proofs.editing.Editing.edit.Goals as goal
 
 pub returns-in_ok-push_line-in-Ok-clause-stands : goal.returns-in_ok-push_line-in-Ok-clause-stands
 returns-in_ok-push_line-in-Ok-clause-stands g c =
-    let session = c.self.inside.session in
+    let session = c.self.inside.session.state in
+    let after = c.apply.new.self.state in
     let edit = c.args.edit.now in
     let inside : Standing = record { session = session; report = c.self.inside.report } in
-    let accepts : Accepts session edit c.in-Ok.report c.apply.new.self =
-    subst (λ (r : Result Report SessionFault). AnswersEdit session edit r c.apply.new.self) c.in-Ok.is c.apply.ensures in
-    subst (λ (s : Standing). StandsAfter s (step.Edit edit) (record { session = c.apply.new.self; report = Some c.in-Ok.report })) c.self.view_is (accepted_stands inside edit c.in-Ok.report c.apply.new.self accepts)
+    let accepts : Accepts session edit c.in-Ok.report after =
+    subst (λ (r : Result Report SessionFault). AnswersEdit session edit r after) c.in-Ok.is c.apply.ensures.answers in
+    subst (λ (s : Standing). StandsAfter s (step.Edit edit) (record { session = after; report = Some c.in-Ok.report })) c.self.view_is (accepted_stands inside edit c.in-Ok.report after accepts)

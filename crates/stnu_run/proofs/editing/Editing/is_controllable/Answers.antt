@@ -7,4 +7,4 @@ use Rattle.stnu_run.proofs.editing.Editing.is_controllable.Goals as goal
 
 pub returns-in-NotControllable-clause-no : goal.returns-in-NotControllable-clause-no
 returns-in-NotControllable-clause-no c =
-    λ no. subst (λ (s : Standing). ¬ IsControllable (net_of s)) c.self.view_is (subst (IsVerdictOf c.self.inside.session) c.in-NotControllable.is c.verdict.ensures).1
+    λ no. subst (λ (s : Standing). ¬ IsControllable (net_of s)) c.self.view_is (subst (IsVerdictOf c.self.inside.session.state) c.in-NotControllable.is c.verdict.ensures).1

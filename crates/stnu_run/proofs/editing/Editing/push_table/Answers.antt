@@ -10,7 +10,7 @@ use Rattle.stnu_run.proofs.editing.Editing.push_table.Goals as goal
 
 pub returns : goal.returns
 returns c =
-    let net = c.self.inside.session.net in
+    let net = c.self.inside.session.state.net in
     let dispatch = c.in_ok-dispatch.dispatch in
     let put = c.push_table.new.answer.text in
     let controls : IsControllable (net_of c.args.self.now) = c.is_controllable.ensures.yes (search rules) in
