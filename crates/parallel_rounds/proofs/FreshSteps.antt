@@ -1,7 +1,8 @@
 -- The edges that fell in a round, listed, are the fresh edges after it.
-use Rattle.std.proofs.Common.{◌≡◌, ◌≢◌, ◌==◌, ◌⊎◌, ℕ, suc, ◌+◌, ◌<◌, ◌≤◌, ℤ, ◌≤ℤ◌, ◌<ℤ◌, Bool, true, false, not, cond, nat_lt, List, [], ◌∷◌, ◌++◌, length, map, take, get_or, Option, Some, None, refl, ap, sym, subst, ◌∙◌, inl, inr, arith, is_none}
-use Rattle.std.specs.Prelude.{filter, slice_set}
-use Rattle.std.specs.Option.{option_map}
+use Rattle.std.proofs.Common.{◌≡◌, ◌≢◌, ◌==◌, ◌⊎◌, ℕ, suc, ◌+◌, ◌<◌, ◌≤◌, ℤ, pos, ◌≤ℤ◌, ◌<ℤ◌, Bool, true, false, not, ◌&&◌, cond, nat_lt, List, [], ◌∷◌, ◌++◌, length, map, take, get_or, Option, Some, None, refl, ap, sym, subst, ◌∙◌, inl, inr, arith, is_none}
+use Rattle.std.specs.Prelude.{filter, int_lt, slice_set}
+use Rattle.std.specs.Int.{int_max}
+use Rattle.std.specs.Option.{option_map, option_map_or}
 use Rattle.std.specs.List.{All, AllPairs, Contains, IsDistinct, cons_option, filter_map}
 use Rattle.std.specs.List.Sorted.{IsNonDecreasingBy}
 use Rattle.std.proofs.Math.ListN.{get_or-eq_default}
@@ -11,12 +12,13 @@ use Rattle.std.proofs.lemmas.List.Elements.{All-contains, All-from_recursion, re
 use Rattle.std.proofs.lemmas.List.Kept.{AllPairs-filter, AllPairs-cons}
 use Rattle.std.proofs.lemmas.List.Sorted.{Contains-permutation, IsPermutation-sym}
 use Rattle.std.proofs.lemmas.Map.Keys.{IsDistinct-IsPermutation, IsDistinct-cons}
+use Rattle.std.proofs.lemmas.Int.{ints, int_max_is}
 use Rattle.std.proofs.lemmas.Option.{same_Some}
 use Rattle.net_model.specs.Network.{Plan, IsPlan}
 use Rattle.net_model.specs.declared.ids.LinkId.{LinkId}
 use Rattle.net_model.specs.declared.ids.PointId.{PointId}
 use Rattle.net_model.specs.declared.part.Edge.{Edge}
-use Rattle.closure_model.specs.FreshEdges.{fresh_at, has_fallen, AreFreshAfter}
+use Rattle.closure_model.specs.FreshEdges.{fresh_at, has_fallen, AreFreshAfter, WasThere}
 use Rattle.closure_model.specs.Keys.{Key, key_of, edge_of, ordinary_key, all_points}
 use Rattle.closure_model.specs.Orders.{is_among}
 use Rattle.closure_model.specs.ReferenceRow.{ordinary_into, reference_row, with_made, IsBelow, IsRowOf}
@@ -25,17 +27,17 @@ use Rattle.closure_model.specs.Tables.{Graph, weight_of, HasEdge, HasAtMost, IsF
 use Rattle.closure_model.specs.declared.rows.Made.{Made}
 use Rattle.closure_model.proofs.Consequences.{all_points_stand, ordinary_from, ordinary_stands}
 use Rattle.closure_model.proofs.FreshLemmas.{unfallen_were_there}
+use Rattle.closure_model.proofs.Listed.{nothing_elsewhere}
 use Rattle.closure_model.proofs.Lists.{Contains-head, Contains-tail, Contains-cases, Contains-none, Contains-map, Contains-map_from, Contains-flat_map, Contains-flat_map_from, Contains-filter_from, Contains-filter, Contains-filter_passes, any_is, any_from, Contains-filter_map_from}
 use Rattle.closure_model.proofs.OrderLemmas.{among_from, from_among}
 use Rattle.closure_model.proofs.RoundLaw.{is_same_key_of, same_key_is}
 use Rattle.closure_model.proofs.RowLaw.{row_result}
-use Rattle.closure_model.proofs.Slots.{both}
 use Rattle.closure_model.proofs.TableLemmas.{all_lowered-has, all_lowered-cases, at_most_gives}
 use Rattle.closure_model.proofs.Weights.{not_below, le_then_lt}
 use Rattle.back_propagation.specs.declared.settling.NewRow.{NewRow}
 use Rattle.parallel_rounds.specs.Rows.{new_row}
 use Rattle.parallel_rounds.specs.Targets.{AreRising, AreRowsOfRound}
-use Rattle.parallel_rounds.specs.Telling.{ordinary_made, AreInOrder, AreListed, changed_in}
+use Rattle.parallel_rounds.specs.Telling.{ordinary_made, is_low, was_low, was_low_by, AreFreshIn, AreInOrder, AreListed, IsTableFor, changed_in}
 use Rattle.parallel_rounds.proofs.Rising.{rising_tail, rising_above, all_rise, all_inside}
 
 -- ---- loops
@@ -55,8 +57,23 @@ ordinary_more made i d items new inside was is =
     let both : ordinary_made (take i made ++ one ∷ []) ≡ ordinary_made (take i made) ++ ordinary_made (one ∷ []) = ap (filter keep) (map-append edge (take i made) (one ∷ [])) ∙ filter-append keep (map edge (take i made)) (edge one ∷ []) in
     is ∙ (ap (λ (l : List Edge). l ++ ordinary_made (one ∷ [])) was ∙ sym (ap ordinary_made (take_more made i d inside) ∙ both))
 
-pub listed_none : (rows : List NewRow) (fresh : List (List Edge)) → All (λ (edges : List Edge). edges ≡ []) fresh → AreListed [] fresh
-listed_none rows fresh none = record {
+-- an edge that is fresh by what a table had
+abbrev pub still_fresh : Graph → Edge → Bool
+still_fresh before edge = not (was_low before edge)
+
+pub kept_more : (before : Graph) (edges : List Edge) (i : ℕ) (d : Edge) (items new : List Edge) → i < length edges → items ≡ filter (still_fresh before) (take i edges) → new ≡ items ++ filter (still_fresh before) (get_or edges i d ∷ [])
+    → new ≡ filter (still_fresh before) (take (i + 1) edges)
+kept_more before edges i d items new inside was is =
+    is ∙ (ap (λ (l : List Edge). l ++ filter (still_fresh before) (get_or edges i d ∷ [])) was ∙ sym (ap (filter (still_fresh before)) (take_more edges i d inside) ∙ filter-append (still_fresh before) (take i edges) (get_or edges i d ∷ [])))
+
+-- a key that there is not has no weight
+pub out_of_range : (table : Graph) (points : ℕ) (from to : PointId) → IsTableFor points table → (from.0 < points → to.0 < points → ⊥) → is_low table (ordinary_key from to) ≡ false
+out_of_range table points from to for out =
+    ap (λ (o : Option ℤ). option_map_or (λ weight. int_lt weight (pos 1)) o false)
+    (nothing_elsewhere table for.sound (ordinary_key from to) (λ is. out (subst (λ (n : ℕ). from.0 < n) (sym for.count) is.from_point) (subst (λ (n : ℕ). to.0 < n) (sym for.count) is.to_point)))
+
+pub listed_none : (before : Graph) (rows : List NewRow) (fresh : List (List Edge)) → All (λ (edges : List Edge). edges ≡ []) fresh → AreListed before [] fresh
+listed_none before rows fresh none = record {
   here = λ row inside. absurd (Contains-none row inside);
   others = λ point apart. by point (nat_lt point.0 (length fresh)) refl;
 }
@@ -72,12 +89,12 @@ TargetsBelow points rows = All (λ (r : NewRow). r.target.0 < points) rows
 abbrev pub TargetsRise : List NewRow → Type 0
 TargetsRise rows = AllPairs (λ (one other : NewRow). one.target.0 < other.target.0) rows
 
-abbrev pub HasListsOf : ℕ → List NewRow → List (List Edge) → Type 0
-HasListsOf points rows fresh = (length fresh ≡ points) × AreListed rows fresh
+abbrev pub HasListsOf : Graph → ℕ → List NewRow → List (List Edge) → Type 0
+HasListsOf before points rows fresh = (length fresh ≡ points) × AreListed before rows fresh
 
-pub listed_more : (rows : List NewRow) (i : ℕ) (row : NewRow) (points : ℕ) (fresh : List (List Edge)) (list : List Edge) → i < length rows → row ≡ get_or rows i row → TargetsBelow points rows
-    → TargetsRise rows → length fresh ≡ points → AreListed (take i rows) fresh → AreInOrder row.made list → HasListsOf points (take (i + 1) rows) (slice_set fresh row.target.0 list)
-listed_more rows i row points fresh list inside read known rise long was is = (
+pub listed_more : (before : Graph) (rows : List NewRow) (i : ℕ) (row : NewRow) (points : ℕ) (fresh : List (List Edge)) (list : List Edge) → i < length rows → row ≡ get_or rows i row → TargetsBelow points rows
+    → TargetsRise rows → length fresh ≡ points → AreListed before (take i rows) fresh → AreFreshIn before row.made list → HasListsOf before points (take (i + 1) rows) (slice_set fresh row.target.0 list)
+listed_more before rows i row points fresh list inside read known rise long was is = (
   length-set fresh row.target.0 list ∙ long,
   record {
     here = λ r there. here r (Contains-append_cases (take i rows) (row ∷ []) r (subst (λ (l : List NewRow). Contains l r) more there));
@@ -109,14 +126,14 @@ listed_more rows i row points fresh list inside read known rise long was is = (
         let here : get_or rows i r ≡ row = get_or_default rows i r row inside ∙ sym read in
         subst (λ (x : NewRow). r.target.0 < x.target.0) here (subst (λ (x : NewRow). x.target.0 < (get_or rows i r).target.0) there up)
 
-    here : (r : NewRow) → Contains (take i rows) r ⊎ Contains (row ∷ []) r → AreInOrder r.made (fresh_at (slice_set fresh row.target.0 list) r.target)
+    here : (r : NewRow) → Contains (take i rows) r ⊎ Contains (row ∷ []) r → AreFreshIn before r.made (fresh_at (slice_set fresh row.target.0 list) r.target)
     here r (inl there) =
         let less = lower r there in
-        subst (AreInOrder r.made) (sym (get_or-set_other fresh row.target.0 r.target.0 list [] (λ same. absurd (omega arith)))) (was.here r there)
+        subst (AreFreshIn before r.made) (sym (get_or-set_other fresh row.target.0 r.target.0 list [] (λ same. absurd (omega arith)))) (was.here r there)
     here r (inr only) = by (Contains-cases row [] r only)
       where
-        by : (row ≡ r) ⊎ Contains [] r → AreInOrder r.made (fresh_at (slice_set fresh row.target.0 list) r.target)
-        by (inl same) = subst (λ (x : NewRow). AreInOrder x.made (fresh_at (slice_set fresh row.target.0 list) x.target)) same (subst (AreInOrder row.made) (sym (get_or-set_same fresh row.target.0 list [] within)) is)
+        by : (row ≡ r) ⊎ Contains [] r → AreFreshIn before r.made (fresh_at (slice_set fresh row.target.0 list) r.target)
+        by (inl same) = subst (λ (x : NewRow). AreFreshIn before x.made (fresh_at (slice_set fresh row.target.0 list) x.target)) same (subst (AreFreshIn before row.made) (sym (get_or-set_same fresh row.target.0 list [] within)) is)
         by (inr nothing) = absurd (Contains-none r nothing)
 
 -- ---- two lists that rise and have the same edges
@@ -241,6 +258,39 @@ into_rises table point (from ∷ points) rise = by (weight_of table (ordinary_ke
     by None up = up
     by (Some w) up = AllPairs-cons (λ (one other : Edge). one.from.0 < other.from.0) (edge_of (ordinary_key from point) w) (begin_in table point points) (λ k d inside. above k d inside) up
 
+-- what passes two tests, one after the other
+filter_both : (first second : Edge → Bool) (edges : List Edge) → filter second (filter first edges) ≡ filter (λ edge. first edge && second edge) edges
+filter_both first second [] = refl
+filter_both first second (edge ∷ edges) = outside (first edge) ∙ by (first edge) (second edge) (filter_both first second edges)
+  where
+    outside : (one : Bool) → filter second (cond one (edge ∷ filter first edges) (filter first edges)) ≡ cond one (cond (second edge) (edge ∷ filter second (filter first edges)) (filter second (filter first edges))) (filter second (filter first edges))
+    outside true = refl
+    outside false = refl
+
+    by : (one other : Bool) → filter second (filter first edges) ≡ filter (λ e. first e && second e) edges
+        → cond one (cond other (edge ∷ filter second (filter first edges)) (filter second (filter first edges))) (filter second (filter first edges)) ≡ cond (one && other) (edge ∷ filter (λ e. first e && second e) edges) (filter (λ e. first e && second e) edges)
+    by true true rest = ap (λ (l : List Edge). edge ∷ l) rest
+    by true false rest = rest
+    by false other rest = rest
+
+-- an ordinary edge whose key had a weight of 0 or less was there
+low_was_there : (before : Graph) (first : Edge) → was_low before first ≡ true → WasThere before first
+low_was_there before first low = of_label first.label refl low
+  where
+    of_label : (label : Option LinkId) → first.label ≡ label → was_low_by before first label ≡ true → WasThere before first
+    of_label (Some label) is low = absurd cc
+    of_label None ordinary low = by (weight_of before (ordinary_key first.from first.to)) refl low
+      where
+        key : ordinary_key first.from first.to ≡ key_of first
+        key = λ i. record { to = first.to; from = first.from; label = sym ordinary i }
+
+        by : (o : Option ℤ) → weight_of before (ordinary_key first.from first.to) ≡ o → option_map_or (λ weight. int_lt weight (pos 1)) o false ≡ true → WasThere before first
+        by None is low = absurd cc
+        by (Some w) is low = record { weight = w; has = sym (ap (weight_of before) key) ∙ is; same = no_more w first.weight low }
+          where
+            no_more : (w v : ℤ) → int_lt w (pos 1) ≡ true → int_max w (pos 0) ≤ℤ int_max v (pos 0)
+            no_more w v low = grind (arith, ints, int_max_is)
+
 -- ---- after a round
 module _ (net : Plan) (before : Graph) (plan : IsPlan net) (fits : IsFor net before) (sound : IsGraph before) (sound_now : IsGraph (with_made before (round_made net before))) where
   abbrev now : Graph
@@ -353,10 +403,10 @@ module _ (net : Plan) (before : Graph) (plan : IsPlan net) (fits : IsFor net bef
           let empty : Contains {X = Made} [] one = subst (λ (l : List Made). Contains l one) (nothing (subst (λ (p : PointId). p.0 < before.shape.points) to inside)) here in
           absurd (Contains-none one empty)
 
-  pub fresh_after : (rows : List NewRow) (fresh : List (List Edge)) → AreRowsOfRound net before rows → AreListed rows fresh → AreFreshAfter before now fresh
+  pub fresh_after : (rows : List NewRow) (fresh : List (List Edge)) → AreRowsOfRound net before rows → AreListed before rows fresh → AreFreshAfter before now fresh
   fresh_after rows fresh made listed = record {
-    is_fresh = fell;
-    was_there = λ first has test. unfallen_were_there net before first has test;
+    is_fresh = λ edge. fell edge && still_fresh before edge;
+    was_there = λ first has test. one_was_there first has (fell first) refl (was_low before first) refl test;
     lists = λ point. by point (is_among made.targets point) refl;
   }
     where
@@ -371,9 +421,17 @@ module _ (net : Plan) (before : Graph) (plan : IsPlan net) (fits : IsFor net bef
           let (target, there, is) = Contains-map_from (new_row net before) made.targets row (subst (λ (l : List NewRow). Contains l row) made.rows_are inside) in
           not_there point none (subst (Contains made.targets) (ap (λ (r : NewRow). r.target) is ∙ same) there)
 
-      by : (point : PointId) (b : Bool) → is_among made.targets point ≡ b → fresh_at fresh point ≡ filter fell (ordinary_into now point)
+      one_was_there : (first : Edge) → HasEdge now first → (b : Bool) → fell first ≡ b → (low : Bool) → was_low before first ≡ low → (fell first && still_fresh before first) ≡ false → WasThere before first
+      one_was_there first has false unfallen low is test = unfallen_were_there net before first has unfallen
+      one_was_there first has true fallen false high test = let no : (fell first && still_fresh before first) ≡ true = λ i. fallen i && not (high i) in absurd cc
+      one_was_there first has true fallen true low test = low_was_there before first low
+
+      by : (point : PointId) (b : Bool) → is_among made.targets point ≡ b → fresh_at fresh point ≡ filter (λ edge. fell edge && still_fresh before edge) (ordinary_into now point)
       by point true is =
           let there = from_among made.targets point is in
           let inside : point.0 < before.shape.points = All-contains (λ (p : PointId). p.0 < before.shape.points) made.targets point made.points there in
-          listed_is point (fresh_at fresh point) (listed.here (new_row net before point) (row_there point there)) inside
-      by point false is = listed.others point (other_row point is) ∙ sym (unfallen_is point (λ inside. made.others point inside (not_there point is)))
+          let here = listed.here (new_row net before point) (row_there point there) in
+          here.kept ∙ (ap (filter (still_fresh before)) (listed_is point here.all here.in_order inside) ∙ filter_both fell (still_fresh before) (ordinary_into now point))
+      by point false is =
+          listed.others point (other_row point is)
+          ∙ sym (sym (filter_both fell (still_fresh before) (ordinary_into now point)) ∙ ap (filter (still_fresh before)) (unfallen_is point (λ inside. made.others point inside (not_there point is))))

@@ -29,7 +29,7 @@ use Rattle.back_propagation.specs.declared.settling.NewRow.{NewRow}
 use Rattle.parallel_rounds.specs.Adding.{made_in}
 use Rattle.parallel_rounds.specs.Rows.{new_row}
 use Rattle.parallel_rounds.specs.Targets.{AreRising, AreRowsOfRound}
-use Rattle.parallel_rounds.specs.Telling.{IsLastRound, AreInOrder, AreListed, ordinary_made, changed_in}
+use Rattle.parallel_rounds.specs.Telling.{IsLastRound, AreFreshIn, AreListed, ordinary_made, changed_in, was_low}
 use Rattle.parallel_rounds.specs.declared.telling.LastRound.{LastRound}
 use Rattle.parallel_rounds.proofs.FreshSteps.{fresh_after}
 use Rattle.parallel_rounds.proofs.StaleSteps.{All-from_each, map_pairs, rows_make_round}
@@ -61,7 +61,7 @@ module _ (net : Plan) (table : Graph) (rows : List NewRow) (are : AreRowsOfRound
       by : (point : PointId) → (row : NewRow) × Contains (filter (λ (row : NewRow). not (length row.made == 0)) rows) row × (row.target ≡ point) → point.0 < table.shape.points
       by point (row, there, is) = subst (λ (p : PointId). p.0 < table.shape.points) is (target_inside row (Contains-filter_from (λ (r : NewRow). not (length r.made == 0)) rows row there))
 
-  unchanged_is : (fresh : List (List Edge)) → AreListed rows fresh → (point : PointId) → ¬ Contains (changed_in rows) point → fresh_at fresh point ≡ []
+  unchanged_is : (fresh : List (List Edge)) → AreListed table rows fresh → (point : PointId) → ¬ Contains (changed_in rows) point → fresh_at fresh point ≡ []
   unchanged_is fresh listed point unchanged = by (is_among are.targets point) refl
     where
       row : NewRow
@@ -85,16 +85,16 @@ module _ (net : Plan) (table : Graph) (rows : List NewRow) (are : AreRowsOfRound
       by true is =
           let inside = from_among are.targets point is in
           let none : reference_row net table point ≡ [] = nothing (reference_row net table point) (fell inside) in
-          let listed_here : AreInOrder (reference_row net table point) (fresh_at fresh point) = listed.here (new_row net table point) (there inside) in
-          let long = length_permutation (ordinary_made (reference_row net table point)) (fresh_at fresh point) listed_here.same in
-          no_list (fresh_at fresh point) (long ∙ ap (λ (made : List Made). length (ordinary_made made)) none)
+          let here : AreFreshIn table (reference_row net table point) (fresh_at fresh point) = listed.here (new_row net table point) (there inside) in
+          let long = length_permutation (ordinary_made (reference_row net table point)) here.all here.in_order.same in
+          here.kept ∙ ap (filter (λ (edge : Edge). not (was_low table edge))) (no_list here.all (long ∙ ap (λ (made : List Made). length (ordinary_made made)) none))
       by false is = listed.others point (λ r inside same. other r inside same (row_of_target r inside))
         where
           other : (r : NewRow) → Contains rows r → r.target ≡ point → (p : PointId) × Contains are.targets p × (new_row net table p ≡ r) → ⊥
           other r inside same (p, at, made) = let clash = among_from are.targets point (subst (Contains are.targets) (ap (λ (x : NewRow). x.target) made ∙ same) at) in absurd cc
 
 pub last_round_is : (net : Plan) (support after : Support) (rows : List NewRow) (last : LastRound) → IsPlan net → StandsOn net support → after ≡ after_round net support → AreRowsOfRound net support.table rows → last.changed.items ≡ changed_in rows
-    → length last.fresh.items ≡ length net.points → AreListed rows last.fresh.items → IsLastRound net after.table last
+    → length last.fresh.items ≡ length net.points → AreListed support.table rows last.fresh.items → IsLastRound net after.table last
 last_round_is net support after rows last plan stands is are changed count listed = record {
   told = record {
     count = count;

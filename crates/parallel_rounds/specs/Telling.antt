@@ -1,12 +1,15 @@
 -- What is told of the last round.
-use Rattle.std.specs.Prelude.{◌≡◌, ◌≢◌, ◌==◌, Bool, not, true, List, [], length, map, filter, is_none, IsPermutation}
+use Rattle.std.specs.Prelude.{◌≡◌, ◌≢◌, ◌==◌, ℕ, Bool, not, true, false, pos, int_lt, Option, Some, None, List, [], length, map, filter, is_none, IsPermutation}
 use Rattle.std.specs.List.{All, Contains}
 use Rattle.std.specs.List.Sorted.{IsNonDecreasingBy}
 use Rattle.net_model.specs.Network.{Plan, IsPoint}
+use Rattle.net_model.specs.declared.ids.LinkId.{LinkId}
 use Rattle.net_model.specs.declared.ids.PointId.{PointId}
 use Rattle.net_model.specs.declared.part.Edge.{Edge}
 use Rattle.closure_model.specs.FreshEdges.{fresh_at, AreOfTable, IsMetBut}
-use Rattle.closure_model.specs.Tables.{Graph}
+use Rattle.std.specs.Option.{option_map_or}
+use Rattle.closure_model.specs.Keys.{Key, ordinary_key}
+use Rattle.closure_model.specs.Tables.{Graph, IsGraph, weight_of}
 use Rattle.closure_model.specs.declared.rows.Made.{Made}
 use Rattle.back_propagation.specs.declared.settling.NewRow.{NewRow}
 use Rattle.parallel_rounds.specs.Targets.{AreRising}
@@ -30,6 +33,11 @@ pub record IsLastRound (net : Plan) (table : Graph) (last : LastRound) : Type 0 
   pub points : All (IsPoint net) last.changed.items
   pub others : (point : PointId) → ¬ Contains last.changed.items point → fresh_at last.fresh.items point ≡ []
 
+-- a sound table for so many points
+pub record IsTableFor (points : ℕ) (table : Graph) : Type 0 where
+  pub count : points ≡ table.shape.points
+  pub sound : IsGraph table
+
 -- the ordinary edges among those that fell
 abbrev pub ordinary_made : List Made → List Edge
 ordinary_made made = filter (λ (edge : Edge). is_none edge.label) (map (λ (one : Made). one.edge) made)
@@ -39,9 +47,27 @@ pub record AreInOrder (made : List Made) (edges : List Edge) : Type 0 where
   pub same : IsPermutation (ordinary_made made) edges
   pub rise : IsNonDecreasingBy (λ (edge : Edge). edge.from.0) edges
 
--- lists of edges by the points in which they end are those of the edges that fell in some rows
-pub record AreListed (rows : List NewRow) (fresh : List (List Edge)) : Type 0 where
-  pub here : (row : NewRow) → Contains rows row → AreInOrder row.made (fresh_at fresh row.target)
+-- a key has a weight of 0 or less
+abbrev pub is_low : Graph → Key → Bool
+is_low table key = option_map_or (λ weight. int_lt weight (pos 1)) (weight_of table key) false
+
+-- before a round the key of an ordinary edge had a weight of 0 or less: as a first premise it gives nothing then that it did not give before
+abbrev pub was_low_by : Graph → Edge → Option LinkId → Bool
+was_low_by before edge None = is_low before (ordinary_key edge.from edge.to)
+was_low_by before edge (Some label) = false
+
+abbrev pub was_low : Graph → Edge → Bool
+was_low before edge = was_low_by before edge edge.label
+
+-- edges are those ordinary ones that fell and whose keys had no weight or one above 0, by the points in which they begin
+pub record AreFreshIn (before : Graph) (made : List Made) (edges : List Edge) : Type 0 where
+  pub all : List Edge
+  pub in_order : AreInOrder made all
+  pub kept : edges ≡ filter (λ edge. not (was_low before edge)) all
+
+-- lists of edges by the points in which they end are those of the edges that fell in some rows and are fresh
+pub record AreListed (before : Graph) (rows : List NewRow) (fresh : List (List Edge)) : Type 0 where
+  pub here : (row : NewRow) → Contains rows row → AreFreshIn before row.made (fresh_at fresh row.target)
   pub others : (point : PointId) → ((row : NewRow) → Contains rows row → row.target ≢ point) → fresh_at fresh point ≡ []
 
 -- the targets of the rows in which something fell

@@ -87,11 +87,18 @@ fn make_round<R: Threads + Sync, S: Supports, G: Gate>(
     let points = net.points().len() as u32;
     let rows = rows_of_round(rt, alloc, store.table(), net, workers, gate, last)?;
     let fallen = fallen_in(alloc, store, rows.as_slice())?;
+    let last = LastRound::of(
+        alloc,
+        points,
+        store.table(),
+        rows.as_slice(),
+        fallen.len(),
+        order,
+    )?;
     take_all(net, store, fallen.as_slice())?;
     if fallen.is_empty() {
         return Ok(None);
     }
-    let last = LastRound::of(alloc, points, rows.as_slice(), fallen.len(), order)?;
     Ok(Some(last))
 }
 

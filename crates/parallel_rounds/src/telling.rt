@@ -1,18 +1,21 @@
-ghost use Rattle.std.specs.Prelude.{◌≡◌, ◌<◌, ◌++◌, ◌∷◌, [], true, length, IfOk, OnOk};
+ghost use Rattle.std.specs.Prelude.{◌≡◌, ◌<◌, ◌++◌, ◌∷◌, [], true, not, filter, length, IfOk, OnOk};
 ghost use Rattle.std.specs.List.{All, AllPairs};
+ghost use Rattle.closure_model.specs.Keys.{ordinary_key};
 ghost use Rattle.closure_model.specs.Orders.{IsOrder};
 ghost use Rattle.closure_model.specs.ReferenceRow.{with_made};
 ghost use Rattle.closure_model.specs.Tables.{Graph};
 ghost use Rattle.parallel_rounds.specs.Adding.{made_in};
-ghost use Rattle.parallel_rounds.specs.Telling.{AreInOrder, AreListed, changed_in, ordinary_made};
+ghost use Rattle.parallel_rounds.specs.Telling.{AreFreshIn, AreInOrder, AreListed, IsTableFor, changed_in, is_low, ordinary_made, was_low};
 
 use back_propagation::{Made, NewRow};
+use labelled_graph::Table;
 use loop_finder::KeptOrder;
 use net_model::{Edge, Items, PointId};
 use std::alloc::{AllocError, Global};
 
-/// What fell in a round: the points in whose rows something did, how many edges fell, and those of them that are ordinary, by the points
-/// in which they end, each list in the order of the points in which they begin; and whether an order stays one.
+/// What fell in a round: the points in whose rows something did, how many edges fell, and those of them that are ordinary and whose keys
+/// had no weight or one above 0, by the points in which they end, each list in the order of the points in which they begin; and whether
+/// an order stays one.
 #[derive(Drop)]
 pub(crate) struct LastRound {
     pub(crate) changed: Vec<PointId>,
@@ -22,23 +25,25 @@ pub(crate) struct LastRound {
 }
 
 impl LastRound {
-    /// What fell in the rows of a round, for so many points, and whether an order stays one; so many edges fell.
+    /// What fell in the rows of a round against a table, for so many points, and whether an order stays one; so many edges fell.
     pub(crate) fn of(
         alloc: Global,
         points: u32,
+        before: &Table,
         rows: &[NewRow],
         fallen: usize,
         order: &KeptOrder,
     ) -> Result<LastRound, AllocError>
+        requires table { IsTableFor points before.now }
         requires points { All (λ row. row.target.0 < points) rows.now }
         requires rise { AllPairs (λ one other. one.target.0 < other.target.0) rows.now }
         ensures changed { IfOk result (λ last. last.changed.items ≡ changed_in rows.now) }
         ensures count { IfOk result (λ last. length last.fresh.items ≡ points) }
-        ensures fresh { IfOk result (λ last. AreListed rows.now last.fresh.items) }
+        ensures fresh { IfOk result (λ last. AreListed before.now rows.now last.fresh.items) }
         ensures stays { IfOk result (λ last. last.stays ≡ true → (table : Graph) → IsOrder table order.now → IsOrder (with_made table (made_in rows.now)) order.now) }
     {
         let changed = changed_in(alloc, rows)?;
-        let fresh = fresh_in(alloc, points, rows)?;
+        let fresh = fresh_in(alloc, points, before, rows)?;
         Ok(LastRound {
             changed,
             fallen,
@@ -80,16 +85,22 @@ fn push_changed(changed: &mut Vec<PointId>, row: &NewRow) -> Result<(), AllocErr
     Ok(())
 }
 
-/// The ordinary edges that fell in rows, by the points in which they end.
-fn fresh_in(alloc: Global, points: u32, rows: &[NewRow]) -> Result<Vec<Items<Edge>>, AllocError>
+/// The ordinary edges that fell in rows against a table and are fresh, by the points in which they end.
+fn fresh_in(
+    alloc: Global,
+    points: u32,
+    before: &Table,
+    rows: &[NewRow],
+) -> Result<Vec<Items<Edge>>, AllocError>
+    requires table { IsTableFor points before.now }
     requires points { All (λ row. row.target.0 < points) rows.now }
     requires rise { AllPairs (λ one other. one.target.0 < other.target.0) rows.now }
     ensures count { IfOk result (λ fresh. length fresh.items ≡ points) }
-    ensures fresh { IfOk result (λ fresh. AreListed rows.now fresh.items) }
+    ensures fresh { IfOk result (λ fresh. AreListed before.now rows.now fresh.items) }
 {
     let mut fresh = no_edges(alloc, points)?;
     for row in rows {
-        fresh[row.target.0 as usize] = in_order(alloc, row.made.as_slice())?;
+        fresh[row.target.0 as usize] = fresh_of(alloc, points, before, row.made.as_slice())?;
     }
     Ok(fresh)
 }
@@ -102,6 +113,78 @@ fn no_edges(alloc: Global, points: u32) -> Result<Vec<Items<Edge>>, AllocError>
     (0..points)
         .map(|_| Items::new(Vec::new(alloc)))
         .collect(alloc)
+}
+
+/// The ordinary edges that fell in a row against a table and are fresh, in the order of the points in which they begin.
+fn fresh_of(
+    alloc: Global,
+    points: u32,
+    before: &Table,
+    made: &[Made],
+) -> Result<Items<Edge>, AllocError>
+    requires { IsTableFor points before.now }
+    ensures { IfOk result (AreFreshIn before.now made.now) }
+{
+    let edges = in_order(alloc, made)?;
+    let fresh = fresh_among(alloc, points, before, edges.as_slice())?;
+    Ok(Items::new(fresh))
+}
+
+/// Those of some edges whose keys had no weight in a table, or one above 0.
+fn fresh_among(
+    alloc: Global,
+    points: u32,
+    before: &Table,
+    edges: &[Edge],
+) -> Result<Vec<Edge>, AllocError>
+    requires { IsTableFor points before.now }
+    ensures { IfOk result (λ fresh. fresh.items ≡ filter (λ edge. not (was_low before.now edge)) edges.now) }
+{
+    let mut fresh = Vec::new(alloc);
+    for edge in edges {
+        push_fresh(&mut fresh, points, before, edge)?;
+    }
+    Ok(fresh)
+}
+
+fn push_fresh(
+    fresh: &mut Vec<Edge>,
+    points: u32,
+    before: &Table,
+    edge: &Edge,
+) -> Result<(), AllocError>
+    requires { IsTableFor points before.now }
+    ensures { OnOk result (fresh.new.items ≡ fresh.old.items ++ filter (λ edge. not (was_low before.now edge)) (edge.now ∷ [])) }
+{
+    if !was_low(points, before, edge) {
+        fresh.push(*edge)?;
+    }
+    Ok(())
+}
+
+/// Whether an ordinary edge had a weight of 0 or less in a table. As a first premise it gives nothing then that it did not give before.
+fn was_low(points: u32, before: &Table, edge: &Edge) -> bool
+    requires { IsTableFor points before.now }
+    ensures { result ≡ was_low before.now edge.now }
+{
+    match edge.label {
+        Some(_) => false,
+        None => is_low(points, before, edge.from, edge.to),
+    }
+}
+
+/// Whether a table has an ordinary edge of weight 0 or less between two points.
+fn is_low(points: u32, table: &Table, from: PointId, to: PointId) -> bool
+    requires { IsTableFor points table.now }
+    ensures { result ≡ is_low table.now (ordinary_key from to) }
+{
+    if from.0 >= points || to.0 >= points {
+        return false;
+    }
+    match table.weight(from, to) {
+        None => false,
+        Some(weight) => weight < 1,
+    }
 }
 
 /// The ordinary edges that fell in a row, in the order of the points in which they begin.

@@ -1,14 +1,14 @@
 -- One row more.
 use Rattle.std.proofs.Common.{List, subst}
 use Rattle.closure_model.specs.declared.rows.Made.{Made}
-use Rattle.parallel_rounds.specs.Telling.{AreInOrder}
+use Rattle.parallel_rounds.specs.Telling.{AreFreshIn}
 use Rattle.parallel_rounds.proofs.FreshSteps.{listed_none, listed_more}
 use Rattle.parallel_rounds.proofs.telling.fresh_in.Goals as goal
 
 pub loop-row-init : goal.loop-row-init
-loop-row-init c = (c.in_ok-fresh.ensures.count, listed_none c.args.rows.now c.in_ok-fresh.fresh.items c.in_ok-fresh.ensures.none)
+loop-row-init c = (c.in_ok-fresh.ensures.count, listed_none c.args.before.now c.args.rows.now c.in_ok-fresh.fresh.items c.in_ok-fresh.ensures.none)
 
 pub loop-row-preserved : goal.loop-row-preserved
 loop-row-preserved c =
-    listed_more c.args.rows.now c.loop-row.row-index c.row-item.result c.args.points c.loop-row.fresh.items c.in_ok-fresh-2.field-0 c.loop-row-test.true c.row-item.is c.requires.points c.requires.rise c.loop-row.invariant.0 c.loop-row.invariant.1
-    (subst (λ (made : List Made). AreInOrder made c.in_ok-fresh-2.field-0) c.as_slice.ensures c.in_ok-fresh-2.ensures)
+    listed_more c.args.before.now c.args.rows.now c.loop-row.row-index c.row-item.result c.args.points c.loop-row.fresh.items c.in_ok-fresh-2.field-0 c.loop-row-test.true c.row-item.is c.requires.points c.requires.rise c.loop-row.invariant.0 c.loop-row.invariant.1
+    (subst (λ (made : List Made). AreFreshIn c.args.before.now made c.in_ok-fresh-2.field-0) c.as_slice.ensures c.in_ok-fresh-2.ensures)

@@ -1,0 +1,12 @@
+-- One edge more.
+use Rattle.std.proofs.Common.{pos, None}
+use Rattle.net_model.specs.declared.part.Edge.{Edge}
+use Rattle.parallel_rounds.proofs.FreshSteps.{kept_more}
+use Rattle.parallel_rounds.proofs.telling.fresh_among.Goals as goal
+
+-- what is read where there is nothing
+abbrev no_edge : Edge
+no_edge = record { from = record { 0 = 0 }; to = record { 0 = 0 }; label = None; weight = pos 0 }
+
+pub loop-edge-preserved : goal.loop-edge-preserved
+loop-edge-preserved c = kept_more c.args.before.now c.args.edges.now c.loop-edge.edge-index no_edge c.loop-edge.fresh.items c.push_fresh.new.fresh.items c.loop-edge-test.true c.loop-edge.invariant c.in_ok-push_fresh.ensures
