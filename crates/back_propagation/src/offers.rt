@@ -99,7 +99,8 @@ impl OpenRow {
         Ok(())
     }
 
-    /// Offers what follows with an ordinary edge of the table before the edge.
+    /// Offers what follows with an ordinary edge of the table before the edge. Most of it is in vain, which is seen by a look at the slot.
+    #[inline(always)]
     pub(crate) fn offer_after_first(
         &mut self,
         basis: Basis<'_>,
@@ -115,6 +116,24 @@ impl OpenRow {
         if !self.has_above(place, joined_weight(first, edge)) {
             return Ok(());
         }
+        self.offer_joined(basis, edge, column, first)
+    }
+
+    /// Offers what the rules give with an ordinary edge of the table before the edge.
+    #[inline(never)]
+    fn offer_joined(
+        &mut self,
+        basis: Basis<'_>,
+        edge: &Edge,
+        column: usize,
+        first: &Edge,
+    ) -> Result<(), AllocError>
+        requires row { IsOffering basis self.old edge.now column }
+        requires first { HasEdge basis.table.now first.now }
+        ensures { OnOk result (HasOffered self.old self.new (from_first edge.now first.now)) }
+    {
+        let _ = basis;
+        let place = place_of(self.width, first.from, column);
         self.offer_given(place, Why::No(*first, *edge), no_case(first, edge))?;
         self.offer_given(place, Why::Up(*first, *edge), upper_case(first, edge))
     }
