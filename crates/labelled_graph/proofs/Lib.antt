@@ -2,3 +2,5 @@ mod RowLemmas
 mod StoredLemmas
 mod ListedLemmas
 mod LoopLemmas
+mod WordLemmas
+mod MirrorLemmas

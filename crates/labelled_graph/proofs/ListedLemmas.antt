@@ -1,5 +1,5 @@
 -- The entries of a row are the edges of the table that end in its point, in the order of their keys.
-use Rattle.std.proofs.Common.{◌≡◌, ℕ, ◌==◌, ◌<◌, ℤ, Bool, true, cond, List, [], ◌∷◌, ◌++◌, map, filter, get_or, Option, Some, None, refl, ap, sym, subst, ◌∙◌, arith}
+use Rattle.std.proofs.Common.{◌≡◌, ℕ, ◌==◌, ◌<◌, ℤ, pos, Bool, true, cond, List, [], ◌∷◌, ◌++◌, length, map, filter, get_or, Option, Some, None, refl, ap, sym, subst, ◌∙◌, arith}
 use Rattle.std.specs.Prelude.{is_none}
 use Rattle.std.specs.Option.{option_map}
 use Rattle.std.specs.List.{AllByRecursion, Contains, cons_option, filter_map, flat_map}
@@ -18,9 +18,12 @@ use Rattle.closure_model.proofs.Lists.{filter_all}
 use Rattle.closure_model.proofs.TableLemmas.{listed_edge}
 use Rattle.labelled_graph.specs.declared.entry.Entry.{Entry}
 use Rattle.labelled_graph.specs.Entries.{edge_into, is_ordinary, wide_label}
-use Rattle.labelled_graph.specs.Rows.{TargetRow, keyed}
+use Rattle.labelled_graph.specs.Rows.{TargetRow, keyed, AllFitIn, IsMirrorOf}
+use Rattle.labelled_graph.specs.Words.{held, word_of, AllFitWords, AreWordsOf}
 use Rattle.labelled_graph.specs.Stored.{graph_with, AreStored}
 use Rattle.labelled_graph.proofs.StoredLemmas.{sound_graph, shape_is, row_there, row_target, row_reads}
+use Rattle.labelled_graph.proofs.WordLemmas.{held_at, held_once}
+use Rattle.std.proofs.Math.ListN.{length-map}
 
 edges_alike : (one other : Graph) (to : PointId) (keys : List Key) → AllByRecursion (λ k. k.to ≡ to) keys → ((k : Key) → k.to ≡ to → weight_of one k ≡ weight_of other k) → edges_at one keys ≡ edges_at other keys
 edges_alike one other to [] own alike = refl
@@ -107,6 +110,19 @@ module _ (rows : List TargetRow) (activations : List PointId) (stored : AreStore
           at : (o : Option ℤ) → weight_of graph key ≡ o → map_of.get row.weights key ≡ weight_of graph key
           at None none = is ∙ sym none
           at (Some w) some = row_reads rows activations stored graph view key (sound.keys (edge_of key w) some) row (read_for key target)
+
+  -- ---- its words
+  pub fits_in : AllFitWords graph → AllFitIn row
+  fits_in fits key w has = fits key w (sym (alike key (keys_of key w has).0) ∙ has)
+
+  pub reads_first : (first : PointId) → map_of.get row.weights (ordinary_key first row.to) ≡ weight_of graph (ordinary_key first to)
+  reads_first first = ap (λ (p : PointId). map_of.get row.weights (ordinary_key first p)) ends ∙ alike (ordinary_key first to) refl
+
+  pub words_of : (words : List ℤ) → IsMirrorOf row (map held words) → AreWordsOf graph to None words
+  words_of words mirror from inside =
+      let long : from.0 < length (map held words) = omega (arith, inside, length-map words held) in
+      held_once (get_or words from.0 (pos 0)) (word_of (weight_of graph (ordinary_key from to)))
+      (sym (held_at words from.0 inside) ∙ mirror from long ∙ ap (λ (o : Option ℤ). held (word_of o)) (reads_first from))
 
   -- the row as a table of its own
   alone : Graph

@@ -33,7 +33,7 @@ pub weight_at : (rows : List TargetRow) (activations : List PointId) (key : Key)
 weight_at rows activations key is = get-dense_in (shape_with rows activations) (at_key rows) key is
 
 -- ---- two points
-same_point : (p q : PointId) → p.0 ≡ q.0 → p ≡ q
+pub same_point : (p q : PointId) → p.0 ≡ q.0 → p ≡ q
 same_point p q is = ap (λ (k : ℕ). record { 0 = k }) is
 
 -- ---- the table with one key changed

@@ -1,15 +1,17 @@
 -- Rows of a table: the entries of the edges that end in one point, in the order of their keys.
-use Rattle.std.specs.Prelude.{◌≡◌, ◌<◌, ◌≤◌, ℕ, ℤ, T, List, length, map, refl, slice_index_or}
+use Rattle.std.specs.Prelude.{◌≡◌, ◌<◌, ◌≤◌, ℕ, ℤ, T, List, length, map, refl, Option, Some, None, slice_index_or, slice_set}
 use Rattle.std.specs.Coded.{Coded, code_by, coded_ℤ, coded×}
 use Rattle.std.specs.FinMap as map_of
 use Rattle.std.specs.declared.cmp.Ordering.TheVariants.{Less, Greater}
 use Rattle.std.specs.declared.result.Result.{Result}
 use Rattle.std.specs.declared.result.Result.TheVariants.{Ok, Err}
 use Rattle.net_model.specs.declared.ids.PointId.{PointId}
-use Rattle.closure_model.specs.Keys.{Key, key_cmp}
+use Rattle.net_model.specs.declared.ids.LinkId.{LinkId}
+use Rattle.closure_model.specs.Keys.{Key, key_cmp, ordinary_key}
 use Rattle.closure_model.specs.Codes.{point_code, key_code}
 use Rattle.labelled_graph.specs.declared.entry.Entry.{Entry}
 use Rattle.labelled_graph.specs.Entries.{key_into}
+use Rattle.labelled_graph.specs.Words.{held, word_of, FitsWord}
 
 -- a row: the point in which its edges end, and their weights by their keys
 pub record TargetRow : Type 0 where
@@ -30,6 +32,27 @@ row_with to entries = record { to = to; weights = map_of.from_sorted (map (keyed
 -- the keys of entries strictly rise
 abbrev pub AreRising : PointId → List Entry → Type 0
 AreRising to entries = T (map_of.is_sorted key_cmp (map (keyed to) entries))
+
+-- a dense row has, for the points of its places, what a row has for the ordinary edges that begin there, by the nearest words
+abbrev pub IsMirrorOf : TargetRow → List (Option ℤ) → Type 0
+IsMirrorOf row words = (from : PointId) → from.0 < length words → slice_index_or words from.0 None ≡ held (word_of (map_of.get row.weights (ordinary_key from row.to)))
+
+-- a dense row after a key was given a weight or lost it
+abbrev pub mirrored_for : List (Option ℤ) → PointId → Option LinkId → Option ℤ → List (Option ℤ)
+mirrored_for words from None weight = slice_set words from.0 (held (word_of weight))
+mirrored_for words from (Some label) weight = words
+
+abbrev pub mirrored : List (Option ℤ) → Key → Option ℤ → List (Option ℤ)
+mirrored words key weight = mirrored_for words key.from key.label weight
+
+-- what is kept of a row: its entries, whose keys rise, and a dense row
+pub record IsKept (to : PointId) (entries : List Entry) (ordinary : List (Option ℤ)) : Type 0 where
+  pub rises : AreRising to entries
+  pub mirror : IsMirrorOf (row_with to entries) ordinary
+
+-- every weight of a row is one that a word holds
+abbrev pub AllFitIn : TargetRow → Type 0
+AllFitIn row = (key : Key) (weight : ℤ) → map_of.get row.weights key ≡ Some weight → FitsWord weight
 
 -- an entry of the key stands at a place
 pub record IsAt (to : PointId) (entries : List Entry) (key : Key) (place : ℕ) : Type 0 where

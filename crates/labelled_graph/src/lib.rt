@@ -1,9 +1,11 @@
 //! The table of the labelled distance graph: for each key its least weight so far.
 #![tactic(auto)]
 
+mod dense;
 mod entry;
 mod row;
 mod table;
 
+pub use dense::DenseRow;
 pub use entry::Entry;
 pub use table::Table;

@@ -1,26 +1,33 @@
-ghost use Rattle.std.specs.Prelude.{◌≡◌, ◌<◌, ◌≤◌, ◌*◌, ◌+◌, ◌^◌, IfSome, IsSome, OnOk, OnErr, IfOk, map};
+ghost use Rattle.std.specs.Prelude.{◌≡◌, ◌<◌, ◌≤◌, ◌*◌, ◌+◌, ◌^◌, ◌<ℤ◌, pos, false, IfSome, IsSome, OnOk, OnErr, IfOk, map, slice_index_or};
 ghost use Rattle.std.specs.FinMap as map_of;
 ghost use Rattle.std.specs.Vec.{vec_len, vec_capacity};
 ghost use Rattle.net_model.specs.declared.ids.PointId.{PointId};
-ghost use Rattle.closure_model.specs.Keys.{key_of};
+ghost use Rattle.closure_model.specs.Keys.{key_of, ordinary_key};
 ghost use Rattle.labelled_graph.specs.Entries.{key_with};
-ghost use Rattle.labelled_graph.specs.Rows.{keyed, AreRising, IsPlaceOf};
+ghost use Rattle.labelled_graph.specs.Rows.{keyed, mirrored, AllFitIn, AreRising, IsMirrorOf, IsPlaceOf};
+ghost use Rattle.labelled_graph.specs.Words.{held, FitsWord, MeetsHeld};
 
+use crate::dense::DenseRow;
 use crate::entry::Entry;
 use net_model::{Edge, LinkId, PointId, Weight};
 use std::alloc::{AllocError, Global};
 use std::marker::Model;
 
-/// The edges that end in one point: an entry for each, in the order of their keys. Contracts see it as that point, with a map from
-/// keys to weights.
+/// How many points there are at least for each edge of a row that has no dense row beside its entries.
+const POINTS_AN_EDGE: u32 = 12;
+
+/// The edges that end in one point: an entry for each, in the order of their keys, and once they are many also the weights of the
+/// ordinary ones by the points in which they begin, a word for each point. Contracts see it as the point in which they end, with a map
+/// from keys to weights.
 #[derive(Debug, Drop)]
 pub(crate) struct Row {
     target: PointId,
     entries: Vec<Entry>,
+    ordinary: DenseRow,
 }
 
 impl Model for Row {
-    ghost use Rattle.labelled_graph.specs.Rows.{TargetRow, row_code, row_with, AreRising};
+    ghost use Rattle.labelled_graph.specs.Rows.{TargetRow, row_code, row_with, IsKept};
 
     ghost Value = { TargetRow };
 
@@ -28,7 +35,7 @@ impl Model for Row {
 
     ghost view = { λ row. row_with row.target row.entries.items };
 
-    ghost invariant = { λ row. AreRising row.target row.entries.items };
+    ghost invariant = { λ row. IsKept row.target row.entries.items row.ordinary };
 }
 
 impl Row {
@@ -39,6 +46,7 @@ impl Row {
         Row {
             target,
             entries: Vec::new(alloc),
+            ordinary: DenseRow::empty(alloc),
         }
     }
 
@@ -59,8 +67,62 @@ impl Row {
         }
     }
 
-    /// Gives the key of an edge its weight. `AllocError` comes only for want of memory, and changes nothing.
-    pub(crate) fn set(&mut self, edge: &Edge) -> Result<(), AllocError>
+    /// The words of what the row has for ordinary edges, by the points in which they begin; there may be fewer than points.
+    pub(crate) fn words(&self) -> &[i32]
+        ensures { IsMirrorOf self.now (map held result.now) }
+    {
+        self.ordinary.words()
+    }
+
+    /// Whether a negative weight after the ordinary edge of this row that begins in a point of a range may go below what words of others
+    /// hold there. It may wherever the row keeps no words of these points.
+    pub(crate) fn falls_before(
+        &self,
+        there: &[i32],
+        from: usize,
+        end: usize,
+        weight: Weight,
+    ) -> bool
+        requires negative { weight <ℤ pos 0 }
+        requires weight { FitsWord weight }
+        ensures { AllFitIn self.now → result ≡ false → (first : PointId) → from ≤ first.0 → first.0 < end → MeetsHeld (map_of.get self.now.weights (ordinary_key first self.now.to)) (held (slice_index_or there.now first.0 (pos 0))) weight }
+    {
+        self.ordinary.falls_before(there, from, end, weight)
+    }
+
+    /// Gives the key of an edge its weight, in a row of so many points. `AllocError` comes only for want of memory, and changes nothing.
+    pub(crate) fn set(&mut self, edge: &Edge, points: u32) -> Result<(), AllocError>
+        requires to { edge.now.to ≡ self.old.to }
+        requires label { IfSome edge.now.label (λ label. label.0 < 2 ^ 16) }
+        ensures set { OnOk result (self.new ≡ record self.old { weights = map_of.insert self.old.weights (key_of edge.now) edge.now.weight }) }
+        ensures unchanged { OnErr result (self.new ≡ self.old) }
+    {
+        self.keep_words(points)?;
+        self.put(edge)
+    }
+
+    /// Keeps words of the ordinary edges from now on, if the row has many edges for so many points.
+    fn keep_words(&mut self, points: u32) -> Result<(), AllocError>
+        ensures { self.new ≡ self.old }
+    {
+        if self.ordinary.is_empty() && self.entries.len() > (points / POINTS_AN_EDGE) as usize {
+            self.ordinary = self.all_words(points)?;
+        }
+        Ok(())
+    }
+
+    /// The weights of the ordinary edges that begin in so many points.
+    fn all_words(&self, points: u32) -> Result<DenseRow, AllocError>
+        ensures { IfOk result (IsMirrorOf self.now) }
+    {
+        let mut words = DenseRow::empty(*self.entries.allocator());
+        for from in 0..points {
+            words.push(self.get(PointId(from), None))?;
+        }
+        Ok(words)
+    }
+
+    fn put(&mut self, edge: &Edge) -> Result<(), AllocError>
         requires to { edge.now.to ≡ self.old.to }
         requires label { IfSome edge.now.label (λ label. label.0 < 2 ^ 16) }
         ensures set { OnOk result (self.new ≡ record self.old { weights = map_of.insert self.old.weights (key_of edge.now) edge.now.weight }) }
@@ -69,11 +131,14 @@ impl Row {
         match place_of(self.entries.as_slice(), edge.from, edge.label) {
             Ok(place) => {
                 self.entries[place] = Entry::of(edge);
+                write_word(&mut self.ordinary, edge);
                 Ok(())
             }
             Err(place) => {
                 make_room(&mut self.entries)?;
-                Ok(self.entries.insert(place, Entry::of(edge))?)
+                self.entries.insert(place, Entry::of(edge))?;
+                write_word(&mut self.ordinary, edge);
+                Ok(())
             }
         }
     }
@@ -87,6 +152,7 @@ impl Row {
     {
         if let Ok(place) = place_of(self.entries.as_slice(), edge.from, edge.label) {
             self.entries[place] = Entry::of(edge);
+            write_word(&mut self.ordinary, edge);
         }
     }
 
@@ -97,6 +163,7 @@ impl Row {
     {
         if let Ok(place) = place_of(self.entries.as_slice(), edge.from, edge.label) {
             self.entries.remove(place);
+            erase_word(&mut self.ordinary, edge);
         }
     }
 
@@ -109,6 +176,7 @@ impl Row {
         Ok(Row {
             target: self.target,
             entries,
+            ordinary: self.ordinary.copy(alloc)?,
         })
     }
 }
@@ -120,15 +188,33 @@ fn place_of(entries: &[Entry], from: PointId, label: Option<LinkId>) -> Result<u
     entries.binary_search_by(|entry| entry.compare(from, label))
 }
 
-/// Makes room for one entry more: where no place is left, half as many again as there are entries. So of three places at most one is
-/// empty, and an entry takes at most 24 bytes with its share of the empty places.
+/// Sets the word of the key of an edge to its weight; the key of a labelled edge has none.
+fn write_word(ordinary: &mut DenseRow, edge: &Edge)
+    ensures { ordinary.new ≡ mirrored ordinary.old (key_of edge.now) (Some edge.now.weight) }
+{
+    if edge.label.is_none() {
+        ordinary.put(edge.from, Some(edge.weight));
+    }
+}
+
+/// Sets the word of the key of an edge to that of no weight; the key of a labelled edge has none.
+fn erase_word(ordinary: &mut DenseRow, edge: &Edge)
+    ensures { ordinary.new ≡ mirrored ordinary.old (key_of edge.now) None }
+{
+    if edge.label.is_none() {
+        ordinary.put(edge.from, None);
+    }
+}
+
+/// Makes room for one entry more: where no place is left, a quarter as many again as there are entries. So of five places at most one
+/// is empty, and an entry takes at most 20 bytes with its share of the empty places, 24 with its word.
 fn make_room(entries: &mut Vec<Entry>) -> Result<(), AllocError>
     ensures items { entries.new.items ≡ entries.old.items }
     ensures room { OnOk result (vec_len entries.old < vec_capacity entries.new) }
-    ensures share { 2 * vec_capacity entries.old ≤ 3 * (vec_len entries.old + 1) → 2 * vec_capacity entries.new ≤ 3 * (vec_len entries.old + 1) }
+    ensures share { 4 * vec_capacity entries.old ≤ 5 * (vec_len entries.old + 1) → 4 * vec_capacity entries.new ≤ 5 * (vec_len entries.old + 1) }
 {
     if entries.len() == entries.capacity() {
-        entries.reserve_exact((entries.len() / 2).max(1))?;
+        entries.reserve_exact((entries.len() / 4).max(1))?;
     }
     Ok(())
 }

@@ -1,4 +1,4 @@
-ghost use Rattle.std.specs.Prelude.{◌≡◌, ◌<◌, ◌≤◌, not, length, fold, map, filter, IfOk, IsSome, OnOk, OnErr, Some, slice_get};
+ghost use Rattle.std.specs.Prelude.{◌≡◌, ◌<◌, ◌≤◌, ◌<ℤ◌, pos, false, not, length, fold, map, filter, IfOk, IsSome, OnOk, OnErr, Some, slice_get, slice_index_or};
 ghost use Rattle.std.specs.List.{All, enumerate_from, range_with_len};
 ghost use Rattle.net_model.specs.Limits.{most_links, IsWeight};
 ghost use Rattle.net_model.specs.Rules.{bound_edge, link_edge};
@@ -8,6 +8,7 @@ ghost use Rattle.closure_model.specs.Tables.{weight_of, row_of, with_edge, witho
 ghost use Rattle.labelled_graph.specs.Changes.{IsEdgeFor};
 ghost use Rattle.labelled_graph.specs.Entries.{edge_into, is_ordinary};
 ghost use Rattle.labelled_graph.specs.Rows.{empty_row};
+ghost use Rattle.labelled_graph.specs.Words.{held, AllFitWords, AreWordsOf, FitsWord, MeetsHeld};
 
 use crate::entry::Entry;
 use crate::row::Row;
@@ -112,8 +113,9 @@ impl Table {
         if self.has_at_most(edge) {
             return Ok(false);
         }
+        let points = self.rows.len() as u32;
         let row = &mut self.rows[edge.to.0 as usize];
-        row.set(edge)?;
+        row.set(edge, points)?;
         Ok(true)
     }
 
@@ -134,6 +136,29 @@ impl Table {
     {
         let row = &mut self.rows[edge.to.0 as usize];
         row.remove(edge);
+    }
+
+    /// The words of the ordinary edges that end in a point, by the points in which they begin. A word is the weight itself where it fits, the
+    /// greatest where there is none, and else the nearest. Where few edges end there none are kept, and there are fewer words than points.
+    /// It takes no memory.
+    pub fn words(&self, to: PointId) -> &[i32]
+        requires { to.0 < self.now.shape.points }
+        ensures { AreWordsOf self.now to None result.now }
+    {
+        let row = &self.rows[to.0 as usize];
+        row.words()
+    }
+
+    /// Whether an ordinary edge from a point of a range, with a negative edge after it, may go below what words hold at the point. It may
+    /// wherever the table keeps no words of the edges that end where the edge begins.
+    pub fn falls_before(&self, edge: &Edge, there: &[i32], from: u32, end: u32) -> bool
+        requires begins { edge.now.from.0 < self.now.shape.points }
+        requires negative { edge.now.weight <ℤ pos 0 }
+        requires weight { FitsWord edge.now.weight }
+        ensures { AllFitWords self.now → result ≡ false → (first : PointId) → from ≤ first.0 → first.0 < end → MeetsHeld (weight_of self.now (ordinary_key first edge.now.from)) (held (slice_index_or there.now first.0 (pos 0))) edge.now.weight }
+    {
+        let row = &self.rows[edge.from.0 as usize];
+        row.falls_before(there, from as usize, end as usize, edge.weight)
     }
 
     /// The entries of the edges that end in a point, in the order of their keys: by the number of the point in which they begin, the

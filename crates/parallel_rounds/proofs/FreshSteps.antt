@@ -29,7 +29,6 @@ use Rattle.closure_model.proofs.Lists.{Contains-head, Contains-tail, Contains-ca
 use Rattle.closure_model.proofs.OrderLemmas.{among_from, from_among}
 use Rattle.closure_model.proofs.RoundLaw.{is_same_key_of, same_key_is}
 use Rattle.closure_model.proofs.RowLaw.{row_result}
-use Rattle.closure_model.proofs.Slots.{both}
 use Rattle.closure_model.proofs.TableLemmas.{all_lowered-has, all_lowered-cases, at_most_gives}
 use Rattle.closure_model.proofs.Weights.{not_below, le_then_lt}
 use Rattle.back_propagation.specs.declared.settling.NewRow.{NewRow}

@@ -22,7 +22,7 @@ use Rattle.closure_model.proofs.TableLemmas.{no_edges-has_none, weight_of-with_e
 use Rattle.closure_model.proofs.Tabulated.{dense_map, get-dense_in, is_dense}
 use Rattle.closure_model.proofs.Listed.{nothing_elsewhere}
 use Rattle.closure_model.proofs.SoundTables.{IsGraph-with_edge}
-use Rattle.table_closing.specs.Words.{FitsWord}
+use Rattle.labelled_graph.specs.Words.{FitsWord}
 use Rattle.table_closing.specs.Dense.{shape_of, at_place, at_label, at_key, graph_of, IsDense}
 use Rattle.table_closing.specs.declared.dense.DenseTable.TheInside.{Inside}
 

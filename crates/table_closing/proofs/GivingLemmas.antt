@@ -6,7 +6,7 @@ use Rattle.std.specs.Option.{option_map}
 use Rattle.std.proofs.lemmas.Int.{ints}
 use Rattle.net_model.specs.Network.{Plan, IsPlan, activation}
 use Rattle.net_model.specs.Edges.{IsLabelled}
-use Rattle.table_closing.specs.Words.{MeetsHeld}
+use Rattle.labelled_graph.specs.Words.{MeetsHeld}
 use Rattle.net_model.specs.Rules.{joined_weight, no_case, upper_case, lower_case, cross_case, removal}
 use Rattle.net_model.specs.declared.ids.LinkId.{LinkId}
 use Rattle.net_model.specs.declared.ids.PointId.{PointId}

@@ -4,4 +4,3 @@ pub mod GivingLemmas
 pub mod SharingLemmas
 pub mod VerdictLemmas
 pub mod WayLemmas
-pub mod WordLemmas

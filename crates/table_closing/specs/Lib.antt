@@ -1,4 +1,3 @@
 pub mod Closing
 pub mod Dense
 pub mod Laws
-pub mod Words

@@ -1,9 +1,10 @@
 ghost use Rattle.std.specs.Prelude.{◌≡◌, ◌<◌, ◌≤◌, ◌<ℤ◌, ℕ, pos, false, not, length, IfOk, None, Some, slice_get, replicate};
 ghost use Rattle.closure_model.specs.Keys.{IsKey, shape_of, key_of, ordinary_key, labelled_key};
 ghost use Rattle.closure_model.specs.Tables.{weight_of, with_edge, no_edges, has_at_most, lowered};
-ghost use Rattle.table_closing.specs.Words.{FitsWord, MeetsHeld};
+ghost use Rattle.labelled_graph.specs.Words.{FitsWord, MeetsHeld};
 
-use crate::row::Row;
+
+use labelled_graph::DenseRow;
 use net_model::{Edge, LinkId, Network, PointId, Weight};
 use std::alloc::{AllocError, Global};
 use std::marker::Model;
@@ -12,8 +13,8 @@ use std::marker::Model;
 /// bytes. Contracts see it as the map from keys to weights that it is, with the points and links that it is for.
 #[derive(Debug, Drop)]
 pub(crate) struct DenseTable {
-    ordinary: Vec<Row>,
-    labelled: Vec<Row>,
+    ordinary: Vec<DenseRow>,
+    labelled: Vec<DenseRow>,
     activations: Vec<PointId>,
 }
 
@@ -139,12 +140,12 @@ impl DenseTable {
 }
 
 /// Rows without weights.
-fn absent_rows(alloc: Global, count: usize, points: usize) -> Result<Vec<Row>, AllocError>
+fn absent_rows(alloc: Global, count: usize, points: usize) -> Result<Vec<DenseRow>, AllocError>
     ensures { IfOk result (λ rows. rows.items ≡ replicate count (replicate points None)) }
 {
     let mut rows = Vec::new(alloc);
     for _row in 0..count {
-        rows.push(Row::absent(alloc, points)?)?;
+        rows.push(DenseRow::absent(alloc, points)?)?;
     }
     Ok(rows)
 }

@@ -8,7 +8,6 @@ mod dense;
 mod giving;
 pub mod laws;
 mod lowering;
-mod row;
 mod sharing;
 mod unmet;
 

@@ -3,7 +3,7 @@ use mir.Val.{to_z, of_z}
 use mir.Syntax.{w64}
 use Rattle.closure_model.specs.Keys.{Key, ordinary_key, labelled_key, IsLabelAt}
 use Rattle.closure_model.specs.Tables.{weight_of}
-use Rattle.table_closing.specs.Words.{MeetsHeld}
+use Rattle.labelled_graph.specs.Words.{MeetsHeld}
 use Rattle.table_closing.proofs.DenseLemmas.{ordinary_read, labelled_read}
 use Rattle.table_closing.proofs.dense.DenseTable.falls_before.Goals as goal
 

@@ -1,11 +1,12 @@
 -- What words hold, one by one and in rows.
-use Rattle.std.proofs.Common.{◌≡◌, ◌+◌, ◌||◌, ◌&&◌, not, ℕ, zero, suc, ℤ, pos, ◌+ℤ◌, ◌≤ℤ◌, ◌<ℤ◌, ◌<◌, ◌≤◌, ◌⊎◌, inl, inr, Bool, true, false, length, get_or, sym, subst, cond, List, [], ◌∷◌, map, replicate, Option, Some, None, refl, ap, ◌∙◌, arith}
+use Rattle.std.proofs.Common.{◌≡◌, ◌+◌, ◌||◌, ◌&&◌, not, ℕ, zero, suc, ℤ, pos, ◌+ℤ◌, ◌≤ℤ◌, ◌<ℤ◌, ◌<◌, ◌≤◌, ◌⊎◌, inl, inr, Bool, true, false, length, get_or, sym, subst, cond, List, [], ◌∷◌, ◌++◌, map, replicate, Option, Some, None, refl, ap, ◌∙◌, arith}
 use Rattle.std.specs.List.{slice_set}
 use Rattle.std.specs.Prelude.{IsSomeAnd, int_lt}
 use Rattle.std.specs.Int.{int_max}
 use Rattle.std.specs.Ordering.{int_eq}
 use Rattle.std.proofs.lemmas.Int.{ints, int_max_is}
-use Rattle.table_closing.specs.Words.{absent, held, FitsWord, MeetsHeld}
+use Rattle.std.proofs.lemmas.List.{map-append}
+use Rattle.labelled_graph.specs.Words.{absent, least_word, held, word_of, FitsWord, MeetsHeld}
 
 -- a word of a weight that it may hold is that weight
 held-weight : (weight : ℤ) → FitsWord weight → held weight ≡ Some weight
@@ -73,3 +74,34 @@ one_more firsts there from place weight false one all here none k after below = 
     by : (k < place) ⊎ (k ≡ place) → MeetsHeld (held (get_or firsts k (pos 0))) (held (get_or there k (pos 0))) weight
     by (inl less) = all refl k after less
     by (inr same) = subst (λ (n : ℕ). MeetsHeld (held (get_or firsts n (pos 0))) (held (get_or there n (pos 0))) weight) (sym same) (here none)
+
+-- ---- the nearest words
+-- what the nearest word of a weight that fits holds is that weight
+pub word_of_same : (weight : ℤ) → FitsWord weight → held (word_of (Some weight)) ≡ Some weight
+word_of_same weight small =
+    let above : int_lt weight least_word ≡ false = grind (arith, ints) in
+    let below : int_lt absent weight ≡ false = grind (arith, ints) in
+    ap held (ap (λ b. cond b least_word (cond (int_lt absent weight) absent weight)) above ∙ ap (λ b. cond b absent weight) below) ∙ held-weight weight small
+
+-- words that hold the same are the same
+pub held_once : (one other : ℤ) → held one ≡ held other → one ≡ other
+held_once one other same = by (int_eq one absent) refl (int_eq other absent) refl
+  where
+    by : (a : Bool) → int_eq one absent ≡ a → (b : Bool) → int_eq other absent ≡ b → one ≡ other
+    by true is true as_well = let first : one ≡ absent = grind (arith, ints) in let second : other ≡ absent = grind (arith, ints) in first ∙ sym second
+    by true is false apart = let no : ◌≡◌ {A = Option ℤ} None (Some other) = sym (ap (λ b. cond b None (Some one)) is) ∙ same ∙ ap (λ b. cond b None (Some other)) apart in absurd cc
+    by false apart true is = let no : ◌≡◌ {A = Option ℤ} (Some one) None = sym (ap (λ b. cond b None (Some one)) apart) ∙ same ∙ ap (λ b. cond b None (Some other)) is in absurd cc
+    by false one_is false other_is = let both : Some one ≡ Some other = sym (ap (λ b. cond b None (Some one)) one_is) ∙ same ∙ ap (λ b. cond b None (Some other)) other_is in cc
+
+-- a row after the nearest word of what a key has was put at a place, or to the end
+pub row_put : (words new : List ℤ) (row : List (Option ℤ)) (place : ℕ) (o : Option ℤ) → map held words ≡ row → new ≡ slice_set words place (word_of o) → map held new ≡ slice_set row place (held (word_of o))
+row_put words new row place o view is = ap (map held) is ∙ map_held-set words place (word_of o) ∙ ap (λ r. slice_set r place (held (word_of o))) view
+
+pub row_pushed : (words new : List ℤ) (row : List (Option ℤ)) (o : Option ℤ) → map held words ≡ row → new ≡ words ++ word_of o ∷ [] → map held new ≡ row ++ held (word_of o) ∷ []
+row_pushed words new row o view is = ap (map held) is ∙ map-append held words (word_of o ∷ []) ∙ ap (λ r. r ++ held (word_of o) ∷ []) view
+
+-- a row without a place for a point stays as it is
+pub set_beyond : {A : Type 0} (row : List A) (place : ℕ) (one : A) → length row ≤ place → slice_set row place one ≡ row
+set_beyond [] place one out = refl
+set_beyond (x ∷ row) zero one out = absurd (omega (arith, out))
+set_beyond (x ∷ row) (suc place) one out = ap (λ r. x ∷ r) (set_beyond row place one (omega (arith, out)))

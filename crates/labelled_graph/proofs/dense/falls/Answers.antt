@@ -3,9 +3,9 @@ use Rattle.std.specs.Prelude.{int_lt}
 use Rattle.std.specs.Int.{int_max}
 use Rattle.std.specs.Ordering.{int_eq}
 use Rattle.std.proofs.lemmas.Int.{ints}
-use Rattle.table_closing.specs.Words.{absent}
-use Rattle.table_closing.proofs.WordLemmas.{falls_not}
-use Rattle.table_closing.proofs.row.falls.Goals as goal
+use Rattle.labelled_graph.specs.Words.{absent}
+use Rattle.labelled_graph.proofs.WordLemmas.{falls_not}
+use Rattle.labelled_graph.proofs.dense.falls.Goals as goal
 
 pub returns : goal.returns
 returns c none =

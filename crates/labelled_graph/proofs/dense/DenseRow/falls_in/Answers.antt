@@ -4,9 +4,9 @@ use Rattle.std.proofs.lemmas.Int.{ints}
 use mir.Val.{to_z, of_z}
 use mir.Syntax.{w32, w64}
 use Rattle.std.proofs.Math.ListN.{length-map}
-use Rattle.table_closing.specs.Words.{held}
-use Rattle.table_closing.proofs.WordLemmas.{row_meets, AreMet}
-use Rattle.table_closing.proofs.row.Row.falls_in.Goals as goal
+use Rattle.labelled_graph.specs.Words.{held}
+use Rattle.labelled_graph.proofs.WordLemmas.{row_meets, AreMet}
+use Rattle.labelled_graph.proofs.dense.DenseRow.falls_in.Goals as goal
 
 pub returns : goal.returns
 returns c none =

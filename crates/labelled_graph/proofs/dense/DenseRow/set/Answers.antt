@@ -3,8 +3,8 @@ use Rattle.std.proofs.Math.Facts.{to_z-of_z}
 use Rattle.std.proofs.lemmas.Int.{ints}
 use mir.Val.{to_z, of_z}
 use mir.Syntax.{w32, w64}
-use Rattle.table_closing.proofs.WordLemmas.{row_with}
-use Rattle.table_closing.proofs.row.Row.set.Goals as goal
+use Rattle.labelled_graph.proofs.WordLemmas.{row_with}
+use Rattle.labelled_graph.proofs.dense.DenseRow.set.Goals as goal
 
 pub returns : goal.returns
 returns c =

@@ -2,9 +2,9 @@ use Rattle.std.proofs.Common.{rules, ◌≡◌, ◌+◌, ℤ, pos, false, ◌||�
 use mir.Val.{to_z, of_z}
 use Rattle.std.proofs.Math.Facts.{to_z-of_z}
 use mir.Syntax.{w32}
-use Rattle.table_closing.specs.Words.{held, MeetsHeld}
-use Rattle.table_closing.proofs.WordLemmas.{one_more, AreMet}
-use Rattle.table_closing.proofs.row.falls_in.Goals as goal
+use Rattle.labelled_graph.specs.Words.{held, MeetsHeld}
+use Rattle.labelled_graph.proofs.WordLemmas.{one_more, AreMet}
+use Rattle.labelled_graph.proofs.dense.falls_in.Goals as goal
 
 pub loop-place-preserved : goal.loop-place-preserved
 loop-place-preserved c =
