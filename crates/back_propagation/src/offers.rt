@@ -10,7 +10,7 @@ ghost use Rattle.back_propagation.specs.Offering.{place_of, IsSlotAt, after_entr
 ghost use Rattle.back_propagation.specs.OpenRows.{IsOffering, HasOffered};
 
 use crate::open_row::{Basis, OpenRow};
-use closure_model::rows::{Made, Slot, Why};
+use closure_model::rows::{Made, Why};
 use labelled_graph::Entry;
 use net_model::{Edge, Link, LinkId, Network, PointId, Weight};
 use reduction_rules::{cross_case, lower_case, no_case, removal, upper_case};
@@ -99,7 +99,8 @@ impl OpenRow {
         Ok(())
     }
 
-    /// Offers what follows with an ordinary edge of the table before the edge.
+    /// Offers what follows with an ordinary edge of the table before the edge. Most of it is in vain, which is seen by a look at the slot.
+    #[inline(always)]
     pub(crate) fn offer_after_first(
         &mut self,
         basis: Basis<'_>,
@@ -112,16 +113,34 @@ impl OpenRow {
         ensures { OnOk result (HasOffered self.old self.new (from_first edge.now first.now)) }
     {
         let place = place_of(self.width, first.from, column);
-        if !self.has_above(place, joined_weight(first, edge)) {
+        if !self.slots.has_above(place, joined_weight(first, edge)) {
             return Ok(());
         }
+        self.offer_joined(basis, edge, column, first)
+    }
+
+    /// Offers what the rules give with an ordinary edge of the table before the edge.
+    #[inline(never)]
+    fn offer_joined(
+        &mut self,
+        basis: Basis<'_>,
+        edge: &Edge,
+        column: usize,
+        first: &Edge,
+    ) -> Result<(), AllocError>
+        requires row { IsOffering basis self.old edge.now column }
+        requires first { HasEdge basis.table.now first.now }
+        ensures { OnOk result (HasOffered self.old self.new (from_first edge.now first.now)) }
+    {
+        let _ = basis;
+        let place = place_of(self.width, first.from, column);
         self.offer_given(place, Why::No(*first, *edge), no_case(first, edge))?;
         self.offer_given(place, Why::Up(*first, *edge), upper_case(first, edge))
     }
 
     /// Offers what a rule gave, if it gave an edge.
     fn offer_given(&mut self, place: usize, why: Why, edge: Option<Edge>) -> Result<(), AllocError>
-        requires { IfSome edge (IsSlotAt self.old.slots.items place) }
+        requires { IfSome edge (IsSlotAt self.old.slots place) }
         ensures { OnOk result (HasOffered self.old self.new (given why edge)) }
     {
         if let Some(edge) = edge {
@@ -132,23 +151,14 @@ impl OpenRow {
 
     /// Offers an edge to its slot, which takes it exactly where it has no weight or a greater one.
     fn offer(&mut self, place: usize, made: Made) -> Result<(), AllocError>
-        requires { IsSlotAt self.old.slots.items place made.edge }
+        requires { IsSlotAt self.old.slots place made.edge }
         ensures { OnOk result (HasOffered self.old self.new (made ∷ [])) }
     {
-        if self.has_above(place, made.edge.weight) {
+        if self.slots.has_above(place, made.edge.weight) {
             self.queue.push(made.edge.weight, place)?;
-            let slot = taken(&self.slots[place], &made);
-            self.slots[place] = slot;
+            self.slots.lower(place, &made)?;
         }
         Ok(())
-    }
-
-    /// Whether the slot at a place has no weight or a greater one.
-    pub(crate) fn has_above(&self, place: usize, weight: Weight) -> bool
-        requires { place < length self.now.slots.items }
-        ensures { (slot : Slot) → slice_get self.now.slots.items place ≡ Some slot → result ≡ has_above slot weight }
-    {
-        has_above(&self.slots[place], weight)
     }
 }
 
@@ -165,29 +175,6 @@ pub(crate) fn joined_weight(first: &Edge, second: &Edge) -> Weight
     ensures { result ≡ joined_weight first.now second.now }
 {
     first.weight.max(0) + second.weight
-}
-
-fn taken(slot: &Slot, made: &Made) -> Slot
-    ensures { result ≡ taken made.now slot.now }
-{
-    if has_above(slot, made.edge.weight) {
-        Slot {
-            weight: Some(made.edge.weight),
-            why: Some(made.why),
-            ..*slot
-        }
-    } else {
-        *slot
-    }
-}
-
-fn has_above(slot: &Slot, weight: Weight) -> bool
-    ensures { result ≡ has_above slot.now weight }
-{
-    match slot.weight {
-        Some(old) => weight < old,
-        None => true,
-    }
 }
 
 fn link_of(net: &Network, name: LinkId) -> Link
