@@ -23,7 +23,7 @@ PARTS = ("src", "specs", "proofs")
 
 
 class NoKit(Exception):
-    """There is no Rattle kit, or its form is another than the one that is known here."""
+    """There is no Rattle kit."""
 
 
 def say(text):
@@ -44,10 +44,7 @@ def libraries_of_kit(names):
     while left:
         name = left.pop(0)
         if name not in found:
-            try:
-                said = (kit() / "rlibs" / f"{name}.rlib" / "format").read_text(encoding="utf-8")
-            except OSError as error:
-                raise NoKit(f"the kit has no library {name}") from error
+            said = (kit() / "rlibs" / f"{name}.rlib" / "format").read_text(encoding="utf-8")
             found[name] = re.findall(r"^dep (\w+)$", said, re.M)
             left += found[name]
     return found
