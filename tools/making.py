@@ -19,6 +19,8 @@ PROVED_OF = PROVED.with_suffix(".proved")
 START = ROOT / "out" / "start"
 CHECKED = START / PROGRAM
 CHECKED_OF = START / "checked-of"
+# What `.ci/run` touches before it has `rt ci` run.
+GATE = START / "gate"
 PARTS = ("src", "specs", "proofs")
 
 
@@ -151,22 +153,31 @@ def note_proved(sum):
     write(PROVED_OF, f"{sum}\n{sum_of_file(PROVED)}\n")
 
 
-def gate_began():
-    """When the last `rt ci` of this copy of the repository began, in nanoseconds: then it opened the file that keeps a second one out."""
+def rt_ci_began():
+    """When the last `rt ci` of this copy of the repository began, in nanoseconds, once it has ended: it opened a file then, which it locks."""
     git = ROOT / ".git"
     if git.is_file():
         git = ROOT / read(git).strip().replace("gitdir: ", "", 1)
-    try:
-        return os.stat(git / "rt-ci.lock").st_mtime_ns
-    except OSError:
-        return None
+    with open(git / "rt-ci.lock", encoding="utf-8") as lock:
+        fcntl.flock(lock, fcntl.LOCK_SH | fcntl.LOCK_NB)
+        return os.fstat(lock.fileno()).st_mtime_ns
+
+
+def gate_began():
+    """When the last run of `.ci/run` began, which has `rt ci` run."""
+    return os.stat(GATE).st_mtime_ns
 
 
 def is_of_gate(crates):
     """Whether the proved program was made by a `rt ci` that began after the last change of its sources: it first puts away what was made before."""
-    began = gate_began()
-    changed = [it for it in times(crates.paths()).values() if it is not None]
-    return began is not None and os.stat(PROVED).st_mtime_ns >= began > max(changed)
+    made = os.stat(PROVED).st_mtime_ns
+    changed = max(it for it in times(crates.paths()).values() if it is not None)
+    for began in (rt_ci_began, gate_began):
+        # (there is no such run, or one is under way)
+        with contextlib.suppress(OSError):
+            if made >= began() > changed:
+                return True
+    return False
 
 
 def is_proved(crates):
