@@ -1,5 +1,6 @@
 //! Examples of commands: a text, a question about it, a text whose lines have a limit together, a phase that begins from it and wants no
-//! memory, and a command that answers lines before it serves that phase. The tests run them over ports.
+//! memory, and a command that answers lines before it serves that phase. The tests run them over ports, and show what lists of words mean to
+//! a command.
 #![tactic(auto)]
 
 mod counting;
@@ -8,6 +9,8 @@ mod document;
 #[cfg(test)]
 mod runs;
 mod tally;
+#[cfg(test)]
+mod words;
 
 pub use counting::{CountFault, Counting, HowMany, HowManyEach};
 pub use desk::Desk;

@@ -2,7 +2,6 @@
 
 pub(crate) use example_plans::network;
 use net_model::{Network, PointId};
-use std::alloc::Global;
 use std::str::SplitWhitespace;
 use std::test::Fail;
 
@@ -16,10 +15,4 @@ pub(crate) fn push_points(
         points.push(net.point(word.as_bytes()).ok_or("no point")?)?;
     }
     Ok(())
-}
-
-/// The name of a point.
-pub(crate) fn point_name(alloc: Global, net: &Network, point: PointId) -> Result<String, Fail> {
-    let name = net.points().get(point.0 as usize).ok_or("no point")?;
-    Ok(format!(in alloc; "{name}")?)
 }

@@ -1,7 +1,6 @@
 //! What an executor answers, in words.
 
 use crate::live::Live;
-use crate::plans::point_name;
 use execution_model::{Fed, Finished, Why};
 use net_model::{Network, PointId};
 use std::alloc::Global;
@@ -32,15 +31,37 @@ fn cause(why: Why) -> Told {
     }
 }
 
-/// The words of an answer, after another word.
-fn words(alloc: Global, net: &Network, first: &str, told: &Told) -> Result<String, Fail> {
-    let mut text = format!(in alloc; "{first}{}", told.word)?;
+/// A blank and the name of a point.
+fn push_point(alloc: Global, net: &Network, point: PointId, text: &mut String) -> Result<(), Fail> {
+    let Some(name) = net.points().get(point.0 as usize).copied() else {
+        return Err(Fail::from("no point"));
+    };
+    text.push_str(format!(in alloc; " {name}")?.as_str())?;
+    Ok(())
+}
+
+/// A blank and a moment.
+fn push_moment(alloc: Global, moment: u64, text: &mut String) -> Result<(), Fail> {
+    text.push_str(format!(in alloc; " {moment}")?.as_str())?;
+    Ok(())
+}
+
+fn push_told(alloc: Global, net: &Network, told: &Told, text: &mut String) -> Result<(), Fail> {
+    text.push_str(told.word)?;
     if let Some(point) = told.point {
-        text.push_str(format!(in alloc; " {}", point_name(alloc, net, point)?)?.as_str())?;
+        push_point(alloc, net, point, text)?;
     }
     if let Some(moment) = told.moment {
-        text.push_str(format!(in alloc; " {moment}")?.as_str())?;
+        push_moment(alloc, moment, text)?;
     }
+    Ok(())
+}
+
+/// The words of an answer, after another word.
+fn words(alloc: Global, net: &Network, first: &str, told: &Told) -> Result<String, Fail> {
+    let mut text = String::new(alloc);
+    text.push_str(first)?;
+    push_told(alloc, net, told, &mut text)?;
     Ok(text)
 }
 
@@ -58,31 +79,36 @@ pub(crate) fn finished(alloc: Global, net: &Network, answer: Finished) -> Result
     match answer {
         Finished::Complete => Ok(format!(in alloc; "complete")?),
         Finished::Unfinished(point) => {
-            Ok(format!(in alloc; "unfinished {}", point_name(alloc, net, point)?)?)
+            let told = Told {
+                word: "unfinished",
+                point: Some(point),
+                moment: None,
+            };
+            words(alloc, net, "", &told)
         }
         Finished::Ended(why) => words(alloc, net, "ended ", &cause(why)),
     }
 }
 
-/// A moment, or `-` for none.
-fn moment(alloc: Global, moment: Option<u64>) -> Result<String, Fail> {
+/// A blank and a moment, or `-` for none.
+fn push_maybe(alloc: Global, moment: Option<u64>, text: &mut String) -> Result<(), Fail> {
     match moment {
-        Some(moment) => Ok(format!(in alloc; " {moment}")?),
-        None => Ok(format!(in alloc; " -")?),
+        Some(moment) => push_moment(alloc, moment, text),
+        None => Ok(text.push_str(" -")?),
     }
 }
 
 fn push_acts(alloc: Global, net: &Network, live: &Live, text: &mut String) -> Result<(), Fail> {
     for act in live.acts() {
-        let name = point_name(alloc, net, act.point)?;
-        text.push_str(format!(in alloc; " {} {name}", act.moment)?.as_str())?;
+        push_moment(alloc, act.moment, text)?;
+        push_point(alloc, net, act.point, text)?;
     }
     Ok(())
 }
 
 fn push_moments(alloc: Global, net: &Network, live: &Live, text: &mut String) -> Result<(), Fail> {
     for point in 0..net.points().len() as u32 {
-        text.push_str(moment(alloc, live.moment_of(PointId(point)))?.as_str())?;
+        push_maybe(alloc, live.moment_of(PointId(point)), text)?;
     }
     Ok(())
 }
@@ -97,7 +123,7 @@ pub(crate) fn push_state(
     text.push_str(":")?;
     push_acts(alloc, net, live, text)?;
     text.push_str(", due")?;
-    text.push_str(moment(alloc, live.next_due())?.as_str())?;
+    push_maybe(alloc, live.next_due(), text)?;
     text.push_str(", at")?;
     push_moments(alloc, net, live, text)
 }

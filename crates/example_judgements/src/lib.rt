@@ -1,4 +1,4 @@
-//! The judgement of certificates: examples, tried as tests.
+//! The judgement of certificates, and strategies, what they play, and schedules that satisfy a network: examples, tried as tests.
 #![tactic(auto)]
 
 #[cfg(test)]
@@ -9,6 +9,8 @@ mod rows;
 mod scans;
 #[cfg(test)]
 mod sparse;
+#[cfg(test)]
+mod strategies;
 #[cfg(test)]
 mod tables;
 #[cfg(test)]

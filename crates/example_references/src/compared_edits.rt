@@ -176,10 +176,13 @@ fn same_following(
 
 /// How many nodes are of rounds.
 fn made(nodes: &[Node]) -> usize {
-    nodes
-        .iter()
-        .filter(|node| !matches!(node.rule, Rule::Bound(_) | Rule::Link(_)))
-        .count()
+    let mut made = 0usize;
+    for node in nodes {
+        if !matches!(node.rule, Rule::Bound(_) | Rule::Link(_)) {
+            made = made.saturating_add(1);
+        }
+    }
+    made
 }
 
 /// Makes the rounds, and says whether the slow program makes the same nodes and as many rounds, and ends alike.

@@ -5,7 +5,7 @@ ghost use Rattle.std.specs.List.{All};
 
 use crate::networks::network;
 use derivation_dag::{Dag, Node, NodeId, Plain, Rule, Supports};
-use net_model::{Edge, LinkId, Network, PointId};
+use net_model::{BoundId, Edge, LinkId, Name, Network, PointId};
 use parallel_rounds::{NoGate, Outcome, propagate};
 use std::alloc::Global;
 use std::process::Abort;
@@ -13,82 +13,142 @@ use std::test::Fail;
 use std::thread::Threads;
 
 /// The name of a point.
-fn point_name(alloc: Global, net: &Network, point: PointId) -> Result<String, Fail> {
-    let name = net
-        .points()
-        .get(point.0 as usize)
-        .copied()
-        .ok_or("no point")?;
-    Ok(format!(in alloc; "{name}")?)
+fn point_name(net: &Network, point: PointId) -> Option<Name> {
+    net.points().get(point.0 as usize).copied()
 }
 
 /// The name of a link: that of the point in which it ends.
-fn link_name(alloc: Global, net: &Network, link: LinkId) -> Result<String, Fail> {
-    let link = net.links().get(link.0 as usize).copied().ok_or("no link")?;
-    point_name(alloc, net, link.to)
+fn link_name(net: &Network, link: LinkId) -> Option<Name> {
+    let link = net.links().get(link.0 as usize).copied()?;
+    point_name(net, link.to)
+}
+
+fn bound_name(net: &Network, bound: BoundId) -> Option<Name> {
+    let bound = net.bounds().get(bound.0 as usize).copied()?;
+    Some(bound.name)
 }
 
 /// The number of the line of a node, from 1.
-fn line_of(lines: &[NodeId], id: NodeId) -> Result<usize, Fail> {
-    match lines.iter().position(|line| *line == id) {
-        Some(place) => Ok(place + 1),
-        None => Err(Fail::from("no line")),
+fn line_of(lines: &[NodeId], id: NodeId) -> Option<usize> {
+    for (place, line) in lines.iter().enumerate() {
+        if *line == id {
+            return Some(place + 1);
+        }
+    }
+    None
+}
+
+/// What a line says of its rule after the word of it.
+#[derive(Clone, Copy)]
+enum Piece {
+    Nothing,
+    Name(Option<Name>),
+    Premise(NodeId),
+}
+
+/// The word of a rule, the name that it tells, and its premises.
+fn pieces(net: &Network, rule: Rule) -> (&'static str, Piece, Piece) {
+    match rule {
+        Rule::Bound(bound) => ("bound", Piece::Name(bound_name(net, bound)), Piece::Nothing),
+        Rule::Link(link) => ("link", Piece::Name(link_name(net, link)), Piece::Nothing),
+        Rule::No(first, second) => ("no", Piece::Premise(first), Piece::Premise(second)),
+        Rule::Up(first, second) => ("up", Piece::Premise(first), Piece::Premise(second)),
+        Rule::Low(link, second) => {
+            (
+                "low",
+                Piece::Name(link_name(net, link)),
+                Piece::Premise(second),
+            )
+        }
+        Rule::Cross(link, second) => {
+            (
+                "cross",
+                Piece::Name(link_name(net, link)),
+                Piece::Premise(second),
+            )
+        }
+        Rule::Drop(premise) => ("drop", Piece::Premise(premise), Piece::Nothing),
+    }
+}
+
+/// A blank and a name.
+fn push_name(alloc: Global, name: Option<Name>, text: &mut String) -> Result<(), Fail> {
+    let Some(name) = name else {
+        return Err(Fail::from("no name"));
+    };
+    text.push_str(format!(in alloc; " {name}")?.as_str())?;
+    Ok(())
+}
+
+/// A blank and a number.
+fn push_number(alloc: Global, number: Option<usize>, text: &mut String) -> Result<(), Fail> {
+    let Some(number) = number else {
+        return Err(Fail::from("no line"));
+    };
+    text.push_str(format!(in alloc; " {number}")?.as_str())?;
+    Ok(())
+}
+
+fn push_piece(
+    alloc: Global,
+    lines: &[NodeId],
+    piece: Piece,
+    text: &mut String,
+) -> Result<(), Fail> {
+    match piece {
+        Piece::Nothing => Ok(()),
+        Piece::Name(name) => push_name(alloc, name, text),
+        Piece::Premise(id) => push_number(alloc, line_of(lines, id), text),
     }
 }
 
 /// The first words of a line: the rule and its premises.
-fn rule_words(alloc: Global, net: &Network, lines: &[NodeId], rule: Rule) -> Result<String, Fail> {
-    match rule {
-        Rule::Bound(bound) => {
-            let bound = net
-                .bounds()
-                .get(bound.0 as usize)
-                .copied()
-                .ok_or("no bound")?;
-            Ok(format!(in alloc; "bound {}", bound.name)?)
-        }
-        Rule::Link(link) => Ok(format!(in alloc; "link {}", link_name(alloc, net, link)?)?),
-        Rule::No(first, second) => {
-            Ok(format!(in alloc; "no {} {}", line_of(lines, first)?, line_of(lines, second)?)?)
-        }
-        Rule::Up(first, second) => {
-            Ok(format!(in alloc; "up {} {}", line_of(lines, first)?, line_of(lines, second)?)?)
-        }
-        Rule::Low(link, second) => {
-            Ok(format!(in alloc;
-                "low {} {}",
-                link_name(alloc, net, link)?,
-                line_of(lines, second)?
-            )?)
-        }
-        Rule::Cross(link, second) => {
-            Ok(format!(in alloc;
-                "cross {} {}",
-                link_name(alloc, net, link)?,
-                line_of(lines, second)?
-            )?)
-        }
-        Rule::Drop(premise) => Ok(format!(in alloc; "drop {}", line_of(lines, premise)?)?),
-    }
+fn push_rule(
+    alloc: Global,
+    net: &Network,
+    lines: &[NodeId],
+    rule: Rule,
+    text: &mut String,
+) -> Result<(), Fail> {
+    let (word, first, second) = pieces(net, rule);
+    text.push_str(word)?;
+    push_piece(alloc, lines, first, text)?;
+    push_piece(alloc, lines, second, text)
 }
 
 /// The label as a line has it: a link's own edge goes without.
-fn label_word(alloc: Global, net: &Network, node: &Node) -> Result<String, Fail> {
-    match (node.rule, node.edge.label) {
-        (Rule::Link(_), _) => Ok(String::new(alloc)),
-        (_, None) => Ok(String::new(alloc)),
-        (_, Some(label)) => Ok(format!(in alloc; " {}", link_name(alloc, net, label)?)?),
+fn label_of(node: &Node) -> Option<LinkId> {
+    match node.rule {
+        Rule::Link(_) => None,
+        _ => node.edge.label,
     }
 }
 
+fn push_label(alloc: Global, net: &Network, node: &Node, text: &mut String) -> Result<(), Fail> {
+    match label_of(node) {
+        Some(label) => push_name(alloc, link_name(net, label), text),
+        None => Ok(()),
+    }
+}
+
+fn push_weight(alloc: Global, weight: i64, text: &mut String) -> Result<(), Fail> {
+    text.push_str(format!(in alloc; " {weight}|")?.as_str())?;
+    Ok(())
+}
+
 /// A node as the line of a refutation.
-fn line(alloc: Global, net: &Network, lines: &[NodeId], node: &Node) -> Result<String, Fail> {
-    let rule = rule_words(alloc, net, lines, node.rule)?;
-    let from = point_name(alloc, net, node.edge.from)?;
-    let to = point_name(alloc, net, node.edge.to)?;
-    let label = label_word(alloc, net, node)?;
-    let weight = node.edge.weight;
-    Ok(format!(in alloc; "{rule} {from} {to}{label} {weight}|")?)
+fn push_line(
+    alloc: Global,
+    net: &Network,
+    lines: &[NodeId],
+    node: &Node,
+    text: &mut String,
+) -> Result<(), Fail> {
+    push_rule(alloc, net, lines, node.rule, text)?;
+    push_name(alloc, point_name(net, node.edge.from), text)?;
+    push_name(alloc, point_name(net, node.edge.to), text)?;
+    push_label(alloc, net, node, text)?;
+    push_weight(alloc, node.edge.weight, text)
 }
 
 /// The lines of nodes of a list.
@@ -101,8 +161,7 @@ fn push_lines(
 ) -> Result<(), Fail> {
     for id in lines {
         if id.0 < dag.len() {
-            let line = line(alloc, net, lines, dag.node(*id))?;
-            text.push_str(line.as_str())?;
+            push_line(alloc, net, lines, dag.node(*id), text)?;
         }
     }
     Ok(())
@@ -217,8 +276,7 @@ fn push_order(
     end: &mut String,
 ) -> Result<(), Fail> {
     for point in order {
-        let name = point_name(alloc, net, *point)?;
-        end.push_str(format!(in alloc; " {name}")?.as_str())?;
+        push_name(alloc, point_name(net, *point), end)?;
     }
     Ok(())
 }
@@ -243,8 +301,9 @@ fn push_walk(
     end: &mut String,
 ) -> Result<(), Fail> {
     for step in steps {
-        let number = line_of(lines, *step)?;
-        end.push_str(format!(in alloc; "walk {number}|")?.as_str())?;
+        end.push_str("walk")?;
+        push_number(alloc, line_of(lines, *step), end)?;
+        end.push_str("|")?;
     }
     Ok(())
 }

@@ -128,11 +128,12 @@ fn is_wanted(found: &Found, is_order: bool, wanted: &[u32]) -> bool {
 }
 
 fn are_numbers(points: &[PointId], wanted: &[u32]) -> bool {
+    for (point, number) in points.iter().zip(wanted) {
+        if point.0 != *number {
+            return false;
+        }
+    }
     points.len() == wanted.len()
-        && points
-            .iter()
-            .zip(wanted)
-            .all(|(point, number)| point.0 == *number)
 }
 
 fn try_found<R: Abort>(

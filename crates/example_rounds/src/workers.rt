@@ -29,11 +29,12 @@ const TWENTY: &str =
 
 /// Whether rows are those of the plan, in order.
 fn are_rows(rows: &[NewRow]) -> bool {
+    for (row, wanted) in rows.iter().zip(ROWS.as_slice()) {
+        if !is_row(row, wanted) {
+            return false;
+        }
+    }
     rows.len() == ROWS.len()
-        && rows
-            .iter()
-            .zip(ROWS.as_slice())
-            .all(|(row, wanted)| is_row(row, wanted))
 }
 
 fn is_row(row: &NewRow, wanted: &(u32, usize)) -> bool {
