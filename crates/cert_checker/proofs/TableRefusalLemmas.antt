@@ -1,5 +1,5 @@
 -- A refused table proof names the first line that does not pass a test.
-use Rattle.std.proofs.Common.{◌≡◌, ℕ, ◌+◌, ◌<◌, ◌≤◌, zero, suc, Bool, true, false, cond, List, [], ◌∷◌, ◌++◌, map, length, take, Option, Some, None, Result, Ok, Err, refl, sym, ap, ◌∙◌, subst, arith, append_assoc, append-nil, get_or}
+use Rattle.std.proofs.Common.{◌≡◌, ℕ, ◌+◌, ◌<◌, zero, suc, Bool, true, false, cond, List, [], ◌∷◌, ◌++◌, map, length, take, Option, Some, None, Result, Ok, Err, refl, sym, ap, ◌∙◌, subst, arith, append_assoc, append-nil, get_or}
 use Rattle.std.specs.Prelude.{not, find, nat_lt, slice_get, IsOk}
 use Rattle.std.specs.List.{position, position_or_len, list_any}
 use Rattle.std.proofs.lemmas.List.{length-map, length_push}
@@ -14,7 +14,7 @@ use Rattle.strategy_model.specs.Plays.{same_point}
 use Rattle.cert_format.specs.declared.entry.Entry.{Entry}
 use Rattle.cert_checker.specs.Lines.{◌>>=◌, unless}
 use Rattle.cert_checker.specs.Walk.{WalkPasses, refusal}
-use Rattle.cert_checker.specs.Tables.{at_line, base_of, base_stands, edges_pass, entry_passes, is_complete, is_missing, is_open, none_missing, none_refused, order_passes, ordered_passes, placed_passes, point_passes, read_each, refused_at, rises, stand_once, table_passes}
+use Rattle.cert_checker.specs.Tables.{at_line, base_of, edges_pass, entry_passes, is_complete, is_missing, is_open, none_missing, none_refused, ordered_passes, placed_passes, point_passes, read_each, refused_at, rises, stand_once, table_passes}
 use Rattle.cert_checker.specs.TableRefusals.{IsFirst, IsNone, IsFirstFault, Says, stands_before, IsRead, HasBase, IsOrdered, IsRefusedTable, line_of_order, line_of_entry, lacks_base, stands_twice, lacks_point, edge_rises, not_closed}
 use Rattle.cert_checker.specs.Laws.{TablesAreRefusedAtTheFirstLine}
 use Rattle.cert_checker.specs.Judgement.{judged}
