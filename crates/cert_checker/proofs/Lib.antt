@@ -8,6 +8,7 @@ pub mod Deriving
 pub mod Closing
 pub mod Refusing
 pub mod RefusalLemmas
+pub mod TableRefusalLemmas
 pub mod ListLemmas
 pub mod TableLaw
 pub mod RowLemmas

@@ -1,5 +1,5 @@
 -- The lines before the one at which a refutation is refused pass.
-use Rattle.std.proofs.Common.{◌≡◌, ℕ, ◌+◌, ◌-◌, zero, suc, List, [], ◌∷◌, ◌++◌, take, Ok, Err, refl, ap, ◌∙◌, arith}
+use Rattle.std.proofs.Common.{◌≡◌, ℕ, ◌-◌, zero, suc, List, [], ◌∷◌, ◌++◌, take, Ok, Err, refl, ap, ◌∙◌, arith}
 use Rattle.net_model.specs.Network.{Plan}
 use Rattle.strategy_model.specs.Plays.{IsInstant}
 use Rattle.strategy_model.specs.Laws.{RulesKeepEdges, DerivationsAreTrue}

@@ -4,11 +4,13 @@ use Rattle.net_model.specs.Network.{Plan}
 use Rattle.strategy_model.specs.Plays.{IsInstant}
 use Rattle.strategy_model.specs.Control.{IsControllable}
 use Rattle.cert_format.specs.declared.certificate.Certificate.{Certificate}
-use Rattle.cert_format.specs.declared.certificate.Certificate.TheVariants.{Refutation}
+use Rattle.cert_format.specs.declared.certificate.Certificate.TheVariants.{Refutation, TableProof}
+use Rattle.cert_format.specs.declared.entry.Entry.{Entry}
 use Rattle.cert_format.specs.declared.line.CertLine.{CertLine}
 use Rattle.cert_checker.specs.Judgement.{judgement_of}
 use Rattle.cert_checker.specs.Truth.{AreTrue, passed_lines}
 use Rattle.cert_checker.specs.Refusals.{IsRefusedLine, IsRefusedWalk}
+use Rattle.cert_checker.specs.TableRefusals.{IsRefusedTable}
 use Rattle.cert_checker.specs.declared.judgement.CertFault.{CertFault}
 use Rattle.cert_checker.specs.declared.judgement.Judgement.TheVariants.{Accepted, Refused}
 use Rattle.cert_checker.specs.declared.judgement.Claim.TheVariants.{NotControllable, Controllable}
@@ -29,3 +31,8 @@ AcceptedControls = (net : Plan) (certificate : Certificate) → IsInstant net �
 abbrev pub RefusalsAreOfOneLine : Type 0
 RefusalsAreOfOneLine =
     (net : Plan) (lines : List CertLine) (walk : List ℕ) (number : ℕ) (why : CertFault) → judgement_of net (Refutation lines walk) ≡ Refused number why → IsRefusedLine net lines number why ⊎ IsRefusedWalk net lines walk number why
+
+-- a refused table proof names the first line that does not pass a test, where the tests before it are passed
+abbrev pub TablesAreRefusedAtTheFirstLine : Type 0
+TablesAreRefusedAtTheFirstLine =
+    (net : Plan) (order : List (List ℕ)) (entries : List Entry) (number : ℕ) (why : CertFault) → judgement_of net (TableProof order entries) ≡ Refused number why → IsRefusedTable net order entries number why

@@ -10,4 +10,5 @@ pub mod Orders
 pub mod Reading
 pub mod JudgementText
 pub mod Refusals
+pub mod TableRefusals
 pub mod Laws

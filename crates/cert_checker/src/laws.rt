@@ -1,6 +1,6 @@
 //! Laws about the judgement of certificates, each the contract of a function without parameters.
 
-ghost use Rattle.cert_checker.specs.Laws.{AcceptedControls, AcceptedExcludes, PassedLinesAreTrue, RefusalsAreOfOneLine};
+ghost use Rattle.cert_checker.specs.Laws.{AcceptedControls, AcceptedExcludes, PassedLinesAreTrue, RefusalsAreOfOneLine, TablesAreRefusedAtTheFirstLine};
 
 use strategy_model::laws;
 use strategy_model::laws::dispatch;
@@ -31,4 +31,10 @@ pub fn accepted_controls()
 /// A refused refutation has one line that is refused, by its own first test that fails, or its walk is.
 pub fn refusals_are_of_one_line()
     ensures { RefusalsAreOfOneLine }
+{}
+
+/// A refused table proof names the first line that does not pass a test, where all pass the tests before it; or none, where an edge of the
+/// network or a point of its order is missing.
+pub fn tables_are_refused_at_the_first_line()
+    ensures { TablesAreRefusedAtTheFirstLine }
 {}

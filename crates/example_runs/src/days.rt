@@ -7,8 +7,8 @@ use std::test::Fail;
 use std::thread::Threads;
 
 /// Rows: the words, the input, what is put, and the exit status; `|` stands for a line end. In order: two waits of which one comes by the
-/// cross-case rule; a day of three drives; a wait, in situations by number; a point that comes together with the end of a link; no point at
-/// all; a plan that cannot be kept; plans with a fault; forged networks; and words.
+/// cross-case rule; a day of three drives; a wait, in situations by number; a point that comes together with the end of a link; three points
+/// in a row; no point at all; a plan that cannot be kept; plans with a fault; forged networks; and words.
 const RUNS: &str =
     r#"stnu play shortest => stnu 1|point A1|point C1|point A2|point C2|bound b1 C1 C2 2|link A1 1 3 C1|link A2 2 6 C2|end| => controllable|time A1 2|time C1 3|time A2 0|time C2 2| => 0
 stnu play longest => stnu 1|point A1|point C1|point A2|point C2|bound b1 C1 C2 2|link A1 1 3 C1|link A2 2 6 C2|end| => controllable|time A1 3|time C1 6|time A2 0|time C2 6| => 0
@@ -19,6 +19,7 @@ stnu play 0 => stnu 1|point A|point C|point D|bound b1 D C 4|link A 3 8 C|end| =
 stnu play --workers=7 18446744073709551615 => stnu 1|point A|point C|point D|bound b1 D C 4|link A 3 8 C|end| => controllable|time A 0|time C 6|time D 4| => 0
 stnu play --json 3 => {"stnu":1,"points":["A","C","D"],"bounds":[{"name":"b1","from":"D","to":"C","most":4}],"links":[{"from":"A","low":3,"high":8,"to":"C"}]}|end| => controllable|time A 0|time C 6|time D 4| => 0
 stnu play 5 => stnu 1|point A|point C|point D|bound e1 C D 0|bound e2 D C 0|link A 3 8 C|end| => controllable|time A 0|time C 8|time D 8| => 0
+stnu play longest => stnu 1|point A|point B|point C|bound b1 B A -2|bound b2 C B -3|bound b3 C A -4|end| => controllable|time A 0|time B 2|time C 5| => 0
 stnu play longest => stnu 1|end| => controllable| => 0
 stnu play longest => stnu 1|point A|point B|bound b1 A B 3|bound b2 B A -5|end| => not controllable|certificate 1|refutation|bound b1 A B 3|bound b2 B A -5|no 1 2 A A -2|walk 3|end| => 1
 stnu play longest => point A|end| => error format 1 no-header| => 3

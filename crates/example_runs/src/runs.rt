@@ -19,6 +19,7 @@ stnu judge => stnu 1|point A|point C|point D|bound b1 D C 1|bound b2 C D -1|link
 stnu judge => stnu 1|end|certificate 1|refutation|end| => refused 1 walk-broken| => 1
 stnu judge => stnu 1|point A|point B|bound b1 A B 5|bound b2 B A -2|end|certificate 1|table|order A|order B|edge A A 3|edge B A -2|edge A B 5|end| => accepted controllable| => 0
 stnu judge => stnu 1|point A|point B|bound b1 A B 5|bound b2 B A -2|end|certificate 1|table|order A|order B|edge B A -2|edge A B 5|end| => refused 3 not-closed| => 1
+stnu judge => stnu 1|point A|point B|bound b1 A B 5|bound b2 B A -2|end|certificate 1|table|order B|order A|edge A A 3|edge B A -2|edge A B 5|end| => refused 4 order-broken| => 1
 stnu judge => stnu 1|point A|point B|bound b1 A B 5|bound b2 B A -2|end|certificate 1|table|order A|order B|edge A A 3|edge B A -2|end| => refused 0 missing-base bound b1| => 1
 stnu judge => stnu 1|point A|point C|point D|bound b1 D C 4|link A 3 8 C|end|certificate 1|table|order A|order C|order D|edge A A 0|edge C A -3|upper C C -8|edge D A -3|upper D C -4|edge D C 4|end| => accepted controllable| => 0
 stnu judge => stnu 1|point A|point C|point D|bound b1 D C 4|link A 3 8 C|end|certificate 1|table|order A|edge A A 0|order C|end| => error format 12 unknown-word| => 3

@@ -36,7 +36,7 @@ use Rattle.event_execution.specs.ExecutionPromise.{PutsLast}
 use Rattle.common_answers.specs.Faults.{refusing, fault_line, fault_end}
 use Rattle.stnu_run.specs.PlanInput.{input_begun, input_reader, plan_in}
 use Rattle.stnu_run.specs.SessionAnswers.{ready_line}
-use Rattle.stnu_run.specs.SessionPromise.{TellSteps, IsEdited, IsNext, SaysSteps, SaysAll, SaysFirst, OpensByGo, session_opens, IsStepFault, HasStepFault, PutsReady, IsWholeSession, SessionPromise, SaysWhole}
+use Rattle.stnu_run.specs.SessionPromise.{TellSteps, IsEdited, IsNext, SaysSteps, SaysAll, SaysFirst, OpensByGo, session_opens, IsStepFault, HasStepFault, PutsReady, PutsFirstDue, IsWholeSession, SessionPromise, SaysWhole}
 use Rattle.stnu_run.specs.Sessions.{net_of, OpensOn, session_begins, session_machine, session_start, command_machine}
 use Rattle.stnu_run.specs.Standing.{Standing}
 use Rattle.common_answers.specs.ToRead.{Come}
@@ -46,6 +46,7 @@ use Rattle.stnu_run.specs.declared.session.InSession.{InSession}
 use Rattle.stnu_run.specs.declared.session.InSession.TheVariants.{Editing, Executing}
 use Rattle.event_execution.proofs.CourseLemmas.{Decides, IsDecided}
 use Rattle.event_execution.proofs.DayLemmas.{ExecutionLaws}
+use Rattle.event_execution.proofs.DueLemmas.{due_answered}
 use Rattle.event_execution.proofs.EventLemmas.{at}
 use Rattle.event_execution.proofs.ExecutionLemmas.{Opened, IsOpened, Lasts, lasts, execution_keeps, whole_by, refused_so, fault_so, fault_not, fault_ends_so}
 use Rattle.stnu_run.proofs.PlanInputLemmas.{input_by}
@@ -242,6 +243,11 @@ module _ (form : PlanForm) where
           (go_left opens.plan opens.edits opens.go ∙ ap (room_after most_input) (sym opens.divided)) (one.all ∙ ap (λ (b : List ℕ). b ++ one.more) (sym same))
           (subst (λ (n : Plan). Opened n (length (opens.plan ++ opens.edits) + 1) (room_after most_input (opens.plan ++ opens.edits) - line_size opens.go) rest one.more end) one.stands begins)
 
+      begins_by : (used rest : List InputLine) (net : Plan) (before : List ℕ) → input_lines input ≡ used ++ rest → OpensByGo form used rest net before → IsControllable net → PutsFirstDue net before put
+      begins_by used rest net before divided opens controls =
+          let one = leads used rest net before divided opens controls in
+          (one.due, one.more, due_answered net _ _ one.by_closure [] (started (setting_of net one.table)) refl refl one.due one.first, one.all)
+
       -- how the run ended: by the first refusal of the input, at `end`, by a fault of a line, or after an execution was opened
       data Ending : Type 0 where
         refused_text : (fault : Fault) → IsFirstRefusal (plan_in form) (input_lines input) fault → end ≡ fault_end fault → Ending
@@ -386,6 +392,7 @@ module _ (form : PlanForm) where
           };
           says = says_by input put end follows;
           closes = closes_by input put end follows;
+          begins = begins_by input put end follows;
           execution = execution_keeps laws (session_opens form) (input_lines input) put end (leads input put end follows);
           faulty = faulty_by input put end follows;
           completes = completes_by input put end follows;

@@ -1,5 +1,5 @@
 -- What `session` promises of what it puts for an input.
-use Rattle.std.specs.Prelude.{◌≡◌, ◌⊎◌, ℕ, ◌+◌, List, [], ◌∷◌, ◌++◌, length, Result, Ok, Err}
+use Rattle.std.specs.Prelude.{◌≡◌, ◌⊎◌, ℕ, ◌+◌, List, [], ◌∷◌, ◌++◌, length, Option, Result, Ok, Err}
 use Rattle.texts.specs.Lines.{InputLine, input_lines}
 use Rattle.texts.specs.Words.{words}
 use Rattle.net_model.specs.Editing.{edited}
@@ -21,6 +21,8 @@ use Rattle.command_engine.specs.declared.endings.End.TheVariants as ends
 use Rattle.stnu_run.specs.Causes.{Causes, IsTextRefused, IsDayRefused}
 use Rattle.event_execution.specs.Handing.{as_named}
 use Rattle.event_execution.specs.Day.{Opening, IsWholeDay, IsRefusedDay}
+use Rattle.event_execution.specs.Due.{AnswersDue}
+use Rattle.event_execution.specs.EventAnswers.{due_line}
 use Rattle.event_execution.specs.EventFaults.{HasEventFault}
 use Rattle.event_execution.specs.ExecutionPromise.{PutsLast, ExecutionPromise}
 use Rattle.common_answers.specs.Faults.{refusing, fault_line, fault_end}
@@ -30,6 +32,7 @@ use Rattle.stnu_run.specs.SessionAnswers.{ready_line}
 use Rattle.stnu_run.specs.Sessions.{SaysStep, StandsAfter, OpensOn, command_machine, session_start}
 use Rattle.stnu_run.specs.Standing.{Standing}
 use Rattle.common_answers.specs.ToRead.{Come}
+use Rattle.common_answers.specs.VerdictLines.{controllable_line}
 use Rattle.common_answers.specs.declared.faults.Fault.{Fault}
 use Rattle.common_answers.specs.declared.faults.Fault.TheVariants.{Format, LineTooLong, InputTooMuch}
 use Rattle.stnu_run.specs.declared.plan_input.PlanForm.{PlanForm}
@@ -91,6 +94,10 @@ IsStepFault number room (line ∷ others) fault =
 abbrev pub PutsReady : Plan → List ℕ → End → Type 0
 PutsReady net put end = (more : List ℕ) × (put ≡ ready_line ++ more)
 
+-- after what was put before it is put that the network is controllable, and its first due moment
+abbrev pub PutsFirstDue : Plan → (before put : List ℕ) → Type 0
+PutsFirstDue net before put = (due : Option ℕ) × (more : List ℕ) × AnswersDue net [] due × (put ≡ before ++ (controllable_line ++ (due_line due ++ more)))
+
 module _ (form : PlanForm) where
   -- An input that declares a network, and lines after the plan, which all come within the limits and tell these steps; at last the network
   -- stands so.
@@ -145,15 +152,17 @@ module _ (form : PlanForm) where
 
   -- What `session` promises. `opens`: it puts that the session is ready for the network that the input declares, or the first refusal of
   -- the input. `says`: each line is answered by the network as it stands after the accepted edits before it, whatever comes after.
-  -- `closes`: at `end` it ends as done, and has put no more than these answers. `execution`: what is promised of an execution that `go`
-  -- opens, of the network as it stands. `faulty`: it ends by a fault, with its line, where its lines have one. `completes`: only at `end`,
-  -- or after a faithful stream of a controllable network that is done, does it end as done. `refused`: only where a line of events tells
-  -- what no faithful stream does does it end by a refused event. `faults`: only where the input has a first refusal, or its lines a fault,
-  -- does it end by one. `never_refuted`: in no other way does it end.
+  -- `closes`: at `end` it ends as done, and has put no more than these answers. `begins`: at `go`, where some strategy controls the network
+  -- as it stands, it puts that it is controllable, and the first due moment, after these answers. `execution`: what is promised of an
+  -- execution that `go` opens, of the network as it stands. `faulty`: it ends by a fault, with its line, where its lines have one.
+  -- `completes`: only at `end`, or after a faithful stream of a controllable network that is done, does it end as done. `refused`: only where
+  -- a line of events tells what no faithful stream does does it end by a refused event. `faults`: only where the input has a first refusal,
+  -- or its lines a fault, does it end by one. `never_refuted`: in no other way does it end.
   pub record SessionPromise (input put : List ℕ) (end : End) : Type 0 where
     pub opens : AnswersText (plan_in form) refusing PutsReady input put end
     pub says : (first net : Plan) (steps : List Step) → IsEdited (input_lines input) first net steps → SaysFirst first steps put
     pub closes : (first net : Plan) (steps : List Step) → IsNext (input_lines input) first net steps step.End → SaysAll first steps put × (end ≡ ends.Done)
+    pub begins : (used rest : List InputLine) (net : Plan) (before : List ℕ) → input_lines input ≡ used ++ rest → OpensByGo used rest net before → IsControllable net → PutsFirstDue net before put
     pub execution : ExecutionPromise session_opens (input_lines input) put end
     pub faulty : (fault : Fault) → HasStepFault (input_lines input) fault → PutsLast (fault_line fault) put × (end ≡ fault_end fault)
     pub completes : end ≡ ends.Done
