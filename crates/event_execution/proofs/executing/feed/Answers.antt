@@ -8,14 +8,15 @@ use Rattle.command_engine.specs.declared.endings.End.{End}
 use Rattle.event_stream.specs.EventText.{completed}
 use Rattle.event_execution.specs.Course.{course_of}
 use Rattle.event_execution.specs.Executing.{AnswersEvent, FeedsAmong, PutsFed}
-use Rattle.event_execution.proofs.FeedingLemmas.{feeds_among, fed_answers, onward_of}
+use Rattle.event_execution.proofs.FeedingLemmas.{feeds_among, fed_answers, keeps_course, onward_of}
 use Rattle.event_execution.proofs.executing.feed.Goals as goal
+use Rattle.event_execution.proofs.executing.feed.Goals.{After-completions, After-put_fed}
 
-listed_points : (c : goal.After-completions) → All (IsPoint c.args.net) c.completions.result.now
+listed_points : (c : After-completions) → All (IsPoint c.args.net) c.completions.result.now
 listed_points c = subst (All (IsPoint c.args.net)) (sym c.completions.ensures) c.requires.points
 
-pub feed-requires : goal.feed-requires
-feed-requires c = subst (λ (n : ℕ). All (λ (p : PointId). p.0 < n) c.completions.result.now) (sym c.requires.course.dispatch) (listed_points c)
+pub feed-fed-requires : goal.feed-fed-requires
+feed-fed-requires c = subst (λ (n : ℕ). All (λ (p : PointId). p.0 < n) c.completions.result.now) (sym c.requires.course.dispatch) (listed_points c)
 
 pub put_fed-requires-clause-points : goal.put_fed-requires-clause-points
 put_fed-requires-clause-points c =
@@ -25,12 +26,17 @@ put_fed-requires-clause-points c =
     subst (FeedsAmong c.args.net c.feed-fed.result) (sym c.acts.ensures.value)
     (feeds_among c.args.net c.args.executor c.args.moment c.completions.result.now c.feed-fed.result c.feed-fed.new.self course.goes_on course.dispatch all c.feed-fed.ensures.fed few)
 
-answers : (c : goal.After-put_fed) → AnswersEvent (course_of c.args.net c.args.executor) c.args.number (completed c.args.moment c.args.events) c.put_fed.new.answer.text (onward_of (course_of c.args.net c.args.executor) c.feed-fed.new.self c.put_fed.result)
+answers : (c : After-put_fed) → AnswersEvent (course_of c.args.net c.args.executor) c.args.number (completed c.args.moment c.args.events) c.put_fed.new.answer.text (onward_of (course_of c.args.net c.args.executor) c.feed-fed.new.self c.put_fed.result)
 answers c =
     let fed : IsFed c.args.executor c.args.moment c.args.events c.feed-fed.result c.feed-fed.new.self =
     subst (λ (l : List PointId). IsFed c.args.executor c.args.moment l c.feed-fed.result c.feed-fed.new.self) c.completions.ensures c.feed-fed.ensures.fed in
     let puts = subst (λ (acts : List Act). PutsFed c.args.net c.args.number c.feed-fed.result acts c.next_due.result c.put_fed.new.answer.text c.put_fed.result) c.acts.ensures.value c.put_fed.ensures.answers in
     fed_answers (course_of c.args.net c.args.executor) c.args.number c.args.moment c.args.events c.feed-fed.result c.feed-fed.new.self c.next_due.result c.put_fed.new.answer.text c.put_fed.result fed c.next_due.ensures puts
+
+pub invariant_of-result : goal.invariant_of-result
+invariant_of-result c =
+    keeps_course c.args.net c.args.executor c.args.moment c.completions.result.now c.feed-fed.result c.feed-fed.new.self c.args.number c.acts.result.now c.next_due.result c.put_fed.new.answer.text
+    c.put_fed.result c.requires.course c.feed-fed.ensures.fed c.acts.ensures.count c.put_fed.ensures.answers c.in-None.is
 
 pub returns-in-None-clause-answers : goal.returns-in-None-clause-answers
 returns-in-None-clause-answers c =
