@@ -10,7 +10,7 @@ use Rattle.event_execution.specs.Course.{course_of}
 use Rattle.event_execution.specs.Executing.{AnswersEvent, FeedsAmong, PutsFed}
 use Rattle.event_execution.proofs.FeedingLemmas.{feeds_among, fed_answers, keeps_course, onward_of}
 use Rattle.event_execution.proofs.executing.feed.Goals as goal
-use Rattle.event_execution.proofs.executing.feed.Goals.{After-completions, After-put_fed}
+use Rattle.event_execution.proofs.executing.feed.Goals.{After-completions}
 
 listed_points : (c : After-completions) → All (IsPoint c.args.net) c.completions.result.now
 listed_points c = subst (All (IsPoint c.args.net)) (sym c.completions.ensures) c.requires.points
@@ -26,13 +26,6 @@ put_fed-requires-clause-points c =
     subst (FeedsAmong c.args.net c.feed-fed.result) (sym c.acts.ensures.value)
     (feeds_among c.args.net c.args.executor c.args.moment c.completions.result.now c.feed-fed.result c.feed-fed.new.self course.goes_on course.dispatch all c.feed-fed.ensures.fed few)
 
-answers : (c : After-put_fed) → AnswersEvent (course_of c.args.net c.args.executor) c.args.number (completed c.args.moment c.args.events) c.put_fed.new.answer.text (onward_of (course_of c.args.net c.args.executor) c.feed-fed.new.self c.put_fed.result)
-answers c =
-    let fed : IsFed c.args.executor c.args.moment c.args.events c.feed-fed.result c.feed-fed.new.self =
-    subst (λ (l : List PointId). IsFed c.args.executor c.args.moment l c.feed-fed.result c.feed-fed.new.self) c.completions.ensures c.feed-fed.ensures.fed in
-    let puts = subst (λ (acts : List Act). PutsFed c.args.net c.args.number c.feed-fed.result acts c.next_due.result c.put_fed.new.answer.text c.put_fed.result) c.acts.ensures.value c.put_fed.ensures.answers in
-    fed_answers (course_of c.args.net c.args.executor) c.args.number c.args.moment c.args.events c.feed-fed.result c.feed-fed.new.self c.next_due.result c.put_fed.new.answer.text c.put_fed.result fed c.next_due.ensures puts
-
 pub invariant_of-result : goal.invariant_of-result
 invariant_of-result c =
     keeps_course c.args.net c.args.executor c.args.moment c.completions.result.now c.feed-fed.result c.feed-fed.new.self c.args.number c.acts.result.now c.next_due.result c.put_fed.new.answer.text
@@ -41,9 +34,17 @@ invariant_of-result c =
 pub returns-in-None-clause-answers : goal.returns-in-None-clause-answers
 returns-in-None-clause-answers c =
     let course = course_of c.args.net c.args.executor in
-    subst (λ (e : Option End). AnswersEvent course c.args.number (completed c.args.moment c.args.events) c.put_fed.new.answer.text (onward_of course c.feed-fed.new.self e)) c.in-None.is (answers c)
+    let fed : IsFed c.args.executor c.args.moment c.args.events c.feed-fed.result c.feed-fed.new.self =
+    subst (λ (l : List PointId). IsFed c.args.executor c.args.moment l c.feed-fed.result c.feed-fed.new.self) c.completions.ensures c.feed-fed.ensures.fed in
+    let puts = subst (λ (acts : List Act). PutsFed c.args.net c.args.number c.feed-fed.result acts c.next_due.result c.put_fed.new.answer.text c.put_fed.result) c.acts.ensures.value c.put_fed.ensures.answers in
+    subst (λ (e : Option End). AnswersEvent course c.args.number (completed c.args.moment c.args.events) c.put_fed.new.answer.text (onward_of course c.feed-fed.new.self e)) c.in-None.is
+    (fed_answers course c.args.number c.args.moment c.args.events c.feed-fed.result c.feed-fed.new.self c.next_due.result c.put_fed.new.answer.text c.put_fed.result fed c.next_due.ensures puts)
 
 pub returns-in-Some-clause-answers : goal.returns-in-Some-clause-answers
 returns-in-Some-clause-answers c =
     let course = course_of c.args.net c.args.executor in
-    subst (λ (e : Option End). AnswersEvent course c.args.number (completed c.args.moment c.args.events) c.put_fed.new.answer.text (onward_of course c.feed-fed.new.self e)) c.in-Some.is (answers c)
+    let fed : IsFed c.args.executor c.args.moment c.args.events c.feed-fed.result c.feed-fed.new.self =
+    subst (λ (l : List PointId). IsFed c.args.executor c.args.moment l c.feed-fed.result c.feed-fed.new.self) c.completions.ensures c.feed-fed.ensures.fed in
+    let puts = subst (λ (acts : List Act). PutsFed c.args.net c.args.number c.feed-fed.result acts c.next_due.result c.put_fed.new.answer.text c.put_fed.result) c.acts.ensures.value c.put_fed.ensures.answers in
+    subst (λ (e : Option End). AnswersEvent course c.args.number (completed c.args.moment c.args.events) c.put_fed.new.answer.text (onward_of course c.feed-fed.new.self e)) c.in-Some.is
+    (fed_answers course c.args.number c.args.moment c.args.events c.feed-fed.result c.feed-fed.new.self c.next_due.result c.put_fed.new.answer.text c.put_fed.result fed c.next_due.ensures puts)
