@@ -207,11 +207,11 @@ module _ (laws : ExecutionLaws) where
         refused_there all done is unfaithful = by (first_open all.final) refl
           where
             by : (open_point : Option PointId) → first_open all.final ≡ open_point → RefusedThere done
-            by (Some point) opens = record {
+            by (Some point) stands = record {
               all = all;
               words = unfinished_words net point;
-              why = (point, opens, refl);
-              ends_so = one_unfinished laws.reading net all.final opens.handing (length (day.lines.used ++ day.lines.events)) _ all.over.none last others all.over.more end comes (later_run all) point is opens;
+              why = (point, stands, refl);
+              ends_so = one_unfinished laws.reading net all.final opens.handing (length (day.lines.used ++ day.lines.events)) _ all.over.none last others all.over.more end comes (later_run all) point is stands;
             }
             by None shut = absurd (unfaithful (closed_faithful laws net _ _ by_closure listings all.final all.fed shut))
 

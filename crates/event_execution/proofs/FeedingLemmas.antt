@@ -19,7 +19,7 @@ use Rattle.command_engine.specs.declared.endings.End.{End}
 use Rattle.command_engine.specs.declared.endings.End.TheVariants as ends
 use Rattle.command_engine.specs.declared.machines.Onward.{Onward}
 use Rattle.command_engine.specs.declared.machines.Onward.TheVariants.{Goes, Ends}
-use Rattle.event_execution.specs.Course.{Course, course_of}
+use Rattle.event_execution.specs.Course.{Course, IsCourse, course_of}
 use Rattle.event_execution.specs.EventAnswers.{event_fault_line, NamesPoints}
 use Rattle.event_execution.specs.Executing.{AnswersEvent, EndsAmong, FeedsAmong, PutsFed, TakesEvent}
 use Rattle.common_answers.specs.Faults.{fault_end}
@@ -74,9 +74,9 @@ pub feeds_among : (net : Plan) (execution : Execution) (moment : ℕ) (listed : 
     → length execution.setting.dispatch ≡ length net.points → All (IsPoint net) listed → IsFed execution moment listed answer after → length after.acts ≤ length after.setting.dispatch
     → FeedsAmong net answer after.acts
 feeds_among net execution moment listed fed.Acts after going same all is few =
-    let taken = fed_acts execution moment listed fed.Acts after going is refl in (
-      subst (λ (n : ℕ). length after.acts ≤ n) (ap (λ (s : Setting). length s.dispatch) taken.setting ∙ same) few,
-      subst (λ (n : ℕ). All (λ (act : Act). act.point.0 < n) after.acts) same taken.acts,
+    let took = fed_acts execution moment listed fed.Acts after going is refl in (
+      subst (λ (n : ℕ). length after.acts ≤ n) (ap (λ (s : Setting). length s.dispatch) took.setting ∙ same) few,
+      subst (λ (n : ℕ). All (λ (act : Act). act.point.0 < n) after.acts) same took.acts,
     )
 feeds_among net execution moment listed (fed.Refused why) after going same all is few = fed_cause execution moment listed (fed.Refused why) after going net why same all is (inl refl)
 feeds_among net execution moment listed (fed.Ended why) after going same all is few = fed_cause execution moment listed (fed.Ended why) after going net why same all is (inr refl)
@@ -96,6 +96,17 @@ fed_answers state number moment listed (fed.Refused why) after due put None is n
 fed_answers state number moment listed (fed.Refused why) after due put (Some end) is next puts = let same : end ≡ ends.EventRefused = cc (puts.1) in (fed.Refused why, after, is, (puts.0, ap (λ (e : End). Ends e) same))
 fed_answers state number moment listed (fed.Ended why) after due put None is next puts = absurd (cc (puts.1))
 fed_answers state number moment listed (fed.Ended why) after due put (Some end) is next puts = let same : end ≡ ends.EventRefused = cc (puts.1) in (fed.Ended why, after, is, (puts.0, ap (λ (e : End). Ends e) same))
+
+-- where a feed does not end it, the execution is still one of the network
+pub keeps_course : (net : Plan) (execution : Execution) (moment : ℕ) (listed : List PointId) (answer : Fed) (after : Execution) (number : ℕ) (acts : List Act) (due : Option ℕ) (put : List ℕ)
+    (ended : Option End) → IsCourse (course_of net execution) → IsFed execution moment listed answer after → length after.moments ≡ length after.setting.dispatch
+    → PutsFed net number answer acts due put ended → ended ≡ None → IsCourse (course_of net after)
+keeps_course net execution moment listed fed.Acts after number acts due put ended course is count puts none =
+    let took = fed_acts execution moment listed fed.Acts after course.goes_on is refl in
+    let same : length after.setting.dispatch ≡ length net.points = ap (λ (s : Setting). length s.dispatch) took.setting ∙ course.dispatch in
+    record { moments = count ∙ same; dispatch = same; goes_on = took.goes_on }
+keeps_course net execution moment listed (fed.Refused why) after number acts due put ended course is count puts none = absurd (cc (puts.1, none))
+keeps_course net execution moment listed (fed.Ended why) after number acts due put ended course is count puts none = absurd (cc (puts.1, none))
 
 -- ---- the end
 module _ (execution : Execution) (answer : Finished) (after : Execution) (going : execution.refused ≡ None) where

@@ -12,8 +12,8 @@ ghost use Rattle.event_execution.specs.EventAnswers.{acts_text, act_line, due_li
 ghost use Rattle.common_answers.specs.Faults.{fault_end};
 ghost use Rattle.common_answers.specs.declared.faults.Fault.TheVariants.{Format};
 
-use common_answers::Fault;
 use command_engine::{Answer, End, Refusal, Word};
+use common_answers::Fault;
 use execution_model::{Act, MOST_MOMENT, Why};
 use net_model::{FormatKind, Network, PointId};
 

@@ -13,8 +13,8 @@ ghost use Rattle.event_execution.specs.Course.{IsCourse, course_of};
 use crate::event_answers::{
     MOST_ACT, put_acts, put_complete, put_due, refuse_end, refuse_event, refuse_line,
 };
-use common_answers::stop_fault;
 use command_engine::{Answer, Command, End, LEAST_ROOM, Onward, Refusal, Stop};
+use common_answers::stop_fault;
 use dispatch_net::Dispatch;
 use event_stream::{Event, EventReader};
 use execution_model::{Act, Fed, Finished};
@@ -161,7 +161,14 @@ fn feed(
     ensures kept { GoesWith net result }
 {
     let fed = executor.feed(moment, events.completions());
-    match put_fed(answer, &net, number, fed, executor.acts(), executor.next_due()) {
+    match put_fed(
+        answer,
+        &net,
+        number,
+        fed,
+        executor.acts(),
+        executor.next_due(),
+    ) {
         None => Onward::Goes(Executing {
             net,
             executor,

@@ -9,18 +9,18 @@ ghost use Rattle.verdicts.specs.declared.verdict.Verdict.TheVariants.{Controllab
 use crate::plan_asking::PlanQuestion;
 use crate::plan_input::{PlanForm, PlanInput};
 use crate::requests::Request;
-use common_answers::{put_controllable, put_proved, put_refuted};
-use verdicts::Verdict;
 use crate::workers::Workers;
 use closure_model::order_laws::ordered_tables_are_placed;
 use command_engine::{Answer, Asked, End, Question};
 use command_words::{Arguments, Syntax};
+use common_answers::{put_controllable, put_proved, put_refuted};
 use net_model::Network;
 use std::alloc::{AllocError, Global};
 use std::marker::Model;
 use std::thread::Threads;
 use table_closing::Closed;
 use table_proofs::table_proof;
+use verdicts::Verdict;
 
 /// Whether a network is controllable: the command `check` reads a plan, and puts `controllable` where a strategy controls its network, else
 /// `not controllable` and a certificate which `judge` accepts. Where a proof is wanted, a certificate which `judge` accepts stands after

@@ -7,10 +7,10 @@ ghost use Rattle.edit_script.specs.declared.step.Step.TheVariants as step;
 ghost use Rattle.stnu_run.specs.Sessions.{net_of, IsQuestion, OpensOn, SaysProof, SaysStep, SaysTable, StandsAfter};
 
 use crate::session_answers::{push_refused, push_report, push_table};
-use common_answers::push_verdict;
 use crate::workers::Workers;
 use cert_format::print_certificate;
 use command_engine::{Answer, Word};
+use common_answers::push_verdict;
 use dispatch_net::Dispatch;
 use edit_script::Step;
 use net_model::{Edit, Network};

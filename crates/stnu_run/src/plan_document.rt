@@ -8,8 +8,8 @@ ghost use Rattle.command_engine.specs.declared.machines.Stop.{Stop};
 ghost use Rattle.stnu_run.specs.DocumentTexts.{document_texts};
 ghost use Rattle.stnu_run.specs.PlanDocument.{are_end, document_begun, document_reader, document_step, document_stop, parts_step, with_line};
 
-use common_answers::Fault;
 use command_engine::{InGrammar, Step, Stop, Text};
+use common_answers::Fault;
 use net_model::{FormatKind, Network, Part};
 use plan_json::{JsonFault, from_json};
 use std::alloc::{AllocError, Global};

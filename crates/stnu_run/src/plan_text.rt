@@ -5,8 +5,8 @@ ghost use Rattle.net_model.specs.Building.{built};
 ghost use Rattle.stnu_run.specs.PlanText.{plan_reader, plan_begun, built_step};
 ghost use Rattle.stnu_run.specs.ToCheck.{plan_texts};
 
-use common_answers::{Fault, stop_fault};
 use command_engine::{InGrammar, Step, Stop, Text};
+use common_answers::{Fault, stop_fault};
 use net_model::{Network, WordFault};
 use plan_format::{DeclarationFault, PlanLine, PlanReader};
 use plan_port::MOST_LINE;

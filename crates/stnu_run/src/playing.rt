@@ -14,12 +14,11 @@ use crate::plan_asking::PlanQuestion;
 use crate::plan_input::{PlanForm, PlanInput};
 use crate::requests::Request;
 use crate::session_answers::point_name;
-use common_answers::put_refuted;
-use verdicts::{Verdict, dispatch_by};
 use crate::which::Which;
 use crate::workers::Workers;
 use command_engine::{Answer, Asked, End, Question, Word};
 use command_words::{Arguments, Syntax};
+use common_answers::put_refuted;
 use dispatch_net::Dispatch;
 use live_executor::Executor;
 use net_model::{Network, PointId};
@@ -30,6 +29,7 @@ use std::thread::Threads;
 use strategy_model::Schedule;
 use strategy_model::laws::at_most_one_earliest;
 use table_closing::Closed;
+use verdicts::{Verdict, dispatch_by};
 
 /// A day of a plan: the command `play` reads a plan, and puts `controllable` where a strategy controls its network, and then for each point
 /// in order a line with its moment in the earliest schedule of the situation that is asked; else `not controllable` and a certificate which

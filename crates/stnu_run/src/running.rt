@@ -9,15 +9,14 @@ ghost use Rattle.stnu_run.specs.RunPromise.{RunPromise, run_causes};
 ghost use Rattle.stnu_run.specs.Running.{run_asked, run_begins, run_start, run_syntax};
 ghost use Rattle.event_execution.specs.Begin.{BeginsExecution};
 
-use event_execution::{Executing, begin_dispatched};
 use crate::plan_input::{PlanForm, PlanInput};
 use crate::promising::Promising;
 use crate::requests::Request;
-use common_answers::put_refuted;
-use verdicts::{Verdict, dispatch_by};
 use crate::workers::Workers;
 use command_engine::{Answer, Begin, Onward, TextThenPhase};
 use command_words::{Arguments, Syntax};
+use common_answers::put_refuted;
+use event_execution::{Executing, begin_dispatched};
 use event_stream::laws::lines_have_one_reading;
 use execution_model::laws as execution_laws;
 use net_model::Network;
@@ -25,6 +24,7 @@ use std::alloc::{AllocError, Global};
 use std::marker::Model;
 use std::thread::Threads;
 use table_closing::Closed;
+use verdicts::{Verdict, dispatch_by};
 
 /// The execution of a network: the command `run` reads a plan, and puts `controllable` and the first due moment where a strategy controls
 /// its network, else `not controllable` and a certificate which `judge` accepts, and then it ends with 1. Over the lines of events that

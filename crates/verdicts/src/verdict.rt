@@ -89,11 +89,7 @@ pub fn refute<R: Threads + Sync, G: Gate>(
 }
 
 /// The dispatchable network of a controllable network by its closure. `AllocError` comes only for want of memory.
-pub fn dispatch_by(
-    alloc: Global,
-    net: &Network,
-    closed: &Closed,
-) -> Result<Dispatch, AllocError>
+pub fn dispatch_by(alloc: Global, net: &Network, closed: &Closed) -> Result<Dispatch, AllocError>
     requires { IsDispatchedByClosure net.now closed.now.table closed.now.order }
     ensures { IfOk result (IsDispatchOfClosure net.now) }
 {

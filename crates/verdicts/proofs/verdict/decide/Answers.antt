@@ -8,4 +8,4 @@ returns-in-Some g c =
     (refl, decided.0, decided.1, decided.2)
 
 pub refute-requires-clause-never : goal.refute-requires-clause-never
-refute-requires-clause-never g c = subst (IsDecidedByClosure c.args.net) c.in-None.is c.in_ok-closed.ensures
+refute-requires-clause-never g c = λ lifetimes lives. subst (IsDecidedByClosure c.args.net) c.in-None.is c.in_ok-closed.ensures

@@ -6,4 +6,4 @@ use Rattle.verdicts.proofs.verdict.refute.Goals as goal
 
 pub returns-in-Ok : goal.returns-in-Ok
 returns-in-Ok g c =
-    decides_no c.args.net c.in-Ok.certificate c.requires (subst (λ (session : State). Certifies session.net c.in-Ok.certificate) c.in_ok-session.ensures.opened.2 c.in-Ok.ensures.answers.1)
+    decides_no c.args.net c.in-Ok.certificate c.requires.never (subst (λ (session : State). Certifies session.net c.in-Ok.certificate) c.in_ok-session.ensures.opened.2 c.in-Ok.ensures.answers.1)
