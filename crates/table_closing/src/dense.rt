@@ -3,7 +3,6 @@ ghost use Rattle.closure_model.specs.Keys.{IsKey, shape_of, key_of, ordinary_key
 ghost use Rattle.closure_model.specs.Tables.{weight_of, with_edge, no_edges, has_at_most, lowered};
 ghost use Rattle.labelled_graph.specs.Words.{FitsWord, MeetsHeld};
 
-
 use labelled_graph::DenseRow;
 use net_model::{Edge, LinkId, Network, PointId, Weight};
 use std::alloc::{AllocError, Global};
