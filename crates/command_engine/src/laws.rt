@@ -41,7 +41,7 @@ pub fn broken_runs_are_fronts<C: Command>()
 /// puts, where the command ended it; the answers to the whole lines taken and `error read`, where a take failed; a front of these, where a
 /// put failed; and a front of the first, where there was no memory.
 pub fn bytes_are_exact<C: Command>()
-    ensures { IsSingle C.machine → (start : C) (status : Status) (before after : Seen)
+    ensures { (start : C) (status : Status) (before after : Seen)
         → Serves C.machine start status before after → BytesAreExact C.machine start status before after }
 {}
 

@@ -51,7 +51,8 @@ abbrev pub HasOneReply : Program → Type 0
 HasOneReply (serves machine start promise) = IsSingle machine
 HasOneReply (tells answers) = Unit {0}
 
--- for an input a program defines at most one pair of bytes and exit status: there is at most one reply to each line
+-- for an input a program defines at most one pair of bytes and exit status: there is at most one reply to each line (not asked of every
+-- command)
 pub record DefinesOne (program : Program) : Type 0 where
   pub one : (input a b : List ℕ) (x y : Status) → Defines program input a x → Defines program input b y → (a ≡ b) × (x ≡ y)
   pub single : HasOneReply program
@@ -59,6 +60,11 @@ pub record DefinesOne (program : Program) : Type 0 where
 -- whatever is asked, the program of it defines at most one pair for an input
 pub record EachDefinesOne {A : Type 0} (program : A → Program) : Type 0 where
   pub each : (asked : A) → DefinesOne (program asked)
+
+-- without an input a program defines at most one answer; of one that is served this says nothing
+abbrev pub TellsOne : Program → Type 0
+TellsOne (serves machine start promise) = Unit {0}
+TellsOne (tells answers) = DefinesOne (tells answers)
 
 -- the exit status after an answer was put, or a part of it
 abbrev pub written_number : TellingEnd → Written → ℕ

@@ -6,7 +6,7 @@ ghost use Rattle.stnu_run.specs.Checking.{check_answers, check_asked, check_synt
 ghost use Rattle.stnu_run.specs.Verdict.{IsVerdict};
 ghost use Rattle.stnu_run.specs.declared.verdict.Verdict.TheVariants.{Controllable};
 
-use crate::plan_asking::PlanQuestion;
+use crate::plan_asking::{OneAnswer, PlanQuestion};
 use crate::plan_input::{PlanForm, PlanInput};
 use crate::requests::Request;
 use crate::verdict::{Verdict, decide, put_controllable, put_proved, put_refuted};
@@ -103,7 +103,9 @@ impl PlanQuestion for Check {
     fn answers_keep_it() {}
 
     fn ends_by_an_answer() {}
+}
 
+impl OneAnswer for Check {
     fn answers_once() {}
 }
 

@@ -10,7 +10,7 @@ ghost use Rattle.stnu_run.specs.ToJudge.{judge_grammar};
 
 use crate::certificate_text::CertificateText;
 use crate::plan_input::{PlanForm, PlanInput};
-use crate::promising::Promising;
+use crate::promising::{OneRun, Promising};
 use crate::requests::Request;
 use cert_checker::laws::{accepted_controls, accepted_excludes};
 use cert_checker::{Judgement, judge};
@@ -90,7 +90,9 @@ impl Promising for Judging {
     fn ends_by_its_causes() {}
 
     fn keeps_it_without_memory() {}
+}
 
+impl OneRun for Judging {
     fn defines_one() {}
 }
 

@@ -13,7 +13,7 @@ ghost use Rattle.stnu_run.specs.Programs.{or_nothing};
 ghost use Rattle.stnu_run.specs.declared.plan_input.PlanForm.{PlanForm};
 
 use crate::plan_input::{PlanForm, PlanInput};
-use crate::promising::Promising;
+use crate::promising::{OneRun, Promising};
 use crate::requests::Request;
 use command_engine::{Asked, Question};
 use net_model::Network;
@@ -45,7 +45,10 @@ pub trait PlanQuestion: Question<Network> + Request {
     /// The law that what is put for a network ends the run by an answer.
     fn ends_by_an_answer()
         ensures { (question : Self) (net : Plan) (put : List ℕ) (end : End) → puts question net put end → IsAnswer end };
+}
 
+/// A question about the network of a plan to which a network has at most one answer.
+pub trait OneAnswer: PlanQuestion {
     /// The law that a network has at most one answer.
     fn answers_once()
         ensures { IsSingleAnswer Self.answers };
@@ -77,7 +80,9 @@ impl<Q: PlanQuestion> Promising for Asked<Q, PlanInput> {
     }
 
     fn keeps_it_without_memory() {}
+}
 
+impl<Q: OneAnswer> OneRun for Asked<Q, PlanInput> {
     fn defines_one() {
         Q::answers_once();
     }

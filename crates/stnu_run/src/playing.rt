@@ -10,7 +10,7 @@ ghost use Rattle.stnu_run.specs.Verdict.{IsVerdict};
 ghost use Rattle.stnu_run.specs.Which.{situation_of};
 ghost use Rattle.stnu_run.specs.declared.verdict.Verdict.TheVariants.{Controllable};
 
-use crate::plan_asking::PlanQuestion;
+use crate::plan_asking::{OneAnswer, PlanQuestion};
 use crate::plan_input::{PlanForm, PlanInput};
 use crate::requests::Request;
 use crate::running::dispatch_by;
@@ -112,7 +112,9 @@ impl PlanQuestion for Play {
     fn answers_keep_it() {}
 
     fn ends_by_an_answer() {}
+}
 
+impl OneAnswer for Play {
     fn answers_once() {
         at_most_one_earliest();
     }

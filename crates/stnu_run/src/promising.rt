@@ -44,10 +44,13 @@ pub trait Promising: Command {
     fn keeps_it_without_memory()
         ensures { (asked : Self.Request) (input untaken put : List ℕ) (pieces : List Piece)
             → BreaksForMemory Self.machine (start asked) input untaken put pieces → (put ≡ []) ⊎ (promise asked).without_memory input put };
+}
 
+/// A command of which an input has at most one run.
+pub trait OneRun: Promising {
     /// The law that an input has at most one run: one pair of bytes and exit status.
     fn defines_one()
-        ensures { EachDefinesOne (λ asked. serves Self.machine (start asked) (promise asked)) };
+        ensures { EachDefinesOne (λ asked. serves Self.machine (Self.start asked) (Self.promise asked)) };
 }
 
 /// Serves a command over a port as the words after that of the command ask, or refuses the words. Where there is no memory to read them,

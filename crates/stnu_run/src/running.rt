@@ -13,7 +13,7 @@ ghost use Rattle.stnu_run.specs.Running.{run_asked, run_begins, run_start, run_s
 use crate::event_answers::put_due;
 use crate::executing::Executing;
 use crate::plan_input::{PlanForm, PlanInput};
-use crate::promising::Promising;
+use crate::promising::{OneRun, Promising};
 use crate::requests::Request;
 use crate::verdict::{Verdict, decide, put_refuted};
 use crate::workers::Workers;
@@ -116,7 +116,9 @@ impl Promising for Running {
     fn ends_by_its_causes() {}
 
     fn keeps_it_without_memory() {}
+}
 
+impl OneRun for Running {
     fn defines_one() {
         lines_have_one_reading();
     }

@@ -12,7 +12,7 @@ use crate::editing::Editing;
 use crate::executing::Executing;
 use crate::faults::{Fault, stop_fault};
 use crate::plan_input::{PlanForm, PlanInput};
-use crate::promising::Promising;
+use crate::promising::{OneRun, Promising};
 use crate::requests::Request;
 use crate::running::begin_dispatched;
 use crate::verdict::push_verdict;
@@ -170,7 +170,9 @@ impl Promising for SessionCommand {
     fn ends_by_its_causes() {}
 
     fn keeps_it_without_memory() {}
+}
 
+impl OneRun for SessionCommand {
     fn defines_one() {
         sessions_open_in_one_way();
         edits_are_followed_in_one_way();

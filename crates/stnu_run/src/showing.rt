@@ -10,7 +10,7 @@ ghost use Rattle.net_model.specs.declared.part.Link.{Link};
 ghost use Rattle.plan_format.specs.PlanParts.{end_words};
 ghost use Rattle.stnu_run.specs.Showing.{PutsPlan, ShowPromise, show_answers, show_asked, show_syntax};
 
-use crate::plan_asking::PlanQuestion;
+use crate::plan_asking::{OneAnswer, PlanQuestion};
 use crate::plan_input::{PlanForm, PlanInput};
 use crate::requests::Request;
 use command_engine::{Answer, Asked, End, Question, Word};
@@ -91,7 +91,9 @@ impl PlanQuestion for Show {
     fn answers_keep_it() {}
 
     fn ends_by_an_answer() {}
+}
 
+impl OneAnswer for Show {
     fn answers_once() {}
 }
 

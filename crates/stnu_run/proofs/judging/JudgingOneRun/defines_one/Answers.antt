@@ -9,7 +9,7 @@ use Rattle.stnu_run.specs.Programs.{or_nothing}
 use Rattle.stnu_run.specs.ToJudge.{judge_grammar}
 use Rattle.stnu_run.proofs.JudgeLemmas.{judge_answers_once}
 use Rattle.stnu_run.proofs.ProgramLemmas.{asked_defines_one}
-use Rattle.stnu_run.proofs.judging.JudgingPromising.defines_one.Goals as goal
+use Rattle.stnu_run.proofs.judging.JudgingOneRun.defines_one.Goals as goal
 
 pub returns : goal.returns
 returns c = record { each = λ judge. asked_defines_one judge_answers (then_reader input_reader certificate_reader) refusing (judge_start judge) (or_nothing (text_causes (judge_grammar judge.form)) (JudgePromise judge.form)) judge_answers_once }

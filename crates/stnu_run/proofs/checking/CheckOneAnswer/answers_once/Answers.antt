@@ -1,5 +1,5 @@
 use Rattle.stnu_run.proofs.RefutationLemmas.{check_answers_once}
-use Rattle.stnu_run.proofs.checking.CheckPlanQuestion.answers_once.Goals as goal
+use Rattle.stnu_run.proofs.checking.CheckOneAnswer.answers_once.Goals as goal
 
 pub returns : goal.returns
 returns c = check_answers_once

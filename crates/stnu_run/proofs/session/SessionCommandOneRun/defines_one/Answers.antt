@@ -4,7 +4,7 @@ use Rattle.stnu_run.specs.SessionPromise.{session_promise}
 use Rattle.stnu_run.specs.Sessions.{session_begins, session_machine, session_start}
 use Rattle.stnu_run.proofs.ProgramLemmas.{text_then_phase_defines_one}
 use Rattle.stnu_run.proofs.SessionOnceLemmas.{OneWay, session_begins_once, session_single}
-use Rattle.stnu_run.proofs.session.SessionCommandPromising.defines_one.Goals as goal
+use Rattle.stnu_run.proofs.session.SessionCommandOneRun.defines_one.Goals as goal
 
 pub returns : goal.returns
 returns c =
