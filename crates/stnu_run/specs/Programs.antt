@@ -128,3 +128,12 @@ pub record HasCauses (program : Program) (status : Status) (before after : Seen)
   pub write : status.0 ≡ 6 → after.write_faults ≡ raised before.write_faults
   pub memory : status.0 ≡ 8 → (after.read_faults ≡ before.read_faults) × (after.write_faults ≡ before.write_faults)
   pub others : ¬ (status.0 ≡ 5) → ¬ (status.0 ≡ 6) → ¬ (status.0 ≡ 8) → (after.read_faults ≡ before.read_faults) × (after.write_faults ≡ before.write_faults) × MayEndWith program status.0
+
+-- The program ran over a port and ended with this exit status, in four parts. `served`: what was taken and put, and when, is what the
+-- program defines. `kept`: what its command promises is kept. `causes`: the status has its cause. `memory`: where it ended for want of
+-- memory, nothing was put, or what its command promises for that.
+pub record RunsAs (program : Program) (status : Status) (before after : Seen) : Type 0 where
+  pub served : ServesProgram program status before after
+  pub kept : KeepsPromise program status before after
+  pub causes : HasCauses program status before after
+  pub memory : KeepsWithoutMemory program status before after
