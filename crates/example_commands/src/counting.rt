@@ -88,7 +88,7 @@ impl Refusal for CountFault {
 pub struct HowMany;
 
 impl Question<u32> for HowMany {
-    ghost answers = { AnswersHowMany };
+    ghost answers = { λ question lines number. AnswersHowMany question lines };
 
     fn answer<R: Threads + Sync>(
         self,
@@ -96,6 +96,7 @@ impl Question<u32> for HowMany {
         _alloc: Global,
         answer: &mut Answer,
         lines: u32,
+        _number: u32,
     ) -> Result<End, AllocError> {
         answer.push_line(&[Word::Text("lines"), Word::Number(u64::from(lines))])?;
         Ok(End::Done)
@@ -107,7 +108,7 @@ impl Question<u32> for HowMany {
 pub struct HowManyEach;
 
 impl Question<(u32, u32)> for HowManyEach {
-    ghost answers = { AnswersHowManyEach };
+    ghost answers = { λ question lines number. AnswersHowManyEach question lines };
 
     fn answer<R: Threads + Sync>(
         self,
@@ -115,6 +116,7 @@ impl Question<(u32, u32)> for HowManyEach {
         _alloc: Global,
         answer: &mut Answer,
         lines: (u32, u32),
+        _number: u32,
     ) -> Result<End, AllocError> {
         let (first, second) = lines;
         let last = Word::Number(u64::from(second));

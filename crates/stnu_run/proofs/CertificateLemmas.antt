@@ -20,10 +20,10 @@ use Rattle.command_engine.proofs.GrammarLemmas.{IsOnce, KeepsTo, reads_by}
 use Rattle.command_engine.proofs.LeadLemmas.{stands_by}
 use Rattle.stnu_run.specs.CertificateTexts.{certificate_begun, certificate_step, certificate_reader}
 use Rattle.stnu_run.specs.ToJudge.{IsCertificateFault, certificate_texts}
-use Rattle.stnu_run.specs.ToRead.{RefusesFormat}
+use Rattle.common_answers.specs.ToRead.{RefusesFormat}
 use Rattle.stnu_run.specs.declared.certificate_text.CertificateText.{CertificateText}
-use Rattle.stnu_run.specs.declared.faults.Fault.{Fault}
-use Rattle.stnu_run.specs.declared.faults.Fault.TheVariants.{Format}
+use Rattle.common_answers.specs.declared.faults.Fault.{Fault}
+use Rattle.common_answers.specs.declared.faults.Fault.TheVariants.{Format}
 
 -- ---- where the reading stands: the lines are the front of a certificate
 abbrev Stands : List (List ℕ) → CertificateText → Type 0

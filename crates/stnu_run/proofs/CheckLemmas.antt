@@ -9,8 +9,8 @@ use Rattle.command_engine.specs.declared.endings.End.{End}
 use Rattle.stnu_run.specs.Verdict.{controllable_line}
 use Rattle.stnu_run.specs.CheckPromise.{CheckPromise, PutsVerdict}
 use Rattle.stnu_run.specs.Checking.{PutsYes}
-use Rattle.stnu_run.specs.Faults.{refusing}
-use Rattle.stnu_run.specs.PlanInput.{plan_in}
+use Rattle.common_answers.specs.Faults.{refusing}
+use Rattle.plan_inputs.specs.PlanInput.{plan_in}
 use Rattle.stnu_run.specs.declared.checking.CheckFlags.{CheckFlags}
 use Rattle.stnu_run.proofs.DecidedLemmas.{after_line, yes_by, refutes_by}
 

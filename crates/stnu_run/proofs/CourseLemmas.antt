@@ -22,11 +22,11 @@ use Rattle.stnu_run.specs.Day.{ListLines}
 use Rattle.stnu_run.specs.EventAnswers.{acts_text, due_line}
 use Rattle.stnu_run.specs.EventFaults.{IsNextFault}
 use Rattle.stnu_run.specs.Executing.{executing_machine}
-use Rattle.stnu_run.specs.Faults.{fault_end}
+use Rattle.common_answers.specs.Faults.{fault_end}
 use Rattle.command_engine.specs.Inputs.{texts, room_after}
-use Rattle.stnu_run.specs.ToRead.{Come}
-use Rattle.stnu_run.specs.declared.faults.Fault.{Fault}
-use Rattle.stnu_run.specs.declared.faults.Fault.TheVariants.{Format, LineTooLong as LongLine, InputTooMuch as MuchInput}
+use Rattle.common_answers.specs.ToRead.{Come}
+use Rattle.common_answers.specs.declared.faults.Fault.{Fault}
+use Rattle.common_answers.specs.declared.faults.Fault.TheVariants.{Format, LineTooLong as LongLine, InputTooMuch as MuchInput}
 use Rattle.stnu_run.proofs.EventLemmas.{at, EndsBy, no_line, too_long, too_much, one_blank, one_feed, one_refused, one_done, one_unfinished, one_fault}
 
 -- ---- lists of feeds

@@ -26,9 +26,9 @@ use Rattle.stnu_run.specs.Course.{Course}
 use Rattle.stnu_run.specs.EventAnswers.{acts_text, due_line, complete_line, why_words, unfinished_words, event_line, event_fault_line}
 use Rattle.stnu_run.specs.EventFaults.{event_refusal}
 use Rattle.stnu_run.specs.Executing.{RefusesEvent, AnswersFeed, AnswersEnd, AnswersEvent, TakesEvent, executing_machine}
-use Rattle.stnu_run.specs.Faults.{fault_end}
-use Rattle.stnu_run.specs.declared.faults.Fault.{Fault}
-use Rattle.stnu_run.specs.declared.faults.Fault.TheVariants.{Format, LineTooLong as LongLine, InputTooMuch as MuchInput}
+use Rattle.common_answers.specs.Faults.{fault_end}
+use Rattle.common_answers.specs.declared.faults.Fault.{Fault}
+use Rattle.common_answers.specs.declared.faults.Fault.TheVariants.{Format, LineTooLong as LongLine, InputTooMuch as MuchInput}
 use Rattle.stnu_run.proofs.ReplyLemmas.{Continues, Replied, replied, last_reply}
 
 -- where the execution of a network stands in a run

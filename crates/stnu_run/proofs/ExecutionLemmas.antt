@@ -33,11 +33,11 @@ use Rattle.stnu_run.specs.EventAnswers.{acts_text, due_line, complete_line, why_
 use Rattle.stnu_run.specs.EventFaults.{event_refusal, IsNextFault, HasEventFault}
 use Rattle.stnu_run.specs.Executing.{executing_machine}
 use Rattle.stnu_run.specs.ExecutionPromise.{PutsLast, IsRefusedBy, EndsRefused, ExecutionPromise}
-use Rattle.stnu_run.specs.Faults.{fault_end}
+use Rattle.common_answers.specs.Faults.{fault_end}
 use Rattle.stnu_run.specs.Verdict.{controllable_line}
 use Rattle.plan_json.specs.declared.fault.JsonFault.TheVariants as json
-use Rattle.stnu_run.specs.declared.faults.Fault.{Fault}
-use Rattle.stnu_run.specs.declared.faults.Fault.TheVariants.{Format, Part, Document, DocumentTooLong, LineTooLong, InputTooMuch}
+use Rattle.common_answers.specs.declared.faults.Fault.{Fault}
+use Rattle.common_answers.specs.declared.faults.Fault.TheVariants.{Format, Part, Document, DocumentTooLong, LineTooLong, InputTooMuch}
 use Rattle.stnu_run.proofs.CourseLemmas.{OverEvents, over_events, Decides, IsDecided, EndsAt, ends_so, fault_there}
 use Rattle.stnu_run.proofs.DayLemmas.{ExecutionLaws, lists_within, puts_listings, all_come, acts_left, faithful_fed, fed_faithful, taken_faithful, closed_faithful, faithful_closed, unfaithful_there, whole_there}
 use Rattle.stnu_run.proofs.DueLemmas.{fed_by, due_answered}

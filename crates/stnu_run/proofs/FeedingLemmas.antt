@@ -24,8 +24,8 @@ use Rattle.command_engine.specs.declared.machines.Onward.TheVariants.{Ends}
 use Rattle.stnu_run.specs.Course.{Course}
 use Rattle.stnu_run.specs.EventAnswers.{why_words, event_line, event_fault_line, NamesPoints}
 use Rattle.stnu_run.specs.Executing.{AnswersEvent, EndsAmong, TakesEvent}
-use Rattle.stnu_run.specs.Faults.{fault_end}
-use Rattle.stnu_run.specs.declared.faults.Fault.TheVariants.{Format}
+use Rattle.common_answers.specs.Faults.{fault_end}
+use Rattle.common_answers.specs.declared.faults.Fault.TheVariants.{Format}
 use Rattle.stnu_run.proofs.CauseLemmas.{IsActOf, acts_while_of_points, fed_acts_of_points, open_point, cause_names}
 
 -- ---- feeds

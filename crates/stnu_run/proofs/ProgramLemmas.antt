@@ -5,7 +5,7 @@ use Rattle.command_engine.specs.Endings.{end_number}
 use Rattle.command_engine.specs.Machine.{Machine}
 use Rattle.command_engine.specs.Phases.{text_then_phase_machine}
 use Rattle.command_engine.specs.Reading.{Reader, Refusing}
-use Rattle.command_engine.specs.Single.{IsSingle, IsSingleAnswer}
+use Rattle.command_engine.specs.Single.{IsSingle, IsSingleAnswer, IsSingleAtLine}
 use Rattle.command_engine.specs.declared.asking.Asked.{Asked}
 use Rattle.command_engine.specs.declared.endings.End.{End}
 use Rattle.command_engine.specs.declared.machines.Onward.{Onward}
@@ -29,7 +29,7 @@ single_defines_one machine start promise single = record {
 }
 
 -- a command that asks defines one where its question has at most one answer
-pub asked_defines_one : {Q S V F : Type 0} (answers : Q → V → List ℕ → End → Type 0) (reader : Reader S V F) (refusing : Refusing F) (start : Asked Q S) (promise : Promise) → IsSingleAnswer answers → DefinesOne (serves (asked_machine answers reader refusing) start promise)
+pub asked_defines_one : {Q S V F : Type 0} (answers : Q → V → ℕ → List ℕ → End → Type 0) (reader : Reader S V F) (refusing : Refusing F) (start : Asked Q S) (promise : Promise) → IsSingleAtLine answers → DefinesOne (serves (asked_machine answers reader refusing) start promise)
 asked_defines_one answers reader refusing start promise single =
     single_defines_one (asked_machine answers reader refusing) start promise (asked_single answers reader refusing single)
 

@@ -8,7 +8,7 @@ use Rattle.command_engine.specs.Runs.{Here, after_line, RepliesTo, Replies, Answ
 use Rattle.command_engine.specs.declared.endings.End.{End}
 use Rattle.command_engine.specs.declared.machines.Onward.{Onward}
 use Rattle.command_engine.specs.declared.machines.Onward.TheVariants.{Goes, Ends}
-use Rattle.stnu_run.specs.ToRead.{Come}
+use Rattle.common_answers.specs.ToRead.{Come}
 
 module _ {C : Type 0} (machine : Machine C) where
   -- the first line is answered, and the run goes on over the others

@@ -31,8 +31,8 @@ use Rattle.stnu_run.specs.Verdict.{controllable_line}
 use Rattle.stnu_run.specs.Course.{Course}
 use Rattle.stnu_run.specs.EventAnswers.{acts_text, due_line, event_fault_line}
 use Rattle.stnu_run.specs.Executing.{AnswersFeed, AnswersEnd, AnswersEvent, TakesEvent, executing_machine}
-use Rattle.stnu_run.specs.Faults.{fault_end}
-use Rattle.stnu_run.specs.declared.faults.Fault.TheVariants.{Format}
+use Rattle.common_answers.specs.Faults.{fault_end}
+use Rattle.common_answers.specs.declared.faults.Fault.TheVariants.{Format}
 use Rattle.stnu_run.specs.Running.{run_begins, BeginsExecution, EndsRefuted}
 use Rattle.stnu_run.proofs.RefutationLemmas.{decided_once}
 

@@ -28,14 +28,14 @@ use Rattle.command_engine.specs.declared.machines.Onward.TheVariants.{Goes, Ends
 use Rattle.command_engine.proofs.WrapLemmas.{Wraps, served_lines, served_run}
 use Rattle.stnu_run.specs.EventAnswers.{due_line}
 use Rattle.stnu_run.specs.Executing.{executing_machine}
-use Rattle.stnu_run.specs.Faults.{fault_line, fault_end}
+use Rattle.common_answers.specs.Faults.{fault_line, fault_end}
 use Rattle.stnu_run.specs.SessionPromise.{accepted_or, net_after, StillEdits, TellSteps, SaysSteps, IsStepFault}
 use Rattle.stnu_run.specs.Sessions.{net_of, SaysStep, StandsAfterEdit, StandsAfter, EditsOn, BeginsByGo, AnswersStep, session_machine}
 use Rattle.stnu_run.specs.Standing.{Standing}
-use Rattle.stnu_run.specs.ToRead.{Come}
+use Rattle.common_answers.specs.ToRead.{Come}
 use Rattle.stnu_run.specs.Verdict.{controllable_line}
-use Rattle.stnu_run.specs.declared.faults.Fault.{Fault}
-use Rattle.stnu_run.specs.declared.faults.Fault.TheVariants.{Format, LineTooLong as LongLine, InputTooMuch as MuchInput}
+use Rattle.common_answers.specs.declared.faults.Fault.{Fault}
+use Rattle.common_answers.specs.declared.faults.Fault.TheVariants.{Format, LineTooLong as LongLine, InputTooMuch as MuchInput}
 use Rattle.stnu_run.specs.declared.session.InSession.{InSession}
 use Rattle.stnu_run.specs.declared.session.InSession.TheVariants.{Editing, Executing}
 use Rattle.stnu_run.proofs.EventLemmas.{at}

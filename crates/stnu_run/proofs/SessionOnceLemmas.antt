@@ -25,13 +25,13 @@ use Rattle.command_engine.specs.declared.machines.Onward.TheVariants.{Goes, Ends
 use Rattle.command_engine.specs.declared.machines.Stop.{Stop}
 use Rattle.command_engine.proofs.PhaseLemmas.{within_same}
 use Rattle.stnu_run.specs.Executing.{executing_machine}
-use Rattle.stnu_run.specs.Faults.{fault_line, fault_end}
+use Rattle.common_answers.specs.Faults.{fault_line, fault_end}
 use Rattle.stnu_run.specs.Running.{BeginsExecution}
 use Rattle.stnu_run.specs.SessionAnswers.{ready_line, table_text}
 use Rattle.stnu_run.specs.SessionPromise.{SaysSteps, SaysAll}
 use Rattle.stnu_run.specs.Sessions.{net_of, SaysEdit, SaysVerdict, SaysProof, SaysTable, SaysStep, StandsEdited, StandsAfterEdit, StandsAfter, EditsOn, BeginsByGo, AnswersStep, TakesStep, session_machine, OpensOn, session_begins}
 use Rattle.stnu_run.specs.Standing.{Standing}
-use Rattle.stnu_run.specs.declared.faults.Fault.TheVariants.{Format}
+use Rattle.common_answers.specs.declared.faults.Fault.TheVariants.{Format}
 use Rattle.stnu_run.specs.declared.session.InSession.{InSession}
 use Rattle.stnu_run.specs.declared.session.InSession.TheVariants.{Editing, Executing}
 use Rattle.table_proofs.proofs.LawProofs.{certificates_are_one}

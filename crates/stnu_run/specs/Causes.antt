@@ -11,8 +11,8 @@ use Rattle.stnu_run.specs.Due.{IsFedBy}
 use Rattle.stnu_run.specs.EventAnswers.{event_line}
 use Rattle.stnu_run.specs.EventFaults.{HasEventFault, event_refusal}
 use Rattle.stnu_run.specs.ExecutionPromise.{IsRefusedBy, PutsLast}
-use Rattle.stnu_run.specs.Faults.{fault_end, fault_line}
-use Rattle.stnu_run.specs.declared.faults.Fault.{Fault}
+use Rattle.common_answers.specs.Faults.{fault_end, fault_line}
+use Rattle.common_answers.specs.declared.faults.Fault.{Fault}
 
 -- a run ends by an answer: it is done, or refused by what the command was asked
 abbrev pub IsAnswer : End → Type 0

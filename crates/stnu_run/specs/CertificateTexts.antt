@@ -11,9 +11,9 @@ use Rattle.texts.specs.Limits.{most_line}
 use Rattle.command_engine.specs.Reading.{Reader}
 use Rattle.command_engine.specs.declared.reading.Step.{Step}
 use Rattle.command_engine.specs.declared.reading.Step.TheVariants.{Goes, Gives, Refused}
-use Rattle.stnu_run.specs.Faults.{stop_fault}
-use Rattle.stnu_run.specs.declared.faults.Fault.{Fault}
-use Rattle.stnu_run.specs.declared.faults.Fault.TheVariants.{Format}
+use Rattle.common_answers.specs.Faults.{stop_fault}
+use Rattle.common_answers.specs.declared.faults.Fault.{Fault}
+use Rattle.common_answers.specs.declared.faults.Fault.TheVariants.{Format}
 use Rattle.stnu_run.specs.declared.certificate_text.CertificateText.{CertificateText}
 
 -- before the first line

@@ -17,7 +17,7 @@ use Rattle.command_engine.specs.declared.endings.End.{End}
 use Rattle.command_engine.specs.declared.endings.End.TheVariants.{Done}
 use Rattle.stnu_run.specs.Due.{moment_after, AnswersDue}
 use Rattle.stnu_run.specs.EventAnswers.{acts_text, due_line, complete_line}
-use Rattle.stnu_run.specs.ToRead.{Come}
+use Rattle.common_answers.specs.ToRead.{Come}
 use Rattle.stnu_run.specs.Verdict.{controllable_line}
 
 -- these lines of events list a stream that goes on

@@ -12,8 +12,8 @@ use Rattle.net_model.specs.declared.format.FormatKind.TheVariants.{NumberLimit}
 use Rattle.execution_model.specs.declared.feeding.Act.{Act}
 use Rattle.execution_model.specs.declared.feeding.Why.{Why}
 use Rattle.execution_model.specs.declared.feeding.Why.TheVariants as why
-use Rattle.stnu_run.specs.Faults.{fault_line}
-use Rattle.stnu_run.specs.declared.faults.Fault.TheVariants.{Format}
+use Rattle.common_answers.specs.Faults.{fault_line}
+use Rattle.common_answers.specs.declared.faults.Fault.TheVariants.{Format}
 
 -- the line of an act
 abbrev pub act_line : Plan → Act → List ℕ

@@ -14,9 +14,9 @@ use Rattle.command_engine.specs.Inputs.{room_after}
 use Rattle.command_engine.specs.Limits.{most_input}
 use Rattle.stnu_run.specs.Day.{Opening, IsUnderway}
 use Rattle.stnu_run.specs.EventAnswers.{event_fault_line}
-use Rattle.stnu_run.specs.Faults.{fault_line}
-use Rattle.stnu_run.specs.declared.faults.Fault.{Fault}
-use Rattle.stnu_run.specs.declared.faults.Fault.TheVariants.{Format, LineTooLong, InputTooMuch}
+use Rattle.common_answers.specs.Faults.{fault_line}
+use Rattle.common_answers.specs.declared.faults.Fault.{Fault}
+use Rattle.common_answers.specs.declared.faults.Fault.TheVariants.{Format, LineTooLong, InputTooMuch}
 
 -- the line that is put for a fault of lines of events
 abbrev pub event_refusal : Fault → List ℕ

@@ -19,8 +19,8 @@ use Rattle.command_engine.specs.declared.machines.Onward.{Onward}
 use Rattle.command_engine.specs.declared.machines.Onward.TheVariants.{Goes, Ends}
 use Rattle.stnu_run.specs.Course.{Course}
 use Rattle.stnu_run.specs.EventAnswers.{acts_text, due_line, complete_line, NamesPoints, why_words, unfinished_words, event_line, event_fault_line, most_act}
-use Rattle.stnu_run.specs.Faults.{fault_line, fault_end, stop_fault}
-use Rattle.stnu_run.specs.declared.faults.Fault.TheVariants.{Format}
+use Rattle.common_answers.specs.Faults.{fault_line, fault_end, stop_fault}
+use Rattle.common_answers.specs.declared.faults.Fault.TheVariants.{Format}
 
 -- an event is refused: its line is put, and the run ends so
 abbrev pub RefusesEvent : ℕ → List (List ℕ) → List ℕ → Onward Course → Type 0

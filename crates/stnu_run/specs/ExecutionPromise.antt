@@ -15,8 +15,8 @@ use Rattle.stnu_run.specs.Day.{Opening, IsUnderway, IsWholeDay, IsRefusedDay, nu
 use Rattle.stnu_run.specs.Due.{IsFedBy}
 use Rattle.stnu_run.specs.EventAnswers.{why_words, unfinished_words, event_line}
 use Rattle.stnu_run.specs.EventFaults.{HasEventFault, event_refusal}
-use Rattle.stnu_run.specs.Faults.{fault_end}
-use Rattle.stnu_run.specs.declared.faults.Fault.{Fault}
+use Rattle.common_answers.specs.Faults.{fault_end}
+use Rattle.common_answers.specs.declared.faults.Fault.{Fault}
 
 -- this line is put last
 abbrev pub PutsLast : (line put : List ℕ) → Type 0

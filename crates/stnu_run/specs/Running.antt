@@ -18,11 +18,11 @@ use Rattle.command_engine.specs.declared.phases.TextThenPhase.TheVariants.{Readi
 use Rattle.stnu_run.specs.Course.{Course}
 use Rattle.stnu_run.specs.EventAnswers.{due_line}
 use Rattle.stnu_run.specs.Executing.{executing_machine}
-use Rattle.stnu_run.specs.Faults.{refusing}
-use Rattle.stnu_run.specs.PlanInput.{PlanInput, input_begun, input_reader}
+use Rattle.common_answers.specs.Faults.{refusing}
+use Rattle.plan_inputs.specs.PlanInput.{PlanInput, input_begun, input_reader}
 use Rattle.stnu_run.specs.PlanWords.{asked_form, plan_words}
 use Rattle.stnu_run.specs.Verdict.{controllable_line, PutsRefuted, Decides}
-use Rattle.stnu_run.specs.declared.plan_input.PlanForm.{PlanForm}
+use Rattle.plan_inputs.specs.declared.plan_input.PlanForm.{PlanForm}
 
 -- the beginning of an execution: it is put that the network is controllable, and the first due moment; and it is executed by the lower
 -- bounds and waits of its closure

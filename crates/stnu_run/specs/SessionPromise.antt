@@ -22,16 +22,16 @@ use Rattle.stnu_run.specs.Causes.{Causes, IsTextRefused, IsDayRefused}
 use Rattle.stnu_run.specs.Day.{Opening, IsWholeDay, IsRefusedDay}
 use Rattle.stnu_run.specs.EventFaults.{HasEventFault}
 use Rattle.stnu_run.specs.ExecutionPromise.{PutsLast, ExecutionPromise}
-use Rattle.stnu_run.specs.Faults.{refusing, fault_line, fault_end}
-use Rattle.stnu_run.specs.PlanInput.{plan_in}
+use Rattle.common_answers.specs.Faults.{refusing, fault_line, fault_end}
+use Rattle.plan_inputs.specs.PlanInput.{plan_in}
 use Rattle.stnu_run.specs.Programs.{Program, Promise, serves}
 use Rattle.stnu_run.specs.SessionAnswers.{ready_line}
 use Rattle.stnu_run.specs.Sessions.{SaysStep, StandsAfter, OpensOn, command_machine, session_start}
 use Rattle.stnu_run.specs.Standing.{Standing}
-use Rattle.stnu_run.specs.ToRead.{Come}
-use Rattle.stnu_run.specs.declared.faults.Fault.{Fault}
-use Rattle.stnu_run.specs.declared.faults.Fault.TheVariants.{Format, LineTooLong, InputTooMuch}
-use Rattle.stnu_run.specs.declared.plan_input.PlanForm.{PlanForm}
+use Rattle.common_answers.specs.ToRead.{Come}
+use Rattle.common_answers.specs.declared.faults.Fault.{Fault}
+use Rattle.common_answers.specs.declared.faults.Fault.TheVariants.{Format, LineTooLong, InputTooMuch}
+use Rattle.plan_inputs.specs.declared.plan_input.PlanForm.{PlanForm}
 
 -- ---- the lines of a session while its network is edited
 -- the network of an edit that is accepted, else the one before it

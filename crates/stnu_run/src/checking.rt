@@ -7,7 +7,7 @@ ghost use Rattle.stnu_run.specs.Verdict.{IsVerdict};
 ghost use Rattle.stnu_run.specs.declared.verdict.Verdict.TheVariants.{Controllable};
 
 use crate::plan_asking::{OneAnswer, PlanQuestion};
-use crate::plan_input::{PlanForm, PlanInput};
+use plan_inputs::{PlanForm, PlanInput, PlanNetwork};
 use crate::requests::Request;
 use crate::verdict::{Verdict, decide, put_controllable, put_proved, put_refuted};
 use crate::workers::Workers;
@@ -46,17 +46,18 @@ impl Model for Check {
     ghost view = { λ check. check.flags };
 }
 
-impl Question<Network> for Check {
-    ghost answers = { check_answers };
+impl Question<PlanNetwork> for Check {
+    ghost answers = { λ check net number. check_answers check net };
 
     fn answer<R: Threads + Sync>(
         self,
         rt: &R,
         alloc: Global,
         answer: &mut Answer,
-        value: Network,
+        value: PlanNetwork,
+        _number: u32,
     ) -> Result<End, AllocError> {
-        put_verdict(rt, alloc, answer, value, &self)
+        put_verdict(rt, alloc, answer, value.into_network(), &self)
     }
 }
 
@@ -90,7 +91,7 @@ pub type Checking = Asked<Check, PlanInput>;
 impl PlanQuestion for Check {
     ghost form = { λ flags. flags.form };
 
-    ghost puts = { PutsVerdict };
+    ghost puts = { λ flags net number. PutsVerdict flags net };
 
     ghost promised = { CheckPromise };
 

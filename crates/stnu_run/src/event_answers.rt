@@ -9,10 +9,10 @@ ghost use Rattle.command_engine.specs.Words.{most_word, word_text};
 ghost use Rattle.command_engine.specs.declared.endings.End.TheVariants.{EventRefused};
 ghost use Rattle.net_model.specs.NetworkParts.{point_name};
 ghost use Rattle.stnu_run.specs.EventAnswers.{acts_text, act_line, due_line, complete_line, most_act, NamesPoints, why_words, unfinished_words, event_line, event_fault_line};
-ghost use Rattle.stnu_run.specs.Faults.{fault_end};
-ghost use Rattle.stnu_run.specs.declared.faults.Fault.TheVariants.{Format};
+ghost use Rattle.common_answers.specs.Faults.{fault_end};
+ghost use Rattle.common_answers.specs.declared.faults.Fault.TheVariants.{Format};
 
-use crate::faults::Fault;
+use common_answers::Fault;
 use command_engine::{Answer, End, Refusal, Word};
 use execution_model::{Act, MOST_MOMENT, Why};
 use net_model::{FormatKind, Network, PointId};

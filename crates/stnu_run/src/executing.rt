@@ -12,7 +12,7 @@ ghost use Rattle.stnu_run.specs.Executing.{executing_machine, answer_room, Answe
 use crate::event_answers::{
     MOST_ACT, put_acts, put_complete, put_due, refuse_end, refuse_event, refuse_line,
 };
-use crate::faults::stop_fault;
+use common_answers::stop_fault;
 use command_engine::{Answer, Command, End, LEAST_ROOM, Onward, Refusal, Stop};
 use dispatch_net::Dispatch;
 use event_stream::{Event, EventReader};

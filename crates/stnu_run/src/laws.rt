@@ -11,12 +11,12 @@ ghost use Rattle.stnu_run.specs.Requests.{asked_by};
 ghost use Rattle.stnu_run.specs.Running.{run_asked, run_syntax};
 ghost use Rattle.stnu_run.specs.Sessions.{session_asked, session_syntax};
 ghost use Rattle.stnu_run.specs.Showing.{show_asked, show_syntax};
-ghost use Rattle.stnu_run.specs.WordLaws.{AreTaken, DefineSame, DefineSameWhereTaken, SameRuns, SayCheckFlags, SayForge, SayFormAndWorkers, SayForms, SayPlay, form_words};
+ghost use Rattle.stnu_run.specs.WordLaws.{AreTaken, DefineSame, DefineSameWhereTaken, SameRuns, SayCheckFlags, SayForge, SayForm, SayFormAndWorkers, SayForms, SayPlay};
 ghost use Rattle.stnu_run.specs.Workers.{SpellsWorkers, WorkersDecideNothing};
 ghost use Rattle.stnu_run.specs.declared.checking.CheckFlags.{CheckFlags};
 ghost use Rattle.stnu_run.specs.declared.forging.ForgeWords.{ForgeWords};
 ghost use Rattle.stnu_run.specs.declared.judging.Judge.{Judge};
-ghost use Rattle.stnu_run.specs.declared.plan_input.PlanForm.{PlanForm};
+ghost use Rattle.plan_inputs.specs.declared.plan_input.PlanForm.{PlanForm};
 ghost use Rattle.stnu_run.specs.declared.playing.PlayWords.{PlayWords};
 ghost use Rattle.stnu_run.specs.declared.showing.Show.{Show};
 ghost use Rattle.stnu_run.specs.declared.status.Status.{Status};
@@ -51,9 +51,9 @@ pub(crate) fn words_are_lawful()
     each_is_lawful();
 }
 
-/// The words after `judge` are its own exactly where there are none, or where the one word is `--json`, by which the plan is a document.
+/// The words after `judge` are its own exactly where they spell its uses. The plan is a document exactly where `--json` is given.
 pub fn judge_is_read_exactly()
-    ensures { (words : List (List ℕ)) (judge : Judge) → asked_by judge_syntax judge_asked words ≡ Some judge ↔ words ≡ form_words judge.form }
+    ensures { (words : List (List ℕ)) (judge : Judge) → asked_by judge_syntax judge_asked words ≡ Some judge ↔ SayForm judge_syntax judge.form words }
 {}
 
 /// The words after `check` are its own exactly where they spell its uses, and the number of workers, where it is given, is one from 1 to

@@ -12,7 +12,7 @@ ghost use Rattle.stnu_run.specs.Running.{run_asked, run_begins, run_start, run_s
 
 use crate::event_answers::put_due;
 use crate::executing::Executing;
-use crate::plan_input::{PlanForm, PlanInput};
+use plan_inputs::{PlanForm, PlanInput, PlanNetwork};
 use crate::promising::{OneRun, Promising};
 use crate::requests::Request;
 use crate::verdict::{Verdict, decide, put_refuted};
@@ -39,7 +39,7 @@ pub struct Run {
 }
 
 impl Model for Run {
-    ghost use Rattle.stnu_run.specs.declared.plan_input.PlanForm.{PlanForm};
+    ghost use Rattle.plan_inputs.specs.declared.plan_input.PlanForm.{PlanForm};
 
     ghost Value = { PlanForm };
 
@@ -71,7 +71,7 @@ impl Request for Run {
 /// The command: how far its input was read.
 pub type Running = TextThenPhase<Run, PlanInput, Executing>;
 
-impl Begin<Network> for Run {
+impl Begin<PlanNetwork> for Run {
     type Phase = Executing;
 
     ghost begins = { run_begins };
@@ -81,9 +81,9 @@ impl Begin<Network> for Run {
         rt: &R,
         alloc: Global,
         answer: &mut Answer,
-        value: Network,
+        value: PlanNetwork,
     ) -> Result<Onward<Executing>, AllocError> {
-        match decide(rt, alloc, value, &self.workers)? {
+        match decide(rt, alloc, value.into_network(), &self.workers)? {
             Verdict::Controllable(net, closed) => begin_execution(alloc, answer, net, &closed),
             Verdict::Refuted(certificate) => {
                 Ok(Onward::Ends(put_refuted(alloc, answer, &certificate)?))

@@ -10,8 +10,8 @@ ghost use Rattle.edit_script.specs.declared.step.Step.TheVariants as step;
 
 use crate::editing::Editing;
 use crate::executing::Executing;
-use crate::faults::{Fault, stop_fault};
-use crate::plan_input::{PlanForm, PlanInput};
+use common_answers::{Fault, stop_fault};
+use plan_inputs::{PlanForm, PlanInput, PlanNetwork};
 use crate::promising::{OneRun, Promising};
 use crate::requests::Request;
 use crate::running::begin_dispatched;
@@ -41,7 +41,7 @@ pub struct OpenSession {
 }
 
 impl Model for OpenSession {
-    ghost use Rattle.stnu_run.specs.declared.plan_input.PlanForm.{PlanForm};
+    ghost use Rattle.plan_inputs.specs.declared.plan_input.PlanForm.{PlanForm};
 
     ghost Value = { PlanForm };
 
@@ -82,7 +82,7 @@ pub enum InSession {
 /// The command: how far its input was read.
 pub type SessionCommand = TextThenPhase<OpenSession, PlanInput, InSession>;
 
-impl Begin<Network> for OpenSession {
+impl Begin<PlanNetwork> for OpenSession {
     type Phase = InSession;
 
     ghost begins = { session_begins };
@@ -92,9 +92,9 @@ impl Begin<Network> for OpenSession {
         rt: &R,
         alloc: Global,
         answer: &mut Answer,
-        value: Network,
+        value: PlanNetwork,
     ) -> Result<Onward<InSession>, AllocError> {
-        let editing = Editing::open(rt, alloc, value, &self.workers)?;
+        let editing = Editing::open(rt, alloc, value.into_network(), &self.workers)?;
         answer.push_line(&[Word::Text("ready")])?;
         Ok(Onward::Goes(InSession::Editing(editing)))
     }

@@ -2,4 +2,4 @@ use Rattle.stnu_run.proofs.RefutationLemmas.{check_answers_once}
 use Rattle.stnu_run.proofs.checking.CheckOneAnswer.answers_once.Goals as goal
 
 pub returns : goal.returns
-returns c = check_answers_once
+returns c = λ flags net number. check_answers_once flags net

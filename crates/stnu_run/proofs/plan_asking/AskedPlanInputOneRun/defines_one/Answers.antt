@@ -1,6 +1,6 @@
-use Rattle.stnu_run.specs.Faults.{refusing}
+use Rattle.common_answers.specs.Faults.{refusing}
 use Rattle.stnu_run.specs.PlanAsking.{asking}
-use Rattle.stnu_run.specs.PlanInput.{input_reader, plan_in}
+use Rattle.plan_inputs.specs.PlanInput.{input_reader, plan_in}
 use Rattle.stnu_run.specs.Causes.{text_causes}
 use Rattle.stnu_run.specs.Programs.{or_nothing}
 use Rattle.stnu_run.proofs.ProgramLemmas.{asked_defines_one}

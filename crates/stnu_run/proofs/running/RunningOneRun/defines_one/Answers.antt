@@ -1,6 +1,6 @@
 use Rattle.stnu_run.specs.Executing.{executing_machine}
-use Rattle.stnu_run.specs.Faults.{refusing}
-use Rattle.stnu_run.specs.PlanInput.{input_reader}
+use Rattle.common_answers.specs.Faults.{refusing}
+use Rattle.plan_inputs.specs.PlanInput.{input_reader}
 use Rattle.stnu_run.specs.Programs.{or_nothing}
 use Rattle.stnu_run.specs.RunPromise.{RunPromise, run_causes}
 use Rattle.stnu_run.specs.Running.{run_begins, run_start}

@@ -1,5 +1,5 @@
-use Rattle.stnu_run.specs.Faults.{refusing}
-use Rattle.stnu_run.specs.PlanInput.{input_reader}
+use Rattle.common_answers.specs.Faults.{refusing}
+use Rattle.plan_inputs.specs.PlanInput.{input_reader}
 use Rattle.stnu_run.specs.SessionPromise.{session_promise}
 use Rattle.stnu_run.specs.Sessions.{session_begins, session_machine, session_start}
 use Rattle.stnu_run.proofs.ProgramLemmas.{text_then_phase_defines_one}

@@ -5,7 +5,7 @@ ghost use Rattle.std.specs.Fmt.{decimal};
 ghost use Rattle.texts.specs.Printing.{printed_line};
 ghost use Rattle.command_engine.specs.declared.machines.Stop.{Stop};
 ghost use Rattle.plan_json.specs.Words.{member_word};
-ghost use Rattle.stnu_run.specs.Faults.{document_fault_end, document_fault_words, refusing, stop_fault};
+ghost use Rattle.common_answers.specs.Faults.{document_fault_end, document_fault_words, refusing, stop_fault};
 
 use command_engine::{Answer, End, Refusal, Stop, Word};
 use net_model::{BuildFault, FormatKind};

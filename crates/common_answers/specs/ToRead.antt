@@ -6,8 +6,8 @@ use Rattle.texts.specs.Limits.{most_line}
 use Rattle.plan_port.specs.Lines.{Comes, coming}
 use Rattle.command_engine.specs.Grammars.{Next, Line, NoLine, number_after}
 use Rattle.command_engine.specs.declared.machines.Stop.TheVariants.{LineTooLong as LongStop, InputTooMuch as MuchStop, InputEnded}
-use Rattle.stnu_run.specs.declared.faults.Fault.{Fault}
-use Rattle.stnu_run.specs.declared.faults.Fault.TheVariants.{Format, LineTooLong, InputTooMuch}
+use Rattle.common_answers.specs.declared.faults.Fault.{Fault}
+use Rattle.common_answers.specs.declared.faults.Fault.TheVariants.{Format, LineTooLong, InputTooMuch}
 
 -- these lines of at most 65,536 bytes come, one after another: none is too long, and the input is not too much by them
 abbrev pub Come : ℕ → List InputLine → Type 0

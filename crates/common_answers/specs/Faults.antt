@@ -15,8 +15,8 @@ use Rattle.command_engine.specs.declared.endings.End.{End}
 use Rattle.command_engine.specs.declared.endings.End.TheVariants as end
 use Rattle.command_engine.specs.declared.machines.Stop.{Stop}
 use Rattle.command_engine.specs.declared.machines.Stop.TheVariants as stop
-use Rattle.stnu_run.specs.declared.faults.Fault.{Fault}
-use Rattle.stnu_run.specs.declared.faults.Fault.TheVariants.{Format, Part, Document, DocumentTooLong, LineTooLong, InputTooMuch}
+use Rattle.common_answers.specs.declared.faults.Fault.{Fault}
+use Rattle.common_answers.specs.declared.faults.Fault.TheVariants.{Format, Part, Document, DocumentTooLong, LineTooLong, InputTooMuch}
 
 -- what is printed of a fault of a document
 abbrev pub document_fault_words : JsonFault → List (List ℕ)

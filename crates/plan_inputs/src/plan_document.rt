@@ -1,16 +1,17 @@
-//! A plan as a JSON document, up to the network that it declares.
+//! A plan as a JSON document: its bytes, and the network that they declare.
 
 ghost use Rattle.std.specs.Prelude.{◌≡◌, ◌<◌, ◌^◌, length, IfOk, OnOk};
 ghost use Rattle.net_model.specs.Building.{built};
-ghost use Rattle.plan_json.specs.Reading.{declared};
 ghost use Rattle.texts.specs.Words.{words};
 ghost use Rattle.command_engine.specs.declared.machines.Stop.{Stop};
-ghost use Rattle.stnu_run.specs.DocumentTexts.{document_texts};
-ghost use Rattle.stnu_run.specs.PlanDocument.{are_end, document_begun, document_reader, document_step, document_stop, parts_step, with_line};
+ghost use Rattle.plan_inputs.specs.DocumentTexts.{bytes_tests, bytes_texts};
+ghost use Rattle.plan_inputs.specs.PlanBuilding.{placed_by};
+ghost use Rattle.plan_inputs.specs.PlanDocument.{are_end, bytes_reader, document_begun, document_stop, with_line};
 
-use crate::faults::Fault;
-use command_engine::{InGrammar, Step, Stop, Text};
-use net_model::{FormatKind, Network, Part};
+use crate::plan_network::PlanNetwork;
+use command_engine::{InGrammar, Step, Stop, Test, Text};
+use common_answers::Fault;
+use net_model::{FormatKind, Items, Network, Part};
 use plan_json::{JsonFault, from_json};
 use std::alloc::{AllocError, Global};
 use std::marker::Model;
@@ -18,8 +19,7 @@ use std::marker::Model;
 /// The greatest number of bytes of the lines of a document and of the line that ends it, line ends not among them.
 const MOST_DOCUMENT: usize = 67_108_864;
 
-/// A plan as a JSON document, and how far it was read: up to the first line whose only word is `end`. It says the network that the document
-/// declares.
+/// A plan as a JSON document, and how far it was read: up to the first line whose only word is `end`. It says the bytes of the document.
 #[derive(Drop)]
 pub struct PlanDocument {
     bytes: Vec<u8>,
@@ -29,7 +29,7 @@ pub struct PlanDocument {
 
 impl Model for PlanDocument {
     ghost use Rattle.std.specs.Prelude.{◌≡◌, ◌≤◌, false, []};
-    ghost use Rattle.stnu_run.specs.DocumentSoFar.{DocumentSoFar, most_document};
+    ghost use Rattle.plan_inputs.specs.DocumentSoFar.{DocumentSoFar, most_document};
 
     ghost Value = { DocumentSoFar };
 
@@ -63,29 +63,16 @@ impl PlanDocument {
         Ok(())
     }
 
-    /// What the document gives: its network, or its first fault.
-    fn read(&self, alloc: Global) -> Result<Step<PlanDocument, Network, Fault>, AllocError>
-        ensures { IfOk result (λ step. step ≡ document_step (declared self.now.bytes)) }
+    /// The bytes of the document.
+    fn into_bytes(self) -> Items<u8>
+        ensures { result ≡ self.bytes }
     {
-        match from_json(alloc, self.bytes.as_slice()) {
-            Ok(parts) => build(alloc, parts.as_slice()),
-            Err(JsonFault::OutOfMemory) => Err(AllocError),
-            Err(fault) => Ok(Step::Refused(Fault::Document(fault))),
-        }
-    }
-}
-
-/// The network of the parts of a document, or the first one that is refused.
-fn build(alloc: Global, parts: &[Part]) -> Result<Step<PlanDocument, Network, Fault>, AllocError>
-    requires { length parts.now < 2 ^ 32 }
-    ensures { IfOk result (λ step. step ≡ parts_step (built parts.now)) }
-{
-    match Network::build(alloc, parts) {
-        Ok(net) => Ok(Step::Gives(net)),
-        Err(fault) => match fault.place() {
-            Some(place) => Ok(Step::Refused(Fault::Part(place, fault))),
-            None => Err(AllocError),
-        },
+        let PlanDocument {
+            bytes,
+            begun: _,
+            left: _,
+        } = self;
+        Items::new(bytes)
     }
 }
 
@@ -100,11 +87,11 @@ fn is_end(line: &[u8]) -> bool
 }
 
 impl Text for PlanDocument {
-    type Value = Network;
+    type Value = Items<u8>;
 
     type Fault = Fault;
 
-    ghost reader = { document_reader };
+    ghost reader = { bytes_reader };
 
     fn longest(&self) -> u32 {
         self.left as u32
@@ -112,12 +99,12 @@ impl Text for PlanDocument {
 
     fn read_line(
         mut self,
-        alloc: Global,
+        _alloc: Global,
         _number: u32,
         line: &[u8],
-    ) -> Result<Step<PlanDocument, Network, Fault>, AllocError> {
+    ) -> Result<Step<PlanDocument, Items<u8>, Fault>, AllocError> {
         if is_end(line) {
-            return self.read(alloc);
+            return Ok(Step::Gives(self.into_bytes()));
         }
         self.push(line)?;
         Ok(Step::Goes(self))
@@ -141,7 +128,44 @@ fn stop_fault(number: u32, stop: Stop) -> Fault
 impl InGrammar for PlanDocument {
     ghost beginning = { document_begun };
 
-    ghost grammar = { document_texts };
+    ghost grammar = { bytes_texts };
 
     fn reads_by_grammar() {}
+}
+
+/// The test of the bytes of a document: that they are a document whose parts build a network.
+#[derive(Clone, Copy, Debug, PartialEq, Eq)]
+pub struct BuildDocument;
+
+impl Test<Items<u8>, Fault> for BuildDocument {
+    type Value = PlanNetwork;
+
+    ghost tests = { bytes_tests };
+
+    fn test(
+        &self,
+        alloc: Global,
+        value: Items<u8>,
+        _number: u32,
+    ) -> Result<Result<PlanNetwork, Fault>, AllocError> {
+        match from_json(alloc, value.as_slice()) {
+            Ok(parts) => build(alloc, parts.as_slice()),
+            Err(JsonFault::OutOfMemory) => Err(AllocError),
+            Err(fault) => Ok(Err(Fault::Document(fault))),
+        }
+    }
+}
+
+/// The network of the parts of a document, or the first one that is refused, told by its place.
+fn build(alloc: Global, parts: &[Part]) -> Result<Result<PlanNetwork, Fault>, AllocError>
+    requires { length parts.now < 2 ^ 32 }
+    ensures { IfOk result (λ made. made ≡ placed_by (built parts.now)) }
+{
+    match Network::build(alloc, parts) {
+        Ok(net) => Ok(Ok(PlanNetwork::new(net))),
+        Err(fault) => match fault.place() {
+            Some(place) => Ok(Err(Fault::Part(place, fault))),
+            None => Err(AllocError),
+        },
+    }
 }
