@@ -1,9 +1,9 @@
 //! A text of lines that are counted: `count`, then any lines, then `end`. And questions about it.
 
 ghost use Rattle.std.specs.Prelude.{ℕ};
-ghost use Rattle.example_commands.specs.Counting.{counting, refusing, AnswersHowMany, AnswersHowManyEach};
+ghost use Rattle.example_commands.specs.Counting.{at_most, counting, refusing, AnswersHowMany, AnswersHowManyEach};
 
-use command_engine::{Answer, End, Question, Refusal, Step, Stop, Text, Word};
+use command_engine::{Answer, End, Question, Refusal, Step, Stop, Test, Text, Word};
 use plan_port::MOST_LINE;
 use std::alloc::{AllocError, Global};
 use std::thread::Threads;
@@ -24,7 +24,7 @@ pub enum CountFault {
     NoTitle(u32),
     /// The line `end` does not come.
     NoEnd(u32),
-    /// The line is too long, or the input is too much.
+    /// The line is too long, the input is too much, or the text has more lines than it may have.
     Beyond(u32),
 }
 
@@ -79,6 +79,31 @@ impl Refusal for CountFault {
         match self {
             CountFault::NoTitle(_) | CountFault::NoEnd(_) => End::Fault,
             CountFault::Beyond(_) => End::Limit,
+        }
+    }
+}
+
+/// The test that a text has at most so many lines: one that has more is refused as a whole.
+#[derive(Clone, Copy, Debug)]
+pub struct AtMost {
+    pub lines: u32,
+}
+
+impl Test<u32, CountFault> for AtMost {
+    type Value = u32;
+
+    ghost tests = { at_most };
+
+    fn test(
+        &self,
+        _alloc: Global,
+        value: u32,
+        number: u32,
+    ) -> Result<Result<u32, CountFault>, AllocError> {
+        if value <= self.lines {
+            Ok(Ok(value))
+        } else {
+            Ok(Err(CountFault::Beyond(number)))
         }
     }
 }

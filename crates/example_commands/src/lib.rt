@@ -9,7 +9,7 @@ mod document;
 mod runs;
 mod tally;
 
-pub use counting::{CountFault, Counting, HowMany, HowManyEach};
+pub use counting::{AtMost, CountFault, Counting, HowMany, HowManyEach};
 pub use desk::Desk;
 pub use document::{Document, DocumentFault, HowLarge};
 pub use tally::{FromCount, Tally};
