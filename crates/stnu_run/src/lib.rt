@@ -8,6 +8,7 @@ mod dispatch;
 mod editing;
 mod event_answers;
 mod executing;
+mod form_and_workers;
 mod forging;
 mod judging;
 mod laws;

@@ -8,17 +8,15 @@ ghost use Rattle.plan_session.specs.Sessions.{IsDispatchOfClosure};
 ghost use Rattle.stnu_run.specs.Executing.{executing_machine, answer_room};
 ghost use Rattle.stnu_run.specs.Programs.{or_nothing};
 ghost use Rattle.stnu_run.specs.RunPromise.{RunPromise, run_causes};
-ghost use Rattle.stnu_run.specs.Running.{run_asked, run_begins, run_start, run_syntax, BeginsExecution, PutsBegun};
+ghost use Rattle.stnu_run.specs.Running.{run_begins, run_start, BeginsExecution, PutsBegun};
 
 use crate::event_answers::put_due;
 use crate::executing::Executing;
-use plan_inputs::{PlanForm, PlanInput, PlanNetwork};
+use plan_inputs::{PlanInput, PlanNetwork};
+use crate::form_and_workers::FormAndWorkers;
 use crate::promising::{OneRun, Promising};
-use crate::requests::Request;
 use crate::verdict::{Verdict, decide, put_refuted};
-use crate::workers::Workers;
 use command_engine::{Answer, Begin, Onward, TextThenPhase, Word};
-use command_words::{Arguments, Syntax};
 use dispatch_net::Dispatch;
 use event_stream::laws::lines_have_one_reading;
 use execution_model::laws as execution_laws;
@@ -34,8 +32,7 @@ use table_closing::Closed;
 /// An event that no execution of the network shows ends it with 7, after the line `error event` and the cause.
 #[derive(Drop)]
 pub struct Run {
-    form: PlanForm,
-    workers: Workers,
+    asked: FormAndWorkers,
 }
 
 impl Model for Run {
@@ -43,29 +40,7 @@ impl Model for Run {
 
     ghost Value = { PlanForm };
 
-    ghost view = { λ run. run.form };
-}
-
-impl Request for Run {
-    ghost syntax = { run_syntax };
-
-    ghost asked = { run_asked };
-
-    fn words() -> Syntax<'static> {
-        Syntax {
-            flags: &["json"],
-            options: &["workers"],
-            operands: &[],
-        }
-    }
-
-    fn of(arguments: &Arguments<'_>) -> Option<Run> {
-        let workers = Workers::of(arguments.option(0))?;
-        let form = PlanForm::of(arguments.flag(0));
-        Some(Run { form, workers })
-    }
-
-    fn workers_decide_nothing() {}
+    ghost view = { λ run. run.asked };
 }
 
 /// The command: how far its input was read.
@@ -83,7 +58,7 @@ impl Begin<PlanNetwork> for Run {
         answer: &mut Answer,
         value: PlanNetwork,
     ) -> Result<Onward<Executing>, AllocError> {
-        match decide(rt, alloc, value.into_network(), &self.workers)? {
+        match decide(rt, alloc, value.into_network(), &self.asked.workers)? {
             Verdict::Controllable(net, closed) => begin_execution(alloc, answer, net, &closed),
             Verdict::Refuted(certificate) => {
                 Ok(Onward::Ends(put_refuted(alloc, answer, &certificate)?))
@@ -93,15 +68,15 @@ impl Begin<PlanNetwork> for Run {
 }
 
 impl Promising for Running {
-    type Request = Run;
+    type Request = FormAndWorkers;
 
     ghost start = { run_start };
 
     ghost promise = { λ form. or_nothing (run_causes form) (RunPromise form) };
 
-    fn begun(alloc: Global, request: Run) -> Running {
+    fn begun(alloc: Global, request: FormAndWorkers) -> Running {
         let text = request.form.begun(alloc);
-        TextThenPhase::Reading(request, text)
+        TextThenPhase::Reading(Run { asked: request }, text)
     }
 
     fn keeps_its_promise() {

@@ -5,20 +5,18 @@ ghost use Rattle.std.specs.Prelude.{◌≡◌, [], IfOk};
 ghost use Rattle.command_engine.specs.Machine.{HasRoom};
 ghost use Rattle.command_engine.specs.Phases.{wrapped};
 ghost use Rattle.stnu_run.specs.SessionPromise.{session_promise};
-ghost use Rattle.stnu_run.specs.Sessions.{session_asked, session_begins, session_machine, session_start, session_syntax, AnswersStep};
+ghost use Rattle.stnu_run.specs.Sessions.{session_begins, session_machine, session_start, AnswersStep};
 ghost use Rattle.edit_script.specs.declared.step.Step.TheVariants as step;
 
 use crate::editing::Editing;
 use crate::executing::Executing;
 use common_answers::{Fault, stop_fault};
-use plan_inputs::{PlanForm, PlanInput, PlanNetwork};
+use plan_inputs::{PlanInput, PlanNetwork};
+use crate::form_and_workers::FormAndWorkers;
 use crate::promising::{OneRun, Promising};
-use crate::requests::Request;
 use crate::running::begin_dispatched;
 use crate::verdict::push_verdict;
-use crate::workers::Workers;
 use command_engine::{Answer, Begin, Command, End, Onward, Refusal, Stop, TextThenPhase, Word};
-use command_words::{Arguments, Syntax};
 use edit_script::laws::lines_have_one_reading as one_step;
 use edit_script::{Step, read_step};
 use event_stream::laws::lines_have_one_reading;
@@ -36,8 +34,7 @@ use std::thread::Threads;
 /// executed over lines of events, as `run` does.
 #[derive(Drop)]
 pub struct OpenSession {
-    form: PlanForm,
-    workers: Workers,
+    asked: FormAndWorkers,
 }
 
 impl Model for OpenSession {
@@ -45,29 +42,7 @@ impl Model for OpenSession {
 
     ghost Value = { PlanForm };
 
-    ghost view = { λ session. session.form };
-}
-
-impl Request for OpenSession {
-    ghost syntax = { session_syntax };
-
-    ghost asked = { session_asked };
-
-    fn words() -> Syntax<'static> {
-        Syntax {
-            flags: &["json"],
-            options: &["workers"],
-            operands: &[],
-        }
-    }
-
-    fn of(arguments: &Arguments<'_>) -> Option<OpenSession> {
-        let workers = Workers::of(arguments.option(0))?;
-        let form = PlanForm::of(arguments.flag(0));
-        Some(OpenSession { form, workers })
-    }
-
-    fn workers_decide_nothing() {}
+    ghost view = { λ session. session.asked };
 }
 
 /// A session after its plan.
@@ -94,7 +69,7 @@ impl Begin<PlanNetwork> for OpenSession {
         answer: &mut Answer,
         value: PlanNetwork,
     ) -> Result<Onward<InSession>, AllocError> {
-        let editing = Editing::open(rt, alloc, value.into_network(), &self.workers)?;
+        let editing = Editing::open(rt, alloc, value.into_network(), &self.asked.workers)?;
         answer.push_line(&[Word::Text("ready")])?;
         Ok(Onward::Goes(InSession::Editing(editing)))
     }
@@ -144,15 +119,15 @@ impl Command for InSession {
 }
 
 impl Promising for SessionCommand {
-    type Request = OpenSession;
+    type Request = FormAndWorkers;
 
     ghost start = { session_start };
 
     ghost promise = { session_promise };
 
-    fn begun(alloc: Global, request: OpenSession) -> SessionCommand {
+    fn begun(alloc: Global, request: FormAndWorkers) -> SessionCommand {
         let text = request.form.begun(alloc);
-        TextThenPhase::Reading(request, text)
+        TextThenPhase::Reading(OpenSession { asked: request }, text)
     }
 
     fn keeps_its_promise() {
