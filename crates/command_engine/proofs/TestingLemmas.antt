@@ -127,7 +127,7 @@ module _ {S Q V W F : Type 0} (reader : Reader S V F) (tests : Q → V → ℕ �
         let same = same_front text.front lines text.last fails.line (sym text.whole) in
         let number : number_after past text.front ≡ number_after past lines = ap (number_after past) same.0 in
         let gives : reader.reads text.state (number_after past lines) fails.line ≡ Gives fails.value =
-            subst (λ (l : List ℕ). reader.reads text.state (number_after past lines) l ≡ Gives fails.value) same.1 (subst (λ (n : ℕ). reader.reads text.state n text.last ≡ Gives fails.value) number text.gives) in
+        subst (λ (l : List ℕ). reader.reads text.state (number_after past lines) l ≡ Gives fails.value) same.1 (subst (λ (n : ℕ). reader.reads text.state n text.last ≡ Gives fails.value) number text.gives) in
         let leads : Leads reader start past lines text.state = subst (λ (ls : List (List ℕ)). Leads reader start past ls text.state) same.0 text.leads in
         let refused : outer.reads (with_test text.state) (number_after past lines) fails.line ≡ Refused fault = ap (step_tested reader tests test (number_after past lines)) gives ∙ ap (step_by reader tests) fails.fails in
         (with_test text.state, leads_out start text.state past lines leads, subst (λ (n : Next). FaultOf outer (with_test text.state) (number_after past lines) n fault) (sym fails.comes) refused)

@@ -254,7 +254,6 @@ module _ (past : ℕ) where
         told = told;
       }
 
-
   -- what is refused of parts
   record RefusedBy (lines : List ℕ) (parts : List Part) (fault : Fault) : Type 0 where
     why : BuildFault

@@ -5,9 +5,9 @@ ghost use Rattle.cert_format.specs.CertificateGrammar.{certificate_of};
 ghost use Rattle.stnu_run.specs.CertificateTexts.{certificate_reader, certificate_begun};
 ghost use Rattle.stnu_run.specs.ToJudge.{certificate_texts};
 
-use common_answers::{Fault, stop_fault};
 use cert_format::{CertReader, CertText, Certificate};
 use command_engine::{InGrammar, Step, Stop, Text};
+use common_answers::{Fault, stop_fault};
 use net_model::WordFault;
 use plan_port::MOST_LINE;
 use std::alloc::{AllocError, Global};

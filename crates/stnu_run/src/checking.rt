@@ -7,7 +7,6 @@ ghost use Rattle.stnu_run.specs.Verdict.{IsVerdict};
 ghost use Rattle.stnu_run.specs.declared.verdict.Verdict.TheVariants.{Controllable};
 
 use crate::plan_asking::{OneAnswer, PlanQuestion};
-use plan_inputs::{PlanForm, PlanInput, PlanNetwork};
 use crate::requests::Request;
 use crate::verdict::{Verdict, decide, put_controllable, put_proved, put_refuted};
 use crate::workers::Workers;
@@ -15,6 +14,7 @@ use closure_model::order_laws::ordered_tables_are_placed;
 use command_engine::{Answer, Asked, End, Question};
 use command_words::{Arguments, Syntax};
 use net_model::Network;
+use plan_inputs::{PlanForm, PlanInput, PlanNetwork};
 use std::alloc::{AllocError, Global};
 use std::marker::Model;
 use std::thread::Threads;

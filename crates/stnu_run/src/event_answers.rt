@@ -12,8 +12,8 @@ ghost use Rattle.stnu_run.specs.EventAnswers.{acts_text, act_line, due_line, com
 ghost use Rattle.common_answers.specs.Faults.{fault_end};
 ghost use Rattle.common_answers.specs.declared.faults.Fault.TheVariants.{Format};
 
-use common_answers::Fault;
 use command_engine::{Answer, End, Refusal, Word};
+use common_answers::Fault;
 use execution_model::{Act, MOST_MOMENT, Why};
 use net_model::{FormatKind, Network, PointId};
 

@@ -12,8 +12,8 @@ ghost use Rattle.stnu_run.specs.Executing.{executing_machine, answer_room, Answe
 use crate::event_answers::{
     MOST_ACT, put_acts, put_complete, put_due, refuse_end, refuse_event, refuse_line,
 };
-use common_answers::stop_fault;
 use command_engine::{Answer, Command, End, LEAST_ROOM, Onward, Refusal, Stop};
+use common_answers::stop_fault;
 use dispatch_net::Dispatch;
 use event_stream::{Event, EventReader};
 use execution_model::{Fed, Finished};

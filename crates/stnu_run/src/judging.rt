@@ -9,7 +9,6 @@ ghost use Rattle.stnu_run.specs.Programs.{or_nothing};
 ghost use Rattle.stnu_run.specs.ToJudge.{judge_grammar};
 
 use crate::certificate_text::CertificateText;
-use plan_inputs::{PlanForm, PlanInput, PlanNetwork};
 use crate::promising::{OneRun, Promising};
 use crate::requests::Request;
 use cert_checker::laws::{accepted_controls, accepted_excludes};
@@ -17,6 +16,7 @@ use cert_checker::{Judgement, judge};
 use cert_format::Certificate;
 use command_engine::{Answer, Asked, End, Question, Then, Word};
 use command_words::{Arguments, Syntax};
+use plan_inputs::{PlanForm, PlanInput, PlanNetwork};
 use std::alloc::{AllocError, Global};
 use std::thread::Threads;
 

@@ -110,13 +110,13 @@ pub fn workers_change_nothing()
 fn each_defines_one()
     ensures { (command : List ℕ) (words : List (List ℕ)) → DefinesOne (program_named command words) }
 {
-    Judging::defines_one();
-    Checking::defines_one();
-    Running::defines_one();
-    SessionCommand::defines_one();
-    Showing::defines_one();
-    Playing::defines_one();
-    Forge::tells_one();
+    has_one_run::<Judging>();
+    has_one_run::<Checking>();
+    has_one_run::<Running>();
+    has_one_run::<SessionCommand>();
+    has_one_run::<Showing>();
+    has_one_run::<Playing>();
+    is_lawfully_told::<Forge>();
 }
 
 /// Whatever the command is, without an input it defines at most one answer, each run ends by the causes in its input, and the number of
@@ -138,6 +138,13 @@ fn each_is_lawful()
     is_lawful::<Showing>();
     is_lawful::<Playing>();
     is_lawfully_told::<Forge>();
+}
+
+/// The law of a command of which an input has at most one run, whatever is asked of it.
+fn has_one_run<C: OneRun>()
+    ensures { EachDefinesOne (λ asked. serves C.machine (C.start asked) (C.promise asked)) }
+{
+    C::defines_one();
 }
 
 /// The laws that a command keeps whatever is asked of it.

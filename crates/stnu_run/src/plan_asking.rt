@@ -12,10 +12,10 @@ ghost use Rattle.plan_inputs.specs.PlanInput.{plan_in};
 ghost use Rattle.stnu_run.specs.Programs.{or_nothing};
 ghost use Rattle.plan_inputs.specs.declared.plan_input.PlanForm.{PlanForm};
 
-use plan_inputs::{PlanForm, PlanInput, PlanNetwork};
 use crate::promising::{OneRun, Promising};
 use crate::requests::Request;
 use command_engine::{Asked, Question};
+use plan_inputs::{PlanForm, PlanInput, PlanNetwork};
 use std::alloc::Global;
 
 /// A question about the network of a plan, as the words ask it. With the text of the plan it is a command of the program.

@@ -11,7 +11,6 @@ ghost use Rattle.stnu_run.specs.Which.{situation_of};
 ghost use Rattle.stnu_run.specs.declared.verdict.Verdict.TheVariants.{Controllable};
 
 use crate::plan_asking::{OneAnswer, PlanQuestion};
-use plan_inputs::{PlanForm, PlanInput, PlanNetwork};
 use crate::requests::Request;
 use crate::running::dispatch_by;
 use crate::session_answers::point_name;
@@ -23,6 +22,7 @@ use command_words::{Arguments, Syntax};
 use dispatch_net::Dispatch;
 use live_executor::Executor;
 use net_model::{Network, PointId};
+use plan_inputs::{PlanForm, PlanInput, PlanNetwork};
 use situation_player::play_out;
 use std::alloc::{AllocError, Global};
 use std::marker::Model;

@@ -12,7 +12,6 @@ ghost use Rattle.stnu_run.specs.Running.{run_begins, run_start, BeginsExecution,
 
 use crate::event_answers::put_due;
 use crate::executing::Executing;
-use plan_inputs::{PlanInput, PlanNetwork};
 use crate::form_and_workers::FormAndWorkers;
 use crate::promising::{OneRun, Promising};
 use crate::verdict::{Verdict, decide, put_refuted};
@@ -21,6 +20,7 @@ use dispatch_net::Dispatch;
 use event_stream::laws::lines_have_one_reading;
 use execution_model::laws as execution_laws;
 use net_model::Network;
+use plan_inputs::{PlanInput, PlanNetwork};
 use std::alloc::{AllocError, Global};
 use std::marker::Model;
 use std::thread::Threads;

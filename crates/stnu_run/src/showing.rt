@@ -7,12 +7,12 @@ ghost use Rattle.plan_format.specs.PlanParts.{end_words};
 ghost use Rattle.stnu_run.specs.Showing.{PutsPlan, ShowPromise, show_answers, show_asked, show_syntax};
 
 use crate::plan_asking::{OneAnswer, PlanQuestion};
-use plan_inputs::{Notation, PlanForm, PlanInput, PlanNetwork};
 use crate::requests::Request;
 use command_engine::{Answer, Asked, End, Question, Word};
 use command_words::{Arguments, Syntax};
 use net_model::Network;
 use plan_format::print_plan;
+use plan_inputs::{Notation, PlanForm, PlanInput, PlanNetwork};
 use plan_json::laws::documents_stand_in_inputs;
 use plan_json::to_json;
 use std::alloc::{AllocError, Global};

@@ -11,7 +11,7 @@ returns g c =
     let before = g.P.Port.seen c.args.port.now in
     let after = g.P.Port.seen c.serve.new.port in
     let served : ServesProgram (serves g.C.Command.machine (g.C.Promising.start c.args.request) promise) (number c.number.result) before after =
-      served_from g.C.Command.machine (g.C.Promising.start c.args.request) c.begun.result promise c.serve.result (number c.number.result) before after (ap number c.number.ensures) c.begun.ensures.start c.serve.ensures in
+    served_from g.C.Command.machine (g.C.Promising.start c.args.request) c.begun.result promise c.serve.result (number c.number.result) before after (ap number c.number.ensures) c.begun.ensures.start c.serve.ensures in
     record {
       served = served;
       kept = kept (serves g.C.Command.machine (g.C.Promising.start c.args.request) promise) (number c.number.result) before after (c.keeps_its_promise.ensures c.args.request) served;
