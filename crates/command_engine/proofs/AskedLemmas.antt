@@ -8,7 +8,7 @@ use Rattle.command_engine.specs.Machine.{Machine}
 use Rattle.command_engine.specs.Runs.{Here, begins, after_line, Stops, RepliesTo, Replies, Answers, Run, Runs}
 use Rattle.command_engine.specs.Reading.{Reader, Refusing, Outcome, Faulty, outcome_by, reading}
 use Rattle.command_engine.specs.Asked.{RepliesToStep, asked_machine, AnswersOutcome}
-use Rattle.command_engine.specs.Single.{IsSingle, IsSingleAnswer}
+use Rattle.command_engine.specs.Single.{IsSingle, IsSingleAtLine}
 use Rattle.command_engine.specs.declared.endings.End.{End}
 use Rattle.command_engine.specs.declared.machines.Onward.{Onward}
 use Rattle.command_engine.specs.declared.machines.Onward.TheVariants as run
@@ -18,7 +18,7 @@ use Rattle.command_engine.specs.declared.reading.Step.{Step}
 use Rattle.command_engine.specs.declared.reading.Step.TheVariants.{Goes, Gives, Refused}
 use Rattle.command_engine.specs.declared.asking.Asked.{Asked}
 
-module _ {Q S V F : Type 0} (answers : Q → V → List ℕ → End → Type 0) (reader : Reader S V F) (refusing : Refusing F) where
+module _ {Q S V F : Type 0} (answers : Q → V → ℕ → List ℕ → End → Type 0) (reader : Reader S V F) (refusing : Refusing F) where
   abbrev machine : Machine (Asked Q S)
   machine = asked_machine answers reader refusing
 
@@ -30,10 +30,10 @@ module _ {Q S V F : Type 0} (answers : Q → V → List ℕ → End → Type 0) 
   stops_by : (question : Q) (here : Here S) (stop : Stop) (last : List ℕ) (end : End) → Stops machine (at question here) stop last (run.Ends end) → AnswersOutcome answers reader refusing question (Faulty (reader.stops here.state (here.number + 1) stop)) last end
   stops_by question here stop last end ends = (ends.2.0, let same : end ≡ ends.0 = cc (ends.1) in same ∙ ends.2.1)
 
-  ends_by_step : (question : Q) (here : Here S) (line : InputLine) (lines : List InputLine) (step : Step S V F) (others : S → Outcome V F) (last : List ℕ) (end : End) → RepliesToStep answers reader refusing question step last (run.Ends end) → AnswersOutcome answers reader refusing question (outcome_by reader Comes step here line lines others) last end
+  ends_by_step : (question : Q) (here : Here S) (line : InputLine) (lines : List InputLine) (step : Step S V F) (others : S → Outcome V F) (last : List ℕ) (end : End) → RepliesToStep answers reader refusing question (here.number + 1) step last (run.Ends end) → AnswersOutcome answers reader refusing question (outcome_by reader Comes step here line lines others) last end
   ends_by_step question here line lines (Goes text) others last end ends = absurd (cc (ends.1))
   ends_by_step question here line lines (Gives value) others last end ends =
-      let same : ends.0 ≡ end = cc (ends.1) in subst (λ (e : End). answers question value last e) same ends.2
+      let same : ends.0 ≡ end = cc (ends.1) in subst (λ (e : End). answers question value (here.number + 1) last e) same ends.2
   ends_by_step question here line lines (Refused fault) others last end ends = (ends.0, cc (ends.1))
 
   ends_by : (how : Coming) (question : Q) (here : Here S) (line : InputLine) (lines : List InputLine) (others : S → Outcome V F) (last : List ℕ) (end : End) → RepliesTo machine how (at question here) line.text last (run.Ends end) → AnswersOutcome answers reader refusing question (outcome_by reader how (reader.reads here.state (here.number + 1) line.text) here line lines others) last end
@@ -54,7 +54,7 @@ module _ {Q S V F : Type 0} (answers : Q → V → List ℕ → End → Type 0) 
     pub so : state ≡ record { question = question; text = text }
     pub reads : (lines : List InputLine) (others : S → Outcome V F) → outcome_by reader (coming (reader.longest here.state) here.room line) (reader.reads here.state (here.number + 1) line.text) here line lines others ≡ others text
 
-  goes_by_step : (step : Step S V F) (question : Q) (here : Here S) (line : InputLine) (answer : List ℕ) (state : Asked Q S) → coming (reader.longest here.state) here.room line ≡ Comes → reader.reads here.state (here.number + 1) line.text ≡ step → RepliesToStep answers reader refusing question step answer (run.Goes state) → GoesBy question here line answer state
+  goes_by_step : (step : Step S V F) (question : Q) (here : Here S) (line : InputLine) (answer : List ℕ) (state : Asked Q S) → coming (reader.longest here.state) here.room line ≡ Comes → reader.reads here.state (here.number + 1) line.text ≡ step → RepliesToStep answers reader refusing question (here.number + 1) step answer (run.Goes state) → GoesBy question here line answer state
   goes_by_step (Goes text) question here line answer state comes reads replies = record {
     text = text;
     nothing = replies.0;
@@ -107,14 +107,14 @@ module _ {Q S V F : Type 0} (answers : Q → V → List ℕ → End → Type 0) 
   wants_before_answer question text input untaken put pieces (inr nothing) = nothing.1
 
   -- a command that asks has at most one reply where its question has at most one answer
-  takes_same : (question : Q) (step : Step S V F) (a b : List ℕ) (x y : Onward (Asked Q S)) → ((value : V) (a b : List ℕ) (x y : End) → answers question value a x → answers question value b y → (a ≡ b) × (x ≡ y)) → RepliesToStep answers reader refusing question step a x → RepliesToStep answers reader refusing question step b y → (a ≡ b) × (x ≡ y)
-  takes_same question (Goes text) a b x y single one other = (cc, cc)
-  takes_same question (Gives value) a b x y single one other =
-      let same = single value a b one.0 other.0 one.2 other.2 in (same.0, one.1 ∙ ap (λ (e : End). run.Ends e) same.1 ∙ sym other.1)
-  takes_same question (Refused fault) a b x y single one other = (cc, cc)
+  takes_same : (question : Q) (number : ℕ) (step : Step S V F) (a b : List ℕ) (x y : Onward (Asked Q S)) → ((value : V) (number : ℕ) (a b : List ℕ) (x y : End) → answers question value number a x → answers question value number b y → (a ≡ b) × (x ≡ y)) → RepliesToStep answers reader refusing question number step a x → RepliesToStep answers reader refusing question number step b y → (a ≡ b) × (x ≡ y)
+  takes_same question number (Goes text) a b x y single one other = (cc, cc)
+  takes_same question number (Gives value) a b x y single one other =
+      let same = single value number a b one.0 other.0 one.2 other.2 in (same.0, one.1 ∙ ap (λ (e : End). run.Ends e) same.1 ∙ sym other.1)
+  takes_same question number (Refused fault) a b x y single one other = (cc, cc)
 
-  pub asked_single : IsSingleAnswer answers → IsSingle machine
+  pub asked_single : IsSingleAtLine answers → IsSingle machine
   asked_single single = record {
-    takes = λ state number line a b x y one other. takes_same state.question (reader.reads state.text number line) a b x y (single state.question) one other;
+    takes = λ state number line a b x y one other. takes_same state.question number (reader.reads state.text number line) a b x y (single state.question) one other;
     stops = λ state number stop a b x y one other. (one.0 ∙ sym other.0, one.1 ∙ sym other.1);
   }

@@ -33,12 +33,12 @@ told old None P Q follows is = tt
 told None (Some after) P Q follows is = absurd is
 told (Some before) (Some after) P Q follows is = follows before after is
 
-module _ {C : Type 0} (machine : Machine C) (single : IsSingle machine) (start : C) where
+module _ {C : Type 0} (machine : Machine C) (start : C) where
   -- the answers to the first lines of an input are a front of what a run puts for it
   first_front : (input put : List ℕ) → AnswersFirst machine start input put → IsFrontOfRun machine start input put
   first_front input put answers = record {
     replies = inl answers;
-    whole = λ all end runs.
+    whole = λ single all end runs.
         let on = runs_on machine single (begins start) answers.first answers.rest put all answers.there end answers.answers
         (subst (λ (ls : List InputLine). Run machine (begins start) ls all end) answers.divided runs) in
         (on.later, on.put_is);
@@ -71,7 +71,7 @@ module _ {C : Type 0} (machine : Machine C) (single : IsSingle machine) (start :
   exact_by ReadFault input untaken put pieces after =
       subst (λ (p : List ℕ). IsToPutAfterTake machine start input untaken p) (sym after.all) (after_take input untaken put read_fault_line after)
   exact_by WriteFault input untaken put pieces (inl within) =
-      inl (record { replies = inr within; whole = λ all end runs. reply_fronts machine single start input put all end runs within })
+      inl (record { replies = inr within; whole = λ single all end runs. reply_fronts machine single start input put all end runs within })
   exact_by WriteFault input untaken put pieces (inr (last, part, after)) =
       inr (
         after.said ++ read_fault_line,

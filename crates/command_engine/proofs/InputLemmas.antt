@@ -6,7 +6,7 @@ use Rattle.texts.proofs.InputLemmas.{lines-texts}
 use Rattle.plan_port.specs.Lines.{Comes, coming}
 use Rattle.command_engine.specs.Asked.{AnswersOutcome, asked_machine}
 use Rattle.command_engine.specs.Grammars.{Grammar, Leads, FaultOf, ReadsText, ReadsBy, number_after}
-use Rattle.command_engine.specs.Inputs.{texts, room_after, next_of, ComeAfter, IsFirstRefusal, DeclaresBy, AnswersOrRefuses, AnswersText}
+use Rattle.command_engine.specs.Inputs.{texts, room_after, next_of, ComeAfter, IsFirstRefusal, DeclaresBy, AnswersLineOrRefuses, AnswersLine, last_before}
 use Rattle.command_engine.specs.Limits.{most_input}
 use Rattle.command_engine.specs.Reading.{Reader, Refusing, Outcome, Given, Faulty, reading}
 use Rattle.command_engine.specs.Runs.{Runs, begins}
@@ -201,18 +201,20 @@ module _ {S V F : Type 0} (reader : Reader S V F) (start : S) (grammar : Grammar
       ∙ ap (λ (n : ℕ). Given value (length used) n rest) room))
 
   -- ---- the promise
-  module _ {Q : Type 0} (answers : Q → V → List ℕ → End → Type 0) (refusing : Refusing F) (question : Q) where
+  module _ {Q : Type 0} (answers : Q → V → ℕ → List ℕ → End → Type 0) (refusing : Refusing F) (question : Q) where
     abbrev Answered : Outcome V F → List ℕ → End → Type 0
     Answered outcome put end = AnswersOutcome answers reader refusing question outcome put end
 
-    answers_by : (input put : List ℕ) (end : End) (outcome : Outcome V F) → OutcomeIs (input_lines input) outcome → Answered outcome put end → AnswersOrRefuses grammar refusing (answers question) input put end
+    answers_by : (input put : List ℕ) (end : End) (outcome : Outcome V F) → OutcomeIs (input_lines input) outcome → Answered outcome put end → AnswersLineOrRefuses grammar refusing (answers question) input put end
     answers_by input put end (Given value number room rest) is answered =
         let all : texts (is.used ++ rest) ≡ lines input = ap (λ (ls : List InputLine). texts ls) (sym is.divided) ∙ sym (lines-texts input) in
-        inl (value, texts rest, subst (λ (ls : List (List ℕ)). grammar.declares ls value (texts rest)) all is.declares.declared, answered)
+        let count : length (lines input) ≡ length is.used + length (texts rest) = ap length (sym all ∙ texts_both is.used rest) ∙ (length-append (texts is.used) (texts rest) ∙ ap (λ (n : ℕ). n + length (texts rest)) (texts_many is.used)) in
+        let last : number ≡ last_before (texts rest) (lines input) = (let counted = is.counted in omega (arith, counted, count)) in
+        inl (value, texts rest, subst (λ (ls : List (List ℕ)). grammar.declares ls value (texts rest)) all is.declares.declared, subst (λ (n : ℕ). answers question value n put end) last answered)
     answers_by input put end (Faulty fault) is answered = inr (fault, is, answered)
 
     -- what is put for an input by what its reading comes to answers the input
-    pub outcome_answered : (input put : List ℕ) (end : End) → Answered (reading reader (begins start) (input_lines input)) put end → AnswersText grammar refusing (answers question) input put end
+    pub outcome_answered : (input put : List ℕ) (end : End) → Answered (reading reader (begins start) (input_lines input)) put end → AnswersLine grammar refusing (answers question) input put end
     outcome_answered input put end answered =
         let outcome = reading reader (begins start) (input_lines input) in
         record {
@@ -222,7 +224,7 @@ module _ {S V F : Type 0} (reader : Reader S V F) (start : S) (grammar : Grammar
         }
 
     -- a run answers the input
-    pub answers_text : (input put : List ℕ) (end : End) → Runs (asked_machine answers reader refusing) (record { question = question; text = start }) input put end → AnswersText grammar refusing (answers question) input put end
+    pub answers_text : (input put : List ℕ) (end : End) → Runs (asked_machine answers reader refusing) (record { question = question; text = start }) input put end → AnswersLine grammar refusing (answers question) input put end
     answers_text input put end runs = outcome_answered input put end (runs_are answers reader refusing question start input put end runs)
 
 -- a grammar by which a reader reads gives one value of lines, and one rest

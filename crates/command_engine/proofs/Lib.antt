@@ -16,3 +16,4 @@ pub mod InputLemmas
 pub mod GrammarLemmas
 pub mod AlternativeLemmas
 pub mod PairGrammarLemmas
+pub mod TestingLemmas

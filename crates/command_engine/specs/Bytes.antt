@@ -6,7 +6,7 @@ use Rattle.command_engine.specs.Breaks.{WithinReply, read_fault_line}
 use Rattle.command_engine.specs.Machine.{Machine}
 use Rattle.command_engine.specs.Runs.{Here, begins, Answers, Answered, Runs}
 use Rattle.command_engine.specs.Serves.{WhereBothTold}
-use Rattle.command_engine.specs.Single.{IsFront}
+use Rattle.command_engine.specs.Single.{IsFront, IsSingle}
 use Rattle.command_engine.specs.declared.endings.End.{End}
 use Rattle.command_engine.specs.declared.endings.Status.{Status}
 use Rattle.command_engine.specs.declared.endings.Status.TheVariants.{Ended, ReadFault, WriteFault, NoMemory}
@@ -24,7 +24,7 @@ module _ {C : Type 0} (machine : Machine C) (start : C) where
   -- comes then, or nothing of that. `whole`: it is a front of all that a run which ends puts.
   pub record IsFrontOfRun (input put : List ℕ) : Type 0 where
     pub replies : AnswersFirst input put ⊎ WithinReply machine start input put
-    pub whole : (all : List ℕ) (end : End) → Runs machine start input all end → IsFront put all
+    pub whole : IsSingle machine → (all : List ℕ) (end : End) → Runs machine start input all end → IsFront put all
 
   -- What is to be put where a take failed: the answers to the whole lines taken, which are a front of what a run puts, and then the line
   -- `error read`. Of the input `untaken` was never taken.

@@ -1,5 +1,5 @@
 -- The input of a command that reads a text and answers once, by the grammar of the text: what it declares, and its first refusal.
-use Rattle.std.specs.Prelude.{◌≡◌, ◌⊎◌, ℕ, ◌-◌, List, [], ◌∷◌, ◌++◌, map}
+use Rattle.std.specs.Prelude.{◌≡◌, ◌⊎◌, ℕ, ◌-◌, List, [], ◌∷◌, ◌++◌, length, map}
 use Rattle.texts.specs.Lines.{InputLine, input_lines, lines, line_size}
 use Rattle.plan_port.specs.Lines.{Coming, Comes, TooLong, TooMuch, coming}
 use Rattle.command_engine.specs.Grammars.{Grammar, Next, Line, NoLine}
@@ -27,6 +27,10 @@ next_by TooMuch text = NoLine InputTooMuch
 abbrev pub next_of : (longest room : ℕ) → List InputLine → Next
 next_of longest room [] = NoLine InputEnded
 next_of longest room (line ∷ others) = next_by (coming longest room line) line.text
+
+-- the number of the last line before these, with which all lines end
+abbrev pub last_before : (rest all : List (List ℕ)) → ℕ
+last_before rest all = length all - length rest
 
 module _ {V F : Type 0} (grammar : Grammar V F) where
   -- these lines come after those before them: one more is wanted each time, and it is not too long, or the input too much by it
@@ -63,16 +67,24 @@ module _ {V F : Type 0} (grammar : Grammar V F) where
     abbrev pub PutsRefusal : F → List ℕ → End → Type 0
     PutsRefusal fault put end = (put ≡ refusing.line fault) × (end ≡ refusing.end fault)
 
-    -- the input declares a value, and what is put answers it; or the first refusal of the input is put
-    abbrev pub AnswersOrRefuses : (V → List ℕ → End → Type 0) → (input put : List ℕ) → End → Type 0
-    AnswersOrRefuses answers input put end =
-        ((value : V) × (after : List (List ℕ)) × grammar.declares (lines input) value after × answers value put end)
+    -- the input declares a value, and what is put answers it, by the number of the line that ends the text; or the first refusal of
+    -- the input is put
+    abbrev pub AnswersLineOrRefuses : (V → ℕ → List ℕ → End → Type 0) → (input put : List ℕ) → End → Type 0
+    AnswersLineOrRefuses answers input put end =
+        ((value : V) × (after : List (List ℕ)) × grammar.declares (lines input) value after × answers value (last_before after (lines input)) put end)
         ⊎ ((fault : F) × IsFirstRefusal (input_lines input) fault × PutsRefusal fault put end)
 
-    -- What a command promises that reads a text and answers once. `answers`: it puts the answer to what the input declares, or the
-    -- first refusal of the input. `declared`: where the input declares a value by lines that come, it puts the answer to that.
-    -- `refuses`: where the input has a first refusal, it puts that.
-    pub record AnswersText (answering : V → List ℕ → End → Type 0) (input put : List ℕ) (end : End) : Type 0 where
-      pub answers : AnswersOrRefuses answering input put end
-      pub declared : (value : V) → DeclaresWithinLimits (input_lines input) value → answering value put end
+    -- What a command promises that reads a text and answers once. `answers`: it puts the answer to what the input declares, by the
+    -- number of the line that ends the text, or the first refusal of the input. `declared`: where the input declares a value by lines
+    -- that come, it puts the answer to that. `refuses`: where the input has a first refusal, it puts that.
+    pub record AnswersLine (answering : V → ℕ → List ℕ → End → Type 0) (input put : List ℕ) (end : End) : Type 0 where
+      pub answers : AnswersLineOrRefuses answering input put end
+      pub declared : (value : V) (within : DeclaresWithinLimits (input_lines input) value) → answering value (length within.used) put end
       pub refuses : (fault : F) → IsFirstRefusal (input_lines input) fault → PutsRefusal fault put end
+
+    -- the same where the answer does not depend on the number of that line
+    abbrev pub AnswersOrRefuses : (V → List ℕ → End → Type 0) → (input put : List ℕ) → End → Type 0
+    AnswersOrRefuses answers input put end = AnswersLineOrRefuses (λ value number. answers value) input put end
+
+    abbrev pub AnswersText : (V → List ℕ → End → Type 0) → (input put : List ℕ) → End → Type 0
+    AnswersText answering input put end = AnswersLine (λ value number. answering value) input put end

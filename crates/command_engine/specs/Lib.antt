@@ -17,3 +17,4 @@ pub mod Alternatives
 pub mod Pairs
 pub mod Phases
 pub mod Turns
+pub mod Testing

@@ -15,6 +15,11 @@ abbrev pub IsSingleAnswer : {Q V E : Type 0} → (Q → V → List ℕ → E →
 IsSingleAnswer {Q} {V} {E} answers =
     (question : Q) (value : V) (a b : List ℕ) (x y : E) → answers question value a x → answers question value b y → (a ≡ b) × (x ≡ y)
 
+-- the same where the answer depends on the number of the line that gave the value
+abbrev pub IsSingleAtLine : {Q V E : Type 0} → (Q → V → ℕ → List ℕ → E → Type 0) → Type 0
+IsSingleAtLine {Q} {V} {E} answers =
+    (question : Q) (value : V) (number : ℕ) (a b : List ℕ) (x y : E) → answers question value number a x → answers question value number b y → (a ≡ b) × (x ≡ y)
+
 -- the front of some bytes, or all of them
 abbrev pub IsFront : List ℕ → List ℕ → Type 0
 IsFront front whole = (more : List ℕ) × (whole ≡ front ++ more)

@@ -15,21 +15,23 @@ use std::thread::Threads;
 
 /// A question that is answered once, to a value of a type.
 pub trait Question<V>: Drop {
-    /// To a value this answer is given, and so the run ends.
-    ghost answers: { Self → V → List ℕ → End → Type 0 };
+    /// To a value, which the line of this number gave, this answer is given, and so the run ends.
+    ghost answers: { Self → V → ℕ → List ℕ → End → Type 0 };
 
-    /// Puts the answer to a value into the buffer, which is empty. `AllocError` comes only for want of memory.
+    /// Puts the answer to a value into the buffer, which is empty. The number is that of the line that gave the value: an answer that
+    /// refuses it tells that line. `AllocError` comes only for want of memory.
     fn answer<R: Threads + Sync>(
         self,
         rt: &R,
         alloc: Global,
         answer: &mut Answer,
         value: V,
+        number: u32,
     ) -> Result<End, AllocError>
         // An implementation does not learn this from the bound `Sync`.
         requires shared { IsSync R.row }
         requires fresh { answer.old.text ≡ [] }
-        ensures { IfOk result (λ end. answers self value answer.new.text end) };
+        ensures { IfOk result (λ end. answers self value number answer.new.text end) };
 }
 
 /// The command that is made of a question and a text: it reads the text, and puts the answer to what it says, or the line of
@@ -58,7 +60,10 @@ impl<Q: Question<T::Value>, T: Text> Command for Asked<Q, T> {
         let Asked { question, text } = self;
         match text.read_line(alloc, number, line)? {
             Step::Goes(text) => Ok(Onward::Goes(Asked { question, text })),
-            Step::Gives(value) => Ok(Onward::Ends(question.answer(rt, alloc, answer, value)?)),
+            Step::Gives(value) => {
+                let end = question.answer(rt, alloc, answer, value, number)?;
+                Ok(Onward::Ends(end))
+            }
             Step::Refused(fault) => Ok(refuse(answer, fault)),
         }
     }

@@ -3,10 +3,10 @@
 ghost use Rattle.std.specs.Prelude.{◌≡◌, ℕ, List, []};
 ghost use Rattle.texts.specs.Lines.{InputLine, input_lines};
 ghost use Rattle.command_engine.specs.Runs.{Here, Runs, begins};
-ghost use Rattle.command_engine.specs.Single.{IsSingle, IsSingleAnswer, IsFront};
+ghost use Rattle.command_engine.specs.Single.{IsSingle, IsSingleAnswer, IsSingleAtLine, IsFront};
 ghost use Rattle.command_engine.specs.Reading.{reading};
 ghost use Rattle.command_engine.specs.Asked.{asked_machine, AnswersOutcome};
-ghost use Rattle.command_engine.specs.Inputs.{AnswersText};
+ghost use Rattle.command_engine.specs.Inputs.{AnswersLine};
 ghost use Rattle.command_engine.specs.Pairs.{then_reader, then_reading};
 ghost use Rattle.command_engine.specs.Phases.{WantsNone, text_then_phase_machine, FollowsOutcome};
 ghost use Rattle.command_engine.specs.Breaks.{WithinReply, WantsMemory, BreaksForMemory};
@@ -41,13 +41,13 @@ pub fn broken_runs_are_fronts<C: Command>()
 /// puts, where the command ended it; the answers to the whole lines taken and `error read`, where a take failed; a front of these, where a
 /// put failed; and a front of the first, where there was no memory.
 pub fn bytes_are_exact<C: Command>()
-    ensures { IsSingle C.machine → (start : C) (status : Status) (before after : Seen)
+    ensures { (start : C) (status : Status) (before after : Seen)
         → Serves C.machine start status before after → BytesAreExact C.machine start status before after }
 {}
 
 /// A command that asks has at most one reply where its question has at most one answer.
 pub fn asked_is_single<T: Text, Q: Question<T::Value>>()
-    ensures { IsSingleAnswer Q.answers → IsSingle (asked_machine Q.answers T.reader T.Fault.refusing) }
+    ensures { IsSingleAtLine Q.answers → IsSingle (asked_machine Q.answers T.reader T.Fault.refusing) }
 {}
 
 /// A command of a text and a phase has at most one reply where the phase begins in one way and has at most one.
@@ -68,7 +68,7 @@ pub fn asked_runs<T: Text, Q: Question<T::Value>>()
 pub fn asked_answers<T: InGrammar, Q: Question<T::Value>>()
     ensures { (question : Q) (input put : List ℕ) (end : End)
         → Runs (asked_machine Q.answers T.reader T.Fault.refusing) (record { question = question; text = T.beginning }) input put end
-        → AnswersText (T.grammar 0) T.Fault.refusing (Q.answers question) input put end }
+        → AnswersLine (T.grammar 0) T.Fault.refusing (Q.answers question) input put end }
 {
     T::reads_by_grammar();
 }

@@ -13,6 +13,7 @@ mod phases;
 mod reading;
 mod refusals;
 mod serving;
+mod testing;
 mod words;
 
 pub use alternatives::Either;
@@ -31,4 +32,5 @@ pub use phases::{Begin, TextThenPhase};
 pub use reading::{InGrammar, Step, Text};
 pub use refusals::Refusal;
 pub use serving::serve;
+pub use testing::{Test, Tested, tested_texts_are_read};
 pub use words::Word;

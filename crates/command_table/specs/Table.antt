@@ -5,16 +5,17 @@ use Rattle.plan_port.specs.Talk.{Seen}
 use Rattle.stnu_run.specs.Checking.{check_syntax}
 use Rattle.stnu_run.specs.DefinedRuns.{program_of}
 use Rattle.stnu_run.specs.Forging.{forge_syntax}
+use Rattle.stnu_run.specs.Judging.{judge_syntax}
 use Rattle.stnu_run.specs.Playing.{play_syntax}
 use Rattle.stnu_run.specs.Running.{run_syntax}
 use Rattle.stnu_run.specs.Sessions.{session_syntax}
 use Rattle.stnu_run.specs.Showing.{show_syntax}
 use Rattle.stnu_run.specs.Statuses.{IsRefusal, StatusHasCause}
-use Rattle.stnu_run.specs.WordLaws.{SayCheckFlags, SayForge, SayFormAndWorkers, SayForms, SayPlay, form_words}
+use Rattle.stnu_run.specs.WordLaws.{SayCheckFlags, SayForge, SayForm, SayFormAndWorkers, SayForms, SayPlay}
 use Rattle.stnu_run.specs.declared.checking.CheckFlags.{CheckFlags}
 use Rattle.stnu_run.specs.declared.forging.ForgeWords.{ForgeWords}
 use Rattle.stnu_run.specs.declared.judging.Judge.{Judge}
-use Rattle.stnu_run.specs.declared.plan_input.PlanForm.{PlanForm}
+use Rattle.plan_inputs.specs.declared.plan_input.PlanForm.{PlanForm}
 use Rattle.stnu_run.specs.declared.playing.PlayWords.{PlayWords}
 use Rattle.stnu_run.specs.declared.showing.Show.{Show}
 use Rattle.stnu_run.specs.declared.status.Status.{Status}
@@ -29,7 +30,7 @@ when false these one else other = other
 -- the table says.
 abbrev pub AreOfCommand : (command : List ℕ) (words : List (List ℕ)) → Type 0
 AreOfCommand command words =
-    when bytes_eq command (codes "judge") these ((judge : Judge) × (words ≡ form_words judge.form))
+    when bytes_eq command (codes "judge") these ((judge : Judge) × SayForm judge_syntax judge.form words)
     else when bytes_eq command (codes "check") these ((flags : CheckFlags) × SayCheckFlags check_syntax flags words)
     else when bytes_eq command (codes "run") these ((form : PlanForm) × SayFormAndWorkers run_syntax form words)
     else when bytes_eq command (codes "session") these ((form : PlanForm) × SayFormAndWorkers session_syntax form words)

@@ -1,5 +1,5 @@
 -- A text of lines that are counted, and a question about it.
-use Rattle.std.specs.Prelude.{◌≡◌, ℕ, List, [], ◌∷◌, codes, if◌then◌else◌}
+use Rattle.std.specs.Prelude.{◌≡◌, ℕ, List, [], ◌∷◌, Result, Ok, Err, codes, nat_le, if◌then◌else◌}
 use Rattle.std.specs.Str.{bytes_eq}
 use Rattle.std.specs.Fmt.{decimal}
 use Rattle.texts.specs.Printing.{printed_line}
@@ -11,6 +11,7 @@ use Rattle.command_engine.specs.declared.machines.Stop.{Stop}
 use Rattle.command_engine.specs.declared.machines.Stop.TheVariants.{LineTooLong, InputTooMuch, InputEnded}
 use Rattle.command_engine.specs.declared.reading.Step.{Step}
 use Rattle.command_engine.specs.declared.reading.Step.TheVariants.{Goes, Gives, Refused}
+use Rattle.example_commands.specs.declared.counting.AtMost.{AtMost}
 use Rattle.example_commands.specs.declared.counting.Counting.{Counting}
 use Rattle.example_commands.specs.declared.counting.Counting.TheVariants.{BeforeTitle, Lines}
 use Rattle.example_commands.specs.declared.counting.CountFault.{CountFault}
@@ -44,6 +45,10 @@ fault_end (Beyond line) = ends.Limit
 
 abbrev pub refusing : Refusing CountFault
 refusing = record { line = fault_line; end = fault_end }
+
+-- a text that has more lines is refused at its last one
+abbrev pub at_most : AtMost → (lines number : ℕ) → Result ℕ CountFault
+at_most test lines number = if nat_le lines test.lines then Ok lines else Err (Beyond number)
 
 -- how many lines the text has
 abbrev pub AnswersHowMany : HowMany → ℕ → List ℕ → End → Type 0

@@ -1,9 +1,9 @@
 //! A text of lines that are counted: `count`, then any lines, then `end`. And questions about it.
 
 ghost use Rattle.std.specs.Prelude.{ℕ};
-ghost use Rattle.example_commands.specs.Counting.{counting, refusing, AnswersHowMany, AnswersHowManyEach};
+ghost use Rattle.example_commands.specs.Counting.{at_most, counting, refusing, AnswersHowMany, AnswersHowManyEach};
 
-use command_engine::{Answer, End, Question, Refusal, Step, Stop, Text, Word};
+use command_engine::{Answer, End, Question, Refusal, Step, Stop, Test, Text, Word};
 use plan_port::MOST_LINE;
 use std::alloc::{AllocError, Global};
 use std::thread::Threads;
@@ -24,7 +24,7 @@ pub enum CountFault {
     NoTitle(u32),
     /// The line `end` does not come.
     NoEnd(u32),
-    /// The line is too long, or the input is too much.
+    /// The line is too long, the input is too much, or the text has more lines than it may have.
     Beyond(u32),
 }
 
@@ -83,12 +83,37 @@ impl Refusal for CountFault {
     }
 }
 
+/// The test that a text has at most so many lines: one that has more is refused as a whole.
+#[derive(Clone, Copy, Debug)]
+pub struct AtMost {
+    pub lines: u32,
+}
+
+impl Test<u32, CountFault> for AtMost {
+    type Value = u32;
+
+    ghost tests = { at_most };
+
+    fn test(
+        &self,
+        _alloc: Global,
+        value: u32,
+        number: u32,
+    ) -> Result<Result<u32, CountFault>, AllocError> {
+        if value <= self.lines {
+            Ok(Ok(value))
+        } else {
+            Ok(Err(CountFault::Beyond(number)))
+        }
+    }
+}
+
 /// How many lines a text has.
 #[derive(Clone, Copy, Debug)]
 pub struct HowMany;
 
 impl Question<u32> for HowMany {
-    ghost answers = { AnswersHowMany };
+    ghost answers = { λ question lines number. AnswersHowMany question lines };
 
     fn answer<R: Threads + Sync>(
         self,
@@ -96,6 +121,7 @@ impl Question<u32> for HowMany {
         _alloc: Global,
         answer: &mut Answer,
         lines: u32,
+        _number: u32,
     ) -> Result<End, AllocError> {
         answer.push_line(&[Word::Text("lines"), Word::Number(u64::from(lines))])?;
         Ok(End::Done)
@@ -107,7 +133,7 @@ impl Question<u32> for HowMany {
 pub struct HowManyEach;
 
 impl Question<(u32, u32)> for HowManyEach {
-    ghost answers = { AnswersHowManyEach };
+    ghost answers = { λ question lines number. AnswersHowManyEach question lines };
 
     fn answer<R: Threads + Sync>(
         self,
@@ -115,6 +141,7 @@ impl Question<(u32, u32)> for HowManyEach {
         _alloc: Global,
         answer: &mut Answer,
         lines: (u32, u32),
+        _number: u32,
     ) -> Result<End, AllocError> {
         let (first, second) = lines;
         let last = Word::Number(u64::from(second));

@@ -110,7 +110,7 @@ impl Refusal for DocumentFault {
 pub struct HowLarge;
 
 impl Question<u32> for HowLarge {
-    ghost answers = { AnswersHowLarge };
+    ghost answers = { λ question left number. AnswersHowLarge question left };
 
     fn answer<R: Threads + Sync>(
         self,
@@ -118,6 +118,7 @@ impl Question<u32> for HowLarge {
         _alloc: Global,
         answer: &mut Answer,
         left: u32,
+        _number: u32,
     ) -> Result<End, AllocError> {
         answer.push_line(&[Word::Text("left"), Word::Number(u64::from(left))])?;
         Ok(End::Done)

@@ -12,7 +12,7 @@ mod tally;
 #[cfg(test)]
 mod words;
 
-pub use counting::{CountFault, Counting, HowMany, HowManyEach};
+pub use counting::{AtMost, CountFault, Counting, HowMany, HowManyEach};
 pub use desk::Desk;
 pub use document::{Document, DocumentFault, HowLarge};
 pub use tally::{FromCount, Tally};

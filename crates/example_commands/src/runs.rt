@@ -1,10 +1,10 @@
 //! Runs of the examples over a port in memory.
 
-use crate::counting::{Counting, HowMany, HowManyEach};
+use crate::counting::{AtMost, Counting, HowMany, HowManyEach};
 use crate::desk::Desk;
 use crate::document::{Document, HowLarge};
 use crate::tally::{FromCount, Tally};
-use command_engine::{Asked, Status, TextThenPhase, Then, serve};
+use command_engine::{Asked, Status, Tested, TextThenPhase, Then, serve};
 use plan_port::MemoryPort;
 use std::alloc::{AllocError, Global};
 use std::process::Abort;
@@ -36,7 +36,10 @@ document|abc/de/end/|0|0|0|left 99995/|0
 document|abc/de|1|0|0|error no-end/|3
 each|count/end/count/a/end/|1|0|0|lines 2 5/|0
 each|count/end/counts/|0|0|0|error no-title 3/|3
-each|count/end/count/|0|0|0|error no-end 4/|3";
+each|count/end/count/|0|0|0|error no-end 4/|3
+few|count/a/b/end/more/|0|0|0|lines 4/|0
+few|count/a/b/c/end/|1|0|0|error limit 5/|4
+few|count/a/|0|0|0|error no-end 3/|3";
 
 // A row of the table.
 #[derive(Drop)]
@@ -108,6 +111,18 @@ fn run(rt: &(impl Threads + Sync), alloc: Global, row: &Row<'_>, port: &mut Memo
             Asked {
                 question: HowManyEach,
                 text: Then::First(Counting::BeforeTitle, Counting::BeforeTitle),
+            },
+            port,
+        ),
+        "few" => serve(
+            rt,
+            alloc,
+            Asked {
+                question: HowMany,
+                text: Tested {
+                    text: Counting::BeforeTitle,
+                    test: AtMost { lines: 4 },
+                },
             },
             port,
         ),

@@ -10,7 +10,7 @@ use Rattle.common_answers.specs.VerdictLines.{controllable_line}
 use Rattle.stnu_run.specs.CheckPromise.{CheckPromise, PutsVerdict}
 use Rattle.stnu_run.specs.Checking.{PutsYes}
 use Rattle.common_answers.specs.Faults.{refusing}
-use Rattle.stnu_run.specs.PlanInput.{plan_in}
+use Rattle.plan_inputs.specs.PlanInput.{plan_in}
 use Rattle.stnu_run.specs.declared.checking.CheckFlags.{CheckFlags}
 use Rattle.stnu_run.proofs.DecidedLemmas.{after_line, yes_by, refutes_by}
 

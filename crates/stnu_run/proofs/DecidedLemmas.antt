@@ -9,10 +9,10 @@ use Rattle.command_engine.specs.declared.endings.End.{End}
 use Rattle.common_answers.specs.VerdictLines.{controllable_line, refuted_line}
 use Rattle.verdicts.specs.Verdict.{PutsDecided}
 use Rattle.common_answers.specs.Faults.{fault_line, refusing}
-use Rattle.stnu_run.specs.PlanInput.{plan_in}
+use Rattle.plan_inputs.specs.PlanInput.{plan_in}
 use Rattle.common_answers.specs.declared.faults.Fault.{Fault}
-use Rattle.stnu_run.specs.declared.plan_input.PlanForm.{PlanForm}
-use Rattle.stnu_run.proofs.PlanInputLemmas.{input_one}
+use Rattle.plan_inputs.specs.declared.plan_input.PlanForm.{PlanForm}
+use Rattle.plan_inputs.proofs.PlanInputLemmas.{input_one}
 
 -- the byte at the front
 abbrev first_byte : List ℕ → ℕ

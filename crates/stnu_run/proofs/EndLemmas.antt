@@ -1,6 +1,6 @@
 -- Runs end by the causes in their input, where commands keep their promises.
-use Rattle.std.proofs.Common.{◌≡◌, ◌⊎◌, inl, inr, ℕ, Bool, true, false, List, [], refl, sym, ◌∙◌, subst}
-use Rattle.texts.specs.Lines.{input_lines}
+use Rattle.std.proofs.Common.{◌≡◌, ◌⊎◌, inl, inr, ℕ, Bool, true, false, List, [], length, refl, sym, ◌∙◌, subst}
+use Rattle.texts.specs.Lines.{input_lines, lines}
 use Rattle.net_model.specs.Network.{Plan}
 use Rattle.strategy_model.specs.Control.{IsControllable}
 use Rattle.cert_format.specs.declared.certificate.Certificate.{Certificate}
@@ -9,7 +9,7 @@ use Rattle.cert_checker.specs.declared.judgement.Judgement.{Judgement}
 use Rattle.cert_checker.specs.declared.judgement.Judgement.TheVariants.{Accepted, Refused as Rejected}
 use Rattle.execution_model.specs.Streams.{Listing}
 use Rattle.command_engine.specs.Grammars.{Grammar}
-use Rattle.command_engine.specs.Inputs.{AnswersOrRefuses, AnswersText, IsFirstRefusal}
+use Rattle.command_engine.specs.Inputs.{AnswersLine, AnswersLineOrRefuses, IsFirstRefusal, last_before}
 use Rattle.command_engine.specs.declared.endings.End.{End}
 use Rattle.command_engine.specs.declared.endings.End.TheVariants as ends
 use Rattle.stnu_run.specs.Causes.{EndsByCause, IsAnswer, IsDayRefused, IsTextRefused, text_causes}
@@ -22,13 +22,13 @@ use Rattle.event_execution.specs.ExecutionPromise.{ExecutionPromise, PutsLast}
 use Rattle.common_answers.specs.Faults.{fault_line, refusing}
 use Rattle.stnu_run.specs.JudgePromise.{PutsJudgement}
 use Rattle.stnu_run.specs.Judging.{judgement_end}
-use Rattle.stnu_run.specs.PlanInput.{plan_in}
+use Rattle.plan_inputs.specs.PlanInput.{plan_in}
 use Rattle.stnu_run.specs.PlayPromise.{PutsPlay}
 use Rattle.stnu_run.specs.RunPromise.{OpensExecution, RunPromise, plan_opens, run_causes}
 use Rattle.stnu_run.specs.SessionPromise.{HasStepFault, IsWholeSession, SessionPromise, session_causes, session_opens}
 use Rattle.stnu_run.specs.declared.checking.CheckFlags.{CheckFlags}
 use Rattle.common_answers.specs.declared.faults.Fault.{Fault}
-use Rattle.stnu_run.specs.declared.plan_input.PlanForm.{PlanForm}
+use Rattle.plan_inputs.specs.declared.plan_input.PlanForm.{PlanForm}
 use Rattle.stnu_run.specs.declared.playing.PlayWords.{PlayWords}
 
 -- a run that is done, or refused by what was asked, ends by an answer
@@ -36,37 +36,37 @@ answers_as : (end other : End) → end ≡ other → IsAnswer other → IsAnswer
 answers_as end other is answer = subst (λ (e : End). IsAnswer e) (sym is) answer
 
 -- ---- one text
-module _ {V : Type 0} (grammar : Grammar V Fault) (answering : V → List ℕ → End → Type 0) (answer : (value : V) (put : List ℕ) (end : End) → answering value put end → IsAnswer end)
-    (input put : List ℕ) (end : End) (text : AnswersText grammar refusing answering input put end) where
-  only_text : AnswersOrRefuses grammar refusing answering input put end → IsAnswer end ⊎ ((line : List ℕ) × IsTextRefused grammar input end line × PutsLast line put)
-  only_text (inl (value, after, is, answered)) = inl (answer value put end answered)
+module _ {V : Type 0} (grammar : Grammar V Fault) (answering : V → ℕ → List ℕ → End → Type 0) (answer : (value : V) (number : ℕ) (put : List ℕ) (end : End) → answering value number put end → IsAnswer end)
+    (input put : List ℕ) (end : End) (text : AnswersLine grammar refusing answering input put end) where
+  only_text : AnswersLineOrRefuses grammar refusing answering input put end → IsAnswer end ⊎ ((line : List ℕ) × IsTextRefused grammar input end line × PutsLast line put)
+  only_text (inl (value, after, is, answered)) = inl (answer value (last_before after (lines input)) put end answered)
   only_text (inr (fault, first, puts)) = inr (fault_line fault, record { fault = fault; first = first; ends_so = puts.1; told = refl }, ([], puts.0))
 
   pub text_ends : EndsByCause (text_causes grammar) input put end
   text_ends = record {
     refused = λ other line is. (text.refuses is.fault is.first).1 ∙ sym is.ends_so;
     only = only_text text.answers;
-    whole = λ within. answer within.0 put end (text.declared within.0 within.1);
+    whole = λ within. answer within.0 (length within.1.used) put end (text.declared within.0 within.1);
   }
 
 judgement_answers : (judgement : Judgement) → IsAnswer (judgement_end judgement)
 judgement_answers (Accepted claim) = tt
 judgement_answers (Rejected line why) = tt
 
-pub judged_answers : (value : Plan × Certificate) (put : List ℕ) (end : End) → PutsJudgement value put end → IsAnswer end
-judged_answers value put end puts = answers_as end (judgement_end (judgement_of value.0 value.1)) puts.1 (judgement_answers (judgement_of value.0 value.1))
+pub judged_answers : (value : Plan × Certificate) (number : ℕ) (put : List ℕ) (end : End) → PutsJudgement value put end → IsAnswer end
+judged_answers value number put end puts = answers_as end (judgement_end (judgement_of value.0 value.1)) puts.1 (judgement_answers (judgement_of value.0 value.1))
 
 yes_answers : (proof : Bool) (net : Plan) (put : List ℕ) (end : End) → PutsYes proof net put end → IsAnswer end
 yes_answers false net put end puts = answers_as end ends.Done puts.1 tt
 yes_answers true net put end (cert, proves, puts) = answers_as end ends.Done puts.1 tt
 
-pub verdict_answers : (flags : CheckFlags) (net : Plan) (put : List ℕ) (end : End) → PutsVerdict flags net put end → IsAnswer end
-verdict_answers flags net put end (inl (controllable, puts)) = yes_answers flags.proof net put end puts
-verdict_answers flags net put end (inr (never, (cert, accepted, puts))) = answers_as end ends.Refused puts.1 tt
+pub verdict_answers : (flags : CheckFlags) (net : Plan) (number : ℕ) (put : List ℕ) (end : End) → PutsVerdict flags net put end → IsAnswer end
+verdict_answers flags net number put end (inl (controllable, puts)) = yes_answers flags.proof net put end puts
+verdict_answers flags net number put end (inr (never, (cert, accepted, puts))) = answers_as end ends.Refused puts.1 tt
 
-pub played_answers : (words : PlayWords) (net : Plan) (put : List ℕ) (end : End) → PutsPlay words net put end → IsAnswer end
-played_answers words net put end (inl (controllable, times)) = answers_as end ends.Done times.done tt
-played_answers words net put end (inr (never, (cert, accepted, puts))) = answers_as end ends.Refused puts.1 tt
+pub played_answers : (words : PlayWords) (net : Plan) (number : ℕ) (put : List ℕ) (end : End) → PutsPlay words net put end → IsAnswer end
+played_answers words net number put end (inl (controllable, times)) = answers_as end ends.Done times.done tt
+played_answers words net number put end (inr (never, (cert, accepted, puts))) = answers_as end ends.Refused puts.1 tt
 
 -- ---- lines of events
 -- a run ends by an answer, or what leads to each other end is so

@@ -1,4 +1,4 @@
--- The bytes that the program puts are exact, where its command has at most one reply to each line.
+-- The bytes that the program puts are exact.
 use Rattle.std.proofs.Common.{◌≡◌, inl, inr, ℕ, ◌<◌, List, [], ◌++◌, take, drop, refl, sym, ap, ◌∙◌, subst, arith, append-nil}
 use Rattle.std.proofs.lemmas.List.{append_cancel_left, take-append-drop}
 use Rattle.plan_port.specs.Talk.{Seen, Talk, WhereTold}
@@ -13,7 +13,7 @@ use Rattle.command_engine.specs.declared.endings.Status.{Status as Ending}
 use Rattle.command_engine.specs.declared.endings.Status.TheVariants.{Ended, ReadFault, WriteFault, NoMemory}
 use Rattle.command_engine.proofs.BytesLemmas.{bytes_exact}
 use Rattle.stnu_run.specs.ExactBytes.{IsFrontOfDefined, IsToPutAfterTake, PutsExactly, BytesAreExact}
-use Rattle.stnu_run.specs.Programs.{Program, Promise, serves, tells, told_number, written_number, DefinesOne, ServesProgram}
+use Rattle.stnu_run.specs.Programs.{Program, Promise, serves, tells, told_number, written_number, DefinesOne, TellsOne, ServesProgram}
 use Rattle.stnu_run.specs.declared.status.Status.{Status}
 use Rattle.stnu_run.specs.declared.telling.TellingEnd.{TellingEnd}
 use Rattle.stnu_run.specs.declared.telling.TellingEnd.TheVariants.{Told, Refuted, WordsRefused}
@@ -21,7 +21,7 @@ use Rattle.stnu_run.proofs.KeptLemmas.{ending_one}
 
 module _ {C : Type 0} (machine : Machine C) (start : C) (promise : Promise) where
   front_of : (input put : List ℕ) → IsFrontOfRun machine start input put → IsFrontOfDefined (serves machine start promise) input put
-  front_of input put front = record { replies = front.replies; defined = λ all status defines. front.whole all defines.0 defines.2 }
+  front_of input put front = record { replies = front.replies; defined = λ single all status defines. front.whole single all defines.0 defines.2 }
 
   to_put : (input untaken wanted : List ℕ) → IsToPut machine start input untaken wanted → IsToPutAfterTake (serves machine start promise) input untaken wanted
   to_put input untaken wanted is =
@@ -74,7 +74,7 @@ module _ (answers : List ℕ → TellingEnd → Type 0) (one : DefinesOne (tells
     defined = λ no_take no_put memory. absurd (memory refl);
     failed_take = λ eight. absurd (omega arith);
     failed_put = λ eight. absurd (omega arith);
-    no_memory = λ eight. record { replies = inl nothing; defined = λ all status defines. (all, ap (λ (p : List ℕ). p ++ all) (sym nothing)) };
+    no_memory = λ eight. record { replies = inl nothing; defined = λ single all status defines. (all, ap (λ (p : List ℕ). p ++ all) (sym nothing)) };
   }
 
   -- the front of an answer was put
@@ -83,7 +83,7 @@ module _ (answers : List ℕ → TellingEnd → Type 0) (one : DefinesOne (tells
       let front : answer ≡ put ++ drop count answer = sym (take-append-drop count answer) ∙ ap (λ (p : List ℕ). p ++ drop count answer) (sym is) in
       record {
         replies = inr (answer, end, answered, (drop count answer, front));
-        defined = λ all status defines.
+        defined = λ single all status defines.
             let same = one.one input all answer status (record { 0 = told_number end }) defines (end, refl, answered) in
             (drop count answer, same.0 ∙ front);
       }
@@ -109,12 +109,12 @@ module _ (answers : List ℕ → TellingEnd → Type 0) (one : DefinesOne (tells
       }
 
 -- whatever the program is
-pub program_exact : (program : Program) (status : Status) (before after : Seen) → DefinesOne program → ServesProgram program status before after → BytesAreExact program status before after
+pub program_exact : (program : Program) (status : Status) (before after : Seen) → TellsOne program → ServesProgram program status before after → BytesAreExact program status before after
 program_exact (serves {C} machine start promise) status before after one (ending, number, ran) =
     WhereTold-so before.talk after.talk _ _ (λ was is inner.
     WhereTold-so before.left after.left _ _ (λ input untaken exact put all.
     subst (λ (s : Status). PutsExactly (serves machine start promise) s input untaken put) (sym number) (by_number machine start promise ending input untaken put (exact put all))) inner)
-    (bytes_exact machine one.single start ending before after ran)
+    (bytes_exact machine start ending before after ran)
 program_exact (tells answers) status before after one (inl tells_so) =
     WhereTold-so before.talk after.talk (λ was is. is ≡ after_writing tells_so.written tells_so.put was) _ (λ was is wrote.
     let Exact : List ℕ → List ℕ → Type 0 = λ input untaken. (put : List ℕ) → is.put ≡ was.put ++ put → PutsExactly (tells answers) status input untaken put in

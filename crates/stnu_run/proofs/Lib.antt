@@ -1,7 +1,3 @@
-pub mod NetworkLemmas
-pub mod PlanLemmas
-pub mod DocumentLemmas
-pub mod PlanInputLemmas
 pub mod CertificateLemmas
 pub mod JudgeLemmas
 pub mod DecidedLemmas

@@ -13,7 +13,7 @@ use Rattle.net_model.specs.Network.{IsPlan}
 use Rattle.command_engine.specs.Inputs.{AnswersText}
 use Rattle.command_engine.specs.declared.endings.End.{End}
 use Rattle.common_answers.specs.Faults.{refusing}
-use Rattle.stnu_run.specs.PlanInput.{plan_in}
+use Rattle.plan_inputs.specs.PlanInput.{plan_in}
 use Rattle.stnu_run.specs.PlayPromise.{AreEarliestTimes, PlayPromise, PutsPlay}
 use Rattle.stnu_run.specs.Playing.{PutsTimes, play_answers, times_text}
 use Rattle.common_answers.specs.VerdictLines.{controllable_line}

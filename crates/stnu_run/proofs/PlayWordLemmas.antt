@@ -11,13 +11,13 @@ use Rattle.command_words.specs.Arguments.{is_given, operand_texts}
 use Rattle.command_words.specs.Spelling.{Use}
 use Rattle.command_words.specs.Syntax.{Text}
 use Rattle.stnu_run.specs.Counts.{number_within}
-use Rattle.stnu_run.specs.PlanInput.{form_by, json_name}
+use Rattle.plan_inputs.specs.PlanInput.{form_by, json_name}
 use Rattle.stnu_run.specs.Playing.{play_asked, play_syntax}
 use Rattle.stnu_run.specs.Requests.{asked_by}
 use Rattle.stnu_run.specs.Which.{CanBeNamed, most_situation, which_given, which_of, which_word}
 use Rattle.stnu_run.specs.WordLaws.{SayPlay}
 use Rattle.stnu_run.specs.Workers.{WorkersDecideNothing}
-use Rattle.stnu_run.specs.declared.plan_input.PlanForm.{PlanForm}
+use Rattle.plan_inputs.specs.declared.plan_input.PlanForm.{PlanForm}
 use Rattle.stnu_run.specs.declared.playing.PlayWords.{PlayWords}
 use Rattle.stnu_run.specs.declared.which.Which.{Which}
 use Rattle.stnu_run.specs.declared.which.Which.TheVariants.{Longest, Shortest, Numbered}

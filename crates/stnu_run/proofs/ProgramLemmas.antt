@@ -1,11 +1,11 @@
--- A program defines at most one pair of bytes and exit status for an input, where its command has at most one reply.
+-- A program defines at most one pair of bytes and exit status for an input, where its command has at most one reply; and without an input.
 use Rattle.std.proofs.Common.{◌≡◌, ℕ, List, Bool, true, false, Option, Some, None, sym, ap, ◌∙◌}
 use Rattle.command_engine.specs.Asked.{asked_machine}
 use Rattle.command_engine.specs.Endings.{end_number}
 use Rattle.command_engine.specs.Machine.{Machine}
 use Rattle.command_engine.specs.Phases.{text_then_phase_machine}
 use Rattle.command_engine.specs.Reading.{Reader, Refusing}
-use Rattle.command_engine.specs.Single.{IsSingle, IsSingleAnswer}
+use Rattle.command_engine.specs.Single.{IsSingle, IsSingleAnswer, IsSingleAtLine}
 use Rattle.command_engine.specs.declared.asking.Asked.{Asked}
 use Rattle.command_engine.specs.declared.endings.End.{End}
 use Rattle.command_engine.specs.declared.machines.Onward.{Onward}
@@ -14,7 +14,7 @@ use Rattle.command_engine.proofs.AskedLemmas.{asked_single}
 use Rattle.command_engine.proofs.PhaseLemmas.{text_then_phase_single}
 use Rattle.command_engine.proofs.SingleLemmas.{runs_same}
 use Rattle.stnu_run.specs.DefinedRuns.{program_named, program_for, program_of, command_of, when◌run◌else◌}
-use Rattle.stnu_run.specs.Programs.{Program, Promise, serves, tells, told_number, DefinesOne, EachDefinesOne}
+use Rattle.stnu_run.specs.Programs.{Program, Promise, serves, tells, told_number, DefinesOne, EachDefinesOne, TellsOne}
 use Rattle.stnu_run.specs.Requests.{RefusesWords, refuses_words, program_asked}
 use Rattle.stnu_run.specs.declared.telling.TellingEnd.{TellingEnd}
 use Rattle.stnu_run.specs.declared.status.Status.{Status}
@@ -29,7 +29,7 @@ single_defines_one machine start promise single = record {
 }
 
 -- a command that asks defines one where its question has at most one answer
-pub asked_defines_one : {Q S V F : Type 0} (answers : Q → V → List ℕ → End → Type 0) (reader : Reader S V F) (refusing : Refusing F) (start : Asked Q S) (promise : Promise) → IsSingleAnswer answers → DefinesOne (serves (asked_machine answers reader refusing) start promise)
+pub asked_defines_one : {Q S V F : Type 0} (answers : Q → V → ℕ → List ℕ → End → Type 0) (reader : Reader S V F) (refusing : Refusing F) (start : Asked Q S) (promise : Promise) → IsSingleAtLine answers → DefinesOne (serves (asked_machine answers reader refusing) start promise)
 asked_defines_one answers reader refusing start promise single =
     single_defines_one (asked_machine answers reader refusing) start promise (asked_single answers reader refusing single)
 
@@ -69,3 +69,23 @@ named_defines_one each None = refused_defines_one
 -- whatever the words are
 pub words_define_one : ((command : List ℕ) (words : List (List ℕ)) → DefinesOne (program_named command words)) → (words : List (List ℕ)) → DefinesOne (program_of words)
 words_define_one each words = named_defines_one each (command_of words)
+
+-- ---- answers without an input
+pub told_one : (answers : List ℕ → TellingEnd → Type 0) → DefinesOne (tells answers) → TellsOne (tells answers)
+told_one answers one = one
+
+pub asked_program_tells_one : {A : Type 0} (program : A → Program) (asked : Option A) → ((a : A) → TellsOne (program a)) → TellsOne (program_asked program asked)
+asked_program_tells_one program (Some asked) ones = ones asked
+asked_program_tells_one program None ones = refused_defines_one
+
+pub chosen_tells_one : (so : Bool) (one other : Program) → TellsOne one → TellsOne other → TellsOne (when so run one else other)
+chosen_tells_one true one other first second = first
+chosen_tells_one false one other first second = second
+
+named_tells_one : ((command : List ℕ) (words : List (List ℕ)) → TellsOne (program_named command words)) → (named : Option (List ℕ × List (List ℕ))) → TellsOne (program_for named)
+named_tells_one each (Some (command, words)) = each command words
+named_tells_one each None = refused_defines_one
+
+-- whatever the words are
+pub words_tell_one : ((command : List ℕ) (words : List (List ℕ)) → TellsOne (program_named command words)) → (words : List (List ℕ)) → TellsOne (program_of words)
+words_tell_one each words = named_tells_one each (command_of words)

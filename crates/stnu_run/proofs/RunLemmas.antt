@@ -26,16 +26,16 @@ use Rattle.event_execution.specs.EventAnswers.{due_line}
 use Rattle.event_execution.specs.EventFaults.{HasEventFault}
 use Rattle.event_execution.specs.Executing.{executing_machine}
 use Rattle.common_answers.specs.Faults.{refusing, fault_end}
-use Rattle.stnu_run.specs.PlanInput.{input_begun, input_reader, plan_in}
+use Rattle.plan_inputs.specs.PlanInput.{input_begun, input_reader, plan_in}
 use Rattle.stnu_run.specs.RunPromise.{OpensExecution, plan_opens, RunPromise}
 use Rattle.stnu_run.specs.Running.{run_begins, run_machine, run_start}
 use Rattle.common_answers.specs.VerdictLines.{controllable_line, PutsRefuted}
 use Rattle.common_answers.specs.declared.faults.Fault.{Fault}
-use Rattle.stnu_run.specs.declared.plan_input.PlanForm.{PlanForm}
+use Rattle.plan_inputs.specs.declared.plan_input.PlanForm.{PlanForm}
 use Rattle.event_execution.proofs.DayLemmas.{ExecutionLaws}
 use Rattle.event_execution.proofs.DueLemmas.{due_answered}
 use Rattle.event_execution.proofs.ExecutionLemmas.{Opened, IsOpened, Lasts, lasts, execution_keeps, whole_by, refused_so, fault_so, fault_not}
-use Rattle.stnu_run.proofs.PlanInputLemmas.{input_by}
+use Rattle.plan_inputs.proofs.PlanInputLemmas.{input_by}
 
 module _ (form : PlanForm) where
   -- ---- what follows on the reading of a plan
@@ -96,8 +96,8 @@ module _ (form : PlanForm) where
   abbrev Begins : Plan → List ℕ → End → Type 0
   Begins net put end = (number : ℕ) × (room : ℕ) × (rest : List InputLine) × Follows (Given net number room rest) put end
 
-  abbrev begins_answers : PlanForm → Plan → List ℕ → End → Type 0
-  begins_answers one net put end = Begins net put end
+  abbrev begins_answers : PlanForm → Plan → ℕ → List ℕ → End → Type 0
+  begins_answers one net last put end = Begins net put end
 
   follows_answered : (outcome : Outcome Plan Fault) (put : List ℕ) (end : End) → Follows outcome put end → AnswersOutcome begins_answers input_reader refusing form outcome put end
   follows_answered (Given net number room rest) put end follows = (number, room, rest, follows)

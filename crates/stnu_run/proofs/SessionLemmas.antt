@@ -34,14 +34,14 @@ use Rattle.event_execution.specs.EventFaults.{HasEventFault}
 use Rattle.event_execution.specs.Executing.{executing_machine}
 use Rattle.event_execution.specs.ExecutionPromise.{PutsLast}
 use Rattle.common_answers.specs.Faults.{refusing, fault_line, fault_end}
-use Rattle.stnu_run.specs.PlanInput.{input_begun, input_reader, plan_in}
+use Rattle.plan_inputs.specs.PlanInput.{input_begun, input_reader, plan_in}
 use Rattle.stnu_run.specs.SessionAnswers.{ready_line}
 use Rattle.stnu_run.specs.SessionPromise.{TellSteps, IsEdited, IsNext, SaysSteps, SaysAll, SaysFirst, OpensByGo, session_opens, IsStepFault, HasStepFault, PutsReady, PutsFirstDue, IsWholeSession, SessionPromise, SaysWhole}
 use Rattle.stnu_run.specs.Sessions.{net_of, OpensOn, session_begins, session_machine, session_start, command_machine}
 use Rattle.stnu_run.specs.Standing.{Standing}
 use Rattle.common_answers.specs.ToRead.{Come}
 use Rattle.common_answers.specs.declared.faults.Fault.{Fault}
-use Rattle.stnu_run.specs.declared.plan_input.PlanForm.{PlanForm}
+use Rattle.plan_inputs.specs.declared.plan_input.PlanForm.{PlanForm}
 use Rattle.stnu_run.specs.declared.session.InSession.{InSession}
 use Rattle.stnu_run.specs.declared.session.InSession.TheVariants.{Editing, Executing}
 use Rattle.event_execution.proofs.CourseLemmas.{Decides, IsDecided}
@@ -49,7 +49,7 @@ use Rattle.event_execution.proofs.DayLemmas.{ExecutionLaws}
 use Rattle.event_execution.proofs.DueLemmas.{due_answered}
 use Rattle.event_execution.proofs.EventLemmas.{at}
 use Rattle.event_execution.proofs.ExecutionLemmas.{Opened, IsOpened, Lasts, lasts, execution_keeps, whole_by, refused_so, fault_so, fault_not, fault_ends_so}
-use Rattle.stnu_run.proofs.PlanInputLemmas.{input_by}
+use Rattle.plan_inputs.proofs.PlanInputLemmas.{input_by}
 use Rattle.event_execution.proofs.ReplyLemmas.{come_first, come_then, come_both, room_both}
 use Rattle.stnu_run.proofs.SessionLines.{at_edit, EndsSession, HowEnds, at_end, by_fault, by_go, session_ends, over_steps, step_fault, end_there, go_there, StillEdited, still_edited}
 use Rattle.stnu_run.proofs.SessionOnceLemmas.{OneWay, all_once}
@@ -143,8 +143,8 @@ module _ (form : PlanForm) where
   abbrev Begins : Plan → List ℕ → End → Type 0
   Begins net put end = (number : ℕ) × (room : ℕ) × (rest : List InputLine) × Follows (Given net number room rest) put end
 
-  abbrev begins_answers : PlanForm → Plan → List ℕ → End → Type 0
-  begins_answers one net put end = Begins net put end
+  abbrev begins_answers : PlanForm → Plan → ℕ → List ℕ → End → Type 0
+  begins_answers one net last put end = Begins net put end
 
   follows_answered : (outcome : Outcome Plan Fault) (put : List ℕ) (end : End) → Follows outcome put end → AnswersOutcome begins_answers input_reader refusing form outcome put end
   follows_answered (Given net number room rest) put end follows = (number, room, rest, follows)

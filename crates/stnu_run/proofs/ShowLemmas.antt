@@ -1,16 +1,11 @@
 -- What `show` puts is read again.
-use Rattle.std.proofs.Common.{◌≡◌, ℕ, true, List, [], ◌∷◌, ◌++◌, refl, sym, ap, ◌∙◌, subst, append_assoc, codes}
-use Rattle.std.specs.List.{list_all}
-use Rattle.std.proofs.lemmas.List.Sums.{AllPass-from_list_all}
+use Rattle.std.proofs.Common.{◌≡◌, ℕ, List, [], ◌∷◌, ◌++◌, refl, sym, ap, ◌∙◌, subst, append_assoc, codes}
 use Rattle.texts.specs.Lines.{lines}
 use Rattle.texts.specs.Printing.{printed_line}
 use Rattle.texts.specs.Words.{words}
 use Rattle.texts.proofs.LineLemmas.{lines_is}
 use Rattle.texts.proofs.WordLemmas.{words_is}
-use Rattle.net_model.specs.Limits.{within_limit}
 use Rattle.net_model.specs.Network.{Plan, IsPlan, HasPlanNumbers}
-use Rattle.net_model.specs.declared.part.Bound.{Bound}
-use Rattle.net_model.specs.declared.part.Link.{Link}
 use Rattle.plan_format.specs.PlanParts.{end_words}
 use Rattle.plan_format.specs.PlanPrinting.{printed_plan}
 use Rattle.plan_format.proofs.RoundTripLemmas.{declares_back}
@@ -18,17 +13,18 @@ use Rattle.plan_json.specs.Reading.{declared}
 use Rattle.plan_json.specs.Writing.{DocumentsStandInInputs, ReadsBack, document_of, document_text}
 use Rattle.command_engine.specs.declared.endings.End.{End}
 use Rattle.command_engine.specs.declared.endings.End.TheVariants as ends
-use Rattle.stnu_run.specs.DocumentTexts.{DeclaresDocument}
-use Rattle.stnu_run.specs.PlanInput.{plan_in}
+use Rattle.plan_inputs.specs.PlanInput.{in_notation, plan_in}
 use Rattle.stnu_run.specs.Showing.{PutsPlan, show_answers, shown_plan}
-use Rattle.stnu_run.specs.declared.plan_input.PlanForm.TheVariants.{Text, Json}
+use Rattle.plan_inputs.specs.declared.plan_input.Notation.TheVariants.{Text, Json}
 use Rattle.stnu_run.specs.declared.showing.Show.{Show}
+use Rattle.plan_inputs.proofs.DocumentLemmas.{document_declares as declares_so}
+use Rattle.plan_inputs.proofs.PlanLemmas.{declares_network}
 
 -- the printed plan declares its network
 pub text_put : (net : Plan) (put : List ℕ) → IsPlan net → HasPlanNumbers net → put ≡ printed_plan net → PutsPlan Text net put ends.Done
 text_put net put plan numbers is = record {
   is = is;
-  again = subst (λ (text : List ℕ). (plan_in Text).declares (lines text) (record net { delay = 0 }) []) (sym is) (declares_back net plan numbers);
+  again = subst (λ (text : List ℕ). (plan_in (in_notation Text)).declares (lines text) (record net { delay = 0 }) []) (sym is) ((declares_network 0 (lines (printed_plan net)) (record net { delay = 0 }) []).1 (declares_back net plan numbers));
   done = refl;
 }
 
@@ -40,19 +36,12 @@ end_ends : words (codes "end") ≡ end_words
 end_ends = sym (words_is (codes "end"))
 
 document_declares : DocumentsStandInInputs → (net : Plan) → IsPlan net → HasPlanNumbers net → ReadsBack (document_text (document_of net)) net
-    → DeclaresDocument (lines (document_text (document_of net) ++ 10 ∷ printed_line end_words)) (record net { delay = 0 }) []
+    → (plan_in (in_notation Json)).declares (lines (document_text (document_of net) ++ 10 ∷ printed_line end_words)) (record net { delay = 0 }) []
 document_declares law net plan numbers back =
     let stands = law net plan numbers in
-    record {
-      document = stands.pieces;
-      last = codes "end";
-      parts = back.parts;
-      whole = stands.lines_are (printed_line end_words) ∙ ap (λ (ls : List (List ℕ)). stands.pieces ++ ls) end_line;
-      inside = stands.inside;
-      ends = end_ends;
-      says = ap declared (sym stands.text_is) ∙ back.said;
-      builds = back.same;
-    }
+    let whole = stands.lines_are (printed_line end_words) ∙ ap (λ (ls : List (List ℕ)). stands.pieces ++ ls) end_line in
+    subst (λ (ls : List (List ℕ)). (plan_in (in_notation Json)).declares ls net []) (sym whole)
+    (declares_so 0 stands.pieces (codes "end") [] back.parts net stands.inside end_ends (ap declared (sym stands.text_is) ∙ back.said) back.same)
 
 -- the document and the line after it declare the network
 pub document_put : DocumentsStandInInputs → (net : Plan) (text put : List ℕ) → IsPlan net → HasPlanNumbers net → text ≡ document_text (document_of net) → ReadsBack text net
@@ -62,15 +51,9 @@ document_put law net text put plan numbers is back puts =
     let read : ReadsBack (document_text (document_of net)) net = subst (λ (t : List ℕ). ReadsBack t net) is back in
     record {
       is = all;
-      again = subst (λ (t : List ℕ). (plan_in Json).declares (lines t) (record net { delay = 0 }) []) (sym all) (document_declares law net plan numbers read);
+      again = subst (λ (t : List ℕ). (plan_in (in_notation Json)).declares (lines t) (record net { delay = 0 }) []) (sym all) (document_declares law net plan numbers read);
       done = refl;
     }
 
 pub show_answers_once : (show : Show) (net : Plan) (a b : List ℕ) (x y : End) → show_answers show net a x → show_answers show net b y → (a ≡ b) × (x ≡ y)
 show_answers_once show net a b x y one other = (one.is ∙ sym other.is, one.done ∙ sym other.done)
-
-pub numbers_fit : (net : Plan) → list_all (λ (b : Bound). within_limit b.most) net.bounds ≡ true → list_all (λ (l : Link). within_limit l.high) net.links ≡ true → HasPlanNumbers net
-numbers_fit net bounds links = record {
-  bounds = AllPass-from_list_all (λ (b : Bound). within_limit b.most) net.bounds bounds;
-  links = AllPass-from_list_all (λ (l : Link). within_limit l.high) net.links links;
-}

@@ -13,7 +13,7 @@ use Rattle.stnu_run.specs.Causes.{Causes, EndsByCause, IsAnswer}
 use Rattle.stnu_run.specs.DefinedRuns.{program_named, program_for, program_of, command_of, when◌run◌else◌}
 use Rattle.stnu_run.specs.ExactBytes.{BytesAreExact}
 use Rattle.event_execution.specs.ExecutionPromise.{PutsLast}
-use Rattle.stnu_run.specs.Programs.{Program, serves, tells, told_number, written_number, Defines, DefinesOne, HasCauses, RunsEndByCause, ServesProgram}
+use Rattle.stnu_run.specs.Programs.{Program, serves, tells, told_number, written_number, Defines, TellsOne, HasCauses, RunsEndByCause, ServesProgram}
 use Rattle.stnu_run.specs.Requests.{refuses_words, program_asked}
 use Rattle.stnu_run.specs.Statuses.{IsRefusal, HasCauseInInput, StatusHasCause}
 use Rattle.stnu_run.specs.declared.status.Status.{Status}
@@ -111,7 +111,7 @@ words_by (tells answers) status before after (inl told) two = by told.written to
 words_by (tells answers) status before after (inr (number, same)) two =
     let eight : ◌≡◌ {A = ℕ} 8 2 = sym (ap (λ (s : Status). s.0) number) ∙ two in absurd (omega arith)
 
-no_words_by : (program : Program) (status : Status) (before after : Seen) → DefinesOne program → ServesProgram program status before after → IsRefusal program → (status.0 ≡ 2) ⊎ ((status.0 ≡ 6) ⊎ (status.0 ≡ 8))
+no_words_by : (program : Program) (status : Status) (before after : Seen) → TellsOne program → ServesProgram program status before after → IsRefusal program → (status.0 ≡ 2) ⊎ ((status.0 ≡ 6) ⊎ (status.0 ≡ 8))
 no_words_by (serves machine start promise) status before after one ran (input, put, (end, is, runs)) =
     absurd (never_two (Ended end) (sym (ap (λ (s : Status). s.0) is)))
 no_words_by (tells answers) status before after one (inl told) (input, put, defines) = by told.written told.is
@@ -124,7 +124,7 @@ no_words_by (tells answers) status before after one (inl told) (input, put, defi
 no_words_by (tells answers) status before after one (inr (number, same)) refusal = inr (inr (ap (λ (s : Status). s.0) number))
 
 -- whatever the program is
-pub status_caused : (program : Program) (status : Status) (before after : Seen) → DefinesOne program → RunsEndByCause program → HasCauses program status before after
+pub status_caused : (program : Program) (status : Status) (before after : Seen) → TellsOne program → RunsEndByCause program → HasCauses program status before after
     → ServesProgram program status before after → BytesAreExact program status before after → StatusHasCause program status before after
 status_caused program status before after one law calls served exact = record {
   calls = calls;

@@ -15,17 +15,17 @@ use Rattle.command_words.proofs.LawLemmas.{read_exactly}
 use Rattle.stnu_run.specs.Counts.{count_within}
 use Rattle.stnu_run.specs.Checking.{check_asked, check_syntax, proof_name}
 use Rattle.stnu_run.specs.Judging.{judge_asked, judge_syntax}
-use Rattle.stnu_run.specs.PlanInput.{form_by, json_name}
-use Rattle.stnu_run.specs.PlanWords.{asked_form, plan_words}
+use Rattle.plan_inputs.specs.PlanInput.{form_by, json_name, notation_by}
+use Rattle.stnu_run.specs.PlanWords.{asked_form, form_asked, form_syntax, plan_words}
 use Rattle.stnu_run.specs.Requests.{asked_by}
 use Rattle.stnu_run.specs.Showing.{show_asked, show_syntax}
-use Rattle.stnu_run.specs.WordLaws.{SayCheckFlags, SayFormAndWorkers, SayForms, form_words}
+use Rattle.stnu_run.specs.WordLaws.{SayCheckFlags, SayForm, SayFormAndWorkers, SayForms}
 use Rattle.stnu_run.specs.Workers.{most_workers, workers_name, workers_of, SpellsWorkers, SayWithWorkers, SaysCount, HasWorkers, DifferInWorkers, WorkersDecideNothing}
 use Rattle.stnu_run.specs.declared.checking.CheckFlags.{CheckFlags}
 use Rattle.stnu_run.specs.declared.judging.Judge.{Judge}
 use Rattle.stnu_run.specs.declared.showing.Show.{Show}
-use Rattle.stnu_run.specs.declared.plan_input.PlanForm.{PlanForm}
-use Rattle.stnu_run.specs.declared.plan_input.PlanForm.TheVariants.{Text as TextForm, Json}
+use Rattle.plan_inputs.specs.declared.plan_input.PlanForm.{PlanForm}
+use Rattle.plan_inputs.specs.declared.plan_input.Notation.{Notation}
 use Rattle.stnu_run.proofs.CountLemmas.{count_is, count_read}
 use Rattle.stnu_run.proofs.PlaceLemmas.{Placed, placed}
 use Rattle.stnu_run.proofs.UseLemmas.{given_without, text_without, text_absent, text_there, operands_without, alone, says_without, says_other}
@@ -225,64 +225,35 @@ check_exactly words flags =
       λ say. exactly.1 (say.say.say, ap (λ (f : PlanForm). record { form = f; proof = is_given proof_name say.say.say.uses }) say.say.given ∙ ap (λ (proof : Bool). record { form = flags.form; proof = proof }) say.proof),
     )
 
--- ---- a command that takes the form of the plan alone
-json_is : (name : Text) → is_in name (json_name ∷ []) ≡ true → name ≡ json_name
-json_is name is = by (bytes_eq json_name name) refl
+-- ---- a command that takes the form of the plan alone, from which its request is made
+pub form_alone_exactly : {A : Type 0} (make : PlanForm → A) (form_of : A → PlanForm) → ((form : PlanForm) → form_of (make form) ≡ form) → ((asked : A) → make (form_of asked) ≡ asked)
+    → (words : List Text) (asked : A) → asked_by form_syntax (form_asked make) words ≡ Some asked ↔ SayForm form_syntax (form_of asked) words
+form_alone_exactly {A} make form_of there back words asked = (to, from)
   where
-    by : (test : Bool) → bytes_eq json_name name ≡ test → name ≡ json_name
-    by true same = sym ((bytes_eq-Decides json_name name).0 same)
-    by false same = absurd (true≢false (sym is ∙ ap (λ (t : Bool). t || false) same))
-
--- the flag, or nothing
-flag_or_none : (uses : List Use) → AreOf judge_syntax uses → are_apart (map name_of uses) ≡ true → (uses ≡ []) ⊎ (uses ≡ flag json_name ∷ [])
-flag_or_none [] known once = inl refl
-flag_or_none (valued name text ∷ uses) known once = absurd (true≢false (sym known.0))
-flag_or_none (operand name text ∷ uses) known once = absurd (true≢false (sym known.0))
-flag_or_none (flag name ∷ []) known once = inr (ap (λ (n : Text). flag n ∷ []) (json_is name known.0))
-flag_or_none (flag name ∷ valued other text ∷ uses) known once = absurd (true≢false (sym known.1.0))
-flag_or_none (flag name ∷ operand other text ∷ uses) known once = absurd (true≢false (sym known.1.0))
-flag_or_none (flag name ∷ flag other ∷ uses) known once =
-    let first = json_is name known.0 in
-    let second = json_is other known.1.0 in
-    let twice : are_apart (json_name ∷ json_name ∷ map name_of uses) ≡ true = subst (λ (n : Text). are_apart (json_name ∷ n ∷ map name_of uses) ≡ true) second (subst (λ (n : Text). are_apart (n ∷ other ∷ map name_of uses) ≡ true) first once) in
-    absurd (true≢false (sym twice))
-
-words_are : (uses : List Use) (words : List Text) → SpellsAll uses words → (uses ≡ []) ⊎ (uses ≡ flag json_name ∷ []) → words ≡ form_words (form_by (is_given json_name uses))
-words_are uses words spelled (inl none) =
-    let is : words ≡ [] = subst (λ (us : List Use). SpellsAll us words) none spelled in
-    is ∙ sym (ap (λ (us : List Use). form_words (form_by (is_given json_name us))) none)
-words_are uses words spelled (inr one) =
-    let all = subst (λ (us : List Use). SpellsAll us words) one spelled in
-    let is : words ≡ codes "--json" ∷ [] = all.2 ∙ (ap (λ (ws : List Text). ws ++ all.1) all.3 ∙ ap (λ (ws : List Text). codes "--json" ∷ ws) all.4) in
-    is ∙ sym (ap (λ (us : List Use). form_words (form_by (is_given json_name us))) one)
-
-asked_so : (form : PlanForm) → asked_by judge_syntax judge_asked (form_words form) ≡ Some (record { form = form })
-asked_so TextForm = refl
-asked_so Json = asks judge_syntax refl judge_asked (codes "--json" ∷ []) (flag json_name ∷ []) (record { spelled = (codes "--json" ∷ [], [], refl, refl, refl); known = (refl, tt); once = refl; operands = refl })
-
-pub judge_exactly : (words : List Text) (judge : Judge) → asked_by judge_syntax judge_asked words ≡ Some judge ↔ words ≡ form_words judge.form
-judge_exactly words judge = (to, from)
-  where
-    to : asked_by judge_syntax judge_asked words ≡ Some judge → words ≡ form_words judge.form
+    to : asked_by form_syntax (form_asked make) words ≡ Some asked → SayForm form_syntax (form_of asked) words
     to is =
-        let means = meant judge_syntax refl judge_asked words judge is in
-        let asked : record { form = form_by (is_given json_name means.0) } ≡ judge = (let last = means.2 in cc) in
-        words_are means.0 words means.1.spelled (flag_or_none means.0 means.1.known means.1.once) ∙ ap (λ (j : Judge). form_words j.form) asked
+        let means = meant form_syntax refl (form_asked make) words asked is in
+        let made : make (form_by (is_given json_name means.0)) ≡ asked = (let last = means.2 in cc) in
+        record { uses = means.0; says = means.1; given = sym (there (form_by (is_given json_name means.0))) ∙ ap form_of made }
 
-    from : words ≡ form_words judge.form → asked_by judge_syntax judge_asked words ≡ Some judge
-    from is = ap (asked_by judge_syntax judge_asked) is ∙ asked_so judge.form
+    from : SayForm form_syntax (form_of asked) words → asked_by form_syntax (form_asked make) words ≡ Some asked
+    from say =
+        asks form_syntax refl (form_asked make) words say.uses say.says ∙ (ap (λ (f : PlanForm). Some (make f)) say.given ∙ ap (λ (a : A). Some a) (back asked))
 
--- ---- a command that takes two forms
+pub judge_exactly : (words : List Text) (judge : Judge) → asked_by judge_syntax judge_asked words ≡ Some judge ↔ SayForm judge_syntax judge.form words
+judge_exactly words judge = form_alone_exactly (λ (form : PlanForm). record { form = form }) (λ (j : Judge). j.form) (λ form. refl) (λ j. refl) words judge
+
+-- ---- a command that takes a form and a notation
 pub show_exactly : (words : List Text) (show : Show) → asked_by show_syntax show_asked words ≡ Some show ↔ SayForms show_syntax show words
 show_exactly words show = (to, from)
   where
     to : asked_by show_syntax show_asked words ≡ Some show → SayForms show_syntax show words
     to is =
         let means = meant show_syntax refl show_asked words show is in
-        let asked : record { form = form_by (is_given json_name means.0); print = form_by (is_given (codes "print-json") means.0) } ≡ show = (let last = means.2 in cc) in
+        let asked : record { form = form_by (is_given json_name means.0); print = notation_by (is_given (codes "print-json") means.0) } ≡ show = (let last = means.2 in cc) in
         record { uses = means.0; says = means.1; read = ap (λ (s : Show). s.form) asked; put = ap (λ (s : Show). s.print) asked }
 
     from : SayForms show_syntax show words → asked_by show_syntax show_asked words ≡ Some show
     from say =
-        let shown : PlanForm → PlanForm → Option Show = λ form print. Some (record { form = form; print = print }) in
-        asks show_syntax refl show_asked words say.uses say.says ∙ (ap (λ (f : PlanForm). shown f (form_by (is_given (codes "print-json") say.uses))) say.read ∙ ap (λ (f : PlanForm). shown show.form f) say.put)
+        let shown : PlanForm → Notation → Option Show = λ form print. Some (record { form = form; print = print }) in
+        asks show_syntax refl show_asked words say.uses say.says ∙ (ap (λ (f : PlanForm). shown f (notation_by (is_given (codes "print-json") say.uses))) say.read ∙ ap (λ (n : Notation). shown show.form n) say.put)

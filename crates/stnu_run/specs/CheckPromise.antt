@@ -11,7 +11,7 @@ use Rattle.command_engine.specs.declared.endings.End.{End}
 use Rattle.stnu_run.specs.Checking.{PutsYes, check_answers}
 use Rattle.common_answers.specs.Faults.{refusing}
 use Rattle.stnu_run.specs.PlanAsking.{plan_program}
-use Rattle.stnu_run.specs.PlanInput.{plan_in}
+use Rattle.plan_inputs.specs.PlanInput.{plan_in}
 use Rattle.stnu_run.specs.Programs.{Program}
 use Rattle.common_answers.specs.VerdictLines.{controllable_line, refuted_line}
 use Rattle.verdicts.specs.Verdict.{PutsDecided}
@@ -34,4 +34,4 @@ pub record CheckPromise (flags : CheckFlags) (input put : List ℕ) (end : End) 
 
 -- the program of `check`
 abbrev pub check_program : CheckFlags → Program
-check_program = plan_program (λ flags. flags.form) check_answers CheckPromise
+check_program = plan_program (λ flags. flags.form) (λ flags net number. check_answers flags net) CheckPromise

@@ -7,7 +7,7 @@ use Rattle.table_proofs.specs.Certified.{Proves}
 use Rattle.command_words.specs.Arguments.{Arguments, flag_at, option_at}
 use Rattle.command_words.specs.Syntax.{Syntax}
 use Rattle.command_engine.specs.declared.endings.End.{End}
-use Rattle.stnu_run.specs.PlanInput.{form_by, json_name}
+use Rattle.plan_inputs.specs.PlanInput.{form_by, json_name}
 use Rattle.common_answers.specs.VerdictLines.{PutsControllable, PutsProved, PutsRefuted}
 use Rattle.verdicts.specs.Verdict.{Decides}
 use Rattle.stnu_run.specs.Workers.{workers_of, workers_name}

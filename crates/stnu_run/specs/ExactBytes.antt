@@ -6,7 +6,7 @@ use Rattle.command_engine.specs.Bytes.{AnswersFirst}
 use Rattle.command_engine.specs.Runs.{Answered}
 use Rattle.command_engine.specs.Serves.{WhereBothTold}
 use Rattle.command_engine.specs.Single.{IsFront}
-use Rattle.stnu_run.specs.Programs.{Program, serves, tells, Defines}
+use Rattle.stnu_run.specs.Programs.{Program, serves, tells, Defines, HasOneReply}
 use Rattle.stnu_run.specs.declared.status.Status.{Status}
 use Rattle.stnu_run.specs.declared.telling.TellingEnd.{TellingEnd}
 
@@ -21,10 +21,11 @@ abbrev pub BeginsReplies : Program → (input put : List ℕ) → Type 0
 BeginsReplies (serves machine start promise) input put = AnswersFirst machine start input put ⊎ WithinReply machine start input put
 BeginsReplies (tells answers) input put = (put ≡ []) ⊎ ((all : List ℕ) × (end : TellingEnd) × answers all end × IsFront put all)
 
--- A front of what a program puts for an input. `replies`: how far it goes. `defined`: it is a front of the bytes that the program defines.
+-- A front of what a program puts for an input. `replies`: how far it goes. `defined`: where the program has one reply to each line, it is a
+-- front of all bytes that the program defines.
 pub record IsFrontOfDefined (program : Program) (input put : List ℕ) : Type 0 where
   pub replies : BeginsReplies program input put
-  pub defined : (all : List ℕ) (status : Status) → Defines program input all status → IsFront put all
+  pub defined : HasOneReply program → (all : List ℕ) (status : Status) → Defines program input all status → IsFront put all
 
 -- What is to be put where a take failed: the answers to the whole lines taken, which are a front of what the program puts for the input,
 -- and then the line `error read`. Of the input `untaken` was never taken.

@@ -10,25 +10,24 @@ use Rattle.command_engine.specs.Inputs.{AnswersText}
 use Rattle.command_engine.specs.declared.endings.End.{End}
 use Rattle.common_answers.specs.Faults.{refusing}
 use Rattle.stnu_run.specs.Judging.{judgement_line, judgement_end, judge_machine, judge_start}
-use Rattle.stnu_run.specs.PlanInput.{plan_in}
+use Rattle.plan_inputs.specs.PlanInput.{plan_in}
 use Rattle.stnu_run.specs.Causes.{text_causes}
 use Rattle.stnu_run.specs.Programs.{Program, or_nothing, serves}
 use Rattle.stnu_run.specs.ToJudge.{judge_grammar}
 use Rattle.stnu_run.specs.declared.judging.Judge.{Judge}
-use Rattle.stnu_run.specs.declared.plan_input.PlanForm.{PlanForm}
 
 -- the judgement of a certificate of a network is put
 abbrev pub PutsJudgement : Plan × Certificate → List ℕ → End → Type 0
 PutsJudgement value put end = (put ≡ judgement_line (judgement_of value.0 value.1)) × (end ≡ judgement_end (judgement_of value.0 value.1))
 
--- What `judge` promises, of a plan of this form. `judges`: it puts the judgement of the network and the certificate that the input
+-- What `judge` promises, of what its words ask. `judges`: it puts the judgement of the network and the certificate that the input
 -- declares, or the first refusal of the input. `excludes` and `controls`: where it puts that a certificate is accepted, no strategy
 -- controls the network that the input declares, or one does, as it says.
-pub record JudgePromise (form : PlanForm) (input put : List ℕ) (end : End) : Type 0 where
-  pub judges : AnswersText (judge_grammar form) refusing PutsJudgement input put end
-  pub excludes : put ≡ printed_line (codes "accepted not controllable" ∷ []) → (net : Plan) (rest : List (List ℕ)) → (plan_in form).declares (lines input) net rest → ¬ IsControllable net
-  pub controls : put ≡ printed_line (codes "accepted controllable" ∷ []) → (net : Plan) (rest : List (List ℕ)) → (plan_in form).declares (lines input) net rest → IsControllable net
+pub record JudgePromise (judge : Judge) (input put : List ℕ) (end : End) : Type 0 where
+  pub judges : AnswersText (judge_grammar judge) refusing PutsJudgement input put end
+  pub excludes : put ≡ printed_line (codes "accepted not controllable" ∷ []) → (net : Plan) (rest : List (List ℕ)) → (plan_in judge.form).declares (lines input) net rest → ¬ IsControllable net
+  pub controls : put ≡ printed_line (codes "accepted controllable" ∷ []) → (net : Plan) (rest : List (List ℕ)) → (plan_in judge.form).declares (lines input) net rest → IsControllable net
 
 -- the program of `judge`
 abbrev pub judge_program : Judge → Program
-judge_program judge = serves judge_machine (judge_start judge) (or_nothing (text_causes (judge_grammar judge.form)) (JudgePromise judge.form))
+judge_program judge = serves judge_machine (judge_start judge) (or_nothing (text_causes (judge_grammar judge)) (JudgePromise judge))

@@ -1,5 +1,5 @@
 -- The command `judge`: a plan, and after it a certificate, which is judged.
-use Rattle.std.specs.Prelude.{◌≡◌, ℕ, List, [], ◌∷◌, Option, Some}
+use Rattle.std.specs.Prelude.{◌≡◌, ℕ, List, [], ◌∷◌, Option}
 use Rattle.texts.specs.Printing.{printed_line}
 use Rattle.net_model.specs.Network.{Plan}
 use Rattle.cert_format.specs.declared.certificate.Certificate.{Certificate}
@@ -7,7 +7,7 @@ use Rattle.cert_checker.specs.Judgement.{judgement_of}
 use Rattle.cert_checker.specs.JudgementText.{judgement_text}
 use Rattle.cert_checker.specs.declared.judgement.Judgement.{Judgement}
 use Rattle.cert_checker.specs.declared.judgement.Judgement.TheVariants.{Accepted, Refused}
-use Rattle.command_words.specs.Arguments.{Arguments, flag_at}
+use Rattle.command_words.specs.Arguments.{Arguments}
 use Rattle.command_words.specs.Syntax.{Syntax}
 use Rattle.command_engine.specs.Machine.{Machine}
 use Rattle.command_engine.specs.Asked.{asked_machine}
@@ -18,7 +18,8 @@ use Rattle.command_engine.specs.declared.endings.End.TheVariants as end
 use Rattle.command_engine.specs.declared.pairs.Then.{Then}
 use Rattle.command_engine.specs.declared.pairs.Then.TheVariants.{First}
 use Rattle.common_answers.specs.Faults.{refusing}
-use Rattle.stnu_run.specs.PlanInput.{PlanInput, form_by, input_begun, input_reader, json_name}
+use Rattle.plan_inputs.specs.PlanInput.{PlanInput, input_begun, input_reader}
+use Rattle.stnu_run.specs.PlanWords.{form_asked, form_syntax}
 use Rattle.stnu_run.specs.CertificateTexts.{certificate_begun, certificate_reader}
 use Rattle.stnu_run.specs.declared.certificate_text.CertificateText.{CertificateText}
 use Rattle.stnu_run.specs.declared.judging.Judge.{Judge}
@@ -39,10 +40,10 @@ judge_answers question value answer end =
 
 -- `judge` takes the form of the plan
 abbrev pub judge_syntax : Syntax
-judge_syntax = record { flags = json_name ∷ []; options = []; operands = [] }
+judge_syntax = form_syntax
 
 abbrev pub judge_asked : Arguments → Option Judge
-judge_asked arguments = Some (record { form = form_by (flag_at 0 arguments) })
+judge_asked = form_asked (λ form. record { form = form })
 
 -- how far the input of `judge` was read
 abbrev pub Judging : Type 0
@@ -54,4 +55,4 @@ judge_start judge = record { question = judge; text = First (input_begun judge.f
 
 -- what `judge` means
 abbrev pub judge_machine : Machine Judging
-judge_machine = asked_machine judge_answers (then_reader input_reader certificate_reader) refusing
+judge_machine = asked_machine (λ (judge : Judge) (value : Plan × Certificate) (number : ℕ). judge_answers judge value) (then_reader input_reader certificate_reader) refusing

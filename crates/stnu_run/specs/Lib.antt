@@ -2,16 +2,10 @@ pub mod Programs
 pub mod ExactBytes
 pub mod Causes
 pub mod Statuses
-pub mod PlanText
 pub mod PlanWords
 pub mod CertificateTexts
 pub mod Judging
 pub mod ToJudge
-pub mod ToCheck
-pub mod DocumentSoFar
-pub mod DocumentTexts
-pub mod PlanDocument
-pub mod PlanInput
 pub mod JudgePromise
 pub mod Checking
 pub mod CheckPromise

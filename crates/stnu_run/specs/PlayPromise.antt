@@ -8,7 +8,7 @@ use Rattle.command_engine.specs.Inputs.{AnswersText}
 use Rattle.command_engine.specs.declared.endings.End.{End}
 use Rattle.common_answers.specs.Faults.{refusing}
 use Rattle.stnu_run.specs.PlanAsking.{plan_program}
-use Rattle.stnu_run.specs.PlanInput.{plan_in}
+use Rattle.plan_inputs.specs.PlanInput.{plan_in}
 use Rattle.stnu_run.specs.Playing.{PutsTimes, play_answers, times_text}
 use Rattle.stnu_run.specs.Programs.{Program}
 use Rattle.common_answers.specs.VerdictLines.{controllable_line, refuted_line}
@@ -41,4 +41,4 @@ pub record PlayPromise (words : PlayWords) (input put : List ℕ) (end : End) : 
 
 -- the program of `play`
 abbrev pub play_program : PlayWords → Program
-play_program = plan_program (λ words. words.form) play_answers PlayPromise
+play_program = plan_program (λ words. words.form) (λ words net number. play_answers words net) PlayPromise

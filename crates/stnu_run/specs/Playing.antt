@@ -14,7 +14,7 @@ use Rattle.command_words.specs.Arguments.{Arguments, flag_at, operand_at, option
 use Rattle.command_words.specs.Syntax.{Syntax}
 use Rattle.command_engine.specs.declared.endings.End.{End}
 use Rattle.command_engine.specs.declared.endings.End.TheVariants.{Done}
-use Rattle.stnu_run.specs.PlanInput.{form_by, json_name}
+use Rattle.plan_inputs.specs.PlanInput.{form_by, json_name}
 use Rattle.common_answers.specs.VerdictLines.{controllable_line, PutsRefuted}
 use Rattle.verdicts.specs.Verdict.{Decides}
 use Rattle.stnu_run.specs.Which.{situation_of, which_given}

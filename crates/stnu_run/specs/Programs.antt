@@ -51,7 +51,8 @@ abbrev pub HasOneReply : Program → Type 0
 HasOneReply (serves machine start promise) = IsSingle machine
 HasOneReply (tells answers) = Unit {0}
 
--- for an input a program defines at most one pair of bytes and exit status: there is at most one reply to each line
+-- for an input a program defines at most one pair of bytes and exit status: there is at most one reply to each line (not asked of every
+-- command)
 pub record DefinesOne (program : Program) : Type 0 where
   pub one : (input a b : List ℕ) (x y : Status) → Defines program input a x → Defines program input b y → (a ≡ b) × (x ≡ y)
   pub single : HasOneReply program
@@ -59,6 +60,11 @@ pub record DefinesOne (program : Program) : Type 0 where
 -- whatever is asked, the program of it defines at most one pair for an input
 pub record EachDefinesOne {A : Type 0} (program : A → Program) : Type 0 where
   pub each : (asked : A) → DefinesOne (program asked)
+
+-- without an input a program defines at most one answer; of one that is served this says nothing
+abbrev pub TellsOne : Program → Type 0
+TellsOne (serves machine start promise) = Unit {0}
+TellsOne (tells answers) = DefinesOne (tells answers)
 
 -- the exit status after an answer was put, or a part of it
 abbrev pub written_number : TellingEnd → Written → ℕ
@@ -122,3 +128,12 @@ pub record HasCauses (program : Program) (status : Status) (before after : Seen)
   pub write : status.0 ≡ 6 → after.write_faults ≡ raised before.write_faults
   pub memory : status.0 ≡ 8 → (after.read_faults ≡ before.read_faults) × (after.write_faults ≡ before.write_faults)
   pub others : ¬ (status.0 ≡ 5) → ¬ (status.0 ≡ 6) → ¬ (status.0 ≡ 8) → (after.read_faults ≡ before.read_faults) × (after.write_faults ≡ before.write_faults) × MayEndWith program status.0
+
+-- The program ran over a port and ended with this exit status, in four parts. `served`: what was taken and put, and when, is what the
+-- program defines. `kept`: what its command promises is kept. `causes`: the status has its cause. `memory`: where it ended for want of
+-- memory, nothing was put, or what its command promises for that.
+pub record RunsAs (program : Program) (status : Status) (before after : Seen) : Type 0 where
+  pub served : ServesProgram program status before after
+  pub kept : KeepsPromise program status before after
+  pub causes : HasCauses program status before after
+  pub memory : KeepsWithoutMemory program status before after

@@ -19,12 +19,12 @@ use Rattle.event_execution.specs.EventFaults.{HasEventFault}
 use Rattle.event_execution.specs.ExecutionPromise.{ExecutionPromise}
 use Rattle.event_execution.specs.Handing.{as_named}
 use Rattle.common_answers.specs.Faults.{refusing}
-use Rattle.stnu_run.specs.PlanInput.{plan_in}
+use Rattle.plan_inputs.specs.PlanInput.{plan_in}
 use Rattle.stnu_run.specs.Programs.{Program, or_nothing, serves}
 use Rattle.stnu_run.specs.Running.{run_machine, run_start}
 use Rattle.common_answers.specs.VerdictLines.{controllable_line, PutsRefuted}
 use Rattle.common_answers.specs.declared.faults.Fault.{Fault}
-use Rattle.stnu_run.specs.declared.plan_input.PlanForm.{PlanForm}
+use Rattle.plan_inputs.specs.declared.plan_input.PlanForm.{PlanForm}
 
 -- An execution is opened: it is put that the network is controllable, and it is, with the first due moment, before all else; or that it is
 -- not, and it is not, and a certificate that the judge accepts.

@@ -14,11 +14,11 @@ use Rattle.command_engine.specs.declared.phases.TextThenPhase.TheVariants.{Readi
 use Rattle.event_execution.specs.Course.{Course}
 use Rattle.event_execution.specs.Executing.{executing_machine}
 use Rattle.common_answers.specs.Faults.{refusing}
-use Rattle.stnu_run.specs.PlanInput.{PlanInput, input_begun, input_reader}
+use Rattle.plan_inputs.specs.PlanInput.{PlanInput, input_begun, input_reader}
 use Rattle.stnu_run.specs.PlanWords.{asked_form, plan_words}
 use Rattle.common_answers.specs.VerdictLines.{PutsRefuted}
 use Rattle.verdicts.specs.Verdict.{Decides}
-use Rattle.stnu_run.specs.declared.plan_input.PlanForm.{PlanForm}
+use Rattle.plan_inputs.specs.declared.plan_input.PlanForm.{PlanForm}
 
 -- it is put that a network is not controllable, and a certificate, and the run ends
 abbrev pub EndsRefuted : Certificate → List ℕ → Onward Course → Type 0

@@ -26,7 +26,7 @@ use Rattle.event_execution.specs.EventAnswers.{due_line}
 use Rattle.event_execution.specs.EventFaults.{HasEventFault}
 use Rattle.event_execution.specs.ExecutionPromise.{PutsLast, ExecutionPromise}
 use Rattle.common_answers.specs.Faults.{refusing, fault_line, fault_end}
-use Rattle.stnu_run.specs.PlanInput.{plan_in}
+use Rattle.plan_inputs.specs.PlanInput.{plan_in}
 use Rattle.stnu_run.specs.Programs.{Program, Promise, serves}
 use Rattle.stnu_run.specs.SessionAnswers.{ready_line}
 use Rattle.stnu_run.specs.Sessions.{SaysStep, StandsAfter, OpensOn, command_machine, session_start}
@@ -35,7 +35,7 @@ use Rattle.common_answers.specs.ToRead.{Come}
 use Rattle.common_answers.specs.VerdictLines.{controllable_line}
 use Rattle.common_answers.specs.declared.faults.Fault.{Fault}
 use Rattle.common_answers.specs.declared.faults.Fault.TheVariants.{Format, LineTooLong, InputTooMuch}
-use Rattle.stnu_run.specs.declared.plan_input.PlanForm.{PlanForm}
+use Rattle.plan_inputs.specs.declared.plan_input.PlanForm.{PlanForm}
 
 -- ---- the lines of a session while its network is edited
 -- the network of an edit that is accepted, else the one before it

@@ -35,14 +35,14 @@ use Rattle.command_engine.specs.declared.phases.TextThenPhase.{TextThenPhase}
 use Rattle.command_engine.specs.declared.phases.TextThenPhase.TheVariants.{Reading}
 use Rattle.event_execution.specs.Executing.{executing_machine}
 use Rattle.common_answers.specs.Faults.{refusing, fault_line, fault_end, stop_fault}
-use Rattle.stnu_run.specs.PlanInput.{PlanInput, input_begun, input_reader}
+use Rattle.plan_inputs.specs.PlanInput.{PlanInput, input_begun, input_reader}
 use Rattle.stnu_run.specs.PlanWords.{asked_form, plan_words}
 use Rattle.event_execution.specs.Begin.{BeginsExecution}
 use Rattle.stnu_run.specs.SessionAnswers.{ready_line, ok_line, refused_line, report_line, table_text}
 use Rattle.stnu_run.specs.Standing.{Standing}
 use Rattle.common_answers.specs.VerdictLines.{controllable_line, refuted_line}
 use Rattle.common_answers.specs.declared.faults.Fault.TheVariants.{Format}
-use Rattle.stnu_run.specs.declared.plan_input.PlanForm.{PlanForm}
+use Rattle.plan_inputs.specs.declared.plan_input.PlanForm.{PlanForm}
 use Rattle.stnu_run.specs.declared.session.InSession.{InSession}
 use Rattle.stnu_run.specs.declared.session.InSession.TheVariants.{Editing, Executing}
 

@@ -13,22 +13,22 @@ use Rattle.command_engine.specs.declared.endings.End.{End}
 use Rattle.command_engine.specs.declared.endings.End.TheVariants as ends
 use Rattle.common_answers.specs.Faults.{refusing}
 use Rattle.stnu_run.specs.PlanAsking.{plan_program}
-use Rattle.stnu_run.specs.PlanInput.{form_by, json_name, plan_in}
+use Rattle.plan_inputs.specs.PlanInput.{form_by, in_notation, json_name, notation_by, plan_in}
 use Rattle.stnu_run.specs.Programs.{Program}
-use Rattle.stnu_run.specs.declared.plan_input.PlanForm.{PlanForm}
-use Rattle.stnu_run.specs.declared.plan_input.PlanForm.TheVariants.{Text, Json}
+use Rattle.plan_inputs.specs.declared.plan_input.Notation.{Notation}
+use Rattle.plan_inputs.specs.declared.plan_input.Notation.TheVariants.{Text, Json}
 use Rattle.stnu_run.specs.declared.showing.Show.{Show}
 
--- what is put of a network in this form: the plan text, or the document, a line end and a line `end`
-abbrev pub shown_plan : PlanForm → Plan → List ℕ
+-- what is put of a network in this notation: the plan text, or the document, a line end and a line `end`
+abbrev pub shown_plan : Notation → Plan → List ℕ
 shown_plan Text net = printed_plan net
 shown_plan Json net = document_text (document_of net) ++ 10 ∷ printed_line end_words
 
--- The plan of a network is put in this form, and the run is done. `again`: what is put, read as an input of this form, declares the same
--- network without its delay, which no plan tells, and nothing stands after it.
-pub record PutsPlan (form : PlanForm) (net : Plan) (put : List ℕ) (end : End) : Type 0 where
-  pub is : put ≡ shown_plan form net
-  pub again : (plan_in form).declares (lines put) (record net { delay = 0 }) []
+-- The plan of a network is put in this notation, and the run is done. `again`: what is put, read as an input in this notation, declares
+-- the same network without its delay, which no plan tells, and nothing stands after it.
+pub record PutsPlan (notation : Notation) (net : Plan) (put : List ℕ) (end : End) : Type 0 where
+  pub is : put ≡ shown_plan notation net
+  pub again : (plan_in (in_notation notation)).declares (lines put) (record net { delay = 0 }) []
   pub done : end ≡ ends.Done
 
 -- the answer to a network
@@ -40,13 +40,13 @@ show_answers show net put end = PutsPlan show.print net put end
 abbrev pub ShowPromise : Show → (input put : List ℕ) → End → Type 0
 ShowPromise show input put end = AnswersText (plan_in show.form) refusing (PutsPlan show.print) input put end
 
--- `show` takes the form of the plan, and the form in which it is put
+-- `show` takes the form of the plan, and the notation in which it is put
 abbrev pub show_syntax : Syntax
 show_syntax = record { flags = json_name ∷ codes "print-json" ∷ []; options = []; operands = [] }
 
 abbrev pub show_asked : Arguments → Option Show
-show_asked arguments = Some (record { form = form_by (flag_at 0 arguments); print = form_by (flag_at 1 arguments) })
+show_asked arguments = Some (record { form = form_by (flag_at 0 arguments); print = notation_by (flag_at 1 arguments) })
 
 -- the program of `show`
 abbrev pub show_program : Show → Program
-show_program = plan_program (λ show. show.form) show_answers ShowPromise
+show_program = plan_program (λ show. show.form) (λ show net number. show_answers show net) ShowPromise

@@ -7,10 +7,10 @@ use Rattle.cert_format.specs.declared.certificate.Certificate.{Certificate}
 use Rattle.texts.specs.Limits.{most_line}
 use Rattle.command_engine.specs.Grammars.{Grammar}
 use Rattle.command_engine.specs.Pairs.{then_grammar}
-use Rattle.stnu_run.specs.PlanInput.{plan_in}
+use Rattle.plan_inputs.specs.PlanInput.{plan_in}
 use Rattle.common_answers.specs.ToRead.{RefusesFormat}
 use Rattle.common_answers.specs.declared.faults.Fault.{Fault}
-use Rattle.stnu_run.specs.declared.plan_input.PlanForm.{PlanForm}
+use Rattle.stnu_run.specs.declared.judging.Judge.{Judge}
 
 -- lines after which more is wanted: the front of a certificate
 abbrev pub IsCertificateFront : List (List ℕ) → Type 0
@@ -28,6 +28,10 @@ certificate_texts past = record {
   refuses = λ lines next fault. IsCertificateFront lines × RefusesFormat IsCertificateFault past lines next fault;
 }
 
--- the grammar of a plan of this form, with which the input begins, and a certificate after it
-abbrev pub judge_grammar : PlanForm → Grammar (Plan × Certificate) Fault
-judge_grammar form = then_grammar (plan_in form) certificate_texts 0
+-- the grammar of what `judge` judges by its words, where so many lines stand before it in the input: a certificate
+abbrev pub judged_texts : Judge → ℕ → Grammar Certificate Fault
+judged_texts judge = certificate_texts
+
+-- the grammar of a plan of the form that `judge` is told, with which the input begins, and what it judges after it
+abbrev pub judge_grammar : Judge → Grammar (Plan × Certificate) Fault
+judge_grammar judge = then_grammar (plan_in judge.form) (judged_texts judge) 0

@@ -7,7 +7,7 @@ use Rattle.command_words.specs.Spelling.{Use, Says}
 use Rattle.command_words.specs.Syntax.{Syntax, Text}
 use Rattle.stnu_run.specs.DefinedRuns.{DefinedRun}
 use Rattle.stnu_run.specs.Forging.{most_number}
-use Rattle.stnu_run.specs.PlanInput.{form_by, json_name}
+use Rattle.plan_inputs.specs.PlanInput.{form_by, json_name, notation_by}
 use Rattle.stnu_run.specs.Programs.{Program, Defines}
 use Rattle.stnu_run.specs.declared.status.Status.{Status}
 use Rattle.stnu_run.specs.Workers.{SayWithWorkers}
@@ -17,13 +17,13 @@ use Rattle.stnu_run.specs.declared.checking.CheckFlags.{CheckFlags}
 use Rattle.stnu_run.specs.declared.forging.ForgeWords.{ForgeWords}
 use Rattle.stnu_run.specs.declared.playing.PlayWords.{PlayWords}
 use Rattle.stnu_run.specs.declared.showing.Show.{Show}
-use Rattle.stnu_run.specs.declared.plan_input.PlanForm.{PlanForm}
-use Rattle.stnu_run.specs.declared.plan_input.PlanForm.TheVariants as form
+use Rattle.plan_inputs.specs.declared.plan_input.PlanForm.{PlanForm}
 
--- the words that say the form of a plan and nothing else
-abbrev pub form_words : PlanForm → List Text
-form_words form.Text = []
-form_words form.Json = codes "--json" ∷ []
+-- the words say uses of this command: this form of the plan
+pub record SayForm (command : Syntax) (form : PlanForm) (words : List Text) : Type 0 where
+  pub uses : List Use
+  pub says : Says command words uses
+  pub given : form_by (is_given json_name uses) ≡ form
 
 -- the words say uses of this command: this form of the plan, and a number of workers or none
 pub record SayFormAndWorkers (command : Syntax) (form : PlanForm) (words : List Text) : Type 0 where
@@ -35,12 +35,12 @@ pub record SayCheckFlags (command : Syntax) (flags : CheckFlags) (words : List T
   pub say : SayFormAndWorkers command flags.form words
   pub proof : is_given proof_name say.say.uses ≡ flags.proof
 
--- the words say uses of this command: these forms of the plan that is read and of the one that is put
+-- the words say uses of this command: this form of the plan that is read, and this notation of the one that is put
 pub record SayForms (command : Syntax) (show : Show) (words : List Text) : Type 0 where
   pub uses : List Use
   pub says : Says command words uses
   pub read : form_by (is_given json_name uses) ≡ show.form
-  pub put : form_by (is_given (codes "print-json") uses) ≡ show.print
+  pub put : notation_by (is_given (codes "print-json") uses) ≡ show.print
 
 -- the words say uses of this command: the name of this situation, this form of the plan, and a number of workers or none
 pub record SayPlay (command : Syntax) (said : PlayWords) (words : List Text) : Type 0 where

@@ -6,8 +6,7 @@ ghost use Rattle.stnu_run.specs.Checking.{check_answers, check_asked, check_synt
 ghost use Rattle.verdicts.specs.Verdict.{IsVerdict};
 ghost use Rattle.verdicts.specs.declared.verdict.Verdict.TheVariants.{Controllable};
 
-use crate::plan_asking::PlanQuestion;
-use crate::plan_input::{PlanForm, PlanInput};
+use crate::plan_asking::{OneAnswer, PlanQuestion};
 use crate::requests::Request;
 use crate::workers::Workers;
 use closure_model::order_laws::ordered_tables_are_placed;
@@ -15,6 +14,7 @@ use command_engine::{Answer, Asked, End, Question};
 use command_words::{Arguments, Syntax};
 use common_answers::{put_controllable, put_proved, put_refuted};
 use net_model::Network;
+use plan_inputs::{PlanForm, PlanInput, PlanNetwork};
 use std::alloc::{AllocError, Global};
 use std::marker::Model;
 use std::thread::Threads;
@@ -47,17 +47,18 @@ impl Model for Check {
     ghost view = { λ check. check.flags };
 }
 
-impl Question<Network> for Check {
-    ghost answers = { check_answers };
+impl Question<PlanNetwork> for Check {
+    ghost answers = { λ check net number. check_answers check net };
 
     fn answer<R: Threads + Sync>(
         self,
         rt: &R,
         alloc: Global,
         answer: &mut Answer,
-        value: Network,
+        value: PlanNetwork,
+        _number: u32,
     ) -> Result<End, AllocError> {
-        put_verdict(rt, alloc, answer, value, &self)
+        put_verdict(rt, alloc, answer, value.into_network(), &self)
     }
 }
 
@@ -91,7 +92,7 @@ pub type Checking = Asked<Check, PlanInput>;
 impl PlanQuestion for Check {
     ghost form = { λ flags. flags.form };
 
-    ghost puts = { PutsVerdict };
+    ghost puts = { λ flags net number. PutsVerdict flags net };
 
     ghost promised = { CheckPromise };
 
@@ -104,7 +105,9 @@ impl PlanQuestion for Check {
     fn answers_keep_it() {}
 
     fn ends_by_an_answer() {}
+}
 
+impl OneAnswer for Check {
     fn answers_once() {}
 }
 

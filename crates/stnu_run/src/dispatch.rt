@@ -3,7 +3,7 @@
 ghost use Rattle.std.specs.Prelude.{◌≡◌, map, None, Some, string_bytes, MatchOption};
 ghost use Rattle.stnu_run.specs.DefinedRuns.{command_of, program_of, program_named};
 ghost use Rattle.stnu_run.specs.ExactBytes.{BytesAreExact};
-ghost use Rattle.stnu_run.specs.Programs.{ServesProgram, KeepsPromise, HasCauses, KeepsWithoutMemory};
+ghost use Rattle.stnu_run.specs.Programs.{ServesProgram, KeepsPromise, HasCauses, KeepsWithoutMemory, RunsAs};
 ghost use Rattle.stnu_run.specs.Statuses.{StatusHasCause};
 
 use crate::checking::Checking;
@@ -65,10 +65,7 @@ fn run_words<R: Threads + Sync, P: Port>(
     words: &Vec<String>,
     port: &mut P,
 ) -> Status
-    ensures served { ServesProgram (program_of (map string_bytes words.now.items)) result (P.seen port.old) (P.seen port.new) }
-    ensures kept { KeepsPromise (program_of (map string_bytes words.now.items)) result (P.seen port.old) (P.seen port.new) }
-    ensures causes { HasCauses (program_of (map string_bytes words.now.items)) result (P.seen port.old) (P.seen port.new) }
-    ensures memory { KeepsWithoutMemory (program_of (map string_bytes words.now.items)) result (P.seen port.old) (P.seen port.new) }
+    ensures { RunsAs (program_of (map string_bytes words.now.items)) result (P.seen port.old) (P.seen port.new) }
 {
     match command_of(words.as_slice()) {
         Some((command, words)) => run_command(rt, alloc, command, words, port),
@@ -95,10 +92,7 @@ fn run_command<R: Threads + Sync, P: Port>(
     words: &[String],
     port: &mut P,
 ) -> Status
-    ensures served { ServesProgram (program_named command.now (map string_bytes words.now)) result (P.seen port.old) (P.seen port.new) }
-    ensures kept { KeepsPromise (program_named command.now (map string_bytes words.now)) result (P.seen port.old) (P.seen port.new) }
-    ensures causes { HasCauses (program_named command.now (map string_bytes words.now)) result (P.seen port.old) (P.seen port.new) }
-    ensures memory { KeepsWithoutMemory (program_named command.now (map string_bytes words.now)) result (P.seen port.old) (P.seen port.new) }
+    ensures { RunsAs (program_named command.now (map string_bytes words.now)) result (P.seen port.old) (P.seen port.new) }
 {
     match command {
         "judge" => serve_asked::<R, Judging, P>(rt, alloc, words, port),

@@ -9,15 +9,14 @@ ghost use Rattle.stnu_run.specs.Programs.{or_nothing};
 ghost use Rattle.stnu_run.specs.ToJudge.{judge_grammar};
 
 use crate::certificate_text::CertificateText;
-use crate::plan_input::{PlanForm, PlanInput};
-use crate::promising::Promising;
+use crate::promising::{OneRun, Promising};
 use crate::requests::Request;
 use cert_checker::laws::{accepted_controls, accepted_excludes};
 use cert_checker::{Judgement, judge};
 use cert_format::Certificate;
 use command_engine::{Answer, Asked, End, Question, Then, Word};
 use command_words::{Arguments, Syntax};
-use net_model::Network;
+use plan_inputs::{PlanForm, PlanInput, PlanNetwork};
 use std::alloc::{AllocError, Global};
 use std::thread::Threads;
 
@@ -28,17 +27,18 @@ pub struct Judge {
     form: PlanForm,
 }
 
-impl Question<(Network, Certificate)> for Judge {
-    ghost answers = { judge_answers };
+impl Question<(PlanNetwork, Certificate)> for Judge {
+    ghost answers = { λ judge value number. judge_answers judge value };
 
     fn answer<R: Threads + Sync>(
         self,
         rt: &R,
         alloc: Global,
         answer: &mut Answer,
-        value: (Network, Certificate),
+        value: (PlanNetwork, Certificate),
+        _number: u32,
     ) -> Result<End, AllocError> {
-        let judgement = judge(rt, alloc, &value.0, &value.1)?;
+        let judgement = judge(rt, alloc, value.0.network(), &value.1)?;
         put_judgement(alloc, answer, &judgement)?;
         Ok(judgement_end(&judgement))
     }
@@ -66,14 +66,14 @@ impl Request for Judge {
 }
 
 /// The command: how far its input was read.
-pub type Judging = Asked<Judge, Then<PlanInput, Network, CertificateText>>;
+pub type Judging = Asked<Judge, Then<PlanInput, PlanNetwork, CertificateText>>;
 
 impl Promising for Judging {
     type Request = Judge;
 
     ghost start = { judge_start };
 
-    ghost promise = { λ judge. or_nothing (text_causes (judge_grammar judge.form)) (JudgePromise judge.form) };
+    ghost promise = { λ judge. or_nothing (text_causes (judge_grammar judge)) (JudgePromise judge) };
 
     fn begun(alloc: Global, request: Judge) -> Judging {
         Asked {
@@ -90,7 +90,9 @@ impl Promising for Judging {
     fn ends_by_its_causes() {}
 
     fn keeps_it_without_memory() {}
+}
 
+impl OneRun for Judging {
     fn defines_one() {}
 }
 

@@ -6,17 +6,17 @@ ghost use Rattle.stnu_run.specs.DefinedRuns.{DefinedRun, program_named, program_
 ghost use Rattle.stnu_run.specs.Forging.{forge_asked, forge_syntax};
 ghost use Rattle.stnu_run.specs.Judging.{judge_asked, judge_syntax};
 ghost use Rattle.stnu_run.specs.Playing.{play_asked, play_syntax};
-ghost use Rattle.stnu_run.specs.Programs.{DefinesOne, EachDefinesOne, RunsEndByCause, serves, tells};
+ghost use Rattle.stnu_run.specs.Programs.{DefinesOne, EachDefinesOne, HasOneReply, RunsEndByCause, TellsOne, serves, tells};
 ghost use Rattle.stnu_run.specs.Requests.{asked_by};
 ghost use Rattle.stnu_run.specs.Running.{run_asked, run_syntax};
 ghost use Rattle.stnu_run.specs.Sessions.{session_asked, session_syntax};
 ghost use Rattle.stnu_run.specs.Showing.{show_asked, show_syntax};
-ghost use Rattle.stnu_run.specs.WordLaws.{AreTaken, DefineSame, DefineSameWhereTaken, SameRuns, SayCheckFlags, SayForge, SayFormAndWorkers, SayForms, SayPlay, form_words};
+ghost use Rattle.stnu_run.specs.WordLaws.{AreTaken, DefineSame, DefineSameWhereTaken, SameRuns, SayCheckFlags, SayForge, SayForm, SayFormAndWorkers, SayForms, SayPlay};
 ghost use Rattle.stnu_run.specs.Workers.{SpellsWorkers, WorkersDecideNothing};
 ghost use Rattle.stnu_run.specs.declared.checking.CheckFlags.{CheckFlags};
 ghost use Rattle.stnu_run.specs.declared.forging.ForgeWords.{ForgeWords};
 ghost use Rattle.stnu_run.specs.declared.judging.Judge.{Judge};
-ghost use Rattle.stnu_run.specs.declared.plan_input.PlanForm.{PlanForm};
+ghost use Rattle.plan_inputs.specs.declared.plan_input.PlanForm.{PlanForm};
 ghost use Rattle.stnu_run.specs.declared.playing.PlayWords.{PlayWords};
 ghost use Rattle.stnu_run.specs.declared.showing.Show.{Show};
 ghost use Rattle.stnu_run.specs.declared.status.Status.{Status};
@@ -25,33 +25,35 @@ use crate::checking::Checking;
 use crate::forging::Forge;
 use crate::judging::Judging;
 use crate::playing::Playing;
-use crate::promising::Promising;
+use crate::promising::{OneRun, Promising};
 use crate::requests::Request;
 use crate::running::Running;
 use crate::session::SessionCommand;
 use crate::showing::Showing;
 use crate::telling::Telling;
 
-/// For given words and a given input at most one pair of bytes and status stands in the defined run.
+/// For given words and a given input at most one pair of bytes and status stands in the defined run, and to each line, and where none
+/// comes, the command of the words has at most one reply.
 pub fn defined_run_is_one()
-    ensures { (words : List (List ℕ)) (input a b : List ℕ) (x y : Status)
+    ensures one { (words : List (List ℕ)) (input a b : List ℕ) (x y : Status)
         → DefinedRun words input a x → DefinedRun words input b y → (a ≡ b) × (x ≡ y) }
+    ensures single { (words : List (List ℕ)) → HasOneReply (program_of words) }
 {
-    words_are_lawful();
+    each_defines_one();
 }
 
-/// Whatever the words are, their program defines at most one pair for an input, its command has at most one reply to each line, and each
-/// run of it ends by the causes in its input.
+/// Whatever the words are, without an input their program defines at most one answer, and each run of its command ends by the causes in
+/// its input.
 pub(crate) fn words_are_lawful()
-    ensures one { (words : List (List ℕ)) → DefinesOne (program_of words) }
+    ensures tells { (words : List (List ℕ)) → TellsOne (program_of words) }
     ensures causes { (words : List (List ℕ)) → RunsEndByCause (program_of words) }
 {
     each_is_lawful();
 }
 
-/// The words after `judge` are its own exactly where there are none, or where the one word is `--json`, by which the plan is a document.
+/// The words after `judge` are its own exactly where they spell its uses. The plan is a document exactly where `--json` is given.
 pub fn judge_is_read_exactly()
-    ensures { (words : List (List ℕ)) (judge : Judge) → asked_by judge_syntax judge_asked words ≡ Some judge ↔ words ≡ form_words judge.form }
+    ensures { (words : List (List ℕ)) (judge : Judge) → asked_by judge_syntax judge_asked words ≡ Some judge ↔ SayForm judge_syntax judge.form words }
 {}
 
 /// The words after `check` are its own exactly where they spell its uses, and the number of workers, where it is given, is one from 1 to
@@ -104,10 +106,23 @@ pub fn workers_change_nothing()
     each_is_lawful();
 }
 
-/// Whatever the command is, for an input it defines at most one pair of bytes and status, each run ends by the causes in its input, and the
-/// number of workers changes nothing: one line for each command of the program.
+/// Whatever the command is, for an input it defines at most one pair of bytes and status: one line for each command of the program.
+fn each_defines_one()
+    ensures { (command : List ℕ) (words : List (List ℕ)) → DefinesOne (program_named command words) }
+{
+    has_one_run::<Judging>();
+    has_one_run::<Checking>();
+    has_one_run::<Running>();
+    has_one_run::<SessionCommand>();
+    has_one_run::<Showing>();
+    has_one_run::<Playing>();
+    is_lawfully_told::<Forge>();
+}
+
+/// Whatever the command is, without an input it defines at most one answer, each run ends by the causes in its input, and the number of
+/// workers changes nothing: one line for each command of the program.
 fn each_is_lawful()
-    ensures one { (command : List ℕ) (words : List (List ℕ)) → DefinesOne (program_named command words) }
+    ensures tells { (command : List ℕ) (words : List (List ℕ)) → TellsOne (program_named command words) }
     ensures causes { (command : List ℕ) (words : List (List ℕ)) → RunsEndByCause (program_named command words) }
     ensures other { (command : List ℕ) (front spelled others back : List (List ℕ)) (count number : ℕ)
         → SpellsWorkers count spelled → SpellsWorkers number others
@@ -125,15 +140,20 @@ fn each_is_lawful()
     is_lawfully_told::<Forge>();
 }
 
+/// The law of a command of which an input has at most one run, whatever is asked of it.
+fn has_one_run<C: OneRun>()
+    ensures { EachDefinesOne (λ asked. serves C.machine (C.start asked) (C.promise asked)) }
+{
+    C::defines_one();
+}
+
 /// The laws that a command keeps whatever is asked of it.
 fn is_lawful<C: Promising>()
-    ensures one { EachDefinesOne (λ asked. serves C.machine (C.start asked) (C.promise asked)) }
     ensures causes { (asked : C.Request) → RunsEndByCause (serves C.machine (C.start asked) (C.promise asked)) }
     ensures workers { WorkersDecideNothing C.Request.syntax C.Request.asked }
 {
     C::keeps_its_promise();
     C::ends_by_its_causes();
-    C::defines_one();
     C::Request::workers_decide_nothing();
 }
 

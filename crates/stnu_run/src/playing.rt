@@ -10,8 +10,7 @@ ghost use Rattle.verdicts.specs.Verdict.{IsVerdict};
 ghost use Rattle.stnu_run.specs.Which.{situation_of};
 ghost use Rattle.verdicts.specs.declared.verdict.Verdict.TheVariants.{Controllable};
 
-use crate::plan_asking::PlanQuestion;
-use crate::plan_input::{PlanForm, PlanInput};
+use crate::plan_asking::{OneAnswer, PlanQuestion};
 use crate::requests::Request;
 use crate::session_answers::point_name;
 use crate::which::Which;
@@ -22,6 +21,7 @@ use common_answers::put_refuted;
 use dispatch_net::Dispatch;
 use live_executor::Executor;
 use net_model::{Network, PointId};
+use plan_inputs::{PlanForm, PlanInput, PlanNetwork};
 use situation_player::play_out;
 use std::alloc::{AllocError, Global};
 use std::marker::Model;
@@ -55,17 +55,18 @@ impl Model for Play {
     ghost view = { λ play. play.words };
 }
 
-impl Question<Network> for Play {
-    ghost answers = { play_answers };
+impl Question<PlanNetwork> for Play {
+    ghost answers = { λ play net number. play_answers play net };
 
     fn answer<R: Threads + Sync>(
         self,
         rt: &R,
         alloc: Global,
         answer: &mut Answer,
-        value: Network,
+        value: PlanNetwork,
+        _number: u32,
     ) -> Result<End, AllocError> {
-        put_day(rt, alloc, answer, value, &self)
+        put_day(rt, alloc, answer, value.into_network(), &self)
     }
 }
 
@@ -99,7 +100,7 @@ pub type Playing = Asked<Play, PlanInput>;
 impl PlanQuestion for Play {
     ghost form = { λ words. words.form };
 
-    ghost puts = { PutsPlay };
+    ghost puts = { λ words net number. PutsPlay words net };
 
     ghost promised = { PlayPromise };
 
@@ -112,7 +113,9 @@ impl PlanQuestion for Play {
     fn answers_keep_it() {}
 
     fn ends_by_an_answer() {}
+}
 
+impl OneAnswer for Play {
     fn answers_once() {
         at_most_one_earliest();
     }

@@ -4,7 +4,7 @@ ghost use Rattle.std.specs.Prelude.{◌≡◌, ◌⊎◌, ◌≤◌, ℕ, List, 
 ghost use Rattle.plan_port.specs.Talk.{Piece};
 ghost use Rattle.command_engine.specs.Breaks.{BreaksForMemory};
 ghost use Rattle.command_engine.specs.Limits.{least_room};
-ghost use Rattle.stnu_run.specs.Programs.{Promise, PromiseHolds, RunsEndByCause, EachDefinesOne, ServesProgram, KeepsPromise, HasCauses, KeepsWithoutMemory, serves};
+ghost use Rattle.stnu_run.specs.Programs.{Promise, PromiseHolds, RunsEndByCause, EachDefinesOne, RunsAs, serves};
 ghost use Rattle.stnu_run.specs.Requests.{program_by};
 
 use crate::requests::{Request, request_in};
@@ -44,10 +44,13 @@ pub trait Promising: Command {
     fn keeps_it_without_memory()
         ensures { (asked : Self.Request) (input untaken put : List ℕ) (pieces : List Piece)
             → BreaksForMemory Self.machine (start asked) input untaken put pieces → (put ≡ []) ⊎ (promise asked).without_memory input put };
+}
 
+/// A command of which an input has at most one run.
+pub trait OneRun: Promising {
     /// The law that an input has at most one run: one pair of bytes and exit status.
     fn defines_one()
-        ensures { EachDefinesOne (λ asked. serves Self.machine (start asked) (promise asked)) };
+        ensures { EachDefinesOne (λ asked. serves Self.machine (Self.start asked) (Self.promise asked)) };
 }
 
 /// Serves a command over a port as the words after that of the command ask, or refuses the words. Where there is no memory to read them,
@@ -58,10 +61,7 @@ pub fn serve_asked<R: Threads + Sync, C: Promising, P: Port>(
     words: &[String],
     port: &mut P,
 ) -> Status
-    ensures served { ServesProgram (program_by C.Request.syntax C.Request.asked (λ asked. serves C.machine (C.start asked) (C.promise asked)) (map string_bytes words.now)) result (P.seen port.old) (P.seen port.new) }
-    ensures kept { KeepsPromise (program_by C.Request.syntax C.Request.asked (λ asked. serves C.machine (C.start asked) (C.promise asked)) (map string_bytes words.now)) result (P.seen port.old) (P.seen port.new) }
-    ensures causes { HasCauses (program_by C.Request.syntax C.Request.asked (λ asked. serves C.machine (C.start asked) (C.promise asked)) (map string_bytes words.now)) result (P.seen port.old) (P.seen port.new) }
-    ensures memory { KeepsWithoutMemory (program_by C.Request.syntax C.Request.asked (λ asked. serves C.machine (C.start asked) (C.promise asked)) (map string_bytes words.now)) result (P.seen port.old) (P.seen port.new) }
+    ensures { RunsAs (program_by C.Request.syntax C.Request.asked (λ asked. serves C.machine (C.start asked) (C.promise asked)) (map string_bytes words.now)) result (P.seen port.old) (P.seen port.new) }
 {
     match request_in::<C::Request>(alloc, words) {
         Ok(Some(request)) => serve_command::<R, C, P>(rt, alloc, request, port),
@@ -77,10 +77,7 @@ fn serve_command<R: Threads + Sync, C: Promising, P: Port>(
     request: C::Request,
     port: &mut P,
 ) -> Status
-    ensures served { ServesProgram (serves C.machine (C.start request) (C.promise request)) result (P.seen port.old) (P.seen port.new) }
-    ensures kept { KeepsPromise (serves C.machine (C.start request) (C.promise request)) result (P.seen port.old) (P.seen port.new) }
-    ensures causes { HasCauses (serves C.machine (C.start request) (C.promise request)) result (P.seen port.old) (P.seen port.new) }
-    ensures memory { KeepsWithoutMemory (serves C.machine (C.start request) (C.promise request)) result (P.seen port.old) (P.seen port.new) }
+    ensures { RunsAs (serves C.machine (C.start request) (C.promise request)) result (P.seen port.old) (P.seen port.new) }
 {
     C::keeps_its_promise();
     C::keeps_it_without_memory();

@@ -6,20 +6,18 @@ ghost use Rattle.execution_model.specs.Laws.{IsDispatchedByClosure};
 ghost use Rattle.event_execution.specs.Executing.{executing_machine};
 ghost use Rattle.stnu_run.specs.Programs.{or_nothing};
 ghost use Rattle.stnu_run.specs.RunPromise.{RunPromise, run_causes};
-ghost use Rattle.stnu_run.specs.Running.{run_asked, run_begins, run_start, run_syntax};
+ghost use Rattle.stnu_run.specs.Running.{run_begins, run_start};
 ghost use Rattle.event_execution.specs.Begin.{BeginsExecution};
 
-use crate::plan_input::{PlanForm, PlanInput};
-use crate::promising::Promising;
-use crate::requests::Request;
-use crate::workers::Workers;
+use crate::form_and_workers::FormAndWorkers;
+use crate::promising::{OneRun, Promising};
 use command_engine::{Answer, Begin, Onward, TextThenPhase};
-use command_words::{Arguments, Syntax};
 use common_answers::put_refuted;
 use event_execution::{Executing, begin_dispatched};
 use event_stream::laws::lines_have_one_reading;
 use execution_model::laws as execution_laws;
 use net_model::Network;
+use plan_inputs::{PlanInput, PlanNetwork};
 use std::alloc::{AllocError, Global};
 use std::marker::Model;
 use std::thread::Threads;
@@ -32,44 +30,21 @@ use verdicts::{Verdict, dispatch_by};
 /// An event that no execution of the network shows ends it with 7, after the line `error event` and the cause.
 #[derive(Drop)]
 pub struct Run {
-    form: PlanForm,
-    workers: Workers,
+    asked: FormAndWorkers,
 }
 
 impl Model for Run {
-    ghost use Rattle.stnu_run.specs.declared.plan_input.PlanForm.{PlanForm};
+    ghost use Rattle.plan_inputs.specs.declared.plan_input.PlanForm.{PlanForm};
 
     ghost Value = { PlanForm };
 
-    ghost view = { λ run. run.form };
-}
-
-impl Request for Run {
-    ghost syntax = { run_syntax };
-
-    ghost asked = { run_asked };
-
-    fn words() -> Syntax<'static> {
-        Syntax {
-            flags: &["json"],
-            options: &["workers"],
-            operands: &[],
-        }
-    }
-
-    fn of(arguments: &Arguments<'_>) -> Option<Run> {
-        let workers = Workers::of(arguments.option(0))?;
-        let form = PlanForm::of(arguments.flag(0));
-        Some(Run { form, workers })
-    }
-
-    fn workers_decide_nothing() {}
+    ghost view = { λ run. run.asked };
 }
 
 /// The command: how far its input was read.
 pub type Running = TextThenPhase<Run, PlanInput, Executing>;
 
-impl Begin<Network> for Run {
+impl Begin<PlanNetwork> for Run {
     type Phase = Executing;
 
     ghost begins = { run_begins };
@@ -79,9 +54,9 @@ impl Begin<Network> for Run {
         rt: &R,
         alloc: Global,
         answer: &mut Answer,
-        value: Network,
+        value: PlanNetwork,
     ) -> Result<Onward<Executing>, AllocError> {
-        match self.workers.decide(rt, alloc, value)? {
+        match self.asked.workers.decide(rt, alloc, value.into_network())? {
             Verdict::Controllable(net, closed) => begin_execution(alloc, answer, net, &closed),
             Verdict::Refuted(certificate) => {
                 Ok(Onward::Ends(put_refuted(alloc, answer, &certificate)?))
@@ -91,15 +66,15 @@ impl Begin<Network> for Run {
 }
 
 impl Promising for Running {
-    type Request = Run;
+    type Request = FormAndWorkers;
 
     ghost start = { run_start };
 
     ghost promise = { λ form. or_nothing (run_causes form) (RunPromise form) };
 
-    fn begun(alloc: Global, request: Run) -> Running {
+    fn begun(alloc: Global, request: FormAndWorkers) -> Running {
         let text = request.form.begun(alloc);
-        TextThenPhase::Reading(request, text)
+        TextThenPhase::Reading(Run { asked: request }, text)
     }
 
     fn keeps_its_promise() {
@@ -114,7 +89,9 @@ impl Promising for Running {
     fn ends_by_its_causes() {}
 
     fn keeps_it_without_memory() {}
+}
 
+impl OneRun for Running {
     fn defines_one() {
         lines_have_one_reading();
     }

@@ -5,16 +5,13 @@ ghost use Rattle.std.specs.Prelude.{◌≡◌, [], IfOk};
 ghost use Rattle.command_engine.specs.Machine.{HasRoom};
 ghost use Rattle.command_engine.specs.Phases.{wrapped};
 ghost use Rattle.stnu_run.specs.SessionPromise.{session_promise};
-ghost use Rattle.stnu_run.specs.Sessions.{session_asked, session_begins, session_machine, session_start, session_syntax, AnswersStep};
+ghost use Rattle.stnu_run.specs.Sessions.{session_begins, session_machine, session_start, AnswersStep};
 ghost use Rattle.edit_script.specs.declared.step.Step.TheVariants as step;
 
 use crate::editing::Editing;
-use crate::plan_input::{PlanForm, PlanInput};
-use crate::promising::Promising;
-use crate::requests::Request;
-use crate::workers::Workers;
+use crate::form_and_workers::FormAndWorkers;
+use crate::promising::{OneRun, Promising};
 use command_engine::{Answer, Begin, Command, End, Onward, Refusal, Stop, TextThenPhase, Word};
-use command_words::{Arguments, Syntax};
 use common_answers::{Fault, push_verdict, stop_fault};
 use edit_script::laws::lines_have_one_reading as one_step;
 use edit_script::{Step, read_step};
@@ -22,6 +19,7 @@ use event_execution::{Executing, begin_dispatched};
 use event_stream::laws::lines_have_one_reading;
 use execution_model::laws as execution_laws;
 use net_model::{FormatKind, Network, WordFault};
+use plan_inputs::{PlanInput, PlanNetwork};
 use plan_port::MOST_LINE;
 use plan_session::laws::{edits_are_followed_in_one_way, sessions_open_in_one_way};
 use std::alloc::{AllocError, Global};
@@ -34,38 +32,15 @@ use std::thread::Threads;
 /// executed over lines of events, as `run` does.
 #[derive(Drop)]
 pub struct OpenSession {
-    form: PlanForm,
-    workers: Workers,
+    asked: FormAndWorkers,
 }
 
 impl Model for OpenSession {
-    ghost use Rattle.stnu_run.specs.declared.plan_input.PlanForm.{PlanForm};
+    ghost use Rattle.plan_inputs.specs.declared.plan_input.PlanForm.{PlanForm};
 
     ghost Value = { PlanForm };
 
-    ghost view = { λ session. session.form };
-}
-
-impl Request for OpenSession {
-    ghost syntax = { session_syntax };
-
-    ghost asked = { session_asked };
-
-    fn words() -> Syntax<'static> {
-        Syntax {
-            flags: &["json"],
-            options: &["workers"],
-            operands: &[],
-        }
-    }
-
-    fn of(arguments: &Arguments<'_>) -> Option<OpenSession> {
-        let workers = Workers::of(arguments.option(0))?;
-        let form = PlanForm::of(arguments.flag(0));
-        Some(OpenSession { form, workers })
-    }
-
-    fn workers_decide_nothing() {}
+    ghost view = { λ session. session.asked };
 }
 
 /// A session after its plan.
@@ -80,7 +55,7 @@ pub enum InSession {
 /// The command: how far its input was read.
 pub type SessionCommand = TextThenPhase<OpenSession, PlanInput, InSession>;
 
-impl Begin<Network> for OpenSession {
+impl Begin<PlanNetwork> for OpenSession {
     type Phase = InSession;
 
     ghost begins = { session_begins };
@@ -90,9 +65,9 @@ impl Begin<Network> for OpenSession {
         rt: &R,
         alloc: Global,
         answer: &mut Answer,
-        value: Network,
+        value: PlanNetwork,
     ) -> Result<Onward<InSession>, AllocError> {
-        let editing = Editing::open(rt, alloc, value, &self.workers)?;
+        let editing = Editing::open(rt, alloc, value.into_network(), &self.asked.workers)?;
         answer.push_line(&[Word::Text("ready")])?;
         Ok(Onward::Goes(InSession::Editing(editing)))
     }
@@ -142,15 +117,15 @@ impl Command for InSession {
 }
 
 impl Promising for SessionCommand {
-    type Request = OpenSession;
+    type Request = FormAndWorkers;
 
     ghost start = { session_start };
 
     ghost promise = { session_promise };
 
-    fn begun(alloc: Global, request: OpenSession) -> SessionCommand {
+    fn begun(alloc: Global, request: FormAndWorkers) -> SessionCommand {
         let text = request.form.begun(alloc);
-        TextThenPhase::Reading(request, text)
+        TextThenPhase::Reading(OpenSession { asked: request }, text)
     }
 
     fn keeps_its_promise() {
@@ -168,7 +143,9 @@ impl Promising for SessionCommand {
     fn ends_by_its_causes() {}
 
     fn keeps_it_without_memory() {}
+}
 
+impl OneRun for SessionCommand {
     fn defines_one() {
         sessions_open_in_one_way();
         edits_are_followed_in_one_way();

@@ -1,51 +1,44 @@
 //! The command `show`: a plan, and then the same plan, as a plan text or as a JSON document.
 
-ghost use Rattle.std.specs.Prelude.{◌≡◌, [], true, IfOk, OnOk, ◌++◌, ◌∷◌};
-ghost use Rattle.std.specs.List.{list_all};
+ghost use Rattle.std.specs.Prelude.{◌≡◌, [], IfOk, OnOk, ◌++◌, ◌∷◌};
 ghost use Rattle.texts.specs.Printing.{printed_line};
-ghost use Rattle.net_model.specs.Limits.{within_limit};
 ghost use Rattle.net_model.specs.Network.{HasPlanNumbers};
-ghost use Rattle.net_model.specs.declared.part.Bound.{Bound};
-ghost use Rattle.net_model.specs.declared.part.Link.{Link};
 ghost use Rattle.plan_format.specs.PlanParts.{end_words};
 ghost use Rattle.stnu_run.specs.Showing.{PutsPlan, ShowPromise, show_answers, show_asked, show_syntax};
 
-use crate::plan_asking::PlanQuestion;
-use crate::plan_input::{PlanForm, PlanInput};
+use crate::plan_asking::{OneAnswer, PlanQuestion};
 use crate::requests::Request;
 use command_engine::{Answer, Asked, End, Question, Word};
 use command_words::{Arguments, Syntax};
-use net_model::{Bound, Link, MOST_NUMBER, Network, Weight};
+use net_model::Network;
 use plan_format::print_plan;
+use plan_inputs::{Notation, PlanForm, PlanInput, PlanNetwork};
 use plan_json::laws::documents_stand_in_inputs;
 use plan_json::to_json;
 use std::alloc::{AllocError, Global};
 use std::thread::Threads;
 
-/// What plan an input declares: the command `show` reads a plan of one form, and puts it in one. It ends with 0.
+/// What plan an input declares: the command `show` reads a plan of one form, and puts it in one notation. It ends with 0.
 #[derive(Clone, Copy)]
 pub struct Show {
     form: PlanForm,
-    print: PlanForm,
+    print: Notation,
 }
 
-impl Question<Network> for Show {
-    ghost answers = { show_answers };
+impl Question<PlanNetwork> for Show {
+    ghost answers = { λ show net number. show_answers show net };
 
     fn answer<R: Threads + Sync>(
         self,
         _rt: &R,
         alloc: Global,
         answer: &mut Answer,
-        value: Network,
+        value: PlanNetwork,
+        _number: u32,
     ) -> Result<End, AllocError> {
-        // A network that an input declares has no greater numbers.
-        if !has_plan_numbers(&value) {
-            return Err(AllocError);
-        }
         match self.print {
-            PlanForm::Text => put_text(alloc, answer, &value),
-            PlanForm::Json => put_document(alloc, answer, &value),
+            Notation::Text => put_text(alloc, answer, value.network()),
+            Notation::Json => put_document(alloc, answer, value.network()),
         }
     }
 }
@@ -65,7 +58,7 @@ impl Request for Show {
 
     fn of(arguments: &Arguments<'_>) -> Option<Show> {
         let form = PlanForm::of(arguments.flag(0));
-        let print = PlanForm::of(arguments.flag(1));
+        let print = Notation::of(arguments.flag(1));
         Some(Show { form, print })
     }
 
@@ -78,7 +71,7 @@ pub type Showing = Asked<Show, PlanInput>;
 impl PlanQuestion for Show {
     ghost form = { λ show. show.form };
 
-    ghost puts = { λ show. PutsPlan show.print };
+    ghost puts = { λ show net number. PutsPlan show.print net };
 
     ghost promised = { ShowPromise };
 
@@ -91,7 +84,9 @@ impl PlanQuestion for Show {
     fn answers_keep_it() {}
 
     fn ends_by_an_answer() {}
+}
 
+impl OneAnswer for Show {
     fn answers_once() {}
 }
 
@@ -100,7 +95,7 @@ impl PlanQuestion for Show {
 fn put_text(alloc: Global, answer: &mut Answer, net: &Network) -> Result<End, AllocError>
     requires empty { answer.old.text ≡ [] }
     requires numbers { HasPlanNumbers net.now }
-    ensures { IfOk result (λ end. PutsPlan PlanForm.Text net.now answer.new.text end) }
+    ensures { IfOk result (λ end. PutsPlan Notation.Text net.now answer.new.text end) }
 {
     // The proof reads here that the network is sound.
     let _ = net.points();
@@ -113,7 +108,7 @@ fn put_text(alloc: Global, answer: &mut Answer, net: &Network) -> Result<End, Al
 fn put_document(alloc: Global, answer: &mut Answer, net: &Network) -> Result<End, AllocError>
     requires empty { answer.old.text ≡ [] }
     requires numbers { HasPlanNumbers net.now }
-    ensures { IfOk result (λ end. PutsPlan PlanForm.Json net.now answer.new.text end) }
+    ensures { IfOk result (λ end. PutsPlan Notation.Json net.now answer.new.text end) }
 {
     documents_stand_in_inputs();
     // The proof reads here that the network is sound.
@@ -131,33 +126,4 @@ fn push_document(answer: &mut Answer, document: &[u8]) -> Result<(), AllocError>
     answer.push_text(document)?;
     answer.push_text(b"\n")?;
     answer.push_line(&[Word::Text("end")])
-}
-
-/// Whether the numbers of a network are those that a plan may have.
-#[tactic(auto, using(crate::proofs::ShowLemmas::numbers_fit))]
-fn has_plan_numbers(net: &Network) -> bool
-    ensures { result ≡ true → HasPlanNumbers net.now }
-{
-    if !bounds_fit(net.bounds()) {
-        return false;
-    }
-    links_fit(net.links())
-}
-
-fn bounds_fit(bounds: &[Bound]) -> bool
-    ensures { result ≡ list_all (λ (b : Bound). within_limit b.most) bounds.now }
-{
-    bounds.iter().all(|bound| is_within_limit(bound.most))
-}
-
-fn links_fit(links: &[Link]) -> bool
-    ensures { result ≡ list_all (λ (l : Link). within_limit l.high) links.now }
-{
-    links.iter().all(|link| is_within_limit(link.high))
-}
-
-fn is_within_limit(number: Weight) -> bool
-    ensures { result ≡ within_limit number }
-{
-    number.unsigned_abs() <= MOST_NUMBER
 }

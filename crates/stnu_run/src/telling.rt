@@ -4,7 +4,7 @@ ghost use Rattle.std.specs.Prelude.{◌≡◌, ℕ, List, [], map, string_bytes,
 ghost use Rattle.std.specs.Thread.{IsSync};
 ghost use Rattle.plan_port.specs.Writing.{Writes};
 ghost use Rattle.plan_port.specs.declared.writing.Written.{Written};
-ghost use Rattle.stnu_run.specs.Programs.{ServesProgram, KeepsPromise, HasCauses, KeepsWithoutMemory, EachDefinesOne, told_number, written_number, tells};
+ghost use Rattle.stnu_run.specs.Programs.{RunsAs, EachDefinesOne, told_number, written_number, tells};
 ghost use Rattle.stnu_run.specs.Requests.{RefusesWords, program_by};
 ghost use Rattle.stnu_run.specs.declared.telling.TellingEnd.{TellingEnd};
 
@@ -68,10 +68,7 @@ pub fn tell_asked<R: Threads + Sync, T: Telling + Request, P: Port>(
     words: &[String],
     port: &mut P,
 ) -> Status
-    ensures served { ServesProgram (program_by T.syntax T.asked (λ asked. tells (T.told asked)) (map string_bytes words.now)) result (P.seen port.old) (P.seen port.new) }
-    ensures kept { KeepsPromise (program_by T.syntax T.asked (λ asked. tells (T.told asked)) (map string_bytes words.now)) result (P.seen port.old) (P.seen port.new) }
-    ensures causes { HasCauses (program_by T.syntax T.asked (λ asked. tells (T.told asked)) (map string_bytes words.now)) result (P.seen port.old) (P.seen port.new) }
-    ensures memory { KeepsWithoutMemory (program_by T.syntax T.asked (λ asked. tells (T.told asked)) (map string_bytes words.now)) result (P.seen port.old) (P.seen port.new) }
+    ensures { RunsAs (program_by T.syntax T.asked (λ asked. tells (T.told asked)) (map string_bytes words.now)) result (P.seen port.old) (P.seen port.new) }
 {
     match request_in::<T>(alloc, words) {
         Ok(Some(request)) => tell(rt, alloc, request, port),
@@ -87,10 +84,7 @@ pub fn tell<R: Threads + Sync, T: Telling, P: Port>(
     command: T,
     port: &mut P,
 ) -> Status
-    ensures served { ServesProgram (tells (T.told command)) result (P.seen port.old) (P.seen port.new) }
-    ensures kept { KeepsPromise (tells (T.told command)) result (P.seen port.old) (P.seen port.new) }
-    ensures causes { HasCauses (tells (T.told command)) result (P.seen port.old) (P.seen port.new) }
-    ensures memory { KeepsWithoutMemory (tells (T.told command)) result (P.seen port.old) (P.seen port.new) }
+    ensures { RunsAs (tells (T.told command)) result (P.seen port.old) (P.seen port.new) }
 {
     let Ok(mut answer) = Answer::new(alloc) else {
         return Status(8);

@@ -4,4 +4,4 @@ use Rattle.stnu_run.proofs.EndLemmas.{judged_answers, text_ends}
 use Rattle.stnu_run.proofs.judging.JudgingPromising.ends_by_its_causes.Goals as goal
 
 pub returns : goal.returns
-returns c = λ judge holds input put end runs. text_ends (judge_grammar judge.form) PutsJudgement judged_answers input put end (holds input put end runs).judges
+returns c = λ judge holds input put end runs. text_ends (judge_grammar judge) (λ value number. PutsJudgement value) judged_answers input put end (holds input put end runs).judges

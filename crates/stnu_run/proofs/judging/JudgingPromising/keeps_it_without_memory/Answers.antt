@@ -4,9 +4,10 @@ use Rattle.command_engine.specs.Pairs.{then_reader}
 use Rattle.stnu_run.specs.CertificateTexts.{certificate_reader}
 use Rattle.common_answers.specs.Faults.{refusing}
 use Rattle.stnu_run.specs.Judging.{judge_answers, judge_start}
-use Rattle.stnu_run.specs.PlanInput.{input_reader}
+use Rattle.plan_inputs.specs.PlanInput.{input_reader}
+use Rattle.stnu_run.specs.declared.judging.Judge.{Judge}
 use Rattle.stnu_run.proofs.judging.JudgingPromising.keeps_it_without_memory.Goals as goal
 
 pub returns : goal.returns
 returns c = λ judge input untaken put pieces breaks.
-    inl (wants_before_answer judge_answers (then_reader input_reader certificate_reader) refusing judge (judge_start judge).text input untaken put pieces breaks)
+    inl (wants_before_answer (λ (question : Judge) value number. judge_answers question value) (then_reader input_reader certificate_reader) refusing judge (judge_start judge).text input untaken put pieces breaks)

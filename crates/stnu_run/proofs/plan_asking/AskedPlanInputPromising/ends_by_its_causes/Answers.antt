@@ -1,4 +1,4 @@
-use Rattle.stnu_run.specs.PlanInput.{plan_in}
+use Rattle.plan_inputs.specs.PlanInput.{plan_in}
 use Rattle.stnu_run.proofs.EndLemmas.{text_ends}
 use Rattle.stnu_run.proofs.PlanAskingLemmas.{asked_keeps}
 use Rattle.stnu_run.proofs.plan_asking.AskedPlanInputPromising.ends_by_its_causes.Goals as goal

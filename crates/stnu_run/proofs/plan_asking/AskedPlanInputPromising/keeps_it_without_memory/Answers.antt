@@ -1,7 +1,7 @@
 use Rattle.std.proofs.Common.{inl}
 use Rattle.command_engine.proofs.AskedLemmas.{wants_before_answer}
 use Rattle.common_answers.specs.Faults.{refusing}
-use Rattle.stnu_run.specs.PlanInput.{input_begun, input_reader}
+use Rattle.plan_inputs.specs.PlanInput.{input_begun, input_reader}
 use Rattle.stnu_run.proofs.plan_asking.AskedPlanInputPromising.keeps_it_without_memory.Goals as goal
 
 pub returns : goal.returns

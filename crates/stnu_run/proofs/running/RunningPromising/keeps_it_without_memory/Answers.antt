@@ -2,7 +2,7 @@ use Rattle.std.proofs.Common.{inl}
 use Rattle.command_engine.proofs.PhaseLemmas.{wants_while_reading}
 use Rattle.event_execution.specs.Executing.{executing_machine}
 use Rattle.common_answers.specs.Faults.{refusing}
-use Rattle.stnu_run.specs.PlanInput.{input_begun, input_reader}
+use Rattle.plan_inputs.specs.PlanInput.{input_begun, input_reader}
 use Rattle.stnu_run.specs.Running.{run_begins}
 use Rattle.stnu_run.proofs.running.RunningPromising.keeps_it_without_memory.Goals as goal
 

@@ -1,0 +1,4 @@
+pub mod NetworkLemmas
+pub mod PlanLemmas
+pub mod DocumentLemmas
+pub mod PlanInputLemmas

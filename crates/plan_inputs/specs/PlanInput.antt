@@ -1,0 +1,74 @@
+-- A plan in an input, as a plan text or as a JSON document.
+use Rattle.std.specs.Prelude.{ℕ, Bool, true, false, List, codes}
+use Rattle.net_model.specs.Network.{Plan}
+use Rattle.command_engine.specs.Alternatives.{either_reader}
+use Rattle.command_engine.specs.Grammars.{Grammar}
+use Rattle.command_engine.specs.Reading.{Reader}
+use Rattle.command_engine.specs.Testing.{tested_reader}
+use Rattle.command_engine.specs.declared.alternatives.Either.{Either}
+use Rattle.command_engine.specs.declared.alternatives.Either.TheVariants.{Left, Right}
+use Rattle.command_engine.specs.declared.testing.Tested.{Tested}
+use Rattle.common_answers.specs.declared.faults.Fault.{Fault}
+use Rattle.plan_inputs.specs.DocumentSoFar.{DocumentSoFar}
+use Rattle.plan_inputs.specs.DocumentTexts.{bytes_tests, document_texts}
+use Rattle.plan_inputs.specs.PlanDocument.{bytes_reader, document_begun}
+use Rattle.plan_inputs.specs.PlanText.{parts_reader, plan_begun}
+use Rattle.plan_inputs.specs.PlanTexts.{parts_tests, plan_texts}
+use Rattle.plan_inputs.specs.declared.plan_document.BuildDocument.{BuildDocument}
+use Rattle.plan_inputs.specs.declared.plan_input.Notation.{Notation}
+use Rattle.plan_inputs.specs.declared.plan_input.Notation.TheVariants.{Text, Json}
+use Rattle.plan_inputs.specs.declared.plan_input.PlanForm.{PlanForm}
+use Rattle.plan_inputs.specs.declared.plan_text.BuildPlan.{BuildPlan}
+use Rattle.plan_inputs.specs.declared.plan_text.PlanText.{PlanText}
+
+-- the name of the flag
+abbrev pub json_name : List ℕ
+json_name = codes "json"
+
+-- the notation of a plan, by whether it is a document
+abbrev pub notation_by : Bool → Notation
+notation_by true = Json
+notation_by false = Text
+
+-- a plan in this notation, of which nothing else is said
+abbrev pub in_notation : Notation → PlanForm
+in_notation notation = record { notation = notation }
+
+-- the form of a plan, by whether the flag `--json` is given
+abbrev pub form_by : Bool → PlanForm
+form_by json = in_notation (notation_by json)
+
+-- how far a plan of either notation was read
+abbrev pub PlanInput : Type 0
+PlanInput = Either (Tested PlanText BuildPlan) (Tested DocumentSoFar BuildDocument)
+
+abbrev pub begun_in : Notation → PlanInput
+begun_in Text = Left (record { text = plan_begun; test = record {} })
+begun_in Json = Right (record { text = document_begun; test = record {} })
+
+-- before the first line
+abbrev pub input_begun : PlanForm → PlanInput
+input_begun form = begun_in form.notation
+
+-- the reader of plan texts, and that of documents, each with the test that a network is built
+abbrev pub plan_reader : Reader (Tested PlanText BuildPlan) Plan Fault
+plan_reader = tested_reader parts_reader parts_tests
+
+abbrev pub document_reader : Reader (Tested DocumentSoFar BuildDocument) Plan Fault
+document_reader = tested_reader bytes_reader bytes_tests
+
+-- the reader of plans of either form
+abbrev pub input_reader : Reader PlanInput Plan Fault
+input_reader = either_reader plan_reader document_reader
+
+abbrev pub texts_in : Notation → ℕ → Grammar Plan Fault
+texts_in Text = plan_texts
+texts_in Json = document_texts
+
+-- the grammar of a plan of this form, where so many lines stand before it in the input
+abbrev pub plans_in : PlanForm → ℕ → Grammar Plan Fault
+plans_in form = texts_in form.notation
+
+-- the grammar of a plan of this form with which the input begins
+abbrev pub plan_in : PlanForm → Grammar Plan Fault
+plan_in form = plans_in form 0

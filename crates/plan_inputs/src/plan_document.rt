@@ -1,0 +1,171 @@
+//! A plan as a JSON document: its bytes, and the network that they declare.
+
+ghost use Rattle.std.specs.Prelude.{◌≡◌, ◌<◌, ◌^◌, length, IfOk, OnOk};
+ghost use Rattle.net_model.specs.Building.{built};
+ghost use Rattle.texts.specs.Words.{words};
+ghost use Rattle.command_engine.specs.declared.machines.Stop.{Stop};
+ghost use Rattle.plan_inputs.specs.DocumentTexts.{bytes_tests, bytes_texts};
+ghost use Rattle.plan_inputs.specs.PlanBuilding.{placed_by};
+ghost use Rattle.plan_inputs.specs.PlanDocument.{are_end, bytes_reader, document_begun, document_stop, with_line};
+
+use crate::plan_network::PlanNetwork;
+use command_engine::{InGrammar, Step, Stop, Test, Text};
+use common_answers::Fault;
+use net_model::{FormatKind, Items, Network, Part};
+use plan_json::{JsonFault, from_json};
+use std::alloc::{AllocError, Global};
+use std::marker::Model;
+
+/// The greatest number of bytes of the lines of a document and of the line that ends it, line ends not among them.
+const MOST_DOCUMENT: usize = 67_108_864;
+
+/// A plan as a JSON document, and how far it was read: up to the first line whose only word is `end`. It says the bytes of the document.
+#[derive(Drop)]
+pub struct PlanDocument {
+    bytes: Vec<u8>,
+    begun: bool,
+    left: usize,
+}
+
+impl Model for PlanDocument {
+    ghost use Rattle.std.specs.Prelude.{◌≡◌, ◌≤◌, false, []};
+    ghost use Rattle.plan_inputs.specs.DocumentSoFar.{DocumentSoFar, most_document};
+
+    ghost Value = { DocumentSoFar };
+
+    ghost view = { λ d. record { bytes = d.bytes.items; begun = d.begun; left = d.left } };
+
+    ghost invariant = { λ d. (d.left ≤ most_document) × (d.begun ≡ false → d.bytes.items ≡ []) };
+}
+
+impl PlanDocument {
+    /// Before the first line.
+    pub fn new(alloc: Global) -> PlanDocument
+        ensures { result ≡ document_begun }
+    {
+        PlanDocument {
+            bytes: Vec::new(alloc),
+            begun: false,
+            left: MOST_DOCUMENT,
+        }
+    }
+
+    /// Takes a line of the document in.
+    fn push(&mut self, line: &[u8]) -> Result<(), AllocError>
+        ensures { OnOk result (self.new ≡ with_line self.old line.now) }
+    {
+        if self.begun {
+            self.bytes.push(b'\n')?;
+        }
+        self.bytes.extend_from_slice(line)?;
+        self.begun = true;
+        self.left = self.left.saturating_sub(line.len());
+        Ok(())
+    }
+
+    /// The bytes of the document.
+    fn into_bytes(self) -> Items<u8>
+        ensures { result ≡ self.bytes }
+    {
+        let PlanDocument {
+            bytes,
+            begun: _,
+            left: _,
+        } = self;
+        Items::new(bytes)
+    }
+}
+
+/// Whether the only word of a line is `end`.
+fn is_end(line: &[u8]) -> bool
+    ensures { result ≡ are_end (words line.now) }
+{
+    match texts::next_word(line) {
+        Some((word, rest)) => word == b"end".as_slice() && texts::next_word(rest).is_none(),
+        None => false,
+    }
+}
+
+impl Text for PlanDocument {
+    type Value = Items<u8>;
+
+    type Fault = Fault;
+
+    ghost reader = { bytes_reader };
+
+    fn longest(&self) -> u32 {
+        self.left as u32
+    }
+
+    fn read_line(
+        mut self,
+        _alloc: Global,
+        _number: u32,
+        line: &[u8],
+    ) -> Result<Step<PlanDocument, Items<u8>, Fault>, AllocError> {
+        if is_end(line) {
+            return Ok(Step::Gives(self.into_bytes()));
+        }
+        self.push(line)?;
+        Ok(Step::Goes(self))
+    }
+
+    fn stop(&self, number: u32, stop: Stop) -> Fault {
+        stop_fault(number, stop)
+    }
+}
+
+fn stop_fault(number: u32, stop: Stop) -> Fault
+    ensures { result ≡ document_stop number stop }
+{
+    match stop {
+        Stop::LineTooLong => Fault::DocumentTooLong(number),
+        Stop::InputTooMuch => Fault::InputTooMuch(number),
+        Stop::InputEnded => Fault::Format(number, FormatKind::NoEnd),
+    }
+}
+
+impl InGrammar for PlanDocument {
+    ghost beginning = { document_begun };
+
+    ghost grammar = { bytes_texts };
+
+    fn reads_by_grammar() {}
+}
+
+/// The test of the bytes of a document: that they are a document whose parts build a network.
+#[derive(Clone, Copy, Debug, PartialEq, Eq)]
+pub struct BuildDocument;
+
+impl Test<Items<u8>, Fault> for BuildDocument {
+    type Value = PlanNetwork;
+
+    ghost tests = { bytes_tests };
+
+    fn test(
+        &self,
+        alloc: Global,
+        value: Items<u8>,
+        _number: u32,
+    ) -> Result<Result<PlanNetwork, Fault>, AllocError> {
+        match from_json(alloc, value.as_slice()) {
+            Ok(parts) => build(alloc, parts.as_slice()),
+            Err(JsonFault::OutOfMemory) => Err(AllocError),
+            Err(fault) => Ok(Err(Fault::Document(fault))),
+        }
+    }
+}
+
+/// The network of the parts of a document, or the first one that is refused, told by its place.
+fn build(alloc: Global, parts: &[Part]) -> Result<Result<PlanNetwork, Fault>, AllocError>
+    requires { length parts.now < 2 ^ 32 }
+    ensures { IfOk result (λ made. made ≡ placed_by (built parts.now)) }
+{
+    match Network::build(alloc, parts) {
+        Ok(net) => Ok(Ok(PlanNetwork::new(net))),
+        Err(fault) => match fault.place() {
+            Some(place) => Ok(Err(Fault::Part(place, fault))),
+            None => Err(AllocError),
+        },
+    }
+}

@@ -1,0 +1,50 @@
+//! The network that an input declares.
+
+use net_model::Network;
+use std::marker::Model;
+
+/// The network that an input declares. Contracts see it as the network; its numbers are those that a plan may have.
+#[derive(Debug, Drop)]
+pub struct PlanNetwork {
+    net: Network,
+}
+
+impl Model for PlanNetwork {
+    ghost use Rattle.net_model.specs.Network.{Plan, HasPlanNumbers};
+
+    ghost Value = { Plan };
+
+    ghost view = { λ planned. planned.net };
+
+    ghost invariant = { λ planned. HasPlanNumbers planned.net };
+}
+
+impl PlanNetwork {
+    ghost use Rattle.std.specs.Prelude.{◌≡◌};
+    ghost use Rattle.net_model.specs.Network.{HasPlanNumbers};
+
+    /// A network whose numbers are those that a plan may have.
+    pub fn new(net: Network) -> PlanNetwork
+        requires { HasPlanNumbers net }
+        ensures { result ≡ net }
+    {
+        PlanNetwork { net }
+    }
+
+    /// The network.
+    pub fn network(&self) -> &Network
+        ensures same { result.now ≡ self.now }
+        ensures numbers { HasPlanNumbers self.now }
+    {
+        &self.net
+    }
+
+    /// The network, for whom owns it.
+    pub fn into_network(self) -> Network
+        ensures same { result ≡ self }
+        ensures numbers { HasPlanNumbers self }
+    {
+        let PlanNetwork { net } = self;
+        net
+    }
+}

@@ -1,0 +1,5 @@
+use Rattle.stnu_run.proofs.ProgramLemmas.{chosen_defines_one, refused_defines_one, asked_program_defines_one}
+use Rattle.stnu_run.proofs.laws.each_defines_one.Goals as goal
+
+pub returns : goal.returns
+returns c = λ command words. search (chosen_defines_one, refused_defines_one, asked_program_defines_one) depth 10

@@ -1,5 +1,0 @@
-use Rattle.stnu_run.proofs.PlayLemmas.{play_answers_once}
-use Rattle.stnu_run.proofs.playing.PlayPlanQuestion.answers_once.Goals as goal
-
-pub returns : goal.returns
-returns c = play_answers_once c.at_most_one_earliest.ensures

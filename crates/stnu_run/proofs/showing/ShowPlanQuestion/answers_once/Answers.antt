@@ -1,5 +1,0 @@
-use Rattle.stnu_run.proofs.ShowLemmas.{show_answers_once}
-use Rattle.stnu_run.proofs.showing.ShowPlanQuestion.answers_once.Goals as goal
-
-pub returns : goal.returns
-returns c = show_answers_once
