@@ -7,7 +7,7 @@ use Rattle.std.specs.Ordering.{int_eq}
 use Rattle.std.proofs.lemmas.Bool.Decides.{nat_tests}
 use Rattle.std.proofs.lemmas.Int.{ints}
 use Rattle.std.proofs.lemmas.List.FromFn.{fill_by_all}
-use Rattle.std.proofs.lemmas.Nat.{mul-le}
+use Rattle.std.proofs.lemmas.Nat.{mul-le, mul-add-lt, mod_below, div_below, div-mul-add, mod-mul-add}
 use Rattle.std.proofs.lemmas.Option.{same_Some, slice_get-map, slice_get-get_or, slice_get_within, get_or_from_slice_get}
 use Rattle.std.proofs.Math.ListN.{length-map}
 use Rattle.net_model.specs.Limits.{most_points, most_links, IsWeight}
@@ -27,11 +27,11 @@ use Rattle.closure_model.proofs.Weights.{same_weight}
 use Rattle.labelled_graph.specs.Entries.{edge_into, wide_label}
 use Rattle.labelled_graph.specs.declared.entry.Entry.{Entry}
 use Rattle.back_propagation.specs.Offering.{HasColumn, IsColumnOf, place_of, width_of}
-use Rattle.back_propagation.specs.SlimSlots.{no_weight, stored, stored_of, weight_in, why_in, label_in, IsSlim, slot_in, slots_of, width_in}
+use Rattle.back_propagation.specs.SlimSlots.{no_weight, stored, stored_of, weight_in, why_in, label_in, greatest_word, StandsFor, StandForKeys, IsSlim, slot_in, slots_of, width_in, word_place}
 use Rattle.back_propagation.specs.declared.slots.Slots.TheInside.{Inside}
 use Rattle.back_propagation.proofs.OfferSteps.{place_under, width_under}
 use Rattle.back_propagation.proofs.RowPlaces.{row_at, at_column, column_inside, column_of_place, source_of_place, length-row_keys}
-use Rattle.back_propagation.proofs.SlimSteps.{read_other, read_set, same_or_apart, set_long}
+use Rattle.back_propagation.proofs.SlimSteps.{places_apart, read_other, read_set, same_or_apart, set_long}
 
 abbrev pub no_entry : Entry
 no_entry = record { from = record { 0 = 0 }; label = None; weight = pos 0 }
@@ -86,6 +86,21 @@ entry_under table to labels entry column are sound held is =
     let wide : length labels + 1 ≡ width_of table.shape to = ap (λ (ls : List LinkId). length ls + 1) are in
     let inside = column_inside table.shape to (wide_label entry.label) column has in
     place_under table to (length labels + 1) sound wide entry.from column (sound.keys (edge_into to entry) held).from_point (omega (arith, inside, wide))
+
+place_word : (shape : Shape) (to : PointId) (place : ℕ) → place < shape.points * width_of shape to → place % width_of shape to * shape.points + place / width_of shape to < shape.points * width_of shape to
+place_word shape to place below =
+    mul-add-lt (place % width_of shape to) shape.points (place / width_of shape to) (width_of shape to) (mod_below place (width_of shape to) (omega arith)) (div_below place (width_of shape to) shape.points (omega arith) below)
+
+pub word_under : (table : Graph) (to : PointId) (labels : List LinkId) (entry : Entry) (column : ℕ) → labels ≡ labels_at table.shape to → IsGraph table → HasEdge table (edge_into to entry) → IsColumnOf labels (wide_label entry.label) column
+    → column * table.shape.points + entry.from.0 < table.shape.points * (length labels + 1)
+word_under table to labels entry column are sound held is =
+    let has : HasColumn table.shape to (wide_label entry.label) column = subst (λ (ls : List LinkId). IsColumnOf ls (wide_label entry.label) column) are is in
+    let inside = column_inside table.shape to (wide_label entry.label) column has in
+    let wide : length labels + 1 ≡ width_of table.shape to = ap (λ (ls : List LinkId). length ls + 1) are in
+    mul-add-lt column table.shape.points entry.from.0 (length labels + 1) (omega (arith, inside, wide)) (sound.keys (edge_into to entry) held).from_point
+
+pub column_under : (table : Graph) (to : PointId) (labels : List LinkId) (entry : Entry) (column : ℕ) → labels ≡ labels_at table.shape to → IsColumnOf labels (wide_label entry.label) column → column < width_of table.shape to
+column_under table to labels entry column are is = column_inside table.shape to (wide_label entry.label) column (subst (λ (ls : List LinkId). IsColumnOf ls (wide_label entry.label) column) are is)
 
 -- ---- the walk over the labels
 pub record IsPassed (labels : List LinkId) (label : LinkId) (count : ℕ) : Type 0 where
@@ -206,6 +221,56 @@ module _ (table : Graph) (to : PointId) (entries : List Entry) (held : (k : ℕ)
           ∙ sym (get_or_from_slice_get (map (stored_of table) (row_keys table.shape to)) k (stored_of table (get_or (row_keys table.shape to) k no_key)) (pos 0)
           (slice_get-map (stored_of table) (row_keys table.shape to) k ∙ ap (option_map (stored_of table)) at))
 
+-- ---- the words
+pub stand_none : (table : Graph) (to : PointId) (words : List ℤ) (count : ℕ) → words ≡ replicate count greatest_word → count ≡ length (row_keys table.shape to) → StandForKeys table to words
+stand_none table to words count are many = (
+  ap length are ∙ (long_replicate count greatest_word ∙ many),
+  λ place key at other. absurd (other (greatest (place % width_of table.shape to * table.shape.points + place / width_of table.shape to) (let inside = slice_get_within (row_keys table.shape to) place key at in let all = length-row_keys table.shape to in column_word place (subst (λ (n : ℕ). place < n) all inside)))),
+)
+  where
+    column_word : (place : ℕ) → place < table.shape.points * width_of table.shape to → place % width_of table.shape to * table.shape.points + place / width_of table.shape to < length words
+    column_word place below =
+        let under = place_word table.shape to place below in
+        let all = length-row_keys table.shape to in
+        let long : length words ≡ length (row_keys table.shape to) = ap length are ∙ (long_replicate count greatest_word ∙ many) in
+        omega (arith, under, all, long)
+
+    greatest : (k : ℕ) → k < length words → get_or words k (pos 0) ≡ greatest_word
+    greatest k below = ap (λ (list : List ℤ). get_or list k (pos 0)) are ∙ replicated count k greatest_word (pos 0) (let long : length words ≡ count = ap length are ∙ long_replicate count greatest_word in omega (arith, below, long))
+
+pub stand_more : (table : Graph) (to : PointId) (words : List ℤ) (entry : Entry) (column place : ℕ) (word : ℤ) → column < width_of table.shape to → place ≡ place_of (width_of table.shape to) entry.from column → slice_get (row_keys table.shape to) place ≡ Some (key_of (edge_into to entry))
+    → HasEdge table (edge_into to entry) → StandsFor word (Some entry.weight) → StandForKeys table to words → StandForKeys table to (slice_set words (column * table.shape.points + entry.from.0) word)
+stand_more table to words entry column place word inside is at held stands (long, was) = (set_long words (column * table.shape.points + entry.from.0) word ∙ long, λ other key there. by other key there (same_or_apart other place))
+  where
+    all : length (row_keys table.shape to) ≡ table.shape.points * width_of table.shape to
+    all = length-row_keys table.shape to
+
+    word_at : ℕ → ℕ
+    word_at k = k % width_of table.shape to * table.shape.points + k / width_of table.shape to
+
+    here : place % width_of table.shape to * table.shape.points + place / width_of table.shape to ≡ column * table.shape.points + entry.from.0
+    here =
+        let rest : place % width_of table.shape to ≡ column = ap (λ (n : ℕ). n % width_of table.shape to) is ∙ mod-mul-add entry.from.0 (width_of table.shape to) column inside in
+        let whole : place / width_of table.shape to ≡ entry.from.0 = ap (λ (n : ℕ). n / width_of table.shape to) is ∙ div-mul-add entry.from.0 (width_of table.shape to) column inside in
+        λ i. rest i * table.shape.points + whole i
+
+    by : (other : ℕ) (key : Key) → slice_get (row_keys table.shape to) other ≡ Some key → (other ≡ place) ⊎ (other ≢ place)
+        → StandsFor (get_or (slice_set words (column * table.shape.points + entry.from.0) word) (other % width_of table.shape to * table.shape.points + other / width_of table.shape to) (pos 0)) (weight_of table key)
+    by other key there (inl equal) =
+        let below : place < table.shape.points * width_of table.shape to = subst (λ (n : ℕ). place < n) all (slice_get_within (row_keys table.shape to) place (key_of (edge_into to entry)) at) in
+        let under = place_word table.shape to place below in
+        let key_is : key_of (edge_into to entry) ≡ key = same_Some (key_of (edge_into to entry)) key (sym at ∙ (ap (slice_get (row_keys table.shape to)) (sym equal) ∙ there)) in
+        let weight : weight_of table key ≡ Some entry.weight = ap (weight_of table) (sym key_is) ∙ held in
+        let place_is : other % width_of table.shape to * table.shape.points + other / width_of table.shape to ≡ column * table.shape.points + entry.from.0 = ap (λ (k : ℕ). k % width_of table.shape to * table.shape.points + k / width_of table.shape to) equal ∙ here in
+        let read : get_or (slice_set words (column * table.shape.points + entry.from.0) word) (other % width_of table.shape to * table.shape.points + other / width_of table.shape to) (pos 0) ≡ word =
+        ap (λ (k : ℕ). get_or (slice_set words (column * table.shape.points + entry.from.0) word) k (pos 0)) place_is ∙ read_set words (column * table.shape.points + entry.from.0) word (pos 0) (omega (arith, under, here, long, all)) in
+        subst (λ (w : ℤ). StandsFor w (weight_of table key)) (sym read) (subst (StandsFor word) (sym weight) stands)
+    by other key there (inr apart) =
+        let below : place < table.shape.points * width_of table.shape to = subst (λ (n : ℕ). place < n) all (slice_get_within (row_keys table.shape to) place (key_of (edge_into to entry)) at) in
+        let also : other < table.shape.points * width_of table.shape to = subst (λ (n : ℕ). other < n) all (slice_get_within (row_keys table.shape to) other key there) in
+        let others : other % width_of table.shape to * table.shape.points + other / width_of table.shape to ≢ column * table.shape.points + entry.from.0 = λ same. apart (places_apart table.shape.points (width_of table.shape to) other place also below (same ∙ sym here)) in
+        subst (λ (w : ℤ). StandsFor w (weight_of table key)) (sym (read_other words (column * table.shape.points + entry.from.0) (other % width_of table.shape to * table.shape.points + other / width_of table.shape to) word (pos 0) others)) (was other key there)
+
 -- ---- the slots at the start
 stored_read : (o : Option ℤ) → ((weight : ℤ) → o ≡ Some weight → IsWeight weight) → weight_in (stored o) 0 ≡ o
 stored_read None small = refl
@@ -219,19 +284,74 @@ pub record IsAtStart (table : Graph) (to : PointId) (s : Inside) : Type 0 where
   pub points : s.points ≡ table.shape.points
   pub labels : s.labels.items ≡ labels_at table.shape to
   pub weights : s.weights.items ≡ map (stored_of table) (row_keys table.shape to)
+  pub words : StandForKeys table to s.words.items
   pub marks : s.marks.items ≡ replicate (length s.weights.items) 0
   pub settled : s.settled.items ≡ replicate (length s.weights.items) false
   pub whys : s.whys.items ≡ []
 
-pub start_slim : (table : Graph) (to : PointId) (s : Inside) → IsGraph table → IsAtStart table to s → IsSlim s
-start_slim table to s sound start = record {
+same_width : (table : Graph) (to : PointId) (s : Inside) → IsAtStart table to s → width_in s ≡ width_of table.shape to
+same_width table to s start = ap (λ (labels : List LinkId). length labels + 1) start.labels
+
+pub start_slot : (table : Graph) (to : PointId) (s : Inside) → IsGraph table → IsAtStart table to s → (k : ℕ) (key : Key) → k < length s.weights.items → slice_get (row_keys table.shape to) k ≡ Some key → first_slot table key ≡ slot_in s k
+start_slot table to s sound start k key below at =
+    let from : key.from ≡ record { 0 = k / width_in s } = source_of_place table.shape to k key at ∙ ap (λ (w : ℕ). record { 0 = k / w }) (sym (same_width table to s start)) in
+    let label : label_in s.labels.items (k % width_in s) ≡ key.label = (λ i. label_in (start.labels i) (k % same_width table to s start i)) ∙ label_of_column (labels_at table.shape to) key.label (k % width_of table.shape to) (column_of_place table.shape to k key at) in
+    let held : get_or s.weights.items k (pos 0) ≡ stored_of table key =
+    ap (λ (list : List ℤ). get_or list k (pos 0)) start.weights ∙ get_or_from_slice_get (map (stored_of table) (row_keys table.shape to)) k (stored_of table key) (pos 0) (slice_get-map (stored_of table) (row_keys table.shape to) k ∙ ap (option_map (stored_of table)) at) in
+    let mark : get_or s.marks.items k 0 ≡ 0 = ap (λ (list : List ℕ). get_or list k 0) start.marks ∙ replicated (length s.weights.items) k 0 0 below in
+    let settled : get_or s.settled.items k false ≡ false = ap (λ (list : List Bool). get_or list k false) start.settled ∙ replicated (length s.weights.items) k false false below in
+    let weight : weight_in (get_or s.weights.items k (pos 0)) (get_or s.marks.items k 0) ≡ weight_of table key =
+    (λ i. weight_in (held i) (mark i)) ∙ stored_read (weight_of table key) (λ w has. sound.weights (edge_of key w) has) in
+    let why : why_in s.whys.items (get_or s.marks.items k 0) ≡ None = λ i. why_in (start.whys i) (mark i) in
+    λ i. record { from = from i; label = sym label i; weight = sym weight i; why = sym why i; settled = sym settled i }
+
+pub start_slim : (table : Graph) (to : PointId) (s : Inside) → IsGraph table → to.0 < table.shape.points → IsAtStart table to s → IsSlim s
+start_slim table to s sound inside start = record {
   few = subst (λ (n : ℕ). n ≤ most_points) (sym start.points) sound.few_points;
+  small =
+      subst (λ (n : ℕ). n < 2 ^ 64) (sym (ap length start.weights ∙ (length-map (row_keys table.shape to) (stored_of table) ∙ length-row_keys table.shape to)))
+      (places_under table to (width_of table.shape to) sound refl);
   places = ap length start.weights ∙ (length-map (row_keys table.shape to) (stored_of table) ∙ (length-row_keys table.shape to ∙ (λ i. sym start.points i * (length (sym start.labels i) + 1))));
   marks = ap length start.marks ∙ long_replicate (length s.weights.items) 0;
   settled = ap length start.settled ∙ long_replicate (length s.weights.items) false;
+  words = start.words.0 ∙ sym (ap length start.weights ∙ length-map (row_keys table.shape to) (stored_of table));
+  stand = stand;
+  apart = apart;
   whys = λ place. (let none : get_or s.marks.items place 0 ≡ zero = ap (λ (marks : List ℕ). get_or marks place 0) start.marks ∙ zeros (length s.weights.items) place in omega (arith, none));
 }
   where
+    many : length (row_keys table.shape to) ≡ length s.weights.items
+    many = sym (ap length start.weights ∙ length-map (row_keys table.shape to) (stored_of table))
+
+    stand : (place : ℕ) → place < length s.weights.items → StandsFor (get_or s.words.items (word_place s place) (pos 0)) (slot_in s place).weight
+    stand place below =
+        let key : Key = get_or (row_keys table.shape to) place no_key in
+        let at : slice_get (row_keys table.shape to) place ≡ Some (get_or (row_keys table.shape to) place no_key) = slice_get-get_or (row_keys table.shape to) place no_key (omega (arith, many, below)) in
+        let word : place % width_of table.shape to * table.shape.points + place / width_of table.shape to ≡ word_place s place = λ i. place % sym (same_width table to s start) i * sym start.points i + place / sym (same_width table to s start) i in
+        let weight : weight_of table (get_or (row_keys table.shape to) place no_key) ≡ (slot_in s place).weight = ap (λ (slot : Slot). slot.weight) (start_slot table to s sound start place (get_or (row_keys table.shape to) place no_key) below at) in
+        subst (λ (k : ℕ). StandsFor (get_or s.words.items k (pos 0)) (slot_in s place).weight) word
+        (subst (StandsFor (get_or s.words.items (place % width_of table.shape to * table.shape.points + place / width_of table.shape to) (pos 0))) weight (start.words.1 place (get_or (row_keys table.shape to) place no_key) at))
+
+    -- the key of the first point in a column
+    key_in_column : (column : ℕ) → column < width_in s → slice_get (row_keys table.shape to) column ≡ Some (record { to = to; from = record { 0 = 0 }; label = label_in s.labels.items column })
+    key_in_column column below =
+        let narrow : column < width_of table.shape to = subst (λ (n : ℕ). column < n) (same_width table to s start) below in
+        let stored : column < length s.weights.items = (let all = length-row_keys table.shape to in let most = mul-add-lt 0 (width_of table.shape to) column table.shape.points (omega (arith, inside)) narrow in omega (arith, many, all, most)) in
+        let at : slice_get (row_keys table.shape to) column ≡ Some (get_or (row_keys table.shape to) column no_key) = slice_get-get_or (row_keys table.shape to) column no_key (omega (arith, many, stored)) in
+        let none : 0 * width_of table.shape to + column ≡ column = omega arith in
+        let whole : column / width_of table.shape to ≡ 0 = ap (λ (n : ℕ). n / width_of table.shape to) (sym none) ∙ div-mul-add 0 (width_of table.shape to) column narrow in
+        let rest : column % width_of table.shape to ≡ column = ap (λ (n : ℕ). n % width_of table.shape to) (sym none) ∙ mod-mul-add 0 (width_of table.shape to) column narrow in
+        let owner : (get_or (row_keys table.shape to) column no_key).to ≡ to = each-contained (λ k. k.to ≡ to) (row_keys table.shape to) (get_or (row_keys table.shape to) column no_key) (row_keys_owned table.shape to) (listed_at (row_keys table.shape to) column (get_or (row_keys table.shape to) column no_key) at) in
+        let from : (get_or (row_keys table.shape to) column no_key).from ≡ record { 0 = 0 } = source_of_place table.shape to column (get_or (row_keys table.shape to) column no_key) at ∙ (λ i. record { 0 = whole i }) in
+        let label : label_in s.labels.items column ≡ (get_or (row_keys table.shape to) column no_key).label =
+        (λ i. label_in (start.labels i) (sym rest i)) ∙ label_of_column (labels_at table.shape to) (get_or (row_keys table.shape to) column no_key).label (column % width_of table.shape to) (column_of_place table.shape to column (get_or (row_keys table.shape to) column no_key) at) in
+        at ∙ (λ i. Some (record { to = owner i; from = from i; label = sym label i }))
+
+    apart : (one other : ℕ) → one < width_in s → other < width_in s → label_in s.labels.items one ≡ label_in s.labels.items other → one ≡ other
+    apart one other below also same =
+        only_place (row_keys table.shape to) (row_keys_rise table.shape to) one other (record { to = to; from = record { 0 = 0 }; label = label_in s.labels.items other })
+        (key_in_column one below ∙ (λ i. Some (record { to = to; from = record { 0 = 0 }; label = same i }))) (key_in_column other also)
+
     zeros : (n k : ℕ) → get_or (replicate n zero) k zero ≡ zero
     zeros zero k = refl
     zeros (suc n) zero = refl
@@ -243,25 +363,9 @@ start_view table to s sound start = sym (fill_by_all (slot_in s) (first_slots ta
     long : length (first_slots table to) ≡ length s.weights.items
     long = length-map (row_keys table.shape to) (first_slot table) ∙ sym (ap length start.weights ∙ length-map (row_keys table.shape to) (stored_of table))
 
-    same_width : width_in s ≡ width_of table.shape to
-    same_width = ap (λ (labels : List LinkId). length labels + 1) start.labels
-
-    at_key : (k : ℕ) (key : Key) → k < length s.weights.items → slice_get (row_keys table.shape to) k ≡ Some key → first_slot table key ≡ slot_in s k
-    at_key k key below at =
-        let from : key.from ≡ record { 0 = k / width_in s } = source_of_place table.shape to k key at ∙ ap (λ (w : ℕ). record { 0 = k / w }) (sym same_width) in
-        let label : label_in s.labels.items (k % width_in s) ≡ key.label = (λ i. label_in (start.labels i) (k % same_width i)) ∙ label_of_column (labels_at table.shape to) key.label (k % width_of table.shape to) (column_of_place table.shape to k key at) in
-        let held : get_or s.weights.items k (pos 0) ≡ stored_of table key =
-        ap (λ (list : List ℤ). get_or list k (pos 0)) start.weights ∙ get_or_from_slice_get (map (stored_of table) (row_keys table.shape to)) k (stored_of table key) (pos 0) (slice_get-map (stored_of table) (row_keys table.shape to) k ∙ ap (option_map (stored_of table)) at) in
-        let mark : get_or s.marks.items k 0 ≡ 0 = ap (λ (list : List ℕ). get_or list k 0) start.marks ∙ replicated (length s.weights.items) k 0 0 below in
-        let settled : get_or s.settled.items k false ≡ false = ap (λ (list : List Bool). get_or list k false) start.settled ∙ replicated (length s.weights.items) k false false below in
-        let weight : weight_in (get_or s.weights.items k (pos 0)) (get_or s.marks.items k 0) ≡ weight_of table key =
-        (λ i. weight_in (held i) (mark i)) ∙ stored_read (weight_of table key) (λ w has. sound.weights (edge_of key w) has) in
-        let why : why_in s.whys.items (get_or s.marks.items k 0) ≡ None = λ i. why_in (start.whys i) (mark i) in
-        λ i. record { from = from i; label = sym label i; weight = sym weight i; why = sym why i; settled = sym settled i }
-
     each : (k : ℕ) → k < length s.weights.items → get_or (first_slots table to) k no_slot ≡ slot_in s k
     each k below =
         let many : length (row_keys table.shape to) ≡ length s.weights.items = sym (ap length start.weights ∙ length-map (row_keys table.shape to) (stored_of table)) in
         let at : slice_get (row_keys table.shape to) k ≡ Some (get_or (row_keys table.shape to) k no_key) = slice_get-get_or (row_keys table.shape to) k no_key (omega (arith, many, below)) in
         get_or_from_slice_get (first_slots table to) k (first_slot table (get_or (row_keys table.shape to) k no_key)) no_slot (slice_get-map (first_slot table) (row_keys table.shape to) k ∙ ap (option_map (first_slot table)) at)
-        ∙ at_key k (get_or (row_keys table.shape to) k no_key) below at
+        ∙ start_slot table to s sound start k (get_or (row_keys table.shape to) k no_key) below at

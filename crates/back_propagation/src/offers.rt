@@ -1,11 +1,12 @@
-ghost use Rattle.std.specs.Prelude.{◌≡◌, ◌+◌, ◌*◌, ◌<◌, ◌≤◌, ◌^◌, ℕ, length, [], ◌∷◌, Some, pos, int_lt, IfSome, IfNone, OnOk, slice_get, IsTrue, ◌<ℤ◌, unsigned_abs};
-ghost use Rattle.std.specs.List.{flat_map};
+ghost use Rattle.std.specs.Prelude.{◌≡◌, ◌+◌, ◌*◌, ◌<◌, ◌≤◌, ◌^◌, ℕ, length, [], ◌∷◌, Some, pos, int_lt, IfSome, IfNone, OnOk, slice_get, IsTrue, ◌<ℤ◌, unsigned_abs, false};
+ghost use Rattle.std.specs.List.{All, flat_map};
 ghost use Rattle.net_model.specs.Edges.{IsLinkOf};
 ghost use Rattle.net_model.specs.Limits.{most_weight};
 ghost use Rattle.net_model.specs.Rules.{is_negative, joined_weight};
 ghost use Rattle.closure_model.specs.ReferenceRow.{given, has_above, taken, from_removal, from_link, from_first, ordinary_into, consequences};
 ghost use Rattle.closure_model.specs.Tables.{HasEdge};
 ghost use Rattle.labelled_graph.specs.Entries.{edge_into};
+ghost use Rattle.back_propagation.specs.Blocks.{Ascend, IsHeld, IsMetIn};
 ghost use Rattle.back_propagation.specs.Offering.{place_of, IsSlotAt, after_entry};
 ghost use Rattle.back_propagation.specs.OpenRows.{IsOffering, HasOffered};
 
@@ -15,6 +16,9 @@ use labelled_graph::Entry;
 use net_model::{Edge, Link, LinkId, Network, PointId, Weight};
 use reduction_rules::{cross_case, lower_case, no_case, removal, upper_case};
 use std::alloc::AllocError;
+
+/// How many entries are looked at at once.
+const BLOCK: usize = 32;
 
 impl OpenRow {
     /// Offers to the row what follows from an edge of it, in the order of the definition. An edge of weight 0 or more has no consequence
@@ -64,17 +68,79 @@ impl OpenRow {
         Ok(())
     }
 
-    /// Offers what follows with an ordinary edge of the table before the edge, for each that ends where it begins.
+    /// Offers what follows with an ordinary edge of the table before a negative edge, for each that ends where it begins. Most of it is in
+    /// vain, which is seen of a block of entries at once.
     fn offer_after_firsts(
         &mut self,
         basis: Basis<'_>,
         edge: &Edge,
         column: usize,
     ) -> Result<(), AllocError>
-        requires { IsOffering basis self.old edge.now column }
+        requires row { IsOffering basis self.old edge.now column }
+        requires negative { edge.now.weight <ℤ pos 0 }
         ensures { OnOk result (HasOffered self.old self.new (flat_map (from_first edge.now) (ordinary_into basis.entry.table.now edge.now.from))) }
     {
-        for entry in basis.table.entries(edge.from) {
+        let entries = basis.table.entries(edge.from);
+        let mut at = 0;
+        while at < entries.len() {
+            let end = block_end(at, entries.len());
+            let block = &entries[at..end];
+            let falls = self.falls_among(basis, edge, column, block);
+            self.offer_unless_met(basis, edge, column, block, falls)?;
+            at = end;
+        }
+        Ok(())
+    }
+
+    /// Whether something that follows with the edges of some entries before the edge may go below what the row has, by words of both.
+    fn falls_among(&self, basis: Basis<'_>, edge: &Edge, column: usize, entries: &[Entry]) -> bool
+        requires row { IsOffering basis self.now edge.now column }
+        requires entries { All (IsHeld basis.table.now edge.now) entries.now }
+        requires ascend { Ascend entries.now }
+        requires some { 0 < length entries.now }
+        requires negative { edge.now.weight <ℤ pos 0 }
+        ensures { result ≡ false → All (IsMetIn self.now.slots self.now.width edge.now column) entries.now }
+    {
+        let from = entries[0].from.0;
+        let end = entries[entries.len() - 1].from.0 + 1;
+        basis
+            .table
+            .falls_before(edge, self.slots.words(column), from, end)
+    }
+
+    /// Offers what follows with the edges of some entries before the edge, unless it is known that nothing of it goes below what the row has.
+    fn offer_unless_met(
+        &mut self,
+        basis: Basis<'_>,
+        edge: &Edge,
+        column: usize,
+        entries: &[Entry],
+        falls: bool,
+    ) -> Result<(), AllocError>
+        requires row { IsOffering basis self.old edge.now column }
+        requires entries { All (IsHeld basis.table.now edge.now) entries.now }
+        requires met { falls ≡ false → All (IsMetIn self.old.slots self.old.width edge.now column) entries.now }
+        ensures { OnOk result (HasOffered self.old self.new (flat_map (after_entry edge.now) entries.now)) }
+    {
+        if falls {
+            self.offer_after_entries(basis, edge, column, entries)?;
+        }
+        Ok(())
+    }
+
+    /// Offers what follows with the edge of an entry before the edge, for each of some entries.
+    fn offer_after_entries(
+        &mut self,
+        basis: Basis<'_>,
+        edge: &Edge,
+        column: usize,
+        entries: &[Entry],
+    ) -> Result<(), AllocError>
+        requires row { IsOffering basis self.old edge.now column }
+        requires entries { All (IsHeld basis.table.now edge.now) entries.now }
+        ensures { OnOk result (HasOffered self.old self.new (flat_map (after_entry edge.now) entries.now)) }
+    {
+        for entry in entries {
             self.offer_after_entry(basis, edge, column, entry)?;
         }
         Ok(())
@@ -159,6 +225,19 @@ impl OpenRow {
             self.slots.lower(place, &made)?;
         }
         Ok(())
+    }
+}
+
+/// Where the block of entries ends that begins at one of so many.
+fn block_end(at: usize, count: usize) -> usize
+    requires { at < count }
+    ensures after { at < result }
+    ensures within { result ≤ count }
+{
+    if count - at > BLOCK {
+        at + BLOCK
+    } else {
+        count
     }
 }
 

@@ -17,6 +17,6 @@ returns-clause-settled c =
     let inside = place_stored c.self.inside c.args.self.now c.self.view_is c.args.place c.requires in
     let slot : slot_in c.self.inside c.args.place ≡ c.get-slot.result = slot_is c.self.inside c.args.self.now c.self.view_is c.args.place c.requires c.get-slot.result c.get-slot.ensures in
     settled_view c.self.inside
-    (record { points = c.self.inside.points; labels = c.self.inside.labels; weights = c.self.inside.weights; marks = c.self.inside.marks; settled = with_item c.self.inside.settled c.args.place true; whys = c.self.inside.whys }) c.args.place
-    (record { points = refl; labels = refl; weights = refl; marks = refl; settled = refl; whys = refl }) c.self.invariant inside
+    (record { points = c.self.inside.points; labels = c.self.inside.labels; weights = c.self.inside.weights; words = c.self.inside.words; marks = c.self.inside.marks; settled = with_item c.self.inside.settled c.args.place true; whys = c.self.inside.whys }) c.args.place
+    (record { points = refl; labels = refl; weights = refl; words = refl; marks = refl; settled = refl; whys = refl }) c.self.invariant inside
     ∙ (λ i. slice_set (c.self.view_is i) c.args.place (record (slot i) { settled = true }))

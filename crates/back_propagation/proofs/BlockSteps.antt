@@ -1,0 +1,182 @@
+-- Where no edge of a block goes below the row, nothing that follows with them changes it.
+use Rattle.std.proofs.Common.{◌≡◌, ℕ, zero, suc, ◌+◌, ◌<◌, ◌≤◌, ◌-◌, ℤ, pos, ◌*◌, ◌≤ℤ◌, ◌+ℤ◌, Bool, true, false, cond, List, [], ◌∷◌, ◌++◌, length, map, fold, drop, get_or, append_assoc, append-nil, Option, Some, None, refl, ap, sym, subst, ◌∙◌, arith}
+use Rattle.std.specs.Prelude.{slice_get, slice_range, IsSomeAnd, int_lt, is_none}
+use Rattle.std.specs.Int.{int_max}
+use Rattle.std.specs.Option.{option_map, option_map_or}
+use Rattle.std.specs.Ordering.{int_eq}
+use Rattle.std.specs.List.{All, flat_map}
+use Rattle.std.proofs.lemmas.Int.{ints}
+use Rattle.std.proofs.lemmas.Option.{same_Some, slice_get-get_or, slice_get-map, slice_get_within}
+use Rattle.std.proofs.lemmas.List.Elements.{All-get_or, All-from_get_or}
+use Rattle.std.proofs.lemmas.List.Concat.{flat_map-append}
+use Rattle.std.proofs.lemmas.List.Edits.{get_or-between, length-between}
+use Rattle.std.proofs.lemmas.List.Folds.{drop_split}
+use Rattle.std.proofs.lemmas.List.Sums.{fold-append}
+use Rattle.net_model.specs.Rules.{joined_weight}
+use Rattle.net_model.specs.declared.part.Edge.{Edge}
+use Rattle.net_model.specs.Network.{Plan}
+use Rattle.net_model.specs.declared.ids.PointId.{PointId}
+use Rattle.closure_model.specs.ReferenceRow.{has_above, offered, from_first}
+use Rattle.closure_model.specs.Tables.{Graph, row_of}
+use Rattle.closure_model.proofs.Weights.{le_then}
+use Rattle.closure_model.specs.declared.rows.Made.{Made}
+use Rattle.closure_model.specs.declared.rows.Slot.{Slot}
+use Rattle.labelled_graph.specs.Entries.{edge_into, is_ordinary, wide_label}
+use Rattle.labelled_graph.specs.declared.entry.Entry.{Entry}
+use Rattle.closure_model.specs.Keys.{Key, ordinary_key, row_keys}
+use Rattle.closure_model.proofs.Slots.{some_of_map}
+use Rattle.closure_model.specs.Tables.{weight_of}
+use Rattle.labelled_graph.specs.Words.{absent, held, MeetsHeld}
+use Rattle.back_propagation.specs.Blocks.{IsHeld, IsMetIn}
+use Rattle.back_propagation.specs.SlimSlots.{StandsFor}
+use Rattle.back_propagation.specs.Offering.{place_of, slot_key, after_entry, IsRowAgainst, IsOfRow}
+use Rattle.back_propagation.specs.OpenRows.{IsOffering, HasOffered}
+use Rattle.back_propagation.specs.declared.open_row.Basis.{Basis}
+use Rattle.back_propagation.specs.declared.open_row.OpenRow.{OpenRow}
+use Rattle.back_propagation.proofs.OfferSteps.{entry_held, first_place, first_left}
+use Rattle.back_propagation.proofs.OpenRowSteps.{offers_nothing, offers_then}
+use Rattle.back_propagation.proofs.RowPlaces.{row_at, at_column, column_inside}
+use Rattle.back_propagation.proofs.QueuedSteps.{keeps_itself}
+
+abbrev no_slot : Slot
+no_slot = record { from = record { 0 = 0 }; label = None; weight = None; why = None; settled = false }
+
+abbrev no_entry : Entry
+no_entry = record { from = record { 0 = 0 }; label = None; weight = pos 0 }
+
+module _ (net : Plan) (table : Graph) (to : PointId) (slots : List Slot) (width : ℕ) (row : IsRowAgainst net table to slots width) (edge : Edge) (column : ℕ) (is : IsOfRow net table to edge column) where
+  entry_left : (entry : Entry) → IsHeld table edge entry → IsMetIn slots width edge column entry → fold offered slots (after_entry edge entry) ≡ slots
+  entry_left entry has met = by (is_ordinary entry) refl
+    where
+      by : (b : Bool) → is_ordinary entry ≡ b → fold offered slots (cond b (from_first edge (edge_into edge.from entry)) []) ≡ slots
+      by false other = refl
+      by true ordinary =
+          let place = first_place net table to slots width row edge column is (edge_into edge.from entry) has in
+          sym (first_left net table to slots width row edge column is (edge_into edge.from entry) has no_slot (met ordinary (get_or slots (place_of width entry.from column) no_slot) (slice_get-get_or slots (place_of width entry.from column) no_slot place)))
+
+  -- nothing that follows with edges that are met changes the row
+  pub block_left : (entries : List Entry) → ((i : ℕ) → i < length entries → IsHeld table edge (get_or entries i no_entry)) → ((i : ℕ) → i < length entries → IsMetIn slots width edge column (get_or entries i no_entry)) → fold offered slots (flat_map (after_entry edge) entries) ≡ slots
+  block_left [] held met = refl
+  block_left (entry ∷ entries) held met =
+      let first : fold offered slots (after_entry edge entry) ≡ slots = entry_left entry (held 0 (omega arith)) (met 0 (omega arith)) in
+      let rest : fold offered slots (flat_map (after_entry edge) entries) ≡ slots = block_left entries (λ i below. held (suc i) (omega (arith, below))) (λ i below. met (suc i) (omega (arith, below))) in
+      fold-append offered slots (after_entry edge entry) (flat_map (after_entry edge) entries) ∙ (ap (λ (s : List Slot). fold offered s (flat_map (after_entry edge) entries)) first ∙ rest)
+
+pub block_offers_nothing : (basis : Basis) (self : OpenRow) (edge : Edge) (column : ℕ) (entries : List Entry) → IsOffering basis self edge column → All (IsHeld basis.table.now edge) entries → All (IsMetIn self.slots self.width edge column) entries
+    → HasOffered self self (flat_map (after_entry edge) entries)
+block_offers_nothing basis self edge column entries is held met = record {
+  slots = sym (block_left basis.net.now basis.table.now edge.to self.slots self.width is.slots edge column is.of_row entries
+      (λ i below. All-get_or (IsHeld basis.table.now edge) entries i no_entry below held) (λ i below. All-get_or (IsMetIn self.slots self.width edge column) entries i no_entry below met));
+  queue = keeps_itself self.slots self.queue;
+  width = refl;
+}
+
+not_less : (w old : ℤ) → old ≤ℤ w → int_lt w old ≡ false
+not_less w old most = grind (arith, ints)
+
+-- what a slot holds at a weight that is no greater than the way over both edges is met
+pub held_is_met : (slot : Slot) (weight : ℤ) → IsSomeAnd slot.weight (λ held. held ≤ℤ weight) → has_above slot weight ≡ false
+held_is_met slot weight some = by slot.weight some
+  where
+    by : (o : Option ℤ) → IsSomeAnd o (λ held. held ≤ℤ weight) → option_map_or (λ old. int_lt weight old) o true ≡ false
+    by None none = absurd none
+    by (Some held) most = not_less weight held most
+
+-- what the words of a block say of an entry in it
+pub words_meet : (table : Graph) (slots : List Slot) (width : ℕ) (edge : Edge) (column : ℕ) (word : ℤ) (entry : Entry) → ((slot : Slot) → slice_get slots (place_of width entry.from column) ≡ Some slot → StandsFor word slot.weight) → IsHeld table edge entry
+    → MeetsHeld (weight_of table (ordinary_key entry.from edge.from)) (held word) edge.weight → IsMetIn slots width edge column entry
+words_meet table slots width edge column word entry stands is_held met = λ ordinary slot here.
+    let has : weight_of table (ordinary_key entry.from edge.from) ≡ Some entry.weight = of_ordinary entry.label refl ordinary in
+    let below : MeetsHeld (Some entry.weight) (held word) edge.weight = subst (λ (o : Option ℤ). MeetsHeld o (held word) edge.weight) has met in
+    held_is_met slot (joined_weight (edge_into edge.from entry) edge) (by slot.weight (int_eq word absent) refl (stands slot here) below)
+  where
+    of_ordinary : (label : Option ℕ) → entry.label ≡ label → is_none label ≡ true → weight_of table (ordinary_key entry.from edge.from) ≡ Some entry.weight
+    of_ordinary None is ordinary = subst (λ (label : Option ℕ). weight_of table (record { to = edge.from; from = entry.from; label = wide_label label }) ≡ Some entry.weight) is is_held
+    of_ordinary (Some k) is ordinary = absurd cc
+
+    weaker : (o : Option ℤ) (low high : ℤ) → low ≤ℤ high → IsSomeAnd o (λ one. one ≤ℤ low) → IsSomeAnd o (λ one. one ≤ℤ high)
+    weaker None low high more some = some
+    weaker (Some w) low high more some = le_then w low high some more
+
+    by : (weight : Option ℤ) (gone : Bool) → int_eq word absent ≡ gone → StandsFor word weight → IsSomeAnd (cond gone None (Some word)) (λ other. other ≤ℤ (int_max entry.weight (pos 0) +ℤ edge.weight)) → IsSomeAnd weight (λ one. one ≤ℤ (int_max entry.weight (pos 0) +ℤ edge.weight))
+    by weight true gone stood some = absurd some
+    by weight false present stood most = weaker weight word (int_max entry.weight (pos 0) +ℤ edge.weight) most (stood (λ same. let itself : int_eq word absent ≡ true = grind (arith, ints) in absurd cc))
+
+-- ---- the words of the column of an edge
+module _ (net : Plan) (table : Graph) (to : PointId) (slots : List Slot) (width : ℕ) (row : IsRowAgainst net table to slots width) (edge : Edge) (column : ℕ) (is : IsOfRow net table to edge column) where
+  key_at : (from : PointId) → from.0 < table.shape.points → slice_get (row_keys table.shape to) (place_of width from column) ≡ Some (record { to = to; from = from; label = edge.label })
+  key_at from inside =
+      ap (λ (w : ℕ). slice_get (row_keys table.shape to) (from.0 * w + column)) row.wide
+      ∙ (row_at table.shape to from column inside (column_inside table.shape to edge.label column is.in_column) ∙ at_column table.shape to from edge.label column is.in_column)
+
+  -- what stands there
+  slot_key_at : (from : PointId) (slot : Slot) → from.0 < table.shape.points → slice_get slots (place_of width from column) ≡ Some slot → slot_key to slot ≡ record { to = to; from = from; label = edge.label }
+  slot_key_at from slot inside here =
+      same_Some (slot_key to slot) (record { to = to; from = from; label = edge.label })
+      (ap (option_map (slot_key to)) (sym here) ∙ (sym (slice_get-map (slot_key to) slots (place_of width from column)) ∙ (ap (λ (ks : List Key). slice_get ks (place_of width from column)) row.keys ∙ key_at from inside)))
+
+  first_point : PointId
+  first_point = record { 0 = 0 }
+
+  many : 0 < table.shape.points
+  many = let inside = is.key.from_point in omega (arith, inside)
+
+  head_place : 0 * width + column ≡ column
+  head_place = omega arith
+
+  -- the column is the place of the first slot in it
+  pub column_place : column < length slots
+  column_place =
+      let (slot, here, key) = some_of_map (slot_key to) (slice_get slots (0 * width + column)) (record { to = to; from = record { 0 = 0 }; label = edge.label })
+      (sym (slice_get-map (slot_key to) slots (0 * width + column)) ∙ (ap (λ (ks : List Key). slice_get ks (0 * width + column)) row.keys ∙ key_at (record { 0 = 0 }) many)) in
+      subst (λ (n : ℕ). n < length slots) head_place (slice_get_within slots (0 * width + column) slot here)
+
+  pub words_of_column : (words : List ℤ) → ((head slot : Slot) (other : ℕ) → slice_get slots column ≡ Some head → slice_get slots other ≡ Some slot → slot.label ≡ head.label → StandsFor (get_or words slot.from.0 (pos 0)) slot.weight)
+      → (from : PointId) (slot : Slot) → from.0 < table.shape.points → slice_get slots (place_of width from column) ≡ Some slot → StandsFor (get_or words from.0 (pos 0)) slot.weight
+  words_of_column words stand from slot inside here =
+      let head : Slot = get_or slots column no_slot in
+      let at : slice_get slots column ≡ Some (get_or slots column no_slot) = slice_get-get_or slots column no_slot column_place in
+      let first : slot_key to (get_or slots column no_slot) ≡ record { to = to; from = record { 0 = 0 }; label = edge.label } = slot_key_at (record { 0 = 0 }) (get_or slots column no_slot) many (ap (slice_get slots) head_place ∙ at) in
+      let key : slot_key to slot ≡ record { to = to; from = from; label = edge.label } = slot_key_at from slot inside here in
+      let label : slot.label ≡ (get_or slots column no_slot).label = ap (λ (k : Key). k.label) key ∙ sym (ap (λ (k : Key). k.label) first) in
+      subst (λ (p : PointId). StandsFor (get_or words p.0 (pos 0)) slot.weight) (ap (λ (k : Key). k.from) key) (stand (get_or slots column no_slot) slot (place_of width from column) at here label)
+
+-- ---- block after block
+-- what follows with the entries before one was offered
+pub record IsOfferedTo (edge : Edge) (entries : List Entry) (at : ℕ) (was now : OpenRow) : Type 0 where
+  pub done : List Made
+  pub offered : HasOffered was now done
+  pub rest : done ++ flat_map (after_entry edge) (drop at entries) ≡ flat_map (after_entry edge) entries
+
+pub offered_none : (edge : Edge) (entries : List Entry) (row : OpenRow) → IsOfferedTo edge entries 0 row row
+offered_none edge entries row = record { done = []; offered = offers_nothing row; rest = ap (flat_map (after_entry edge)) (drop_none entries) }
+  where
+    drop_none : (xs : List Entry) → drop 0 xs ≡ xs
+    drop_none [] = refl
+    drop_none (x ∷ xs) = refl
+
+pub offered_more : (edge : Edge) (entries : List Entry) (at end : ℕ) (was middle now : OpenRow) → at ≤ end → IsOfferedTo edge entries at was middle → HasOffered middle now (flat_map (after_entry edge) (slice_range entries at end)) → IsOfferedTo edge entries end was now
+offered_more edge entries at end was middle now more before block = record {
+  done = before.done ++ flat_map (after_entry edge) (slice_range entries at end);
+  offered = offers_then was middle now before.done (flat_map (after_entry edge) (slice_range entries at end)) before.offered block;
+  rest =
+      append_assoc before.done (flat_map (after_entry edge) (slice_range entries at end)) (flat_map (after_entry edge) (drop end entries))
+      ∙ (ap (λ (list : List Made). before.done ++ list) (sym (flat_map-append (after_entry edge) (slice_range entries at end) (drop end entries)) ∙ ap (flat_map (after_entry edge)) (sym (drop_split entries at end more))) ∙ before.rest);
+}
+
+pub offered_all : (edge : Edge) (entries : List Entry) (at : ℕ) (was now : OpenRow) → length entries ≤ at → IsOfferedTo edge entries at was now → HasOffered was now (flat_map (after_entry edge) entries)
+offered_all edge entries at was now past all =
+    subst (HasOffered was now) (sym (append-nil all.done) ∙ (ap (λ (list : List Entry). all.done ++ flat_map (after_entry edge) list) (sym (drop_past entries at past)) ∙ all.rest)) all.offered
+  where
+    drop_past : (xs : List Entry) (k : ℕ) → length xs ≤ k → drop k xs ≡ []
+    drop_past [] zero past = refl
+    drop_past [] (suc k) past = refl
+    drop_past (x ∷ xs) zero past = absurd (omega (arith, past))
+    drop_past (x ∷ xs) (suc k) past = drop_past xs k (omega (arith, past))
+
+pub block_held : (table : Graph) (edge : Edge) (entries : List Entry) (at end : ℕ) → map (edge_into edge.from) entries ≡ row_of table edge.from → end ≤ length entries → All (IsHeld table edge) (slice_range entries at end)
+block_held table edge entries at end are within =
+    All-from_get_or (IsHeld table edge) (slice_range entries at end) no_entry
+    (λ i below.
+    (let long : length (slice_range entries at end) ≡ end - at = length-between entries at end within in
+    subst (IsHeld table edge) (sym (get_or-between entries at end i no_entry (omega (arith, below, long)))) (entry_held table edge.from entries (at + i) no_entry are (omega (arith, below, long, within)))))

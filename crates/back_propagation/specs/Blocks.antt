@@ -1,0 +1,22 @@
+-- Blocks of entries that are looked at before anything is offered.
+use Rattle.std.specs.Prelude.{◌≡◌, ◌≤◌, ℕ, false, true, List, slice_get, Some}
+use Rattle.net_model.specs.Rules.{joined_weight}
+use Rattle.net_model.specs.declared.part.Edge.{Edge}
+use Rattle.closure_model.specs.ReferenceRow.{has_above}
+use Rattle.closure_model.specs.Tables.{Graph, HasEdge}
+use Rattle.closure_model.specs.declared.rows.Slot.{Slot}
+use Rattle.labelled_graph.specs.Entries.{edge_into, is_ordinary}
+use Rattle.labelled_graph.specs.declared.entry.Entry.{Entry}
+use Rattle.back_propagation.specs.Offering.{place_of}
+
+-- the edge of an entry is one of the table
+abbrev pub IsHeld : Graph → Edge → Entry → Type 0
+IsHeld table edge entry = HasEdge table (edge_into edge.from entry)
+
+-- with an edge after it, an ordinary edge does not go below the slot of the row where it begins
+abbrev pub IsMetIn : List Slot → ℕ → Edge → ℕ → Entry → Type 0
+IsMetIn slots width edge column entry = is_ordinary entry ≡ true → (slot : Slot) → slice_get slots (place_of width entry.from column) ≡ Some slot → has_above slot (joined_weight (edge_into edge.from entry) edge) ≡ false
+
+-- from one entry to the next the points in which they begin do not fall
+abbrev pub Ascend : List Entry → Type 0
+Ascend entries = (i j : ℕ) (one other : Entry) → i ≤ j → slice_get entries i ≡ Some one → slice_get entries j ≡ Some other → one.from.0 ≤ other.from.0
