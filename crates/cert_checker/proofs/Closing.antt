@@ -12,7 +12,8 @@ use Rattle.strategy_model.specs.Laws.{RulesKeepEdges, RefutationsExcludeStrategi
 use Rattle.cert_format.specs.declared.certificate.Certificate.{Certificate}
 use Rattle.cert_format.specs.declared.certificate.Certificate.TheVariants.{Refutation, TableProof}
 use Rattle.cert_format.specs.declared.line.CertLine.{CertLine}
-use Rattle.cert_checker.specs.Lines.{unless, line_at}
+use Rattle.cert_format.specs.JudgementForms.{unless}
+use Rattle.cert_checker.specs.Lines.{line_at}
 use Rattle.cert_checker.specs.Walk.{WalkPasses, refusal, steps_known, returns_to, is_negative_walk, total_weight, walked, walk_passes}
 use Rattle.cert_checker.specs.Judgement.{lines_pass, refutation_passes, judged, judgement_of}
 use Rattle.cert_checker.specs.Tables.{table_passes}
@@ -20,7 +21,8 @@ use Rattle.cert_checker.specs.Laws.{AcceptedExcludes}
 use Rattle.cert_checker.specs.declared.judgement.CertFault.TheVariants.{WalkBroken, WalkNotNegative}
 use Rattle.cert_checker.specs.declared.judgement.Judgement.TheVariants.{Accepted}
 use Rattle.cert_checker.specs.declared.judgement.Claim.TheVariants.{NotControllable, Controllable}
-use Rattle.cert_checker.proofs.Inversion.{bind_ok, unless_ok, negative_ok, contains_line}
+use Rattle.cert_format.proofs.PassingLemmas.{bind_ok, unless_ok}
+use Rattle.cert_checker.proofs.Inversion.{negative_ok, contains_line}
 use Rattle.cert_checker.proofs.Naming.{edge_of, point_of, point_of_same}
 use Rattle.cert_checker.proofs.Following.{edges_of}
 use Rattle.cert_checker.proofs.Deriving.{derivation}

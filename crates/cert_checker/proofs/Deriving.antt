@@ -22,7 +22,7 @@ use Rattle.cert_format.specs.declared.kind.LineKind.TheVariants as kind
 use Rattle.cert_checker.specs.Lines.{Passes, line_passes, names_known, item_known, label_known, label_of, label_by, link_named}
 use Rattle.cert_checker.specs.Truth.{IsLabel, States, IsTrueOf, AreTrue}
 use Rattle.cert_checker.specs.Judgement.{at_number, lines_pass}
-use Rattle.cert_checker.proofs.Inversion.{bind_ok}
+use Rattle.cert_format.proofs.PassingLemmas.{bind_ok}
 use Rattle.cert_checker.proofs.Naming.{edge_of, point_of, point_of_known, link_known}
 use Rattle.cert_checker.proofs.Following.{edges_of, line_follows, names_ok}
 

@@ -1,25 +1,13 @@
--- What the steps of a judgement say where it passes.
-use Rattle.std.proofs.Common.{◌≡◌, ℕ, ℤ, pos, ◌≤ℤ◌, ◌<ℤ◌, Bool, true, false, List, Option, Some, None, Result, Ok, Err, zero, suc, map, refl, ap, ◌∙◌, arith}
+-- What the tests of a line say where it passes.
+use Rattle.std.proofs.Common.{◌≡◌, ℕ, ℤ, pos, ◌≤ℤ◌, ◌<ℤ◌, true, List, Some, Ok, zero, suc, map, ap, ◌∙◌, arith}
 use Rattle.std.specs.Prelude.{slice_get, int_le, int_lt}
 use Rattle.std.specs.List.{Contains}
 use Rattle.std.specs.Option.{option_map}
-use Rattle.std.specs.Result.{result_ok}
 use Rattle.std.proofs.lemmas.Int.{ints}
 use Rattle.std.proofs.lemmas.Option.{slice_get-map, slice_get_within, get_or_from_slice_get}
 use Rattle.cert_format.specs.declared.line.CertLine.{CertLine}
-use Rattle.cert_checker.specs.Lines.{◌>>=◌, unless, there, line_at, at_least, is_negative}
-
-pub bind_ok : {A B E : Type 0} (r : Result A E) (f : A → Result B E) (y : B) → (r >>= f) ≡ Ok y → (x : A) × (r ≡ Ok x) × (f x ≡ Ok y)
-bind_ok (Ok x) f y e = (x, refl, e)
-bind_ok (Err why) f y e = absurd (cc)
-
-pub there_ok : {A E : Type 0} (o : Option A) (why : E) (x : A) → there o why ≡ Ok x → o ≡ Some x
-there_ok None why x e = absurd (cc)
-there_ok (Some y) why x e = ap result_ok e
-
-pub unless_ok : {E : Type 0} (b : Bool) (why : E) → unless b why ≡ Ok tt → b ≡ true
-unless_ok true why e = refl
-unless_ok false why e = absurd (cc)
+use Rattle.cert_format.proofs.PassingLemmas.{unless_ok}
+use Rattle.cert_checker.specs.Lines.{line_at, at_least, is_negative}
 
 le_is : (a b : ℤ) → int_le a b ≡ true → a ≤ℤ b
 le_is a b e = grind (arith, ints)

@@ -8,7 +8,7 @@ use Rattle.net_model.specs.Network.{Plan}
 use Rattle.net_model.specs.declared.ids.PointId.{PointId}
 use Rattle.net_model.proofs.Positions.{position-push_fails, position-push_passes, list_any_from_None}
 use Rattle.strategy_model.specs.Plays.{same_point}
-use Rattle.cert_checker.specs.Lines.{◌>>=◌, unless}
+use Rattle.cert_format.specs.JudgementForms.{◌>>=◌, unless}
 use Rattle.cert_checker.specs.Walk.{refusal}
 use Rattle.cert_checker.specs.Tables.{place_in, stand_once, is_complete}
 use Rattle.cert_checker.specs.Orders.{ArePlaces}

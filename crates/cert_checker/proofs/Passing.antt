@@ -3,7 +3,8 @@ use Rattle.std.proofs.Common.{◌≡◌, ℕ, ◌+◌, ◌<◌, List, [], ◌∷
 use Rattle.std.proofs.lemmas.List.{drop_more, take_more}
 use Rattle.net_model.specs.Network.{Plan}
 use Rattle.cert_format.specs.declared.line.CertLine.{CertLine}
-use Rattle.cert_checker.specs.Lines.{Passes, ◌>>=◌, line_passes}
+use Rattle.cert_format.specs.JudgementForms.{◌>>=◌}
+use Rattle.cert_checker.specs.Lines.{Passes, line_passes}
 use Rattle.cert_checker.specs.Judgement.{at_number, lines_pass}
 
 -- a line that passes leaves the others

@@ -11,7 +11,8 @@ use Rattle.net_model.specs.declared.part.Link.{Link}
 use Rattle.cert_format.specs.declared.line.CertLine.{CertLine}
 use Rattle.cert_format.specs.declared.kind.LineKind.{LineKind}
 use Rattle.cert_format.specs.declared.kind.LineKind.TheVariants as kind
-use Rattle.cert_checker.specs.Lines.{◌>>=◌, unless, there, line_at, link_named, bound_of, label_of, has_label_of, has_ends_of, are_ordinary, takes_label, is_negative, may_cross, goes, joins, reaches_back, names_known, in_range, at_least, bound_passes, link_passes, sum_passes, no_passes, up_passes, back_passes, low_passes, cross_passes, drop_passes, rule_passes, line_passes}
+use Rattle.cert_format.specs.JudgementForms.{◌>>=◌, unless, there}
+use Rattle.cert_checker.specs.Lines.{line_at, link_named, bound_of, label_of, has_label_of, has_ends_of, are_ordinary, takes_label, is_negative, may_cross, goes, joins, reaches_back, names_known, in_range, at_least, bound_passes, link_passes, sum_passes, no_passes, up_passes, back_passes, low_passes, cross_passes, drop_passes, rule_passes, line_passes}
 use Rattle.cert_checker.specs.Walk.{WalkPasses, refusal, steps_known, returns_to, is_negative_walk, total_weight, walked, walk_passes}
 use Rattle.cert_checker.specs.Judgement.{lines_pass, refutation_passes, judged}
 use Rattle.cert_checker.specs.Refusals.{FaultSays, IsRefusedLine, WalkSays, IsRefusedWalk}

@@ -6,7 +6,7 @@ use Rattle.strategy_model.specs.Laws.{RulesKeepEdges, DerivationsAreTrue}
 use Rattle.cert_format.specs.declared.certificate.Certificate.{Certificate}
 use Rattle.cert_format.specs.declared.certificate.Certificate.TheVariants.{Refutation, TableProof}
 use Rattle.cert_format.specs.declared.line.CertLine.{CertLine}
-use Rattle.cert_checker.specs.Lines.{◌>>=◌}
+use Rattle.cert_format.specs.JudgementForms.{◌>>=◌}
 use Rattle.cert_checker.specs.Walk.{WalkPasses, walk_passes}
 use Rattle.cert_checker.specs.Judgement.{lines_pass, refutation_passes, judged, judgement_of}
 use Rattle.cert_checker.specs.Truth.{AreTrue, passed_lines}

@@ -16,7 +16,7 @@ use Rattle.net_model.specs.declared.part.Bound.{Bound}
 use Rattle.net_model.specs.declared.part.Edge.{Edge}
 use Rattle.net_model.specs.declared.part.Link.{Link}
 use Rattle.cert_format.specs.declared.entry.Entry.{Entry}
-use Rattle.cert_checker.specs.Lines.{◌>>=◌, unless}
+use Rattle.cert_format.specs.JudgementForms.{◌>>=◌, unless}
 use Rattle.cert_checker.specs.Walk.{WalkPasses, refusal}
 use Rattle.cert_checker.specs.Tables.{point_passes, entry_passes, read_each, none_refused, refused_at, base_of_bound, base_of_link, base_of, is_missing, none_missing, base_stands, is_complete, place_in, comes_before, rises, placed_passes, order_passes, is_open, ordered_passes, edges_pass, table_passes}
 use Rattle.cert_checker.specs.Sound.{IsSoundEdge, AreSound}
@@ -27,7 +27,7 @@ use Rattle.cert_checker.specs.declared.base.Base.{Base}
 use Rattle.cert_checker.specs.declared.judgement.CertFault.{CertFault}
 use Rattle.cert_checker.specs.declared.judgement.CertFault.TheVariants.{OrderBroken, NotClosed}
 use Rattle.cert_checker.specs.declared.judgement.Refusal.{Refusal}
-use Rattle.cert_checker.proofs.Inversion.{there_ok}
+use Rattle.cert_format.proofs.PassingLemmas.{there_ok}
 use Rattle.cert_checker.proofs.ListLemmas.{same_position, found_by}
 use Rattle.cert_checker.proofs.LeastLemmas.{placed}
 use Rattle.cert_checker.proofs.OpenLemmas.{IsLeast, is_least}

@@ -5,7 +5,8 @@ use Rattle.std.specs.List.{cons_option}
 use Rattle.std.proofs.lemmas.Int.{ints}
 use Rattle.std.proofs.lemmas.List.{at_drop_more}
 use Rattle.cert_format.specs.declared.line.CertLine.{CertLine}
-use Rattle.cert_checker.specs.Lines.{line_at, there, ◌>>=◌}
+use Rattle.cert_format.specs.JudgementForms.{there, ◌>>=◌}
+use Rattle.cert_checker.specs.Lines.{line_at}
 use Rattle.cert_checker.specs.Walk.{WalkPasses, refusal, steps_known, returns_to, is_negative_total, is_negative_walk, total_weight, walked, weight_at}
 use Rattle.cert_checker.specs.declared.judgement.CertFault.TheVariants.{Premise}
 

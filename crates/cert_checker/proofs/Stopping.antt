@@ -4,7 +4,8 @@ use Rattle.std.specs.Prelude.{slice_get}
 use Rattle.std.proofs.lemmas.List.{append-nil, length_push}
 use Rattle.net_model.specs.Network.{Plan}
 use Rattle.cert_format.specs.declared.line.CertLine.{CertLine}
-use Rattle.cert_checker.specs.Lines.{Passes, ◌>>=◌, line_passes}
+use Rattle.cert_format.specs.JudgementForms.{◌>>=◌}
+use Rattle.cert_checker.specs.Lines.{Passes, line_passes}
 use Rattle.cert_checker.specs.Walk.{refusal}
 use Rattle.cert_checker.specs.Judgement.{at_number, lines_pass}
 use Rattle.cert_checker.specs.declared.judgement.Refusal.{Refusal}

@@ -26,7 +26,8 @@ use Rattle.strategy_model.specs.DispatchLaws.{ClosedListsGiveStrategies}
 use Rattle.cert_format.specs.declared.certificate.Certificate.{Certificate}
 use Rattle.cert_format.specs.declared.certificate.Certificate.TheVariants.{Refutation, TableProof}
 use Rattle.cert_format.specs.declared.entry.Entry.{Entry}
-use Rattle.cert_checker.specs.Lines.{unless, there, in_range}
+use Rattle.cert_format.specs.JudgementForms.{unless, there}
+use Rattle.cert_checker.specs.Lines.{in_range}
 use Rattle.cert_checker.specs.Walk.{WalkPasses, refusal}
 use Rattle.cert_checker.specs.Tables.{ordinary_of, labelled_of, edge_by, edge_of_entry, point_passes, entry_passes, at_line, read_each, same_label_id, same_key, stands_among, refused_at, none_refused, base_of_bound, base_of_link, base_of, is_missing, none_missing, base_stands, stand_once, is_complete, place_in, comes_before, rises, order_passes, link_ids, is_open, table_passes}
 use Rattle.cert_checker.specs.Sound.{IsSoundEdge}
@@ -37,7 +38,8 @@ use Rattle.cert_checker.specs.declared.judgement.CertFault.{CertFault}
 use Rattle.cert_checker.specs.declared.judgement.CertFault.TheVariants.{UnknownItem, WeightRange, OrderBroken, NotClosed}
 use Rattle.cert_checker.specs.declared.judgement.Judgement.TheVariants.{Accepted}
 use Rattle.cert_checker.specs.declared.judgement.Claim.TheVariants.{NotControllable, Controllable}
-use Rattle.cert_checker.proofs.Inversion.{bind_ok, there_ok, unless_ok, contains_at}
+use Rattle.cert_format.proofs.PassingLemmas.{bind_ok, there_ok, unless_ok}
+use Rattle.cert_checker.proofs.Inversion.{contains_at}
 use Rattle.cert_checker.proofs.ListLemmas.{some_passes, none_passes, holds_of, any_given, none_at, nothing_found}
 
 -- ---- the lines

@@ -4,7 +4,8 @@ use Rattle.net_model.specs.Network.{Plan}
 use Rattle.cert_format.specs.declared.certificate.Certificate.{Certificate}
 use Rattle.cert_format.specs.declared.certificate.Certificate.TheVariants.{Refutation, TableProof}
 use Rattle.cert_format.specs.declared.line.CertLine.{CertLine}
-use Rattle.cert_checker.specs.Lines.{Passes, ◌>>=◌, line_passes}
+use Rattle.cert_format.specs.JudgementForms.{◌>>=◌}
+use Rattle.cert_checker.specs.Lines.{Passes, line_passes}
 use Rattle.cert_checker.specs.Walk.{WalkPasses, refusal, walk_passes}
 use Rattle.cert_checker.specs.Tables.{table_passes}
 use Rattle.cert_checker.specs.declared.judgement.Judgement.{Judgement}

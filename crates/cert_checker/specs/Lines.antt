@@ -1,6 +1,6 @@
 -- When a rule line of a refutation passes, or why it does not. It goes over the text of the certificate alone and derives
 -- no edge. The rules are those of Morris and Muscettola 2005, in this project's form.
-use Rattle.std.specs.Prelude.{ℕ, ℤ, pos, ◌-ℤ◌, ◌+ℤ◌, ◌==◌, ◌&&◌, not, Bool, true, false, List, Option, Some, None, is_some, is_none, Result, Ok, Err, slice_get, nat_le, int_lt, int_le, unsigned_abs, zero, suc}
+use Rattle.std.specs.Prelude.{ℕ, ℤ, pos, ◌-ℤ◌, ◌+ℤ◌, ◌==◌, ◌&&◌, not, Bool, true, false, List, Option, Some, None, is_some, is_none, Result, slice_get, nat_le, int_lt, int_le, unsigned_abs, zero, suc}
 use Rattle.std.specs.Int.{int_max}
 use Rattle.std.specs.Option.{option_and_then, option_map_or}
 use Rattle.std.specs.Str.{bytes_eq}
@@ -9,6 +9,7 @@ use Rattle.net_model.specs.Network.{Plan, point_named, bound_named, activation}
 use Rattle.net_model.specs.declared.ids.PointId.{PointId}
 use Rattle.net_model.specs.declared.part.Bound.{Bound}
 use Rattle.net_model.specs.declared.part.Link.{Link}
+use Rattle.cert_format.specs.JudgementForms.{◌>>=◌, unless, there}
 use Rattle.cert_format.specs.declared.line.CertLine.{CertLine}
 use Rattle.cert_format.specs.declared.kind.LineKind.{LineKind}
 use Rattle.cert_format.specs.declared.kind.LineKind.TheVariants as kind
@@ -18,20 +19,6 @@ use Rattle.cert_checker.specs.declared.judgement.CertFault.TheVariants.{UnknownI
 -- a line passes, or does not for this cause
 abbrev pub Passes : Type 0
 Passes = Result (Unit {0}) CertFault
-
-infixl 10 ◌>>=◌
-abbrev pub ◌>>=◌ : {A B E : Type 0} → Result A E → (A → Result B E) → Result B E
-(Ok x) >>= next = next x
-(Err why) >>= next = Err why
-
-abbrev pub unless : {E : Type 0} → Bool → E → Result (Unit {0}) E
-unless true why = Ok tt
-unless false why = Err why
-
--- what is there, or else this fault
-abbrev pub there : {A E : Type 0} → Option A → E → Result A E
-there (Some item) why = Ok item
-there None why = Err why
 
 -- the link that ends in the point of a name
 abbrev pub link_named : Plan → List ℕ → Option Link

@@ -13,7 +13,8 @@ use Rattle.net_model.specs.declared.part.Edge.{Edge}
 use Rattle.net_model.specs.declared.part.Link.{Link}
 use Rattle.strategy_model.specs.Plays.{same_point}
 use Rattle.cert_format.specs.declared.entry.Entry.{Entry}
-use Rattle.cert_checker.specs.Lines.{◌>>=◌, unless, there, in_range}
+use Rattle.cert_format.specs.JudgementForms.{◌>>=◌, unless, there}
+use Rattle.cert_checker.specs.Lines.{in_range}
 use Rattle.cert_checker.specs.Walk.{WalkPasses, refusal}
 use Rattle.cert_checker.specs.declared.judgement.Refusal.{Refusal}
 use Rattle.cert_checker.specs.declared.judgement.CertFault.{CertFault}

@@ -2,7 +2,8 @@ ghost use Rattle.std.specs.Prelude.{◌≡◌, pos, ◌+ℤ◌, ◌-ℤ◌, ◌�
 ghost use Rattle.std.specs.Int.{int_max};
 ghost use Rattle.std.specs.List.{All};
 ghost use Rattle.net_model.specs.Network.{IsLink};
-ghost use Rattle.cert_checker.specs.Lines.{unless, at_least, has_label_of, has_ends_of, are_ordinary, takes_label, is_negative, may_cross, goes, joins, reaches_back, in_range, bound_passes, link_passes, sum_passes, no_passes, up_passes, back_passes, low_passes, cross_passes, drop_passes, rule_passes, line_passes};
+ghost use Rattle.cert_format.specs.JudgementForms.{unless};
+ghost use Rattle.cert_checker.specs.Lines.{at_least, has_label_of, has_ends_of, are_ordinary, takes_label, is_negative, may_cross, goes, joins, reaches_back, in_range, bound_passes, link_passes, sum_passes, no_passes, up_passes, back_passes, low_passes, cross_passes, drop_passes, rule_passes, line_passes};
 
 use crate::judgement::CertFault;
 use crate::lookup::{

@@ -9,3 +9,4 @@ pub mod FrontLemmas
 pub mod RoundTripLemmas
 pub mod ReadingLemmas
 pub mod OnceLemmas
+pub mod PassingLemmas

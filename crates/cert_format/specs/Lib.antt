@@ -7,3 +7,4 @@ pub mod CertificateGrammar
 pub mod CertificateLines
 pub mod CertificateText
 pub mod Laws
+pub mod JudgementForms

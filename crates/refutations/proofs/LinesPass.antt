@@ -28,7 +28,8 @@ use Rattle.closure_model.specs.declared.derivation.Rule.TheVariants as by_rule
 use Rattle.derivation_dag.proofs.MarkLemmas.{under_trans}
 use Rattle.cert_format.specs.declared.kind.LineKind.{LineKind}
 use Rattle.cert_format.specs.declared.line.CertLine.{CertLine}
-use Rattle.cert_checker.specs.Lines.{unless, line_at, link_named, item_known, label_known, names_known, in_range, rule_passes, line_passes}
+use Rattle.cert_format.specs.JudgementForms.{unless}
+use Rattle.cert_checker.specs.Lines.{line_at, link_named, item_known, label_known, names_known, in_range, rule_passes, line_passes}
 use Rattle.cert_checker.specs.Judgement.{lines_pass}
 use Rattle.cert_checker.specs.declared.judgement.CertFault.TheVariants.{UnknownItem, WeightRange}
 use Rattle.cert_checker.proofs.Passing as loop

@@ -17,7 +17,8 @@ use Rattle.net_model.specs.declared.part.Edge.{Edge}
 use Rattle.net_model.specs.declared.part.Link.{Link}
 use Rattle.closure_model.proofs.Deriving.{bound_at, link_at}
 use Rattle.cert_format.specs.declared.line.CertLine.{CertLine}
-use Rattle.cert_checker.specs.Lines.{◌>>=◌, unless, there, line_at, link_named, bound_of, names_point, label_of, same_label, at_least, is_negative, has_label_of, has_ends_of, are_ordinary, takes_label, may_cross, goes, joins, reaches_back, bound_passes, link_passes, sum_passes, back_passes, no_passes, up_passes, low_passes, cross_passes, drop_passes}
+use Rattle.cert_format.specs.JudgementForms.{◌>>=◌, unless, there}
+use Rattle.cert_checker.specs.Lines.{line_at, link_named, bound_of, names_point, label_of, same_label, at_least, is_negative, has_label_of, has_ends_of, are_ordinary, takes_label, may_cross, goes, joins, reaches_back, bound_passes, link_passes, sum_passes, back_passes, no_passes, up_passes, low_passes, cross_passes, drop_passes}
 use Rattle.cert_checker.specs.declared.judgement.CertFault.TheVariants.{UnknownItem, Premise, RuleCondition, Ends, Label, TooLow}
 use Rattle.cert_checker.proofs.Naming.{bytes_same}
 use Rattle.net_model.specs.NetworkParts.{point_name}

@@ -19,7 +19,8 @@ use Rattle.closure_model.specs.Tables.{Graph, weight_of}
 use Rattle.closure_model.specs.declared.derivation.Node.{Node}
 use Rattle.closure_model.specs.declared.derivation.NodeId.{NodeId}
 use Rattle.cert_format.specs.declared.line.CertLine.{CertLine}
-use Rattle.cert_checker.specs.Lines.{line_at, there, unless}
+use Rattle.cert_format.specs.JudgementForms.{there, unless}
+use Rattle.cert_checker.specs.Lines.{line_at}
 use Rattle.cert_checker.specs.Walk.{refusal, steps_known, returns_to, is_negative_walk, total_weight, walked, walk_passes}
 use Rattle.cert_checker.specs.declared.judgement.CertFault.TheVariants.{Premise, WalkBroken, WalkNotNegative}
 use Rattle.cert_checker.proofs.Naming.{bytes_same}

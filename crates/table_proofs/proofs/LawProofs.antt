@@ -22,7 +22,7 @@ use Rattle.cert_format.specs.declared.certificate.Certificate.{Certificate}
 use Rattle.cert_format.specs.declared.certificate.Certificate.TheVariants.{TableProof}
 use Rattle.cert_format.specs.declared.entry.Entry.{Entry}
 use Rattle.cert_checker.specs.Judgement.{judged, judgement_of}
-use Rattle.cert_checker.specs.Lines.{◌>>=◌}
+use Rattle.cert_format.specs.JudgementForms.{◌>>=◌}
 use Rattle.cert_checker.specs.Tables.{point_passes, entry_passes, read_each, base_stands, order_passes, none_refused, is_open, ordered_passes, edges_pass, table_passes}
 use Rattle.cert_checker.specs.declared.judgement.Claim.TheVariants.{Controllable}
 use Rattle.cert_checker.specs.declared.judgement.Judgement.TheVariants.{Accepted}

@@ -18,7 +18,7 @@ use Rattle.closure_model.specs.Orders.{goes, IsOrder}
 use Rattle.closure_model.specs.Tables.{Graph, weight_of, HasEdge, IsFor, edges_of}
 use Rattle.closure_model.proofs.TableLemmas.{listed_edge}
 use Rattle.closure_model.proofs.Lists.{each-from_contains}
-use Rattle.cert_checker.specs.Lines.{unless}
+use Rattle.cert_format.specs.JudgementForms.{unless}
 use Rattle.cert_checker.specs.Tables.{stand_once, is_complete, place_in, comes_before, rises, placed_passes, order_passes, none_refused}
 use Rattle.cert_checker.specs.Walk.{refusal}
 use Rattle.cert_checker.specs.declared.judgement.CertFault.TheVariants.{OrderBroken}

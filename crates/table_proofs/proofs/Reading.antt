@@ -12,7 +12,8 @@ use Rattle.net_model.specs.declared.ids.LinkId.{LinkId}
 use Rattle.net_model.specs.declared.part.Edge.{Edge}
 use Rattle.net_model.specs.declared.part.Link.{Link}
 use Rattle.cert_format.specs.declared.entry.Entry.{Entry}
-use Rattle.cert_checker.specs.Lines.{◌>>=◌, there, unless, in_range}
+use Rattle.cert_format.specs.JudgementForms.{◌>>=◌, there, unless}
+use Rattle.cert_checker.specs.Lines.{in_range}
 use Rattle.cert_checker.specs.Tables.{edge_of_entry, labelled_by, point_passes, entry_passes, at_line, read_each}
 use Rattle.cert_checker.specs.declared.judgement.CertFault.{CertFault}
 use Rattle.cert_checker.specs.declared.judgement.CertFault.TheVariants.{UnknownItem, WeightRange}
