@@ -55,7 +55,10 @@ fn delayed(net: Network, delay: Weight) -> Option<Network>
 fn read_as_shown(rt: &impl Abort, net: &Network, shown: &Network) {
     for k in 0..net.bounds().len() {
         let edge = net.shown_bound(BoundId(k as u32));
-        assert_eq!(rt; shown.bounds().get(k).map(|bound| bound_edge(bound)), Some(edge));
+        assert_eq!(rt;
+            shown.bounds().get(k).map(|bound| bound_edge(bound)),
+            Some(edge)
+        );
     }
     for k in 0..net.links().len() {
         let link = net.shown_link(LinkId(k as u32));
