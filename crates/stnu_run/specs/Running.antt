@@ -11,6 +11,7 @@ use Rattle.command_engine.specs.declared.machines.Onward.{Onward}
 use Rattle.command_engine.specs.declared.machines.Onward.TheVariants.{Ends}
 use Rattle.command_engine.specs.declared.phases.TextThenPhase.{TextThenPhase}
 use Rattle.command_engine.specs.declared.phases.TextThenPhase.TheVariants.{Reading}
+use Rattle.event_execution.specs.Begin.{BeginsExecution}
 use Rattle.event_execution.specs.Course.{Course}
 use Rattle.event_execution.specs.Executing.{executing_machine}
 use Rattle.common_answers.specs.Faults.{refusing}
