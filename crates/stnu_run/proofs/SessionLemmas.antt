@@ -104,7 +104,7 @@ fault_not_refuted fault end is so = by (fault_ends_so fault)
     by (inl limit) = absurd (cc (is, limit, so))
     by (inr wrong) = absurd (cc (is, wrong, so))
 
-decided_not : (net : Plan) (final : Execution) (number room : ℕ) (rest : List InputLine) (end : End) → IsDecided net final number room rest end → ¬ (end ≡ ends.Refused)
+decided_not : (net : Plan) (final : Execution) (number room : ℕ) (rest : List InputLine) (end : End) → IsDecided as_named net final number room rest end → ¬ (end ≡ ends.Refused)
 decided_not net final number room rest end (inl (last, others, told, next, comes, is, decides)) so = not_refuted final told end decides so
 decided_not net final number room rest end (inr (fault, next, is)) so = fault_not_refuted fault end is so
 

@@ -29,6 +29,7 @@ use Rattle.command_engine.proofs.WrapLemmas.{Wraps, served_lines, served_run}
 use Rattle.event_execution.specs.Course.{course_of}
 use Rattle.event_execution.specs.EventAnswers.{due_line}
 use Rattle.event_execution.specs.Executing.{executing_machine}
+use Rattle.event_execution.specs.Handing.{as_named}
 use Rattle.common_answers.specs.Faults.{fault_line, fault_end}
 use Rattle.stnu_run.specs.SessionPromise.{accepted_or, net_after, StillEdits, TellSteps, SaysSteps, IsStepFault}
 use Rattle.stnu_run.specs.Sessions.{net_of, SaysStep, StandsAfterEdit, StandsAfter, EditsOn, BeginsByGo, AnswersStep, session_machine}
@@ -182,7 +183,7 @@ opened_by standing line lines number room put answer onward end (controls, (inne
       first = begins.first;
       more = on.0;
       all = on.1 ∙ (ap (λ (a : List ℕ). a ++ on.0) begins.put ∙ append_assoc controllable_line (due_line begins.due) on.0);
-      later = served_run executing_machine session_machine Executing wraps_executing (at (net_of standing) (started (setting_of (net_of standing) begins.table)) [] (number + 1) (room - line_size line)) lines on.0 end on.2;
+      later = served_run executing_machine session_machine Executing wraps_executing (at (net_of standing) (started (setting_of (net_of standing) begins.table)) as_named (number + 1) (room - line_size line)) lines on.0 end on.2;
     }
 
 ends_here : (standing : Standing) (lines : List InputLine) (number room : ℕ) (put : List ℕ) (end : End) → HowEnds standing number room lines put end → EndsSession standing lines number room put end

@@ -40,8 +40,8 @@ document_declares : DocumentsStandInInputs → (net : Plan) → IsPlan net → H
 document_declares law net plan numbers back =
     let stands = law net plan numbers in
     let whole = stands.lines_are (printed_line end_words) ∙ ap (λ (ls : List (List ℕ)). stands.pieces ++ ls) end_line in
-    subst (λ (ls : List (List ℕ)). (plan_in (in_notation Json)).declares ls net []) (sym whole)
-    (declares_so 0 stands.pieces (codes "end") [] back.parts net stands.inside end_ends (ap declared (sym stands.text_is) ∙ back.said) back.same)
+    subst (λ (ls : List (List ℕ)). (plan_in (in_notation Json)).declares ls (record net { delay = 0 }) []) (sym whole)
+    (declares_so 0 stands.pieces (codes "end") [] back.parts (record net { delay = 0 }) stands.inside end_ends (ap declared (sym stands.text_is) ∙ back.said) back.same)
 
 -- the document and the line after it declare the network
 pub document_put : DocumentsStandInInputs → (net : Plan) (text put : List ℕ) → IsPlan net → HasPlanNumbers net → text ≡ document_text (document_of net) → ReadsBack text net
