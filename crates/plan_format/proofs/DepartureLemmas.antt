@@ -15,7 +15,7 @@ use Rattle.plan_format.specs.declared.plan_line.PlanLine.TheVariants as line
 use Rattle.plan_format.specs.PlanLines.{plan_line, line_of, header_line, end_line, declares, point_line, bound_line, link_line}
 use Rattle.net_model.specs.Places.{Place, of_name, of_number, DepartsFrom}
 use Rattle.plan_format.specs.PlanFaults.{places_after, Departs, IsFaultAlone, IsFaultOfLine}
-use Rattle.plan_format.specs.PlanParts.{Version, version_1, version_word}
+use Rattle.plan_format.specs.PlanParts.{Version, format_1, version_word}
 use Rattle.plan_format.proofs.PartLemmas.{blank_read, header_read}
 
 point_departs : (others : List (List ℕ)) (kind : FormatKind) → point_line others ≡ Err kind → DepartsFrom (Some (of_name ∷ [])) others kind
@@ -72,10 +72,10 @@ declared_err (Err k) kind said = cc
 
 -- a line that begins with a word that is no remark
 line_departs : (version : Version) (first : List ℕ) (others : List (List ℕ)) (kind : FormatKind) → line_of version first others ≡ Err kind → Departs version (first ∷ others) kind
-line_departs version_1 first others kind read =
-    let with_form : (form : Option (List Place)) → places_after version_1 first ≡ form → DepartsFrom form others kind → Departs version_1 (first ∷ others) kind = λ form is departs. subst (λ (f : Option (List Place)). DepartsFrom f others kind) (sym is) departs in
+line_departs format_1 first others kind read =
+    let with_form : (form : Option (List Place)) → places_after format_1 first ≡ form → DepartsFrom form others kind → Departs format_1 (first ∷ others) kind = λ form is departs. subst (λ (f : Option (List Place)). DepartsFrom f others kind) (sym is) departs in
     elim (choice (bytes_eq first (codes "stnu")) _ _ (Err kind) read) [
-      | inl stnu ↦ with_form None (ap (places_after version_1) (word_is first (codes "stnu") stnu.0)) (header_departs version_1 others kind stnu.1)
+      | inl stnu ↦ with_form None (ap (places_after format_1) (word_is first (codes "stnu") stnu.0)) (header_departs format_1 others kind stnu.1)
       | inr not_stnu ↦ elim (choice (bytes_eq first (codes "point")) _ _ (Err kind) not_stnu.1) [
         | inl point ↦ with_form (Some (of_name ∷ [])) (rw point.0 refl) (point_departs others kind (declared_err (point_line others) kind point.1))
         | inr not_point ↦ elim (choice (bytes_eq first (codes "bound")) _ _ (Err kind) not_point.1) [

@@ -16,7 +16,7 @@ use Rattle.plan_format.specs.declared.section.PlanSection.{PlanSection}
 use Rattle.plan_format.specs.declared.section.PlanSection.TheVariants as section
 use Rattle.plan_format.specs.declared.read.Parts.{Parts}
 use Rattle.plan_format.specs.PlanLines.{plan_line}
-use Rattle.plan_format.specs.PlanParts.{Version, version_1}
+use Rattle.plan_format.specs.PlanParts.{Version, format_1}
 use Rattle.plan_format.specs.PlanGrammar.{Says}
 use Rattle.plan_format.specs.PlanFaults.{Departs, CanBecomePlan, ExcludesPlan, Stops, IsFirstFault}
 use Rattle.plan_format.specs.PlanReading.{Progress, begun, in_section, line_in, advanced, missing, IsReached, IsFront, Brings, fault_after}
@@ -42,17 +42,17 @@ headless (Err k) kind refused = cc
 
 departs_by : (version : Version) (next : List ℕ) (read : Result PlanLine FormatKind) (kind : FormatKind) → plan_line version (words next) ≡ read → in_section section.Declarations read ≡ Err kind → Departs version (words next) kind
 departs_by version next (Ok line.Blank) kind is refused = absurd (cc)
-departs_by version_1 next (Ok line.Header) kind is refused =
+departs_by format_1 next (Ok line.Header) kind is refused =
     let unknown : kind ≡ UnknownWord = cc in
-    subst (λ (ws : List (List ℕ)). Departs version_1 ws kind) (sym (read_is version_1 (words next) line.Header is)) unknown
+    subst (λ (ws : List (List ℕ)). Departs format_1 ws kind) (sym (read_is format_1 (words next) line.Header is)) unknown
 departs_by version next (Ok (line.Part part)) kind is refused = absurd (cc)
 departs_by version next (Ok line.End) kind is refused = absurd (cc)
 departs_by version next (Err k) kind is refused = departs version (words next) kind (is ∙ refused)
 
 stops_by : (s : PlanSection) (before : List (List ℕ)) (parts : List Part) (numbers : List ℕ) (next : List ℕ) (more : List (List ℕ)) (kind : FormatKind) → IsReached s before parts numbers → line_in s (words next) ≡ Err kind → Stops before (next ∷ more) kind
-stops_by section.Header before parts numbers next more kind are refused = inl (are.0, headless (plan_line version_1 (words next)) kind refused)
+stops_by section.Header before parts numbers next more kind are refused = inl (are.0, headless (plan_line format_1 (words next)) kind refused)
 stops_by section.Declarations before parts numbers next more kind begins refused =
-    inr (version_1, parts, numbers, begins, departs_by version_1 next (plan_line version_1 (words next)) kind refl refused)
+    inr (format_1, parts, numbers, begins, departs_by format_1 next (plan_line format_1 (words next)) kind refl refused)
 
 -- a line that is refused has the first fault of its text
 pub fault_in_line : (before : List (List ℕ)) (read : Progress) (next : List ℕ) (kind : FormatKind) → IsFront before read → line_in read.section (words next) ≡ Err kind → (more : List (List ℕ)) → IsFirstFault (before ++ next ∷ more) (fault_after before kind)
@@ -76,7 +76,7 @@ refused_brings before next read more kind (Err word.OutOfMemory) refused err is 
 
 ends_by : (s : PlanSection) (before : List (List ℕ)) (parts : List Part) (numbers : List ℕ) → IsReached s before parts numbers → Stops before [] (missing s)
 ends_by section.Header before parts numbers are = inl (are.0, refl)
-ends_by section.Declarations before parts numbers begins = inr (version_1, parts, numbers, begins, refl)
+ends_by section.Declarations before parts numbers begins = inr (format_1, parts, numbers, begins, refl)
 
 -- a text that ends too soon has its first fault after its last line
 pub ends_too_soon : (before : List (List ℕ)) (read : Progress) → IsFront before read → IsFirstFault before (fault_after before (missing read.section))
@@ -93,7 +93,7 @@ ends_too_soon before read has = record {
 -- lines before a fault were read
 abbrev read_before : (before rest : List (List ℕ)) (kind : FormatKind) → Stops before rest kind → (read : Progress) × IsFront before read
 read_before before rest kind (inl none) = (begun, (none.0, refl, refl))
-read_before before rest kind (inr (version_1, parts, numbers, begins, stops)) = (reached section.Declarations parts numbers, begins)
+read_before before rest kind (inr (format_1, parts, numbers, begins, stops)) = (reached section.Declarations parts numbers, begins)
 
 told_at : (answer : Result Declared FormatFault) (line : ℕ) (kind : FormatKind) (fault : FormatFault) → answer ≡ Err (record { line = line; kind = kind }) → fault.line ≡ line → fault.kind ≡ kind → answer ≡ Err fault
 told_at answer line kind fault told at is =
@@ -115,11 +115,11 @@ fault_of_rest : (before rest : List (List ℕ)) (fault : FormatFault) → fault.
 fault_of_rest before [] fault at refused (inl none) = told_at _ (length before + 1) NoHeader fault refl at none.1
 fault_of_rest before (next ∷ others) fault at refused (inl none) =
     let front = read_before before (next ∷ others) fault.kind (inl none) in
-    refused_line before next others front.0 (line_in front.0.section (words next)) fault front.1 refl refused (record { line = at; kind = λ kind is. none.1 ∙ sym (headless (plan_line version_1 (words next)) kind is) })
-fault_of_rest before [] fault at refused (inr (version_1, parts, numbers, begins, stops)) = told_at _ (length before + 1) NoEnd fault refl at stops
-fault_of_rest before (next ∷ others) fault at refused (inr (version_1, parts, numbers, begins, stops)) =
-    let front = read_before before (next ∷ others) fault.kind (inr (version_1, parts, numbers, begins, stops)) in
-    refused_line before next others front.0 (line_in front.0.section (words next)) fault front.1 refl refused (record { line = at; kind = λ kind is. departs_one version_1 (words next) fault.kind kind stops (departs_by version_1 next (plan_line version_1 (words next)) kind refl is) })
+    refused_line before next others front.0 (line_in front.0.section (words next)) fault front.1 refl refused (record { line = at; kind = λ kind is. none.1 ∙ sym (headless (plan_line format_1 (words next)) kind is) })
+fault_of_rest before [] fault at refused (inr (format_1, parts, numbers, begins, stops)) = told_at _ (length before + 1) NoEnd fault refl at stops
+fault_of_rest before (next ∷ others) fault at refused (inr (format_1, parts, numbers, begins, stops)) =
+    let front = read_before before (next ∷ others) fault.kind (inr (format_1, parts, numbers, begins, stops)) in
+    refused_line before next others front.0 (line_in front.0.section (words next)) fault front.1 refl refused (record { line = at; kind = λ kind is. departs_one format_1 (words next) fault.kind kind stops (departs_by format_1 next (plan_line format_1 (words next)) kind refl is) })
 
 -- the first fault of a text is what is read of it
 pub fault_is : (text : List (List ℕ)) (fault : FormatFault) → IsFirstFault text fault → read_from begun 1 text ≡ Err fault

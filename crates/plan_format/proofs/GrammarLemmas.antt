@@ -13,7 +13,7 @@ use Rattle.plan_format.specs.declared.section.PlanSection.{PlanSection}
 use Rattle.plan_format.specs.declared.section.PlanSection.TheVariants as section
 use Rattle.plan_format.specs.declared.read.Parts.{Parts}
 use Rattle.plan_format.specs.PlanGrammar.{IsBlank, IsLine, IsBegun, header, blank, declares, IsPlanText, Says}
-use Rattle.plan_format.specs.PlanParts.{Version, version_1}
+use Rattle.plan_format.specs.PlanParts.{Version, format_1}
 use Rattle.plan_format.specs.PlanReading.{Progress, begun, in_section, line_in, version_in, advanced, missing, IsFront}
 use Rattle.plan_format.proofs.PartLemmas.{is_read}
 use Rattle.plan_format.proofs.StepLemmas.{reached, one_more}
@@ -57,29 +57,29 @@ next_number front text = ap (λ (n : ℕ). n + 1) (one_more front text)
 
 -- after lines that have begun, the others are read
 begun_read : (version : Version) (before : List (List ℕ)) (parts : List Part) (numbers : List ℕ) (others : List (List ℕ)) → IsBegun version before parts numbers → read_from begun 1 (before ++ others) ≡ read_from (reached section.Declarations parts numbers) (length before + 1) others
-begun_read version_1 before parts numbers others (header blanks text all is) =
+begun_read format_1 before parts numbers others (header blanks text all is) =
     ap (read_from begun 1) (append_assoc blanks (text ∷ []) others)
     ∙ (blanks_read blanks (text ∷ others) 1 (length blanks + 1) all (omega arith)
     ∙ (step begun (length blanks + 1) text others (Ok line.Header) (line_is section.Header text line.Header is refl)
     ∙ ap (λ (n : ℕ). read_from (reached section.Declarations [] []) n others) (next_number blanks text)))
-begun_read version_1 before parts numbers others (blank front text ps ns begins is) =
+begun_read format_1 before parts numbers others (blank front text ps ns begins is) =
     ap (read_from begun 1) (append_assoc front (text ∷ []) others)
-    ∙ (begun_read version_1 front ps ns (text ∷ others) begins
+    ∙ (begun_read format_1 front ps ns (text ∷ others) begins
     ∙ (step (reached section.Declarations ps ns) (length front + 1) text others (Ok line.Blank) (line_is section.Declarations text line.Blank is refl)
     ∙ ap (λ (n : ℕ). read_from (reached section.Declarations ps ns) n others) (next_number front text)))
-begun_read version_1 before parts numbers others (declares front text ps more ns begins declared) =
+begun_read format_1 before parts numbers others (declares front text ps more ns begins declared) =
     let one = declared.1 in
     let part : Part = declared.0 in
     rw one
     (ap (read_from begun 1) (append_assoc front (text ∷ []) others)
-    ∙ (begun_read version_1 front ps ns (text ∷ others) begins
+    ∙ (begun_read format_1 front ps ns (text ∷ others) begins
     ∙ (step (reached section.Declarations ps ns) (length front + 1) text others (Ok (line.Part part)) (line_is section.Declarations text (line.Part part) declared.2 refl)
     ∙ ap (λ (n : ℕ). read_from (reached section.Declarations (ps ++ part ∷ []) (ns ++ (length front + 1) ∷ [])) n others) (next_number front text))))
 
 has_read_by : (s : PlanSection) (parts : List Part) (numbers : List ℕ) (before others : List (List ℕ)) → IsFront before (reached s parts numbers) → read_from begun 1 (before ++ others) ≡ read_from (reached s parts numbers) (length before + 1) others
 has_read_by section.Header parts numbers before others has =
     rw (has.1, has.2) (blanks_read before others 1 (length before + 1) has.0 (omega arith))
-has_read_by section.Declarations parts numbers before others has = begun_read version_1 before parts numbers others has
+has_read_by section.Declarations parts numbers before others has = begun_read format_1 before parts numbers others has
 
 -- after lines that were read, the others are read
 pub has_read : (before others : List (List ℕ)) (read : Progress) → IsFront before read → read_from begun 1 (before ++ others) ≡ read_from read (length before + 1) others

@@ -15,7 +15,7 @@ use Rattle.plan_format.specs.declared.plan_line.PlanLine.TheVariants as line
 use Rattle.plan_format.specs.PlanLines.{plan_line, line_of, header_line, end_line, declares, point_line, bound_line, link_line}
 use Rattle.plan_format.specs.PlanGrammar.{AreWordsOf}
 use Rattle.net_model.specs.NetworkParts.{IsDeclarable}
-use Rattle.plan_format.specs.PlanParts.{Version, version_1, version_word, part_words, header_words, end_words}
+use Rattle.plan_format.specs.PlanParts.{Version, format_1, version_word, part_words, header_words, end_words}
 
 -- the line of a part is read as that part
 pub spelled_read : (version : Version) (p : Part) → IsDeclarable p → plan_line version (part_words p) ≡ Ok (line.Part p)
@@ -28,7 +28,7 @@ spelled_read version (part.Link from low high to) spelled =
 
 pub header_read : (version : Version) → plan_line version (header_words version) ≡ Ok line.Header
 unfolding plan_line
-header_read version_1 = refl
+header_read format_1 = refl
 
 pub end_read : (version : Version) → plan_line version end_words ≡ Ok line.End
 unfolding plan_line

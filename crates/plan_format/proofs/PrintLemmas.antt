@@ -9,7 +9,7 @@ use Rattle.texts.proofs.PrintingLemmas.{flat_map-map}
 use Rattle.net_model.specs.declared.part.Part.{Part}
 use Rattle.net_model.specs.declared.part.Part.TheVariants.{Point}
 use Rattle.net_model.specs.NetworkParts.{bound_part, link_part, parts_of}
-use Rattle.plan_format.specs.PlanParts.{part_words, version_1, header_words, end_words}
+use Rattle.plan_format.specs.PlanParts.{part_words, format_1, header_words, end_words}
 use Rattle.plan_format.specs.PlanPrinting.{printed_plan}
 
 -- the printed lines of parts
@@ -28,10 +28,10 @@ regrouped : (h a b c e : List ℕ) → (((h ++ a) ++ b) ++ c) ++ e ≡ h ++ ((a 
 regrouped h a b c e = simp (append_assoc, append-nil)
 
 -- the pieces in the order in which they are written
-pub printed_pieces : (net : Plan) → (((([] ++ printed_line (header_words version_1)) ++ flat_map (λ name. printed_line (part_words (Point name))) net.points) ++ flat_map (λ bound. printed_line (part_words (bound_part net.points bound))) net.bounds) ++ flat_map (λ link. printed_line (part_words (link_part net.points link))) net.links) ++ printed_line end_words ≡ printed_plan net
+pub printed_pieces : (net : Plan) → (((([] ++ printed_line (header_words format_1)) ++ flat_map (λ name. printed_line (part_words (Point name))) net.points) ++ flat_map (λ bound. printed_line (part_words (bound_part net.points bound))) net.bounds) ++ flat_map (λ link. printed_line (part_words (link_part net.points link))) net.links) ++ printed_line end_words ≡ printed_plan net
 unfolding printed_plan
 printed_pieces net =
-    let header : List ℕ = printed_line (header_words version_1) in
+    let header : List ℕ = printed_line (header_words format_1) in
     let end : List ℕ = printed_line end_words in
     let points : List Part = map Point net.points in
     let bounds : List Part = map (bound_part net.points) net.bounds in

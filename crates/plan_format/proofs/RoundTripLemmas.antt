@@ -21,7 +21,7 @@ use Rattle.net_model.proofs.SpellingLemmas.{printable_name, printable_integer}
 use Rattle.plan_format.specs.declared.plan_line.PlanLine.TheVariants as line
 use Rattle.plan_format.specs.PlanGrammar.{IsBlank, IsLine, IsBegun, header, declares, IsPlanText}
 use Rattle.plan_format.specs.PlanNetwork.{DeclaresNetwork}
-use Rattle.plan_format.specs.PlanParts.{Version, version_1, part_words, header_words, end_words}
+use Rattle.plan_format.specs.PlanParts.{Version, format_1, part_words, header_words, end_words}
 use Rattle.plan_format.specs.PlanPrinting.{plan_words, printed_plan, ReadsBack}
 use Rattle.net_model.proofs.PartsLemmas.{parts_build}
 use Rattle.plan_format.proofs.StepLemmas.{one_more}
@@ -112,15 +112,15 @@ size_of_printed (l ∷ text) printable =
 -- the printed lines of parts that can be spelled are a plan text
 plan_printed : (parts : List Part) → AllByRecursion IsDeclarable parts → IsPlanText (map joined (plan_words parts)) parts (numbers_from 2 parts)
 plan_printed parts spelled =
-    let first : List ℕ = joined (header_words version_1) in
-    let heads : IsLine version_1 line.Header first = line_back (header_words version_1) (literal_stnu, (literal_one, tt)) in
-    let begun : IsBegun version_1 (first ∷ []) [] [] = header [] first (All-nil IsBlank) heads in
+    let first : List ℕ = joined (header_words format_1) in
+    let heads : IsLine format_1 line.Header first = line_back (header_words format_1) (literal_stnu, (literal_one, tt)) in
+    let begun : IsBegun format_1 (first ∷ []) [] [] = header [] first (All-nil IsBlank) heads in
     record {
-      version = version_1;
+      version = format_1;
       begun = first ∷ map joined (map part_words parts);
       last = joined end_words;
       whole = ap (λ (ls : List (List ℕ)). first ∷ ls) (map-append joined (map part_words parts) (end_words ∷ []));
-      begins = begun_with version_1 (first ∷ []) [] [] parts spelled begun;
+      begins = begun_with format_1 (first ∷ []) [] [] parts spelled begun;
       ends = line_back end_words printable_end;
     }
 

@@ -10,7 +10,7 @@ use Rattle.plan_format.specs.declared.plan_line.PlanLine.TheVariants as line
 use Rattle.plan_format.specs.declared.section.PlanSection.{PlanSection}
 use Rattle.plan_format.specs.declared.section.PlanSection.TheVariants as section
 use Rattle.plan_format.specs.PlanLines.{plan_line}
-use Rattle.plan_format.specs.PlanParts.{version_1, header_words, end_words}
+use Rattle.plan_format.specs.PlanParts.{format_1, header_words, end_words}
 use Rattle.plan_format.specs.PlanGrammar.{IsBlank, IsLine, header, blank, declares, IsPlanText}
 use Rattle.plan_format.specs.PlanFaults.{CanBecomePlan, GoesOn}
 use Rattle.plan_format.specs.PlanReading.{Progress, in_section, line_in, version_in, advanced, IsReached, IsFront, Brings}
@@ -62,7 +62,7 @@ advance_by section.Declarations parts numbers number before text line.Blank at m
 advance_by section.Declarations parts numbers number before text (line.Part part) at may is read =
     rw at (declares before text parts (part ∷ []) numbers read (part, refl, is))
 advance_by section.Declarations parts numbers number before text line.End at may is read = record {
-  version = version_1;
+  version = format_1;
   begun = before;
   last = text;
   whole = refl;
@@ -83,7 +83,7 @@ header_line = codes "stnu 1"
 end_line : List ℕ
 end_line = codes "end"
 
-header_is : words header_line ≡ header_words version_1
+header_is : words header_line ≡ header_words format_1
 unfolding header_line words
 header_is = refl
 
@@ -99,7 +99,7 @@ goes_on_by section.Header before parts numbers are = (
     [],
     [],
     record {
-      version = version_1;
+      version = format_1;
       begun = before ++ header_line ∷ [];
       last = end_line;
       whole = refl;
@@ -115,7 +115,7 @@ goes_on_by section.Declarations before parts numbers begun = (
     parts,
     numbers,
     record {
-      version = version_1;
+      version = format_1;
       begun = before;
       last = end_line;
       whole = append-nil (before ++ end_line ∷ []);

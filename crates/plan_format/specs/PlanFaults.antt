@@ -13,12 +13,12 @@ use Rattle.net_model.specs.declared.format.WordFault.TheVariants as word
 use Rattle.net_model.specs.declared.format.FormatKind.{FormatKind}
 use Rattle.net_model.specs.declared.format.FormatKind.TheVariants.{NoHeader, NoEnd}
 use Rattle.net_model.specs.declared.part.Part.{Part}
-use Rattle.plan_format.specs.PlanParts.{Version, version_1, header_words}
+use Rattle.plan_format.specs.PlanParts.{Version, format_1, header_words}
 use Rattle.plan_format.specs.PlanGrammar.{IsBlank, IsBegun, IsPlanText}
 
 -- the places after the first word of each line that may come after the header of a version, or none where no such line begins so
 abbrev pub places_after : Version → List ℕ → Option (List Place)
-places_after version_1 first =
+places_after format_1 first =
     if bytes_eq first (codes "point") then Some (of_name ∷ [])
     else (if bytes_eq first (codes "bound") then Some (of_name ∷ of_name ∷ of_name ∷ of_number ∷ [])
     else (if bytes_eq first (codes "link") then Some (of_name ∷ of_number ∷ of_number ∷ of_name ∷ [])

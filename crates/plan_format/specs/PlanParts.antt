@@ -12,11 +12,11 @@ part_words (part.Link from low high to) = codes "link" ∷ from ∷ signed_decim
 
 -- the versions of plan texts
 pub data Version : Type 0 where
-  version_1 : Version
+  format_1 : Version
 
 -- the word of a version in the header
 abbrev pub version_word : Version → List ℕ
-version_word version_1 = codes "1"
+version_word format_1 = codes "1"
 
 -- the words of the header of a version, and of the last line
 abbrev pub header_words : Version → List (List ℕ)

@@ -7,11 +7,11 @@ use Rattle.net_model.specs.NetworkParts.{parts_of}
 use Rattle.net_model.specs.Building.{declared_net}
 use Rattle.plan_format.specs.declared.read.Parts.{Parts}
 use Rattle.plan_format.specs.PlanGrammar.{Says}
-use Rattle.plan_format.specs.PlanParts.{part_words, version_1, header_words, end_words}
+use Rattle.plan_format.specs.PlanParts.{part_words, format_1, header_words, end_words}
 
 -- the lines of a plan text that declares parts: the header, a line for each part, and `end`
 abbrev pub plan_words : List Part → List (List (List ℕ))
-plan_words parts = header_words version_1 ∷ (map part_words parts ++ end_words ∷ [])
+plan_words parts = header_words format_1 ∷ (map part_words parts ++ end_words ∷ [])
 
 -- the plan text of a network
 unfoldable pub printed_plan : Plan → List ℕ

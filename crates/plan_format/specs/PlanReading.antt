@@ -15,7 +15,7 @@ use Rattle.plan_format.specs.declared.section.PlanSection.{PlanSection}
 use Rattle.plan_format.specs.declared.section.PlanSection.TheVariants as section
 use Rattle.plan_format.specs.declared.read.Parts.{Parts}
 use Rattle.plan_format.specs.PlanLines.{plan_line}
-use Rattle.plan_format.specs.PlanParts.{Version, version_1}
+use Rattle.plan_format.specs.PlanParts.{Version, format_1}
 use Rattle.plan_format.specs.PlanGrammar.{IsBlank, IsBegun, IsPlanText, Says}
 use Rattle.plan_format.specs.PlanFaults.{IsFirstFault, IsFaultOf}
 
@@ -44,8 +44,8 @@ in_section section.Declarations (Err kind) = Err kind
 
 -- the version by which a line in a section is read
 abbrev pub version_in : PlanSection → Version
-version_in section.Header = version_1
-version_in section.Declarations = version_1
+version_in section.Header = format_1
+version_in section.Declarations = format_1
 
 -- a line in a section, by its words
 abbrev pub line_in : PlanSection → List (List ℕ) → Result PlanLine FormatKind

@@ -7,7 +7,7 @@ ghost use Rattle.plan_format.specs.declared.plan_line.PlanLine.{PlanLine};
 ghost use Rattle.net_model.specs.Limits.{most_number};
 ghost use Rattle.plan_format.specs.PlanFaults.{IsFaultOfLine};
 ghost use Rattle.plan_format.specs.PlanGrammar.{IsLine};
-ghost use Rattle.plan_format.specs.PlanParts.{version_1};
+ghost use Rattle.plan_format.specs.PlanParts.{format_1};
 ghost use Rattle.plan_format.specs.PlanLines.{plan_line, line_of, header_line, point_line, bound_line, link_line, end_line};
 
 use net_model::{FormatKind, MOST_NUMBER, Name, Part, Weight, WordFault, text};
@@ -29,9 +29,9 @@ pub enum PlanLine {
 /// of the words from left to right. A line whose first word is `stnu` is the header `stnu 1` or `UnknownWord`. It takes
 /// no memory, so `OutOfMemory` never comes.
 pub fn read_plan_line(line: &[u8]) -> Result<PlanLine, WordFault>
-    ensures grammar { IfOk result (λ read. IsLine version_1 read line.now) }
-    ensures every { (read : PlanLine) → IsLine version_1 read line.now → result ≡ Ok read }
-    ensures fault { IfErr result (IsFaultOfLine version_1 line.now) }
+    ensures grammar { IfOk result (λ read. IsLine format_1 read line.now) }
+    ensures every { (read : PlanLine) → IsLine format_1 read line.now → result ≡ Ok read }
+    ensures fault { IfErr result (IsFaultOfLine format_1 line.now) }
 {
     Ok(plan_line(line)?)
 }
@@ -39,7 +39,7 @@ pub fn read_plan_line(line: &[u8]) -> Result<PlanLine, WordFault>
 /// Reads one line of a plan text by its words.
 #[tactic(auto, unfolding(crate::specs::PlanLines::plan_line))]
 pub(crate) fn plan_line(line: &[u8]) -> Result<PlanLine, FormatKind>
-    ensures { result ≡ plan_line version_1 (words line.now) }
+    ensures { result ≡ plan_line format_1 (words line.now) }
 {
     let Some((first, rest)) = texts::first_word(line) else {
         return Ok(PlanLine::Blank);
@@ -48,7 +48,7 @@ pub(crate) fn plan_line(line: &[u8]) -> Result<PlanLine, FormatKind>
 }
 
 fn line_of(first: &[u8], rest: &[u8]) -> Result<PlanLine, FormatKind>
-    ensures { result ≡ line_of version_1 first.now (words rest.now) }
+    ensures { result ≡ line_of format_1 first.now (words rest.now) }
 {
     if first == b"stnu".as_slice() {
         return header_line(rest);
@@ -70,7 +70,7 @@ fn line_of(first: &[u8], rest: &[u8]) -> Result<PlanLine, FormatKind>
 
 /// What stands after `stnu`.
 fn header_line(rest: &[u8]) -> Result<PlanLine, FormatKind>
-    ensures { result ≡ header_line version_1 (words rest.now) }
+    ensures { result ≡ header_line format_1 (words rest.now) }
 {
     let Some((version, rest)) = texts::next_word(rest) else {
         return Err(FormatKind::UnknownWord);
