@@ -1,6 +1,6 @@
 -- A network with the numbers of a plan is sound with any delay; what a list of parts builds has the delay 0.
-use Rattle.std.proofs.Common.{◌≡◌, ◌++◌, ◌∷◌, [], ℕ, ℤ, ◌+◌, ◌≤◌, ◌==◌, ◌||◌, List, Result, Ok, Err, IfOk, get_or, refl, ◌∙◌, is_some, nat_le, int_lt, not, pos, length}
-use Rattle.net_model.specs.Building.{◌>>=◌, refuse_if, named, with_point, with_bound, with_link, with_part, with_parts, built, at_place}
+use Rattle.std.proofs.Common.{◌≡◌, ◌++◌, ◌∷◌, [], ℕ, ℤ, ◌+◌, ◌≤◌, ◌==◌, ◌||◌, List, Result, Ok, Err, IfOk, get_or, refl, sym, ◌∙◌, is_some, nat_le, int_lt, not, pos, length}
+use Rattle.net_model.specs.Building.{◌>>=◌, refuse_if, named, with_point, with_bound, with_link, with_part, with_parts, built, delayed, at_place}
 use Rattle.net_model.specs.Limits.{most_points, most_links, most_bounds, most_delay, within_limit}
 use Rattle.net_model.specs.Network.{Plan, IsPlan, HasPlanNumbers, point_named, bound_named, activation, empty}
 use Rattle.net_model.specs.declared.fault.BuildFault.{BuildFault}
@@ -110,3 +110,8 @@ parts_delay place net (part ∷ parts) = delay_stepped net place parts (with_par
 
 pub built_delay : (parts : List Part) → IfOk (built parts) (λ net. net.delay ≡ 0)
 built_delay parts = parts_delay 0 empty parts
+
+-- a network with a delay is made of the same network without one
+pub delayed_ok : (delay : ℕ) (answer : Result Plan BuildFault) (net : Plan) → delayed delay answer ≡ Ok net → (plain : Plan) × (answer ≡ Ok plain) × (net ≡ record plain { delay = delay })
+delayed_ok delay (Ok plain) net is = (plain, refl, (let same : record plain { delay = delay } ≡ net = cc in sym same))
+delayed_ok delay (Err fault) net is = absurd (cc)

@@ -11,6 +11,7 @@ pub mod PlanNumbers
 pub mod RuleLemmas
 pub mod ApplyingLemmas
 pub mod PartsLemmas
+pub mod BetweenLemmas
 pub mod NumberLemmas
 pub mod PlaceLemmas
 pub mod FillingLemmas

@@ -1,8 +1,12 @@
 -- What the padding of a name gives back.
-use Rattle.std.proofs.Common.{◌≡◌, ◌≤◌, ◌-◌, ◌<◌, ℕ, zero, suc, true, ◌&&◌, List, [], ◌∷◌, ◌++◌, length, take, drop, replicate, slice_index, refl, arith, ap, ◌∙◌, length-append, ltb}
-use Rattle.std.proofs.lemmas.List.{length-replicate, take_at, drop-replicate}
-use Rattle.std.proofs.lemmas.Bool.{and_parts, ltb-true, false≢true}
-use Rattle.net_model.specs.Names.{is_name, is_letter, is_name_byte, padded}
+use Rattle.std.proofs.Common.{◌≡◌, ◌≤◌, ◌+◌, ◌-◌, ◌<◌, ℕ, IsTrue, sym, subst, zero, suc, true, ◌&&◌, List, [], ◌∷◌, ◌++◌, length, take, drop, replicate, slice_index, refl, arith, ap, ◌∙◌, length-append, ltb}
+use Rattle.std.proofs.lemmas.List.{length-replicate, take_at, take-append-drop, drop-replicate}
+use Rattle.std.proofs.lemmas.List.Folds.{list_all-append}
+use Rattle.std.proofs.lemmas.Slice.{take-put_mid, drop-put_mid}
+use Rattle.std.proofs.Math.Seq.{drop-append-add}
+use borrow.Rule.Slice.PartMut.{put_mid}
+use Rattle.std.proofs.lemmas.Bool.{and_parts, lt-ltb, ltb-true, false≢true}
+use Rattle.net_model.specs.Names.{is_name, is_letter, is_name_byte, most_short, padded}
 use Rattle.std.specs.List.{list_all}
 use Rattle.std.specs.Str.{IsAscii, IsUtf8}
 use Rattle.std.proofs.lemmas.Str.{IsUtf8-from_ascii}
@@ -56,3 +60,52 @@ padded_over text front same fits =
 -- the front of the padding is the text
 pub take-padded : (text : List ℕ) → take (length text) (padded text) ≡ text
 take-padded text = take_at text (replicate (32 - length text) 0) (length text) refl
+
+-- four bytes more of a name after a name that is short
+pub short_named : (name end : List ℕ) → is_name name ≡ true → length name ≤ most_short → list_all is_name_byte end ≡ true → length end ≤ 4 → is_name (name ++ end) ≡ true
+unfolding is_name
+short_named [] end named few all four = absurd (cc)
+short_named (b ∷ bs) end named few all four =
+    let parts = and_parts (is_letter b && list_all is_name_byte bs) (ltb (length bs) 32) named in
+    let front = and_parts (is_letter b) (list_all is_name_byte bs) parts.0 in
+    let both : list_all is_name_byte (bs ++ end) ≡ true = list_all-append is_name_byte bs end ∙ rw (front.1, all) refl in
+    let less : ltb (length (bs ++ end)) 32 ≡ true = lt-ltb (length (bs ++ end)) 32 (omega (arith, length-append bs end)) in
+    rw (front.0, both, less) refl
+
+-- bytes written after a name, over the zeros that follow it
+module _ (bytes text end : List ℕ) (len k : ℕ) (is : bytes ≡ padded text) (counted : len ≡ length text) (so_many : k ≡ length end) (fits : len + length end ≤ 32) where
+  abbrev pub written : List ℕ
+  written = put_mid len k bytes end
+
+  long : length bytes ≡ 32
+  long = ap length is ∙ length-padded text (omega arith)
+
+  count : len + length end ≡ length (text ++ end)
+  count = omega (arith, length-append text end)
+
+  before : take len bytes ≡ text
+  before = rw (is, counted) (take-padded text)
+
+  pub front : take (len + length end) written ≡ text ++ end
+  front = take-put_mid len k bytes end (len + length end) refl (omega (arith, long)) ∙ ap (λ (xs : List ℕ). xs ++ end) before
+
+  after : drop (len + length end) written ≡ replicate (32 - length (text ++ end)) 0
+  after =
+      let kept : drop (len + length end) written ≡ drop (len + length end) bytes = drop-put_mid len k bytes end (len + length end) (omega arith) (omega (arith, long)) (omega arith) in
+      let zeros : drop (len + length end) bytes ≡ drop (length end) (replicate (32 - length text) 0) = rw (is, counted) (drop-append-add text (replicate (32 - length text) 0) (length end)) in
+      let fewer : (32 - length text) - length end ≡ 32 - length (text ++ end) = omega (arith, length-append text end) in
+      kept ∙ (zeros ∙ (drop-replicate (length end) (32 - length text) 0 ∙ ap (λ (n : ℕ). replicate n 0) fewer))
+
+  -- are its padding with them
+  pub written_padded : written ≡ padded (text ++ end)
+  written_padded =
+      sym (take-append-drop (len + length end) written)
+      ∙ (ap (λ (xs : List ℕ). xs ++ drop (len + length end) written) front ∙ ap (λ (xs : List ℕ). (text ++ end) ++ xs) after)
+
+  pub written_is : IsTrue (is_name (text ++ end)) → (length written ≡ 32) × (len + length end ≤ 32) × (written ≡ padded (take (len + length end) written)) × IsTrue (is_name (take (len + length end) written))
+  written_is named = (
+    ap length written_padded ∙ length-padded (text ++ end) (omega (arith, count)),
+    fits,
+    written_padded ∙ ap padded (sym front),
+    subst (λ (xs : List ℕ). IsTrue (is_name xs)) (sym front) named,
+  )

@@ -1,5 +1,5 @@
 -- The parts of a network build that network.
-use Rattle.std.proofs.Common.{◌≡◌, ◌≢◌, ℕ, ℤ, pos, ◌<◌, ◌≤◌, ◌≤ℤ◌, ◌+◌, ◌==◌, ◌||◌, true, false, List, [], ◌∷◌, ◌++◌, length, map, get_or, Result, Ok, Some, None, refl, sym, ◌∙◌, subst, arith, rules, append_assoc, nat_le, int_lt, position, length-append}
+use Rattle.std.proofs.Common.{◌≡◌, ◌≢◌, ap, ℕ, ℤ, pos, ◌<◌, ◌≤◌, ◌≤ℤ◌, ◌+◌, ◌==◌, ◌||◌, true, false, List, [], ◌∷◌, ◌++◌, length, map, get_or, Result, Ok, Some, None, refl, sym, ◌∙◌, subst, arith, rules, append_assoc, nat_le, int_lt, position, length-append}
 use Rattle.std.specs.List.{All, AllPairs, IsDistinct, position_or_len}
 use Rattle.std.specs.Str.{bytes_eq}
 use Rattle.std.proofs.lemmas.Bool.{lt-leb, ne_eqb, false_from_ne_true}
@@ -10,7 +10,7 @@ use Rattle.std.proofs.lemmas.List.Sums.{position_or_len_is}
 use Rattle.std.proofs.lemmas.Map.Made.{AllPairs-from_IsDistinct}
 use Rattle.net_model.specs.Network.{Plan, IsPlan, HasPlanNumbers}
 use Rattle.net_model.specs.Limits.{most_points, most_bounds, most_links, within_limit}
-use Rattle.net_model.specs.Building.{named, with_point, with_bound, with_link, with_part, with_parts, built}
+use Rattle.net_model.specs.Building.{named, with_point, with_bound, with_link, with_part, with_parts, built, delayed, declared_net}
 use Rattle.net_model.specs.NetworkParts.{point_name, bound_part, link_part, parts_of}
 use Rattle.net_model.specs.declared.ids.PointId.{PointId}
 use Rattle.net_model.specs.declared.part.Bound.{Bound}
@@ -172,3 +172,7 @@ parts_build net plan numbers =
     let bounds : (place : ℕ) → with_parts place (only_points net.points) (map (bound_part net.points) net.bounds ++ link_parts) ≡ Ok instant =
     λ place. bounds_built net.points net.bounds net.bounds [] link_parts (Ok instant) links place refl ready in
     points_built net.points net.points [] (map (bound_part net.points) net.bounds ++ link_parts) (Ok instant) bounds 0 refl plan.points_apart plan.few_points
+
+-- and, with its delay, declare it
+pub parts_declare : (net : Plan) → IsPlan net → HasPlanNumbers net → declared_net net.delay (parts_of net) ≡ Ok net
+parts_declare net plan numbers = ap (delayed net.delay) (parts_build net plan numbers)

@@ -2,8 +2,8 @@
 use Rattle.std.proofs.Common.{◌≡◌, ◌⊎◌, ℕ, Bool, true, false, cond, List, Result, Ok, Err, refl, ap, subst, rules, inl, inr, IsTrue}
 use Rattle.std.specs.Str.{bytes_eq}
 use Rattle.std.proofs.lemmas.Slice.Eq.{bytes_eq-Decides}
-use Rattle.net_model.specs.Names.{is_name}
-use Rattle.net_model.specs.Numbers.{name_of}
+use Rattle.net_model.specs.Names.{is_name, is_short_name}
+use Rattle.net_model.specs.Numbers.{name_of, short_name_of}
 use Rattle.net_model.specs.Reading.{◌>>=◌}
 use Rattle.net_model.specs.declared.format.FormatKind.{FormatKind}
 use Rattle.net_model.specs.declared.format.FormatKind.TheVariants.{BadName}
@@ -41,6 +41,24 @@ name_ok word name read =
 
 pub name_read : (name : List ℕ) → IsTrue (is_name name) → name_of name ≡ Ok name
 name_read name named = rw named refl
+
+-- the same of a name that is short
+pub short_name_err : (word : List ℕ) (kind : FormatKind) → short_name_of word ≡ Err kind → (is_short_name word ≡ false) × (kind ≡ BadName)
+short_name_err word kind read =
+    elim (choice (is_short_name word) (Ok word) (Err BadName) (Err kind) read) [
+      | inl named ↦ absurd (let wrong : Ok word ≡ Err kind = named.1 in cc)
+      | inr other ↦ (other.0, let same : Err BadName ≡ Err kind = other.1 in cc)
+    ]
+
+pub short_name_ok : (word name : List ℕ) → short_name_of word ≡ Ok name → (word ≡ name) × IsTrue (is_short_name name)
+short_name_ok word name read =
+    elim (choice (is_short_name word) (Ok word) (Err BadName) (Ok name) read) [
+      | inl named ↦ let same : word ≡ name = cc in (same, subst (λ (w : List ℕ). IsTrue (is_short_name w)) same named.0)
+      | inr other ↦ absurd (cc)
+    ]
+
+pub short_name_read : (name : List ℕ) → IsTrue (is_short_name name) → short_name_of name ≡ Ok name
+short_name_read name named = rw named refl
 
 -- a word that is spelled so
 pub word_is : (word spelling : List ℕ) → bytes_eq word spelling ≡ true → word ≡ spelling

@@ -9,7 +9,7 @@ use Rattle.std.proofs.lemmas.Fmt.{decimal_digit, decimal_nonempty, first_decimal
 use Rattle.std.proofs.lemmas.Bool.{cases_lt, lt-leb, ne_eqb, ltb-false, ltb-true, eqb-true, leb-true, and_parts}
 use Rattle.std.proofs.lemmas.Slice.Eq.{bytes_eq-Decides}
 use Rattle.net_model.specs.Names.{is_digit, is_letter, is_name_byte, is_name}
-use Rattle.net_model.specs.Numbers.{is_positive, value_of, limited, is_zero, natural_of, negative_of, integer_of, spells_number, size_of_number}
+use Rattle.net_model.specs.Numbers.{is_positive, value_of, limited, is_zero, natural_of, negative_of, integer_of, spells_natural, spells_number, size_of_number}
 use Rattle.net_model.specs.declared.format.FormatKind.{FormatKind}
 use Rattle.net_model.specs.declared.format.FormatKind.TheVariants.{BadNumber, NumberLimit}
 
@@ -189,6 +189,11 @@ judged_integer limit [] = inl (refl, refl)
 judged_integer limit (byte ∷ bytes) =
     let word : List ℕ = byte ∷ bytes in
     judged_by (byte == 45) (is_positive bytes) (is_zero word || is_positive word) limit (value_of bytes) (value_of word) (neg_ℤ (pos (value_of bytes))) (natural_of limit word) (judged_natural (is_zero word) (is_positive word) limit (value_of word) (zero_value word))
+
+-- what a word in the place of a number from 0 is
+pub judged_natural_word : (limit : ℕ) (word : List ℕ) → IsJudged limit (spells_natural word) (value_of word) (natural_of limit word)
+unfolding natural_of
+judged_natural_word limit word = judged_natural (is_zero word) (is_positive word) limit (value_of word) (zero_value word)
 
 -- digits stand above the blank
 plain_digits : (digits : List ℕ) → list_all is_digit digits ≡ true → AllByRecursion (λ byte. 32 < byte) digits

@@ -108,9 +108,14 @@ with_parts place net (part ∷ parts) =
 abbrev pub built : List Part → Result Plan BuildFault
 built parts = with_parts 0 empty parts
 
--- the network that a plan declares, of which these parts were read, or the first refusal with its place
-abbrev pub declared_net : List Part → Result Plan BuildFault
-declared_net parts = built parts
+-- the same network with a delay
+abbrev pub delayed : ℕ → Result Plan BuildFault → Result Plan BuildFault
+delayed delay (Ok net) = Ok (record net { delay = delay })
+delayed delay (Err fault) = Err fault
+
+-- the network that a plan declares, of which a delay and these parts were read, or the first refusal with its place
+abbrev pub declared_net : ℕ → List Part → Result Plan BuildFault
+declared_net delay parts = delayed delay (built parts)
 
 -- The answer is what the parts build, unless memory ran out.
 abbrev pub Builds : Result Plan BuildFault → Result Plan BuildFault → Type 0

@@ -1,5 +1,6 @@
 pub mod Moments
 pub mod Names
+pub mod Between
 pub mod Limits
 pub mod Network
 pub mod Edges

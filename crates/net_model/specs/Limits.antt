@@ -1,13 +1,13 @@
 -- The greatest counts and sizes.
 use Rattle.std.specs.Prelude.{ℕ, ℤ, ◌≤◌, Bool, nat_le, unsigned_abs}
 
--- how many points a network may have
+-- how many points a network may have; no point is played later than this times `most_size`, which is just `most_moment`
 abbrev pub most_points : ℕ
-most_points = 1000
+most_points = 2000
 
 -- how many links a network may have
 abbrev pub most_links : ℕ
-most_links = 400
+most_links = 800
 
 -- how many bounds a network may have
 abbrev pub most_bounds : ℕ

@@ -19,6 +19,14 @@ unfoldable pub is_name : List ℕ → Bool
 is_name [] = false
 is_name (b ∷ bs) = is_letter b && list_all is_name_byte bs && nat_lt (length bs) 32
 
+-- the greatest number of bytes of a name to which four more may be added
+abbrev pub most_short : ℕ
+most_short = 28
+
+-- a name of at most so many bytes
+abbrev pub is_short_name : List ℕ → Bool
+is_short_name word = is_name word && nat_le (length word) most_short
+
 -- the bytes of a name, and then zeros up to 32 bytes
 abbrev pub padded : List ℕ → List ℕ
 padded bytes = bytes ++ replicate (32 - length bytes) 0

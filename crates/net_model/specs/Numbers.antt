@@ -3,7 +3,7 @@ use Rattle.std.specs.Prelude.{ℕ, ℤ, pos, neg_ℤ, ◌+◌, ◌-◌, ◌*◌,
 use Rattle.std.specs.List.{list_all}
 use Rattle.std.specs.Str.{bytes_eq}
 use Rattle.std.specs.Result.{result_map_both}
-use Rattle.net_model.specs.Names.{is_name, is_digit}
+use Rattle.net_model.specs.Names.{is_name, is_short_name, is_digit}
 use Rattle.net_model.specs.declared.format.FormatKind.{FormatKind}
 use Rattle.net_model.specs.declared.format.FormatKind.TheVariants.{BadName, BadNumber, NumberLimit}
 
@@ -23,6 +23,10 @@ limited limit size number = if nat_lt limit size then Err NumberLimit else Ok nu
 -- the word `0`
 abbrev pub is_zero : List ℕ → Bool
 is_zero word = bytes_eq word (48 ∷ [])
+
+-- a word that spells a whole number from 0: `0`, or digits of which the first is not 0
+abbrev pub spells_natural : List ℕ → Bool
+spells_natural word = is_zero word || is_positive word
 
 -- a word that spells a whole number: `0`, or digits of which the first is not 0, or `-` and such digits
 abbrev pub spells_number : List ℕ → Bool
@@ -55,3 +59,7 @@ integer_of limit (byte ∷ bytes) =
 -- a word in the place of a name
 abbrev pub name_of : List ℕ → Result (List ℕ) FormatKind
 name_of word = if is_name word then Ok word else Err BadName
+
+-- a word in the place of a name that is short
+abbrev pub short_name_of : List ℕ → Result (List ℕ) FormatKind
+short_name_of word = if is_short_name word then Ok word else Err BadName

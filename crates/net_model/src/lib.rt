@@ -2,6 +2,7 @@
 #![tactic(auto)]
 
 mod applying;
+mod between;
 mod edges;
 mod edit;
 mod fault;
@@ -17,6 +18,7 @@ mod part;
 mod shown;
 pub mod text;
 
+pub use between::{MOST_SHORT, between_parts};
 pub use edges::{bound_edge, link_edge};
 pub use edit::{Edit, EditFault, User};
 pub use fault::BuildFault;

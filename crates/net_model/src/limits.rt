@@ -4,10 +4,10 @@ ghost use Rattle.std.specs.Prelude.{◌≡◌};
 ghost use Rattle.net_model.specs.Limits.{most_points, most_links, most_bounds, most_number, most_weight, most_moment, most_delay, most_lines};
 
 /// The greatest number of points of a network.
-pub const MOST_POINTS: usize = 1_000;
+pub const MOST_POINTS: usize = 2_000;
 
 /// The greatest number of links of a network.
-pub const MOST_LINKS: usize = 400;
+pub const MOST_LINKS: usize = 800;
 
 /// The greatest number of bounds of a network.
 pub const MOST_BOUNDS: usize = 20_000;

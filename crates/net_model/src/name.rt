@@ -1,4 +1,4 @@
-ghost use Rattle.std.specs.Prelude.{◌≡◌, ◌<◌, ◌≤◌, ◌==◌, length, Some, is_some, if◌then◌else◌, IsTrue, IfSome};
+ghost use Rattle.std.specs.Prelude.{◌≡◌, ◌<◌, ◌≤◌, ◌==◌, ◌+◌, ◌++◌, length, Some, is_some, if◌then◌else◌, IsTrue, IfSome};
 ghost use Rattle.std.specs.Cmp.Lexicographic.{pointwise};
 ghost use Rattle.std.specs.Cmp.Rules.{comparing, hashing};
 ghost use Rattle.std.specs.Hash as fed;
@@ -118,6 +118,21 @@ impl Name {
             bytes: padded(text),
             len: text.len() as u8,
         })
+    }
+
+    /// The name with these bytes at its end; with them it is a name too.
+    pub(crate) fn with_end(&self, end: &[u8]) -> Name
+        requires named { IsTrue (is_name (self.now ++ end.now)) }
+        requires fits { length self.now + length end.now ≤ 32 }
+        ensures { result ≡ self.now ++ end.now }
+    {
+        let len = usize::from(self.len);
+        let mut bytes = self.bytes;
+        bytes[len..len + end.len()].copy_from_slice(end);
+        Name {
+            bytes,
+            len: self.len + end.len() as u8,
+        }
     }
 
     /// The bytes of the name.

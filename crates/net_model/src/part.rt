@@ -66,9 +66,9 @@ pub enum Part {
 /// A quantity that has a limit.
 #[derive(Clone, Copy, Debug, PartialEq, Eq, Hash)]
 pub enum Which {
-    /// The number of points, at most 1,000.
+    /// The number of points, at most 2,000.
     Points,
-    /// The number of links, at most 400.
+    /// The number of links, at most 800.
     Links,
     /// The number of bounds, at most 20,000.
     Bounds,

@@ -1,11 +1,12 @@
 //! The words of all texts: numbers and names.
 
-ghost use Rattle.std.specs.Prelude.{◌≡◌, ℕ, ◌∷◌, [], ◌≤◌, ◌^◌, ◌<◌, true, List, MatchResult, IfOk, SomeIff};
+ghost use Rattle.std.specs.Prelude.{◌≡◌, ℕ, ◌∷◌, [], ◌≤◌, ◌^◌, ◌<◌, true, length, List, MatchResult, IfOk, SomeIff};
 ghost use Rattle.std.specs.List.{list_all};
 ghost use Rattle.texts.specs.Words.{words};
-ghost use Rattle.net_model.specs.Names.{is_digit};
-ghost use Rattle.net_model.specs.Numbers.{is_positive, natural_of, integer_of, name_of, value_of, limited, negative_of};
+ghost use Rattle.net_model.specs.Names.{is_digit, most_short};
+ghost use Rattle.net_model.specs.Numbers.{is_positive, natural_of, integer_of, name_of, short_name_of, value_of, limited, negative_of};
 
+use crate::between::MOST_SHORT;
 use crate::format::FormatKind;
 use crate::name::Name;
 use texts::next_word;
@@ -112,4 +113,16 @@ pub fn name(word: &[u8]) -> Result<Name, FormatKind>
     ensures { result ≡ name_of word.now }
 {
     Name::new(word).map_err(|_| FormatKind::BadName)
+}
+
+/// The name that a word is, or `BadName` where it is none or has more than `MOST_SHORT` bytes.
+pub fn short_name(word: &[u8]) -> Result<Name, FormatKind>
+    ensures name { result ≡ short_name_of word.now }
+    ensures short { IfOk result (λ name. length name ≤ most_short) }
+{
+    let name = name(word)?;
+    if word.len() > MOST_SHORT {
+        return Err(FormatKind::BadName);
+    }
+    Ok(name)
 }
