@@ -4,6 +4,7 @@ use Rattle.std.specs.Prelude.{◌≡◌, ◌≢◌, ◌↔◌, ◌⊎◌, ℕ, �
 use Rattle.std.specs.List.{Contains}
 use Rattle.net_model.specs.Editing.{edited}
 use Rattle.net_model.specs.Network.{Plan, IsPlan}
+use Rattle.net_model.specs.ShownForm.{shown_form}
 use Rattle.net_model.specs.declared.edit.Edit.TheVariants as edits
 use Rattle.net_model.specs.declared.edit.Edit.{Edit}
 use Rattle.net_model.specs.declared.ids.BoundId.{BoundId}
@@ -96,6 +97,10 @@ RestsOnWhatGoes old edit new nodes id = (what : Item) × Takes old edit new what
 -- exactly the nodes that rest on a bound or a link that an edit takes away have no place among those that are kept
 abbrev pub AreWithdrawn : (old : Plan) → Edit → (new : Plan) → List Node → List (Option NodeId) → Type 0
 AreWithdrawn old edit new nodes places = (id : NodeId) (node : Node) → node_at nodes id ≡ Some node → ((place_at places id ≡ None) ↔ RestsOnWhatGoes old edit new nodes id)
+
+-- The shown form of what an edit makes of a network has the parts of what it makes of the network's shown form.
+abbrev pub ShownFormsFollowEdits : Type 0
+ShownFormsFollowEdits = (old : Plan) (edit : Edit) (new : Plan) → edited old edit ≡ Ok new → HasEditedParts (shown_form old) edit (shown_form new)
 
 -- Exactly the bounds that an edit takes away have no number in the new network.
 abbrev pub EditsTakeBounds : Type 0

@@ -1,6 +1,6 @@
 //! Laws about what is kept of a derivation list, each the contract of a function without parameters.
 
-ghost use Rattle.derivation_edits.specs.TakenAway.{EditsTakeBounds, EditsTakeLinks, EditsBringBounds, EditsBringLinks, EditsWithdrawNodes};
+ghost use Rattle.derivation_edits.specs.TakenAway.{EditsTakeBounds, EditsTakeLinks, EditsBringBounds, EditsBringLinks, EditsWithdrawNodes, ShownFormsFollowEdits};
 ghost use Rattle.derivation_edits.specs.FollowingLaws.{KeptIsDerived, KeptIsWhatRestsOnNothingTaken, FollowedStands, NamesRenumber, NewBaseIsWhole};
 
 /// What is kept of a derivation list of the old network is one of the new network: each kept node is by its rule there.
@@ -51,4 +51,9 @@ pub fn edits_bring_links()
 /// Exactly the nodes of a derivation list that rest on a bound or a link that the edit takes away are not kept.
 pub fn edits_withdraw_nodes()
     ensures { EditsWithdrawNodes }
+{}
+
+/// The shown form of what an edit makes of a network has the parts of what the edit makes of its shown form.
+pub fn shown_forms_follow_edits()
+    ensures { ShownFormsFollowEdits }
 {}

@@ -52,15 +52,16 @@ impl Model for Dispatch {
 }
 
 impl Dispatch {
-    /// The dispatchable network of a closed table that has an order: by its lower bounds and waits the network is executed in every
-    /// situation, and each execution satisfies it. `slim` goes along the order. `AllocError` comes only for want of memory.
+    /// The dispatchable network of a closed table that has an order, of a network without a delay: by its lower bounds and waits the network
+    /// is executed in every situation, and each execution satisfies it. One with a delay is dispatched by its shown form. `slim` goes along the order. `AllocError` comes only for want of memory.
     pub fn of(
         alloc: Global,
         net: &Network,
         table: &Table,
         order: &[PointId],
     ) -> Result<Dispatch, AllocError>
-        requires { MayDispatch net.now table.now order.now }
+        requires may { MayDispatch net.now table.now order.now }
+        requires no_delay { net.now.delay ≡ 0 }
         ensures dispatchable { IfOk result (IsDispatchBy net.now table.now) }
         ensures whole { IfOk result (λ dispatch. length dispatch.made ≡ length net.now.points) }
         ensures executed { IfOk result (λ dispatch. IsInstant net.now → IsGraph table.now → ExecutionSatisfies net.now dispatch.made) }

@@ -13,6 +13,7 @@ use Rattle.strategy_model.specs.Plays.{IsInstant}
 use Rattle.strategy_model.specs.Situations.{moment_in}
 use Rattle.strategy_model.specs.Dispatch.{AgreeUpTo, SameCompletions}
 use Rattle.strategy_model.proofs.AgreeLemmas.{played_length}
+use Rattle.strategy_model.proofs.InstantLemmas.{as_instant}
 use Rattle.strategy_model.proofs.AloneLemmas.{earliest_see_alone}
 use Rattle.strategy_model.proofs.KindLemmas.{kind}
 use Rattle.execution_model.specs.Streams.{Listing, Stream, HasGoneBy, Fits, last_moment, cut_at, fixed_by}
@@ -61,10 +62,10 @@ module _ (net : Plan) (instant : IsInstant net) (stream : Stream) (one other : L
       ]
 
   long : length first.schedule ≡ length net.points
-  long = played_length net one first.schedule first.earliest.strategy [] 0 first.earliest.played
+  long = played_length net one first.schedule first.earliest.strategy [] 0 (as_instant net first.earliest.strategy one first.schedule instant first.earliest.played)
 
   same_length : length first.schedule ≡ length second.schedule
-  same_length = long ∙ sym (played_length net other second.schedule second.earliest.strategy [] 0 second.earliest.played)
+  same_length = long ∙ sym (played_length net other second.schedule second.earliest.strategy [] 0 (as_instant net second.earliest.strategy other second.schedule instant second.earliest.played))
 
   same_where_done : stream.done ≡ true → first.schedule ≡ second.schedule
   same_where_done done = same_lists first.schedule second.schedule same_length each

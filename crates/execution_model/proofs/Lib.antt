@@ -23,3 +23,4 @@ pub mod SameLemmas
 pub mod RankedLemmas
 pub mod SlimFeedLemmas
 pub mod OfClosureLemmas
+pub mod ShownStreamLemmas

@@ -7,3 +7,4 @@ pub mod Acts
 pub mod Earliest
 pub mod Paced
 pub mod SlimLaws
+pub mod ShownStreams

@@ -4,6 +4,7 @@ ghost use Rattle.execution_model.specs.Acts.{ActsAreEarliest, LastActsAreEarlies
 ghost use Rattle.execution_model.specs.Earliest.{FinishesAreEarliest, FeedsAreEarliest};
 ghost use Rattle.execution_model.specs.Laws.{ClosuresAreGraphs, DoneWhereNoneIsOpen, EndsAreEarliest, ExecutionsAreOne, FaithfulStreamsAreTaken};
 ghost use Rattle.execution_model.specs.Paced.{SlimIsDueTheSame, ActsComeOneByOne, OneByOneIsAtOnce};
+ghost use Rattle.execution_model.specs.ShownStreams.{ActsAreShown, StreamsAreShown};
 ghost use Rattle.execution_model.specs.SlimLaws.{SlimFeedsAreTheSame};
 ghost use Rattle.execution_model.specs.Laws.{FeedsAreTakenInTime, FeedsExecuteEarliest, NoActsLeftIsWhole, StreamsAreExecuted};
 
@@ -102,4 +103,15 @@ pub fn acts_come_one_by_one()
 /// The acts of a moment that are made one by one, the lowest point first, are the acts of the moment.
 pub fn one_by_one_is_at_once()
     ensures { OneByOneIsAtOnce }
+{}
+
+/// A stream lists what is shown of a network with a delay exactly where it is a stream of the shown form, by the schedule as it is shown: so
+/// it is faithful to the one exactly where it is to the other.
+pub fn streams_are_shown()
+    ensures { StreamsAreShown }
+{}
+
+/// The acts of a schedule are those of it as it is shown.
+pub fn acts_are_shown()
+    ensures { ActsAreShown }
 {}

@@ -199,6 +199,8 @@ module _ (net : Plan) (table : Graph) (order : List PointId) (by : IsDispatchedB
         | inr none ↦ omega (arith, none)
       ]
 
+  -- By the limits each point is played in good time, with no room left: 2,000 points, each at most 2,000,000,000 moments after another one,
+  -- are at most the 4,000,000,000,000 moments of an execution.
   pub in_good_time : (point : PointId) → IsPoint net point → moment_in schedule point ≤ most_moment
   in_good_time point inside =
       let late = late_by (suc (moment_in schedule point)) point inside (omega arith) in

@@ -12,7 +12,8 @@ use Rattle.net_model.specs.declared.ids.PointId.{PointId}
 use Rattle.net_model.specs.declared.ids.LinkId.{LinkId}
 use Rattle.net_model.specs.declared.part.Link.{Link}
 use Rattle.strategy_model.specs.Situations.{DifferOnlyIn}
-use Rattle.strategy_model.specs.Plays.{PartialSchedule, points_of, same_point, moment_so_far, may_act, completes, is_completed, completed, play_from, play_cases}
+use Rattle.strategy_model.specs.Plays.{PartialSchedule, points_of, same_point, moment_so_far, may_act}
+use Rattle.strategy_model.specs.InstantPlays.{completes, is_completed, completed, instant_from, instant_cases}
 use Rattle.strategy_model.specs.declared.tree.Tree.{Tree, Leaf, Node', Row_of-Case, end_of-Case, more_of-Case}
 use Rattle.strategy_model.proofs.MomentLemmas.{made_length}
 use Rattle.strategy_model.proofs.PlayLemmas.{and_moment, along, goes_on}
@@ -42,7 +43,7 @@ not_yet so_far t link duration after = go (moment_so_far so_far link.from) refl
     go (Some a) is = let before = after a is in ne_eqb (a + duration) t (λ same. omega (arith, before, same))
 
 -- the length of a schedule that is played
-pub played_length : (net : Plan) (situation schedule : List ℕ) (tree : Tree) (so_far : PartialSchedule) (t : ℕ) → play_from tree net situation so_far t ≡ Some schedule → length schedule ≡ length net.points
+pub played_length : (net : Plan) (situation schedule : List ℕ) (tree : Tree) (so_far : PartialSchedule) (t : ℕ) → instant_from tree net situation so_far t ≡ Some schedule → length schedule ≡ length net.points
 played_length net situation schedule =
     along net situation schedule (λ so_far t. length schedule ≡ length net.points) (λ so_far t made. made_length net so_far schedule made) (λ so_far t acts may after. after)
 
@@ -63,7 +64,7 @@ pub record DifferInLink (net : Plan) (name : LinkId) (link : Link) (ds es first 
   pub after_second : (e : ℕ) → slice_get es name.0 ≡ Some e → limit ≤ slice_index second link.from.0 + e
 
 module _ (net : Plan) (name : LinkId) (link : Link) (ds es first second : List ℕ) (limit : ℕ) (differ : DifferInLink net name link ds es first second limit) where
-  same_links : (tree : Tree) (so_far : PartialSchedule) (t : ℕ) → t < limit → play_from tree net ds so_far t ≡ Some first → play_from tree net es so_far t ≡ Some second → (i : ℕ) (other : Link) (d e : ℕ)
+  same_links : (tree : Tree) (so_far : PartialSchedule) (t : ℕ) → t < limit → instant_from tree net ds so_far t ≡ Some first → instant_from tree net es so_far t ≡ Some second → (i : ℕ) (other : Link) (d e : ℕ)
       → slice_get net.links i ≡ Some other → slice_get ds i ≡ Some d → slice_get es i ≡ Some e → completes so_far t other d ≡ completes so_far t other e
   same_links tree so_far t before played_first played_second i other d e its its_d its_e =
       elim (cases_eq i name.0) [
@@ -79,12 +80,12 @@ module _ (net : Plan) (name : LinkId) (link : Link) (ds es first second : List �
         | inr apart ↦ ap (completes so_far t other) (same_Some d e (sym its_d ∙ differ.elsewhere i apart ∙ its_e))
       ]
 
-  same_points_completed : (tree : Tree) (so_far : PartialSchedule) (t : ℕ) → t < limit → play_from tree net ds so_far t ≡ Some first → play_from tree net es so_far t ≡ Some second → completed net ds so_far t ≡ completed net es so_far t
+  same_points_completed : (tree : Tree) (so_far : PartialSchedule) (t : ℕ) → t < limit → instant_from tree net ds so_far t ≡ Some first → instant_from tree net es so_far t ≡ Some second → completed net ds so_far t ≡ completed net es so_far t
   same_points_completed tree so_far t before played_first played_second =
       filter_agree (is_completed so_far t net.links ds) (is_completed so_far t net.links es) (same_completed so_far t net.links ds es differ.first_length differ.second_length (same_links tree so_far t before played_first played_second)) (points_of net)
 
   -- a point that comes before a moment that isn't before the limit is known by then
-  known_by_then : (tree : Tree) (so_far : PartialSchedule) (t : ℕ) → limit ≤ t → play_from tree net ds so_far t ≡ Some first → play_from tree net es so_far t ≡ Some second → (p : PointId) → p.0 < length net.points → slice_index first p.0 < limit → slice_index first p.0 ≡ slice_index second p.0
+  known_by_then : (tree : Tree) (so_far : PartialSchedule) (t : ℕ) → limit ≤ t → instant_from tree net ds so_far t ≡ Some first → instant_from tree net es so_far t ≡ Some second → (p : PointId) → p.0 < length net.points → slice_index first p.0 < limit → slice_index first p.0 ≡ slice_index second p.0
   known_by_then tree so_far t past played_first played_second p within sooner = go (moment_so_far so_far p) refl
     where
       go : (o : Option ℕ) → moment_so_far so_far p ≡ o → slice_index first p.0 ≡ slice_index second p.0
@@ -95,7 +96,7 @@ module _ (net : Plan) (name : LinkId) (link : Link) (ds es first second : List �
           absurd (omega (arith, later))
 
   mutual
-    pub agree_from : (tree : Tree) (so_far : PartialSchedule) (t : ℕ) → play_from tree net ds so_far t ≡ Some first → play_from tree net es so_far t ≡ Some second → (p : PointId) → p.0 < length net.points → slice_index first p.0 < limit → slice_index first p.0 ≡ slice_index second p.0
+    pub agree_from : (tree : Tree) (so_far : PartialSchedule) (t : ℕ) → instant_from tree net ds so_far t ≡ Some first → instant_from tree net es so_far t ≡ Some second → (p : PointId) → p.0 < length net.points → slice_index first p.0 < limit → slice_index first p.0 ≡ slice_index second p.0
     agree_from Leaf so_far t played_first played_second p within sooner =
         ap (λ (s : List ℕ). slice_index s p.0) (same_Some first second (sym played_first ∙ played_second))
     agree_from (Node' shape cases) so_far t played_first played_second p within sooner =
@@ -103,16 +104,16 @@ module _ (net : Plan) (name : LinkId) (link : Link) (ds es first second : List �
         elim (cases_lt t limit) [
           | inl before ↦
               let same = same_points_completed (Node' shape cases) so_far t before played_first played_second in
-              agree_cases cases so_far t seen played_first (subst (λ (points : List PointId). play_cases cases net es so_far t points ≡ Some second) (sym same) played_second) p within sooner
+              agree_cases cases so_far t seen played_first (subst (λ (points : List PointId). instant_cases cases net es so_far t points ≡ Some second) (sym same) played_second) p within sooner
           | inr past ↦ known_by_then (Node' shape cases) so_far t past played_first played_second p within sooner
         ]
 
-    agree_cases : {m : _} (cases : Row_of-Case m) (so_far : PartialSchedule) (t : ℕ) (points : List PointId) → play_cases cases net ds so_far t points ≡ Some first → play_cases cases net es so_far t points ≡ Some second → (p : PointId) → p.0 < length net.points → slice_index first p.0 < limit → slice_index first p.0 ≡ slice_index second p.0
+    agree_cases : {m : _} (cases : Row_of-Case m) (so_far : PartialSchedule) (t : ℕ) (points : List PointId) → instant_cases cases net ds so_far t points ≡ Some first → instant_cases cases net es so_far t points ≡ Some second → (p : PointId) → p.0 < length net.points → slice_index first p.0 < limit → slice_index first p.0 ≡ slice_index second p.0
     agree_cases end_of-Case so_far t points played_first played_second p within sooner = absurd (none-some first played_first)
     agree_cases (more_of-Case seen acts next others) so_far t points played_first played_second p within sooner =
         let and_now = and_moment so_far t seen acts in
-        elim (both (pointwise same_point seen points) (cond (may_act net so_far acts) (play_from next net ds and_now (t + 1)) None) (play_cases others net ds so_far t points) (cond (may_act net so_far acts) (play_from next net es and_now (t + 1)) None) (play_cases others net es so_far t points) played_first played_second) [
-          | inl here ↦ elim (both (may_act net so_far acts) (play_from next net ds and_now (t + 1)) None (play_from next net es and_now (t + 1)) None here.0 here.1) [
+        elim (both (pointwise same_point seen points) (cond (may_act net so_far acts) (instant_from next net ds and_now (t + 1)) None) (instant_cases others net ds so_far t points) (cond (may_act net so_far acts) (instant_from next net es and_now (t + 1)) None) (instant_cases others net es so_far t points) played_first played_second) [
+          | inl here ↦ elim (both (may_act net so_far acts) (instant_from next net ds and_now (t + 1)) None (instant_from next net es and_now (t + 1)) None here.0 here.1) [
             | inl may ↦ agree_from next and_now (t + 1) may.0 may.1 p within sooner
             | inr refused ↦ absurd (none-some first refused.0)
           ]

@@ -17,6 +17,7 @@ use Rattle.strategy_model.specs.Dispatch.{IsClosedList, IsOrder, HoldsBack, IsDi
 use Rattle.strategy_model.specs.DispatchLaws.{DispatchedAreEarliest}
 use Rattle.strategy_model.specs.declared.tree.Tree.{Tree}
 use Rattle.strategy_model.proofs.PlayLemmas.{link_sound}
+use Rattle.strategy_model.proofs.InstantLemmas.{as_instant}
 use Rattle.strategy_model.proofs.AgreeLemmas.{played_length}
 use Rattle.strategy_model.proofs.CompareLemmas.{completion_follows_activation, duration_of}
 use Rattle.strategy_model.proofs.RuleLemmas.{free, wait_kept}
@@ -108,7 +109,7 @@ dispatched_are_earliest net edges order situation schedule instant closed ordere
       controls = controls;
       played = played ∙ ap (λ (s : List ℕ). Some s) same;
       earliest = λ other its controls_too played_too.
-          let size = played_length net situation its other [] 0 played_too in
+          let size = played_length net situation its other [] 0 (as_instant net other situation its instant played_too) in
           let both : DispatchedAndPlayed net edges order situation schedule other its = record {
             instant = instant;
             closed = closed;

@@ -15,6 +15,7 @@ use Rattle.strategy_model.specs.Control.{IsEarliest}
 use Rattle.strategy_model.specs.Dispatch.{SameCompletions}
 use Rattle.strategy_model.specs.DispatchLaws.{EarliestSeeAlone}
 use Rattle.strategy_model.proofs.PlayLemmas.{link_sound, lasting, follow_at_first}
+use Rattle.strategy_model.proofs.InstantLemmas.{as_instant}
 use Rattle.strategy_model.proofs.AgreeLemmas.{played_length}
 use Rattle.strategy_model.proofs.CompareLemmas.{completion_follows_activation, duration_of, at_least_1}
 use Rattle.strategy_model.proofs.KindLemmas.{kind}
@@ -78,21 +79,23 @@ module _ (net : Plan) (instant : IsInstant net) (ds es first second : List ℕ) 
   agree_there zero by_m point within = (λ sooner. absurd (omega (arith, sooner)), λ sooner. absurd (omega (arith, sooner)))
   agree_there (suc k) by_m point within =
       let same_now = same_there k (omega (arith, by_m)) (agree_there k (omega (arith, by_m))) in
+      let instantly_first = as_instant net is_first.strategy ds first instant is_first.played in
+      let instantly_there = as_instant net is_first.strategy es there instant played_there in
       let agrees = agree_up_to net ds es first there k (record {
         plan = instant.sound;
         first_situation = is_first.is_situation;
         second_situation = is_second.is_situation;
-        first_lasting = lasting net instant.sound ds first is_first.strategy [] 0 is_first.played (follow_at_first net ds);
-        second_lasting = lasting net instant.sound es there is_first.strategy [] 0 played_there (follow_at_first net es);
+        first_lasting = lasting net instant.sound ds first is_first.strategy [] 0 instantly_first (follow_at_first net ds);
+        second_lasting = lasting net instant.sound es there is_first.strategy [] 0 instantly_there (follow_at_first net es);
         same = same_now;
-      }) is_first.strategy [] 0 (λ point m found. absurd (none-some m found)) is_first.played played_there point within in
+      }) is_first.strategy [] 0 (λ point m found. absurd (none-some m found)) instantly_first instantly_there point within in
       (λ sooner. agrees.0 (omega (arith, sooner)), λ sooner. agrees.1 (omega (arith, sooner)))
 
   -- and the second is at no point later than that
   not_later : (point : PointId) → IsPoint net point → moment_in first point ≤ m → moment_in second point ≤ moment_in first point
   not_later point within by_then =
       let at = (agree_there (suc m) (omega arith) point within).0 (omega (arith, by_then)) in
-      let size = played_length net es second is_second.strategy [] 0 is_second.played in
+      let size = played_length net es second is_second.strategy [] 0 (as_instant net is_second.strategy es second instant is_second.played) in
       let below : moment_in second point ≤ moment_in there point = AllZip-get_or (λ sooner later. sooner ≤ later) second there point.0 0 0 (is_second.earliest is_first.strategy there is_first.controls played_there) (omega (arith, size, within)) in
       omega (arith, at, below)
 

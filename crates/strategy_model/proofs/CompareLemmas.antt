@@ -18,11 +18,12 @@ use Rattle.strategy_model.specs.Control.{Controls}
 use Rattle.strategy_model.specs.Laws.{CompletionFollowsActivation, PlaysAgree}
 use Rattle.strategy_model.specs.declared.tree.Tree.{Tree}
 use Rattle.strategy_model.proofs.PlayLemmas.{lasting, follow_at_first, link_sound}
+use Rattle.strategy_model.proofs.InstantLemmas.{as_instant}
 use Rattle.strategy_model.proofs.AgreeLemmas.{agree_from, played_length}
 
 pub completion_follows_activation : CompletionFollowsActivation
 completion_follows_activation net strategy situation schedule name link duration instant played declared lasts =
-    lasting net instant.sound situation schedule strategy [] 0 played (follow_at_first net situation) name.0 link duration declared lasts
+    lasting net instant.sound situation schedule strategy [] 0 (as_instant net strategy situation schedule instant played) (follow_at_first net situation) name.0 link duration declared lasts
 
 -- the moment of a number beyond the points is 0
 pub beyond : (net : Plan) (first second : List ℕ) → length first ≡ length net.points → length second ≡ length net.points → (p : PointId) → length net.points ≤ p.0 → slice_index first p.0 ≡ slice_index second p.0
@@ -40,8 +41,10 @@ pub plays_agree : PlaysAgree
 plays_agree net strategy name link first second first_play second_play instant declared is_first is_second differ played_first played_second point sooner =
     let sound = link_sound net instant.sound name.0 link declared in
     let limit = min (moment_in first_play link.to) (moment_in second_play link.to) in
-    let lasting_first = lasting net instant.sound first first_play strategy [] 0 played_first (follow_at_first net first) name.0 link in
-    let lasting_second = lasting net instant.sound second second_play strategy [] 0 played_second (follow_at_first net second) name.0 link in
+    let instantly_first = as_instant net strategy first first_play instant played_first in
+    let instantly_second = as_instant net strategy second second_play instant played_second in
+    let lasting_first = lasting net instant.sound first first_play strategy [] 0 instantly_first (follow_at_first net first) name.0 link in
+    let lasting_second = lasting net instant.sound second second_play strategy [] 0 instantly_second (follow_at_first net second) name.0 link in
     elim (cases_lt point.0 (length net.points)) [
       | inl within ↦ agree_from net name link first second first_play second_play limit (record {
         declared = declared;
@@ -51,8 +54,8 @@ plays_agree net strategy name link first second first_play second_play instant d
         elsewhere = differ;
         after_first = λ d lasts. (let h = lasting_first d declared lasts in omega (arith, h));
         after_second = λ e lasts. (let h = lasting_second e declared lasts in omega (arith, h));
-      }) strategy [] 0 played_first played_second point within sooner
-      | inr past ↦ beyond net first_play second_play (played_length net first first_play strategy [] 0 played_first) (played_length net second second_play strategy [] 0 played_second) point past
+      }) strategy [] 0 instantly_first instantly_second point within sooner
+      | inr past ↦ beyond net first_play second_play (played_length net first first_play strategy [] 0 instantly_first) (played_length net second second_play strategy [] 0 instantly_second) point past
     ]
 
 -- a number from 1 on is its own size

@@ -12,7 +12,8 @@ use Rattle.net_model.specs.declared.ids.PointId.{PointId}
 use Rattle.net_model.specs.declared.ids.LinkId.{LinkId}
 use Rattle.net_model.specs.declared.part.Link.{Link}
 use Rattle.strategy_model.specs.Situations.{IsSituation, moment_in}
-use Rattle.strategy_model.specs.Plays.{PartialSchedule, same_point, moment_so_far, at_moment, points_of, completes, is_completed, completed, may_act, all_some, schedule_made}
+use Rattle.strategy_model.specs.Plays.{PartialSchedule, same_point, moment_so_far, at_moment, points_of, may_act, all_some, schedule_made}
+use Rattle.strategy_model.specs.InstantPlays.{completes, is_completed, completed}
 use Rattle.strategy_model.proofs.MomentLemmas.{same_from_test, test_from_same, point_at, found_first, found_later, passes_test}
 use Rattle.strategy_model.proofs.PlayLemmas.{and_moment, known_stays, unknown_later, link_sound, Completion, completed_means, completes_means}
 use Rattle.strategy_model.proofs.CompareLemmas.{duration_of, at_least_1}

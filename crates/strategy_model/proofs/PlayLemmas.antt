@@ -8,7 +8,8 @@ use Rattle.std.proofs.lemmas.Option.{none-some, same_Some, get_or_from_slice_get
 use Rattle.net_model.specs.Network.{Plan, IsPlan, IsLink, activation}
 use Rattle.net_model.specs.declared.ids.PointId.{PointId}
 use Rattle.net_model.specs.declared.part.Link.{Link}
-use Rattle.strategy_model.specs.Plays.{PartialSchedule, points_of, same_point, moment_so_far, at_moment, may_act, schedule_made, completes, is_completed, completed, play_from, play_cases}
+use Rattle.strategy_model.specs.Plays.{PartialSchedule, points_of, same_point, moment_so_far, at_moment, may_act, schedule_made}
+use Rattle.strategy_model.specs.InstantPlays.{completes, is_completed, completed, instant_from, instant_cases}
 use Rattle.strategy_model.specs.declared.tree.Tree.{Tree, Leaf, Node', Row_of-Case, end_of-Case, more_of-Case}
 use Rattle.strategy_model.proofs.MomentLemmas.{pick, same_points, found_first, found_later, moment_is, passes_test, acts_executable, contingent, made_at}
 
@@ -28,15 +29,15 @@ unknown_later so_far t seen acts p missing =
 module _ (net : Plan) (situation schedule : List ℕ) (M : PartialSchedule → ℕ → Type 0) (at_end : (so_far : PartialSchedule) (t : ℕ) → schedule_made net so_far ≡ Some schedule → M so_far t)
     (at_moment' : (so_far : PartialSchedule) (t : ℕ) (acts : List PointId) → may_act net so_far acts ≡ true → M (and_moment so_far t (completed net situation so_far t) acts) (t + 1) → M so_far t) where
   mutual
-    pub along : (tree : Tree) (so_far : PartialSchedule) (t : ℕ) → play_from tree net situation so_far t ≡ Some schedule → M so_far t
+    pub along : (tree : Tree) (so_far : PartialSchedule) (t : ℕ) → instant_from tree net situation so_far t ≡ Some schedule → M so_far t
     along Leaf so_far t played = at_end so_far t played
     along (Node' shape cases) so_far t played = along_cases cases so_far t (completed net situation so_far t) refl played
 
-    along_cases : {m : _} (cases : Row_of-Case m) (so_far : PartialSchedule) (t : ℕ) (points : List PointId) → points ≡ completed net situation so_far t → play_cases cases net situation so_far t points ≡ Some schedule → M so_far t
+    along_cases : {m : _} (cases : Row_of-Case m) (so_far : PartialSchedule) (t : ℕ) (points : List PointId) → points ≡ completed net situation so_far t → instant_cases cases net situation so_far t points ≡ Some schedule → M so_far t
     along_cases end_of-Case so_far t points is played = absurd (none-some schedule played)
     along_cases (more_of-Case seen acts next others) so_far t points is played =
-        let rest = play_from next net situation (and_moment so_far t seen acts) (t + 1) in
-        elim (pick (pointwise same_point seen points) (cond (may_act net so_far acts) rest None) (play_cases others net situation so_far t points) (Some schedule) played) [
+        let rest = instant_from next net situation (and_moment so_far t seen acts) (t + 1) in
+        elim (pick (pointwise same_point seen points) (cond (may_act net so_far acts) rest None) (instant_cases others net situation so_far t points) (Some schedule) played) [
           | inl here ↦ elim (pick (may_act net so_far acts) rest None (Some schedule) here.1) [
             | inl may ↦ at_moment' so_far t acts may.0 (subst (λ (seen' : List PointId). M (and_moment so_far t seen' acts) (t + 1)) (same_points seen points here.0 ∙ is) (along next (and_moment so_far t seen acts) (t + 1) may.1))
             | inr refused ↦ absurd (none-some schedule refused.1)
@@ -78,7 +79,7 @@ goes_on_before net schedule so_far t seen acts after =
         let e = new_moment t seen acts p m found in
         omega (arith, h, e)
 
-pub goes_on : (net : Plan) (situation schedule : List ℕ) (tree : Tree) (so_far : PartialSchedule) (t : ℕ) → play_from tree net situation so_far t ≡ Some schedule → GoesOn net schedule so_far t
+pub goes_on : (net : Plan) (situation schedule : List ℕ) (tree : Tree) (so_far : PartialSchedule) (t : ℕ) → instant_from tree net situation so_far t ≡ Some schedule → GoesOn net schedule so_far t
 goes_on net situation schedule =
     along net situation schedule (GoesOn net schedule) (goes_on_at_end net schedule) (λ so_far t acts may. goes_on_before net schedule so_far t (completed net situation so_far t) acts)
 
@@ -186,7 +187,7 @@ lasting_at_end net plan situation schedule so_far made follow i link duration de
     let lasted = known.2 in
     omega (arith, began, lasted)
 
-pub lasting : (net : Plan) → IsPlan net → (situation schedule : List ℕ) (tree : Tree) (so_far : PartialSchedule) (t : ℕ) → play_from tree net situation so_far t ≡ Some schedule → Follow net situation so_far → Lasting net situation schedule
+pub lasting : (net : Plan) → IsPlan net → (situation schedule : List ℕ) (tree : Tree) (so_far : PartialSchedule) (t : ℕ) → instant_from tree net situation so_far t ≡ Some schedule → Follow net situation so_far → Lasting net situation schedule
 lasting net plan situation schedule =
     along net situation schedule (λ so_far t. Follow net situation so_far → Lasting net situation schedule) (λ so_far t made. lasting_at_end net plan situation schedule so_far made) (λ so_far t acts may after before. after (follow_after net plan situation so_far t acts may before))
 

@@ -9,10 +9,12 @@ use Rattle.std.proofs.lemmas.List.Elements.{filter_agree}
 use Rattle.net_model.specs.Network.{Plan, IsPlan, IsPoint, activation}
 use Rattle.net_model.specs.declared.ids.PointId.{PointId}
 use Rattle.strategy_model.specs.Situations.{IsSituation, moment_in}
-use Rattle.strategy_model.specs.Plays.{PartialSchedule, same_point, moment_so_far, points_of, may_act, completed, play_from, play_cases}
+use Rattle.strategy_model.specs.Plays.{PartialSchedule, same_point, moment_so_far, points_of, may_act}
+use Rattle.strategy_model.specs.InstantPlays.{completed, instant_from, instant_cases}
 use Rattle.strategy_model.specs.Dispatch.{AgreeUpTo, SameCompletions}
 use Rattle.strategy_model.specs.DispatchLaws.{TreesAreDynamic}
 use Rattle.strategy_model.specs.declared.tree.Tree.{Tree, Leaf, Node', Row_of-Case, end_of-Case, more_of-Case}
+use Rattle.strategy_model.proofs.InstantLemmas.{as_instant}
 use Rattle.strategy_model.proofs.PlayLemmas.{and_moment, known_stays, unknown_later, new_moment, GoesOn, goes_on, Lasting, lasting, follow_at_first}
 use Rattle.strategy_model.proofs.AgreeLemmas.{both, played_length}
 use Rattle.strategy_model.proofs.CompareLemmas.{completion_follows_activation}
@@ -100,7 +102,7 @@ module _ (net : Plan) (ds es first second : List ℕ) (t : ℕ) (alike : Complet
           (λ by_then. absurd (omega (arith, later, by_then, past)), λ by_then. absurd (omega (arith, later_too, by_then, past)))
 
   mutual
-    pub agree_up_to : (tree : Tree) (so_far : PartialSchedule) (m : ℕ) → Before so_far m → play_from tree net ds so_far m ≡ Some first → play_from tree net es so_far m ≡ Some second → (point : PointId) → IsPoint net point → AgreeUpTo t (moment_in first point) (moment_in second point)
+    pub agree_up_to : (tree : Tree) (so_far : PartialSchedule) (m : ℕ) → Before so_far m → instant_from tree net ds so_far m ≡ Some first → instant_from tree net es so_far m ≡ Some second → (point : PointId) → IsPoint net point → AgreeUpTo t (moment_in first point) (moment_in second point)
     agree_up_to Leaf so_far m before played_first played_second point within =
         let is : moment_in first point ≡ moment_in second point = ap (λ (s : List ℕ). moment_in s point) (same_Some first second (sym played_first ∙ played_second)) in
         (λ by_then. is, λ by_then. is)
@@ -113,15 +115,15 @@ module _ (net : Plan) (ds es first second : List ℕ) (t : ℕ) (alike : Complet
               let first_seen = completed_is net ds first alike.plan alike.first_situation (λ name. alike.first_lasting name.0) so_far m (known_in_play net first so_far m before first_goes) in
               let second_seen = completed_is net es second alike.plan alike.second_situation (λ name. alike.second_lasting name.0) so_far m (known_in_play net second so_far m before second_goes) in
               let one : completed net ds so_far m ≡ completed net es so_far m = first_seen ∙ same_seen net first second t m alike.same by_then ∙ sym second_seen in
-              agree_among cases so_far m before (completed net ds so_far m) played_first (subst (λ (points : List PointId). play_cases cases net es so_far m points ≡ Some second) (sym one) played_second) point within
+              agree_among cases so_far m before (completed net ds so_far m) played_first (subst (λ (points : List PointId). instant_cases cases net es so_far m points ≡ Some second) (sym one) played_second) point within
         ]
 
-    agree_among : {n : _} (cases : Row_of-Case n) (so_far : PartialSchedule) (m : ℕ) → Before so_far m → (points : List PointId) → play_cases cases net ds so_far m points ≡ Some first → play_cases cases net es so_far m points ≡ Some second → (point : PointId) → IsPoint net point → AgreeUpTo t (moment_in first point) (moment_in second point)
+    agree_among : {n : _} (cases : Row_of-Case n) (so_far : PartialSchedule) (m : ℕ) → Before so_far m → (points : List PointId) → instant_cases cases net ds so_far m points ≡ Some first → instant_cases cases net es so_far m points ≡ Some second → (point : PointId) → IsPoint net point → AgreeUpTo t (moment_in first point) (moment_in second point)
     agree_among end_of-Case so_far m before points played_first played_second point within = absurd (none-some first played_first)
     agree_among (more_of-Case seen acts next others) so_far m before points played_first played_second point within =
         let and_now = and_moment so_far m seen acts in
-        elim (both (pointwise same_point seen points) (cond (may_act net so_far acts) (play_from next net ds and_now (m + 1)) None) (play_cases others net ds so_far m points) (cond (may_act net so_far acts) (play_from next net es and_now (m + 1)) None) (play_cases others net es so_far m points) played_first played_second) [
-          | inl here ↦ elim (both (may_act net so_far acts) (play_from next net ds and_now (m + 1)) None (play_from next net es and_now (m + 1)) None here.0 here.1) [
+        elim (both (pointwise same_point seen points) (cond (may_act net so_far acts) (instant_from next net ds and_now (m + 1)) None) (instant_cases others net ds so_far m points) (cond (may_act net so_far acts) (instant_from next net es and_now (m + 1)) None) (instant_cases others net es so_far m points) played_first played_second) [
+          | inl here ↦ elim (both (may_act net so_far acts) (instant_from next net ds and_now (m + 1)) None (instant_from next net es and_now (m + 1)) None here.0 here.1) [
             | inl may ↦ agree_up_to next and_now (m + 1) (before_next so_far m seen acts before) may.0 may.1 point within
             | inr refused ↦ absurd (none-some first refused.0)
           ]
@@ -130,15 +132,17 @@ module _ (net : Plan) (ds es first second : List ℕ) (t : ℕ) (alike : Complet
 
 pub trees_are_dynamic : TreesAreDynamic
 trees_are_dynamic net strategy schedule_of instant played =
+    let instantly : (situation : List ℕ) → IsSituation net situation → instant_from strategy net situation [] 0 ≡ Some (schedule_of situation) =
+    λ situation is_situation. as_instant net strategy situation (schedule_of situation) instant (played situation is_situation) in
     record {
-      complete = λ situation is_situation. played_length net situation (schedule_of situation) strategy [] 0 (played situation is_situation);
+      complete = λ situation is_situation. played_length net situation (schedule_of situation) strategy [] 0 (instantly situation is_situation);
       lasting = λ situation name link duration is_situation. completion_follows_activation net strategy situation (schedule_of situation) name link duration instant (played situation is_situation);
       seen_alone = λ first second t is_first is_second same point executable. agree_up_to net first second (schedule_of first) (schedule_of second) t (record {
         plan = instant.sound;
         first_situation = is_first;
         second_situation = is_second;
-        first_lasting = lasting net instant.sound first (schedule_of first) strategy [] 0 (played first is_first) (follow_at_first net first);
-        second_lasting = lasting net instant.sound second (schedule_of second) strategy [] 0 (played second is_second) (follow_at_first net second);
+        first_lasting = lasting net instant.sound first (schedule_of first) strategy [] 0 (instantly first is_first) (follow_at_first net first);
+        second_lasting = lasting net instant.sound second (schedule_of second) strategy [] 0 (instantly second is_second) (follow_at_first net second);
         same = same;
-      }) strategy [] 0 (λ point m found. absurd (none-some m found)) (played first is_first) (played second is_second) point executable.0;
+      }) strategy [] 0 (λ point m found. absurd (none-some m found)) (instantly first is_first) (instantly second is_second) point executable.0;
     }

@@ -14,7 +14,8 @@ use Rattle.std.proofs.lemmas.Option.{get_or_from_slice_get}
 use Rattle.net_model.specs.Network.{Plan, activation}
 use Rattle.net_model.specs.declared.ids.PointId.{PointId}
 use Rattle.net_model.specs.declared.part.Link.{Link}
-use Rattle.strategy_model.specs.Plays.{PartialSchedule, same_point, moment_so_far, points_of, all_some, completes, is_completed, may_act, case_for}
+use Rattle.strategy_model.specs.Plays.{PartialSchedule, same_point, moment_so_far, points_of, all_some, may_act, case_for}
+use Rattle.strategy_model.specs.InstantPlays.{completes, is_completed}
 use Rattle.strategy_model.specs.declared.tree.Case.{Case}
 use Rattle.strategy_model.proofs.MomentLemmas.{point_at}
 

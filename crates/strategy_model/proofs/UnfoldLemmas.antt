@@ -9,7 +9,8 @@ use Rattle.std.proofs.lemmas.List.{get_or_past}
 use Rattle.net_model.specs.Network.{Plan, IsPlan, IsPoint, activation}
 use Rattle.net_model.specs.declared.ids.PointId.{PointId}
 use Rattle.strategy_model.specs.Situations.{IsSituation, moment_in}
-use Rattle.strategy_model.specs.Plays.{PartialSchedule, same_point, moment_so_far, at_moment, points_of, may_act, case_for, play_from}
+use Rattle.strategy_model.specs.Plays.{PartialSchedule, same_point, moment_so_far, at_moment, points_of, may_act, case_for}
+use Rattle.strategy_model.specs.InstantPlays.{instant_from}
 use Rattle.strategy_model.specs.Dispatch.{SameCompletions, IsDynamic}
 use Rattle.strategy_model.specs.DispatchLaws.{DynamicStrategiesAreTrees}
 use Rattle.strategy_model.specs.declared.tree.Case.{Case}
@@ -17,9 +18,11 @@ use Rattle.strategy_model.specs.declared.tree.Tree.{Tree, Leaf, Node}
 use Rattle.strategy_model.proofs.MomentLemmas.{same_from_test, test_from_same, same_points, passes_test}
 use Rattle.strategy_model.proofs.PlayLemmas.{and_moment, link_sound}
 use Rattle.strategy_model.proofs.CompareLemmas.{beyond}
+use Rattle.strategy_model.proofs.InstantLemmas.{from_as_instant}
 use Rattle.strategy_model.proofs.TreeLemmas.{case_taken}
 use Rattle.strategy_model.proofs.KindLemmas.{Ending, ending_known}
 use Rattle.strategy_model.proofs.SituationLemmas.{Among, among_kept, from_kept, situations_of, has_situation, are_situations}
+use Rattle.strategy_model.proofs.InstantLemmas.{from_as_instant}
 use Rattle.strategy_model.proofs.KnownLemmas.{Known, comes_seen, comes_acted, seen_in, acts_in, given, some_from_none, same_tests, completed_is, known_after, acts_allowed, made_of_known}
 
 -- the greatest number of a list
@@ -165,7 +168,7 @@ module _ (net : Plan) (schedule_of : List ℕ → List ℕ) (plan : IsPlan net) 
 
   plays : (moments : ℕ) (situations : List (List ℕ)) (t : ℕ) (situation : List ℕ) (so_far : PartialSchedule) → Among situations situation → AreSituations situations
       → SeenAlike situations t situation → Known net (schedule_of situation) so_far t → AllComeBefore situation (t + moments)
-      → play_from (unfolded net schedule_of moments situations t) net situation so_far t ≡ Some (schedule_of situation)
+      → instant_from (unfolded net schedule_of moments situations t) net situation so_far t ≡ Some (schedule_of situation)
   plays zero situations t situation so_far among all alike known past =
       made_of_known net (schedule_of situation) so_far t (dynamic.complete situation (all situation among)) known (λ point within. let before = past point within in omega (arith, before))
   plays (suc moments) situations t situation so_far among all alike known past =
@@ -191,7 +194,7 @@ module _ (net : Plan) (schedule_of : List ℕ → List ℕ) (plan : IsPlan net) 
             let seen_same = same_points (seen_in net (schedule_of its) t) (seen_in net (schedule_of other) t) (kept other among').1 in
             subst (λ (k : ℕ). seen_in net (schedule_of other) k ≡ seen_in net schedule k) (sym same) (sym seen_same ∙ took.sees)
       ]) (known_after net situation schedule plan is_situation (λ name link duration. dynamic.lasting situation name link duration is_situation) so_far t known) (λ point within. let before = past point within in omega (arith, before)) in
-      next ∙ ap (λ (acts : List PointId). play_from (unfolded net schedule_of moments (left_by net schedule_of situations t its) (t + 1)) net situation (and_moment so_far t (seen_in net schedule t) acts) (t + 1)) acts_same ∙ rest
+      next ∙ ap (λ (acts : List PointId). instant_from (unfolded net schedule_of moments (left_by net schedule_of situations t its) (t + 1)) net situation (and_moment so_far t (seen_in net schedule t) acts) (t + 1)) acts_same ∙ rest
 
 pub dynamic_strategies_are_trees : DynamicStrategiesAreTrees
 dynamic_strategies_are_trees net schedule_of instant dynamic =
@@ -200,7 +203,7 @@ dynamic_strategies_are_trees net schedule_of instant dynamic =
       unfolded net schedule_of moments situations 0,
       λ situation is_situation.
           let among = has_situation net situation instant.sound is_situation in
-          plays net schedule_of instant.sound dynamic moments situations 0 situation [] among (λ other among'. are_situations net other instant.sound among') (λ other among' m before. absurd (omega (arith, before)))
+          from_as_instant net (unfolded net schedule_of moments situations 0) situation (schedule_of situation) instant (plays net schedule_of instant.sound dynamic moments situations 0 situation [] among (λ other among'. are_situations net other instant.sound among') (λ other among' m before. absurd (omega (arith, before)))
           (record { before = λ point within before. absurd (omega (arith, before)); not_yet = λ point within later. refl })
-          (λ point within. let below = within_horizon net schedule_of situations situation among point.0 in omega (arith, below)),
+          (λ point within. let below = within_horizon net schedule_of situations situation among point.0 in omega (arith, below))),
     )

@@ -1,6 +1,10 @@
 pub mod Situations
 pub mod Plays
+pub mod InstantPlays
+pub mod ShownSchedules
+pub mod ShownLaws
 pub mod Control
+pub mod LooserLaws
 pub mod Edges
 pub mod Laws
 pub mod Dispatch

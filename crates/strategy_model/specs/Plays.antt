@@ -1,7 +1,8 @@
 -- The play of a strategy in a situation. A strategy is a tree of decisions: what is done at a moment depends on the
--- completions that were seen up to it, those of the moment itself included, and on nothing else (Morris, Muscettola and
--- Vidal 2001, as repaired by Hunsberger 2009; not that completions of the same moment are seen).
-use Rattle.std.specs.Prelude.{ℕ, ◌+◌, ◌==◌, ◌&&◌, ◌||◌, not, Bool, true, false, List, [], ◌∷◌, ◌++◌, length, map, filter, Option, Some, None, is_none, nat_lt, if◌then◌else◌}
+-- completions that were shown up to it, those shown at the moment itself included, and on nothing else (Morris, Muscettola and
+-- Vidal 2001, as repaired by Hunsberger 2009; this project's own choice is that those of the moment itself are seen, and that a
+-- completion is shown the delay after it happened).
+use Rattle.std.specs.Prelude.{◌≡◌, ℕ, ◌+◌, ◌-◌, ◌==◌, ◌&&◌, ◌||◌, not, Bool, true, false, List, [], ◌∷◌, ◌++◌, length, map, filter, Option, Some, None, is_none, nat_lt, if◌then◌else◌}
 use Rattle.std.specs.Option.{option_map}
 use Rattle.std.specs.List.{list_any, range_with_len}
 use Rattle.std.specs.Cmp.Lexicographic.{pointwise}
@@ -27,23 +28,23 @@ moment_so_far (entry ∷ entries) point = if same_point entry.0 point then Some 
 abbrev pub at_moment : ℕ → List PointId → PartialSchedule
 at_moment t points = map (λ point. (point, t)) points
 
--- a link completes at t where its activation has a moment a with a + duration = t
-abbrev pub completes : PartialSchedule → ℕ → Link → ℕ → Bool
-completes so_far t link duration = elim (moment_so_far so_far link.from) [ Some a ↦ (a + duration) == t | None ↦ false ]
+-- a link's completion is shown at t where its activation has a moment a with a + duration + delay = t
+abbrev pub shows : Plan → PartialSchedule → ℕ → Link → ℕ → Bool
+shows net so_far t link duration = elim (moment_so_far so_far link.from) [ Some a ↦ (a + duration + net.delay) == t | None ↦ false ]
 
--- a link that ends in the point completes at t
-abbrev pub is_completed : PartialSchedule → ℕ → List Link → List ℕ → PointId → Bool
-is_completed so_far t (link ∷ links) (duration ∷ durations) point =
-    (same_point link.to point && completes so_far t link duration) || is_completed so_far t links durations point
-is_completed so_far t links durations point = false
+-- a link that ends in the point is shown at t
+abbrev pub is_shown : Plan → PartialSchedule → ℕ → List Link → List ℕ → PointId → Bool
+is_shown net so_far t (link ∷ links) (duration ∷ durations) point =
+    (same_point link.to point && shows net so_far t link duration) || is_shown net so_far t links durations point
+is_shown net so_far t links durations point = false
 
 -- the points of a network, in order of number
 abbrev pub points_of : Plan → List PointId
 points_of net = map (λ k. record { 0 = k }) (range_with_len 0 (length net.points))
 
--- the points that are completed at t, in order of number
-abbrev pub completed : Plan → List ℕ → PartialSchedule → ℕ → List PointId
-completed net situation so_far t = filter (is_completed so_far t net.links situation) (points_of net)
+-- the points that are shown at t, in order of number
+abbrev pub shown : Plan → List ℕ → PartialSchedule → ℕ → List PointId
+shown net situation so_far t = filter (is_shown net so_far t net.links situation) (points_of net)
 
 -- these points may be executed now: they are executable, and none was executed before or stands twice
 abbrev pub may_act : Plan → PartialSchedule → List PointId → Bool
@@ -66,16 +67,16 @@ abbrev mutual
   pub play_from : Tree → Plan → List ℕ → PartialSchedule → ℕ → Option (List ℕ)
   play_from Leaf net situation so_far t = schedule_made net so_far
   play_from (Node' shape cases) net situation so_far t =
-      play_cases cases net situation so_far t (completed net situation so_far t)
+      play_cases cases net situation so_far t (shown net situation so_far t)
 
-  -- The first case that has just these points as seen is taken. There is no play where none has, or where an act is not
-  -- allowed.
+  -- The first case that has just these points as seen is taken; they happened the delay before. There is no play where none has,
+  -- or where an act is not allowed.
   pub play_cases : {m : _} → Row_of-Case m → Plan → List ℕ → PartialSchedule → ℕ → List PointId → Option (List ℕ)
   play_cases end_of-Case net situation so_far t points = None
   play_cases (more_of-Case seen acts next others) net situation so_far t points =
       if pointwise same_point seen points
       then (if may_act net so_far acts
-      then play_from next net situation (so_far ++ at_moment t seen ++ at_moment t acts) (t + 1)
+      then play_from next net situation (so_far ++ at_moment (t - net.delay) seen ++ at_moment t acts) (t + 1)
       else None)
       else play_cases others net situation so_far t points
 
@@ -88,6 +89,7 @@ case_for (case ∷ cases) points = if pointwise same_point case.seen points then
 abbrev pub play : Tree → Plan → List ℕ → Option (List ℕ)
 play tree net situation = play_from tree net situation [] 0
 
--- a sound network in which reaction is instantaneous, as plays have it: a completion is seen at its own moment
+-- a sound network in which reaction is instantaneous: a completion is seen at its own moment
 pub record IsInstant (net : Plan) : Type 0 where
   pub sound : IsPlan net
+  pub no_delay : net.delay ≡ 0

@@ -1,8 +1,10 @@
 //! Laws about plays and edges, each the contract of a function without parameters.
 
 ghost use Rattle.strategy_model.specs.Laws.{CompletionFollowsActivation, PlaysAgree, BoundKeepsTruth, LinkKeepsTruth, NoCaseKeepsTruth, UpperCaseKeepsTruth, LowerCaseKeepsTruth, CrossCaseKeepsTruth, RemovalKeepsTruth, RulesKeepTruth, DerivationsAreTrue, RulesKeepEdges, LoopsExcludeSchedules, LoopsExcludeStrategies, RefutationsExcludeStrategies, LoopsOfBoundsExcludeSchedules, LoopsOfBoundsExcludeStrategies, AtMostOneEarliest, ExactRulesKeepTruth, ExactDerivationsHaveEdges, ExactDerivationsAreTrue, NegativeCyclesExcludeStrategies};
+ghost use Rattle.strategy_model.specs.LooserLaws.{LooserBoundsKeepControl};
 
 pub mod dispatch;
+pub mod shown;
 
 /// In a play each contingent point comes its link's duration after its activation point.
 pub fn completion_follows_activation()
@@ -114,4 +116,9 @@ pub fn exact_derivations_are_true()
 /// network.
 pub fn negative_cycles_exclude_strategies()
     ensures { NegativeCyclesExcludeStrategies }
+{}
+
+/// A strategy that controls a network controls it with looser bounds in place of its own.
+pub fn looser_bounds_keep_control()
+    ensures { LooserBoundsKeepControl }
 {}

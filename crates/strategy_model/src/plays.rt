@@ -1,7 +1,7 @@
-ghost use Rattle.std.specs.Prelude.{◌≡◌, ◌+◌, ◌++◌, ◌&&◌, length, is_none, nat_lt, IfOk, IfSome, OnOk};
+ghost use Rattle.std.specs.Prelude.{◌≡◌, ◌⊎◌, ◌^◌, ◌≤◌, Some, None, ◌+◌, ◌-◌, ◌++◌, ◌&&◌, length, is_none, nat_lt, IfOk, IfSome, OnOk};
 ghost use Rattle.std.specs.Option.{option_map, option_copied};
 ghost use Rattle.net_model.specs.Network.{activation};
-ghost use Rattle.strategy_model.specs.Plays.{play, moment_so_far, at_moment, completes, is_completed, completed, may_act, case_for, schedule_made};
+ghost use Rattle.strategy_model.specs.Plays.{play, moment_so_far, at_moment, shows, is_shown, shown, may_act, case_for, schedule_made};
 
 use crate::tree::{Case, Tree};
 use crate::{Schedule, Situation};
@@ -10,7 +10,7 @@ use std::alloc::{AllocError, Global};
 
 /// The schedule that a strategy makes of a network in a situation, which has one duration for each link, each in its
 /// interval. It is `None` exactly where the strategy has no play there: where at some moment no case has just the points
-/// that are completed, or an act is no executable point or was executed before, or where a point has no moment at the
+/// that are shown, or an act is no executable point or was executed before, or where a point has no moment at the
 /// leaf. `AllocError` comes only for want of memory.
 pub fn play(
     alloc: Global,
@@ -25,14 +25,14 @@ pub fn play(
     let mut node = tree;
     let mut t: u64 = 0;
     while let Tree::Node(cases) = node {
-        let seen = completed(alloc, net, situation.as_slice(), moments.as_slice(), t)?;
+        let seen = shown(alloc, net, situation.as_slice(), moments.as_slice(), t)?;
         let Some(case) = case_for(cases.as_slice(), seen.as_slice()) else {
             return Ok(None);
         };
         if !may_act(net, moments.as_slice(), case.acts.as_slice()) {
             return Ok(None);
         }
-        push_at(&mut moments, seen.as_slice(), t)?;
+        push_at(&mut moments, seen.as_slice(), happened(net, t))?;
         push_at(&mut moments, case.acts.as_slice(), t)?;
         node = &case.next;
         t = next_moment(t)?;
@@ -47,6 +47,13 @@ fn next_moment(t: u64) -> Result<u64, AllocError>
     t.checked_add(1).ok_or(AllocError)
 }
 
+/// The moment at which what is shown at a moment happened.
+fn happened(net: &Network, t: u64) -> u64
+    ensures { result ≡ t - net.now.delay }
+{
+    t.saturating_sub(net.delay() as u64)
+}
+
 /// The moment that a point has so far.
 fn moment_so_far(so_far: &[(PointId, u64)], point: PointId) -> Option<u64>
     ensures { result ≡ moment_so_far so_far.now point }
@@ -59,46 +66,54 @@ fn moment_so_far(so_far: &[(PointId, u64)], point: PointId) -> Option<u64>
     None
 }
 
-fn completes(so_far: &[(PointId, u64)], t: u64, link: &Link, duration: u64) -> bool
-    ensures { result ≡ completes so_far.now t link.now duration }
+/// The moment at which a completion is shown, if it is a moment.
+fn late(activation: u64, duration: u64, delay: u64) -> Option<u64>
+    ensures { (result ≡ Some (activation + duration + delay)) ⊎ ((result ≡ None) × (2 ^ 64 ≤ activation + duration + delay)) }
+{
+    activation.checked_add(duration)?.checked_add(delay)
+}
+
+fn shows(net: &Network, so_far: &[(PointId, u64)], t: u64, link: &Link, duration: u64) -> bool
+    ensures { result ≡ shows net.now so_far.now t link.now duration }
 {
     match moment_so_far(so_far, link.from) {
-        Some(activation) => activation.checked_add(duration) == Some(t),
+        Some(activation) => late(activation, duration, net.delay() as u64) == Some(t),
         None => false,
     }
 }
 
-fn is_completed(
+fn is_shown(
+    net: &Network,
     so_far: &[(PointId, u64)],
     t: u64,
     links: &[Link],
     durations: &[u64],
     point: PointId,
 ) -> bool
-    ensures { result ≡ is_completed so_far.now t links.now durations.now point }
+    ensures { result ≡ is_shown net.now so_far.now t links.now durations.now point }
 {
     for (link, duration) in links.iter().zip(durations) {
-        if link.to == point && completes(so_far, t, link, *duration) {
+        if link.to == point && shows(net, so_far, t, link, *duration) {
             return true;
         }
     }
     false
 }
 
-/// The points that are completed at a moment, in order of number.
-fn completed(
+/// The points that are shown at a moment, in order of number.
+fn shown(
     alloc: Global,
     net: &Network,
     situation: &[u64],
     so_far: &[(PointId, u64)],
     t: u64,
 ) -> Result<Vec<PointId>, AllocError>
-    ensures { IfOk result (λ points. points.items ≡ completed net.now situation.now so_far.now t) }
+    ensures { IfOk result (λ points. points.items ≡ shown net.now situation.now so_far.now t) }
 {
     let mut points = Vec::new(alloc);
     for k in 0..net.points().len() {
         let point = PointId(k as u32);
-        if is_completed(so_far, t, net.links(), situation, point) {
+        if is_shown(net, so_far, t, net.links(), situation, point) {
             points.push(point)?;
         }
     }

@@ -20,7 +20,7 @@ invariant_of-result c =
     record {
       slim_or_whole = inl (kept ∙ sym made);
       down = subst (λ (order : List PointId). GoDown order c.in_ok-held.held.lists) (sym c.in_ok-order.ensures.items)
-          (subst (GoDown c.args.order.now) (sym (kept ∙ c.in_ok-lists.ensures.made)) (made_go_down c.args.net.now c.args.table.now c.args.order.now c.requires.for_network c.requires.ordered));
+          (subst (GoDown c.args.order.now) (sym (kept ∙ c.in_ok-lists.ensures.made)) (made_go_down c.args.net.now c.args.table.now c.args.order.now c.requires.may.for_network c.requires.may.ordered));
       room = let same = ap (λ (order : List PointId). length order) c.in_ok-order.ensures.items in omega (arith, c.in_ok-others.ensures.capacity, same);
     }
 
@@ -29,4 +29,4 @@ returns-clause-executed c =
     λ instant sound.
     let made : c.of-made.result.value.items ≡ c.in_ok-lists.lists.items = ap (λ (all : Vec Conditions Global). all.items) c.of-made.ensures in
     subst (ExecutionSatisfies c.args.net.now) (sym (made ∙ c.in_ok-lists.ensures.made))
-    (executions_satisfy c.args.net.now c.args.table.now c.args.order.now instant c.requires.for_network sound c.requires.closed c.requires.ordered)
+    (executions_satisfy c.args.net.now c.args.table.now c.args.order.now instant c.requires.may.for_network sound c.requires.may.closed c.requires.may.ordered)

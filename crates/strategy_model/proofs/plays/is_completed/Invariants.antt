@@ -1,7 +1,0 @@
-use Rattle.std.proofs.Common.{◌≡◌, length, drop}
-use Rattle.strategy_model.specs.Plays.{is_completed}
-use Rattle.strategy_model.proofs.plays.is_completed.Given as goal
-
-abbrev pub invariant-loop-link : goal.invariant-loop-link
-invariant-loop-link l =
-    is_completed l.so_far l.t l.links l.durations l.point ≡ is_completed l.so_far l.t (drop (length l.yielded) l.links) (drop (length l.yielded) l.durations) l.point
