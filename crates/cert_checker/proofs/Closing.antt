@@ -6,6 +6,8 @@ use Rattle.std.specs.Str.{bytes_eq}
 use Rattle.std.proofs.lemmas.List.Elements.{All-from_recursion}
 use Rattle.net_model.specs.Network.{Plan}
 use Rattle.strategy_model.specs.Plays.{IsInstant}
+use Rattle.strategy_model.specs.ShownLaws.{ControllableIsShown, ShownFormIsInstant}
+use Rattle.net_model.specs.ShownForm.{shown_form}
 use Rattle.strategy_model.specs.Control.{IsControllable}
 use Rattle.strategy_model.specs.Edges.{IsWalk, IsNegativeLoop, total}
 use Rattle.strategy_model.specs.Laws.{RulesKeepEdges, RefutationsExcludeStrategies}
@@ -86,5 +88,6 @@ excludes_by keep exclude net (Refutation lines walk) instant accepted =
 excludes_by keep exclude net (TableProof order entries) instant accepted = absurd (other_claim (table_passes net order entries) accepted)
 
 -- an accepted refutation excludes every strategy that controls the network
-pub accepted_excludes : RulesKeepEdges → RefutationsExcludeStrategies → AcceptedExcludes
-accepted_excludes keep exclude = excludes_by keep exclude
+pub accepted_excludes : RulesKeepEdges → RefutationsExcludeStrategies → ControllableIsShown → ShownFormIsInstant → AcceptedExcludes
+accepted_excludes keep exclude is_shown is_instant = λ net certificate plan accepted controllable.
+    excludes_by keep exclude (shown_form net) certificate (is_instant net plan) accepted ((is_shown net plan).0 controllable)

@@ -1,3 +1,4 @@
+pub mod ShownLemmas
 pub mod Steps
 pub mod Passing
 pub mod Stopping

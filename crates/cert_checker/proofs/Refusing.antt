@@ -9,7 +9,10 @@ use Rattle.cert_format.specs.declared.line.CertLine.{CertLine}
 use Rattle.cert_format.specs.JudgementForms.{◌>>=◌}
 use Rattle.cert_checker.specs.Walk.{WalkPasses, walk_passes}
 use Rattle.cert_checker.specs.Judgement.{lines_pass, refutation_passes, judged, judgement_of}
-use Rattle.cert_checker.specs.Truth.{AreTrue, passed_lines}
+use Rattle.cert_checker.specs.Truth.{AreTrue, IsTrueOf, IsTrueAsShown, passed_lines}
+use Rattle.strategy_model.specs.ShownLaws.{ControlIsShown, TruthIsShown, ShownFormIsInstant}
+use Rattle.net_model.specs.ShownForm.{shown_form}
+use Rattle.std.proofs.lemmas.List.Elements.{All-weaker}
 use Rattle.cert_checker.specs.declared.judgement.Refusal.{Refusal}
 use Rattle.cert_checker.specs.declared.judgement.Claim.TheVariants.{NotControllable}
 use Rattle.cert_checker.proofs.Passing.{goes_on}
@@ -47,8 +50,13 @@ passed_of net lines walk (Err refused) is = before_refused net lines (walk_passe
 pub passed_lines_pass : (net : Plan) (lines : List CertLine) (walk : List ℕ) → lines_pass net [] (passed_lines (Refutation lines walk) (judgement_of net (Refutation lines walk))) ≡ Ok tt
 passed_lines_pass net lines walk = passed_of net lines walk (refutation_passes net lines walk) refl
 
-pub all_passed_true : RulesKeepEdges → DerivationsAreTrue → PassedLinesAreTrue
-all_passed_true keep derivations = λ net certificate instant. passed_true net keep derivations instant certificate
+pub all_passed_true : RulesKeepEdges → DerivationsAreTrue → ControlIsShown → TruthIsShown → ShownFormIsInstant → PassedLinesAreTrue
+all_passed_true keep derivations control truth is_instant = λ net certificate plan. record {
+  of_each = λ strategy controls.
+      All-weaker (IsTrueOf (shown_form net) strategy) (IsTrueAsShown net strategy) (λ line states. (states.0, states.1, (truth net strategy states.0 plan).1 states.2))
+      (passed_lines certificate (judgement_of (shown_form net) certificate))
+      ((passed_true (shown_form net) keep derivations (is_instant net plan) certificate).of_each strategy ((control net strategy plan).0 controls));
+}
   where
     passed_true : (net : Plan) → RulesKeepEdges → DerivationsAreTrue → IsInstant net → (certificate : Certificate) → AreTrue net (passed_lines certificate (judgement_of net certificate))
     passed_true net keep derivations instant (Refutation lines walk) =

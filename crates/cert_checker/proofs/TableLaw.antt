@@ -20,6 +20,8 @@ use Rattle.net_model.specs.declared.part.Edge.{Edge}
 use Rattle.net_model.specs.declared.part.Link.{Link}
 use Rattle.net_model.proofs.RuleLemmas.{two_steps}
 use Rattle.strategy_model.specs.Plays.{IsInstant, same_point}
+use Rattle.strategy_model.specs.ShownLaws.{ControllableIsShown, ShownFormIsInstant}
+use Rattle.net_model.specs.ShownForm.{shown_form}
 use Rattle.strategy_model.specs.Control.{IsControllable}
 use Rattle.strategy_model.specs.Dispatch.{Stands, IsClosedList, IsOrder}
 use Rattle.strategy_model.specs.DispatchLaws.{ClosedListsGiveStrategies}
@@ -415,5 +417,5 @@ controls_by law net (Refutation lines walk) instant accepted = absurd (other_cla
 controls_by law net (TableProof order entries) instant accepted = table_controls law net instant order entries (accepted_table (table_passes net order entries) accepted)
 
 -- an accepted table proof gives a strategy that controls the network
-pub accepted_controls : ClosedListsGiveStrategies → AcceptedControls
-accepted_controls law = controls_by law
+pub accepted_controls : ClosedListsGiveStrategies → ControllableIsShown → ShownFormIsInstant → AcceptedControls
+accepted_controls law is_shown is_instant = λ net certificate plan accepted. (is_shown net plan).1 (controls_by law (shown_form net) certificate (is_instant net plan) accepted)

@@ -6,6 +6,8 @@ use Rattle.net_model.specs.declared.ids.LinkId.{LinkId}
 use Rattle.net_model.specs.declared.part.Edge.{Edge}
 use Rattle.strategy_model.specs.Control.{Controls}
 use Rattle.strategy_model.specs.Edges.{HoldsOf}
+use Rattle.strategy_model.specs.ShownLaws.{HoldsAsShown}
+use Rattle.net_model.specs.ShownForm.{shown_form}
 use Rattle.strategy_model.specs.declared.tree.Tree.{Tree}
 use Rattle.cert_format.specs.declared.certificate.Certificate.{Certificate}
 use Rattle.cert_format.specs.declared.certificate.Certificate.TheVariants.{Refutation, TableProof}
@@ -33,6 +35,14 @@ IsTrueOf net strategy line = (edge : Edge) × States net line edge × HoldsOf ne
 -- lines that are true of every strategy that controls the network
 pub record AreTrue (net : Plan) (lines : List CertLine) : Type 0 where
   pub of_each : (strategy : Tree) → Controls strategy net → All (IsTrueOf net strategy) lines
+
+-- a line states an edge that holds of what is shown, by a strategy
+abbrev pub IsTrueAsShown : Plan → Tree → CertLine → Type 0
+IsTrueAsShown net strategy line = (edge : Edge) × States (shown_form net) line edge × HoldsAsShown net strategy edge
+
+-- lines that are true, of what is shown, of every strategy that controls the network
+pub record AreTrueAsShown (net : Plan) (lines : List CertLine) : Type 0 where
+  pub of_each : (strategy : Tree) → Controls strategy net → All (IsTrueAsShown net strategy) lines
 
 -- the rule lines that passed, of a refutation: all where the certificate is accepted, else those before the line that is refused
 abbrev pub passed_lines : Certificate → Judgement → List CertLine

@@ -1,11 +1,13 @@
 ghost use Rattle.std.specs.Prelude.{◌≡◌, IfOk, IsOk, Ok, []};
+ghost use Rattle.net_model.specs.ShownForm.{shown_form};
 ghost use Rattle.strategy_model.specs.Control.{IsControllable};
 ghost use Rattle.cert_checker.specs.Judgement.{IsRefutation, lines_pass, refutation_passes, judgement_of};
-ghost use Rattle.cert_checker.specs.Truth.{AreTrue, passed_lines};
+ghost use Rattle.cert_checker.specs.Truth.{AreTrueAsShown, passed_lines};
 
 use crate::judgement::{Claim, Judgement, Refusal};
 use crate::laws;
 use crate::rules::line_passes;
+use crate::shown::Shown;
 use crate::table::judge_table;
 use crate::walk::walk_passes;
 use cert_format::{CertLine, Certificate};
@@ -32,10 +34,10 @@ pub fn judge<R: Threads + Sync>(
     cert: &Certificate,
 ) -> Result<Judgement, AllocError>
     ensures ok { IsRefutation cert.now → IsOk result }
-    ensures judged { IfOk result (λ judgement. judgement ≡ judgement_of net.now cert.now) }
+    ensures judged { IfOk result (λ judgement. judgement ≡ judgement_of (shown_form net.now) cert.now) }
 
     // What a certificate says is so, whoever wrote it.
-    ensures true_lines { IfOk result (λ judgement. AreTrue net.now (passed_lines cert.now judgement)) }
+    ensures true_lines { IfOk result (λ judgement. AreTrueAsShown net.now (passed_lines cert.now judgement)) }
     ensures excludes { result ≡ Ok (Judgement.Accepted Claim.NotControllable) → ¬ IsControllable net.now }
     ensures controls { result ≡ Ok (Judgement.Accepted Claim.Controllable) → IsControllable net.now }
 {
@@ -43,14 +45,14 @@ pub fn judge<R: Threads + Sync>(
     laws::accepted_excludes();
     laws::accepted_controls();
     net.points();
-    judgement_of(rt, alloc, net, cert)
+    judgement_of(rt, alloc, &Shown::of(net), cert)
 }
 
 /// The judgement of a certificate, whatever it is of.
 fn judgement_of<R: Threads + Sync>(
     rt: &R,
     alloc: Global,
-    net: &Network,
+    net: &Shown,
     cert: &Certificate,
 ) -> Result<Judgement, AllocError>
     ensures ok { IsRefutation cert.now → IsOk result }
@@ -66,7 +68,7 @@ fn judgement_of<R: Threads + Sync>(
     }
 }
 
-fn judge_refutation(net: &Network, lines: &[CertLine], walk: &[u64]) -> Judgement
+fn judge_refutation(net: &Shown, lines: &[CertLine], walk: &[u64]) -> Judgement
     ensures { result ≡ judgement_of net.now (Certificate.Refutation lines.now walk.now) }
 {
     match refutation_passes(net, lines, walk) {
@@ -79,7 +81,7 @@ fn judge_refutation(net: &Network, lines: &[CertLine], walk: &[u64]) -> Judgemen
 }
 
 #[tactic(auto, unfolding(crate::specs::Judgement::refutation_passes))]
-fn refutation_passes(net: &Network, lines: &[CertLine], walk: &[u64]) -> Result<(), Refusal>
+fn refutation_passes(net: &Shown, lines: &[CertLine], walk: &[u64]) -> Result<(), Refusal>
     ensures { result ≡ refutation_passes net.now lines.now walk.now }
 {
     // The refusal is taken apart, so that the types of its fields are named here.
@@ -90,7 +92,7 @@ fn refutation_passes(net: &Network, lines: &[CertLine], walk: &[u64]) -> Result<
 }
 
 /// Each line passes, by the lines before it.
-fn lines_pass(net: &Network, lines: &[CertLine]) -> Result<(), Refusal>
+fn lines_pass(net: &Shown, lines: &[CertLine]) -> Result<(), Refusal>
     ensures { result ≡ lines_pass net.now [] lines.now }
 {
     for (index, line) in lines.iter().enumerate() {

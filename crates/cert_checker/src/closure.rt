@@ -7,11 +7,12 @@ ghost use Rattle.cert_checker.specs.Sound.{IsShort, IsSoundEdge};
 ghost use Rattle.cert_checker.specs.Least.{IsFor, IsPlaced, opens, opens_after, opens_at_link, opens_before, opens_without_label, unlabelled};
 
 use crate::least::LeastWeights;
-use net_model::{Edge, Link, LinkId, Network};
+use crate::shown::Shown;
+use net_model::{Edge, Link, LinkId};
 
 /// Whether by some rule, with this edge as the second premise, as the edge after the lower-case edge, or as the premise of
 /// removal, the entries give an edge whose key has no such weight. Of the first premises of a key only the least matters.
-pub(crate) fn opens(net: &Network, least: &LeastWeights, second: &Edge) -> bool
+pub(crate) fn opens(net: &Shown, least: &LeastWeights, second: &Edge) -> bool
     requires shape { IsFor (length net.now.points) (length net.now.links) least.now }
     requires sound { IsSoundEdge net.now second.now }
     ensures { result ≡ opens net.now least.now second.now }
@@ -21,7 +22,7 @@ pub(crate) fn opens(net: &Network, least: &LeastWeights, second: &Edge) -> bool
 }
 
 /// The same of a negative edge, without removal.
-fn opens_negative(net: &Network, least: &LeastWeights, second: &Edge) -> bool
+fn opens_negative(net: &Shown, least: &LeastWeights, second: &Edge) -> bool
     requires shape { IsFor (length net.now.points) (length net.now.links) least.now }
     requires sound { IsSoundEdge net.now second.now }
     requires negative { second.now.weight <ℤ pos 0 }
@@ -31,7 +32,7 @@ fn opens_negative(net: &Network, least: &LeastWeights, second: &Edge) -> bool
 }
 
 /// By removal.
-fn opens_without_label(net: &Network, least: &LeastWeights, edge: &Edge) -> bool
+fn opens_without_label(net: &Shown, least: &LeastWeights, edge: &Edge) -> bool
     requires shape { IsFor (length net.now.points) (length net.now.links) least.now }
     requires sound { IsSoundEdge net.now edge.now }
     ensures { result ≡ opens_without_label net.now least.now edge.now }
@@ -39,8 +40,8 @@ fn opens_without_label(net: &Network, least: &LeastWeights, edge: &Edge) -> bool
     let Some(label) = edge.label else {
         return false;
     };
-    match net.links().get(label.0 as usize) {
-        Some(link) => !least.has_at_most(&unlabelled(edge, link)),
+    match net.link_at(label) {
+        Some(link) => !least.has_at_most(&unlabelled(edge, &link)),
         None => false,
     }
 }
@@ -58,7 +59,7 @@ fn unlabelled(edge: &Edge, link: &Link) -> Edge
 }
 
 /// By the lower-case or the cross-case rule, with the link that ends where the edge begins.
-fn opens_after(net: &Network, least: &LeastWeights, second: &Edge) -> bool
+fn opens_after(net: &Shown, least: &LeastWeights, second: &Edge) -> bool
     requires shape { IsFor (length net.now.points) (length net.now.links) least.now }
     requires sound { IsSoundEdge net.now second.now }
     ensures { result ≡ opens_after net.now least.now second.now }
@@ -66,8 +67,8 @@ fn opens_after(net: &Network, least: &LeastWeights, second: &Edge) -> bool
     let Some(name) = net.activation(second.from) else {
         return false;
     };
-    match net.links().get(name.0 as usize) {
-        Some(link) => opens_at_link(least, second, name, link),
+    match net.link_at(name) {
+        Some(link) => opens_at_link(least, second, name, &link),
         None => false,
     }
 }

@@ -7,13 +7,14 @@ ghost use Rattle.cert_checker.specs.Reading.{with_values};
 
 use crate::judgement::{CertFault, Refusal};
 use crate::rules::{is_in_range, unless};
+use crate::shown::Shown;
 use cert_format::Entry;
-use net_model::{Edge, LinkId, Name, Network, PointId, Weight};
+use net_model::{Edge, LinkId, Name, PointId, Weight};
 use std::alloc::AllocError;
 
 /// Reads the points of the order, whose first line is line 1, or refuses the first line whose point is not in the network.
 pub(crate) fn read_points(
-    net: &Network,
+    net: &Shown,
     order: &[Name],
     points: &mut Vec<PointId>,
 ) -> Result<Result<(), Refusal>, AllocError>
@@ -36,7 +37,7 @@ pub(crate) fn read_points(
 
 /// Reads the edges of entries, of which the first has this line, or refuses the first entry that does not pass for itself.
 pub(crate) fn read_edges(
-    net: &Network,
+    net: &Shown,
     first: u64,
     entries: &[Entry],
     edges: &mut Vec<Edge>,
@@ -60,14 +61,14 @@ pub(crate) fn read_edges(
 }
 
 /// A line of the order: its point is in the network.
-fn point_passes(net: &Network, name: &Name) -> Result<PointId, CertFault>
+fn point_passes(net: &Shown, name: &Name) -> Result<PointId, CertFault>
     ensures { result ≡ point_passes net.now name.now }
 {
     net.point(name.bytes()).ok_or(CertFault::UnknownItem)
 }
 
 /// An entry: its names are in the network, and its weight is within the limit.
-fn entry_passes(net: &Network, entry: &Entry) -> Result<Edge, CertFault>
+fn entry_passes(net: &Shown, entry: &Entry) -> Result<Edge, CertFault>
     ensures { result ≡ entry_passes net.now entry.now }
 {
     let edge = edge_of_entry(net, entry).ok_or(CertFault::UnknownItem)?;
@@ -76,7 +77,7 @@ fn entry_passes(net: &Network, entry: &Entry) -> Result<Edge, CertFault>
 }
 
 /// The edge that an entry states, where its names are in the network.
-fn edge_of_entry(net: &Network, entry: &Entry) -> Option<Edge>
+fn edge_of_entry(net: &Shown, entry: &Entry) -> Option<Edge>
     ensures { result ≡ edge_of_entry net.now entry.now }
 {
     match (&entry.to, &entry.label) {
@@ -87,7 +88,7 @@ fn edge_of_entry(net: &Network, entry: &Entry) -> Option<Edge>
 }
 
 /// The ordinary edge between the points of two names.
-fn ordinary_of(net: &Network, from: &Name, to: &Name, weight: Weight) -> Option<Edge>
+fn ordinary_of(net: &Shown, from: &Name, to: &Name, weight: Weight) -> Option<Edge>
     ensures { result ≡ ordinary_of net.now from.now to.now weight }
 {
     let from = net.point(from.bytes())?;
@@ -101,12 +102,12 @@ fn ordinary_of(net: &Network, from: &Name, to: &Name, weight: Weight) -> Option<
 }
 
 /// The edge from the point of a name that is labelled by the link that ends in the point of another.
-fn labelled_of(net: &Network, from: &Name, label: &Name, weight: Weight) -> Option<Edge>
+fn labelled_of(net: &Shown, from: &Name, label: &Name, weight: Weight) -> Option<Edge>
     ensures { result ≡ labelled_of net.now from.now label.now weight }
 {
     let from = net.point(from.bytes())?;
     let label = link_id(net, label)?;
-    let link = net.links().get(label.0 as usize)?;
+    let link = net.link_at(label)?;
     Some(Edge {
         from,
         to: link.from,
@@ -116,7 +117,7 @@ fn labelled_of(net: &Network, from: &Name, label: &Name, weight: Weight) -> Opti
 }
 
 /// The link that ends in the point of a name.
-fn link_id(net: &Network, name: &Name) -> Option<LinkId>
+fn link_id(net: &Shown, name: &Name) -> Option<LinkId>
     ensures { result ≡ link_id net.now name.now }
 {
     let point = net.point(name.bytes())?;

@@ -3,7 +3,7 @@
 ghost use Rattle.cert_checker.specs.Laws.{AcceptedControls, AcceptedExcludes, PassedLinesAreTrue, RefusalsAreOfOneLine, TablesAreRefusedAtTheFirstLine};
 
 use strategy_model::laws;
-use strategy_model::laws::dispatch;
+use strategy_model::laws::{dispatch, shown};
 
 /// Each rule line that passes is true of every strategy that controls the network.
 pub fn passed_lines_are_true()
@@ -11,6 +11,9 @@ pub fn passed_lines_are_true()
 {
     laws::rules_keep_edges();
     laws::derivations_are_true();
+    shown::control_is_shown();
+    shown::truth_is_shown();
+    shown::shown_form_is_instant();
 }
 
 /// An accepted refutation excludes every strategy that controls the network, whoever wrote it.
@@ -19,6 +22,8 @@ pub fn accepted_excludes()
 {
     laws::rules_keep_edges();
     laws::refutations_exclude_strategies();
+    shown::controllable_is_shown();
+    shown::shown_form_is_instant();
 }
 
 /// An accepted table proof gives a strategy that controls the network, whoever wrote it.
@@ -26,6 +31,8 @@ pub fn accepted_controls()
     ensures { AcceptedControls }
 {
     dispatch::closed_lists_give_strategies();
+    shown::controllable_is_shown();
+    shown::shown_form_is_instant();
 }
 
 /// A refused refutation has one line that is refused, by its own first test that fails, or its walk is.

@@ -5,7 +5,8 @@ ghost use Rattle.cert_checker.specs.Least.{IsFor, IsPlaced, IsPlacedBefore, abse
 ghost use Rattle.cert_checker.specs.Sound.{AreSound};
 
 use crate::row::Row;
-use net_model::{Edge, Network};
+use crate::shown::Shown;
+use net_model::Edge;
 use std::alloc::{AllocError, Global};
 use std::marker::Model;
 
@@ -26,11 +27,7 @@ impl Model for LeastWeights {
 
 impl LeastWeights {
     /// Those of edges of a network.
-    pub(crate) fn of(
-        alloc: Global,
-        net: &Network,
-        edges: &[Edge],
-    ) -> Result<LeastWeights, AllocError>
+    pub(crate) fn of(alloc: Global, net: &Shown, edges: &[Edge]) -> Result<LeastWeights, AllocError>
         requires { AreSound net.now edges.now }
         ensures least { IfOk result (λ least. least ≡ least_of net.now edges.now) }
         ensures shape { IfOk result (IsFor (length net.now.points) (length net.now.links)) }
@@ -42,13 +39,13 @@ impl LeastWeights {
         Ok(least)
     }
 
-    fn without_entries(alloc: Global, net: &Network) -> Result<LeastWeights, AllocError>
+    fn without_entries(alloc: Global, net: &Shown) -> Result<LeastWeights, AllocError>
         ensures { IfOk result (λ least. least ≡ no_weights (length net.now.points) (length net.now.links)) }
     {
         let points = net.points().len();
         Ok(LeastWeights {
             ordinary: absent_rows(alloc, points, points as u32)?,
-            labelled: absent_rows(alloc, net.links().len(), points as u32)?,
+            labelled: absent_rows(alloc, net.link_count(), points as u32)?,
         })
     }
 

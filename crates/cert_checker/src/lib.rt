@@ -14,6 +14,7 @@ mod order;
 mod row;
 mod rules;
 mod scan;
+mod shown;
 mod table;
 mod walk;
 

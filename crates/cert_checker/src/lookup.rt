@@ -2,29 +2,30 @@ ghost use Rattle.std.specs.Prelude.{◌≡◌, option_copied, IfSome};
 ghost use Rattle.net_model.specs.Network.{IsLink};
 ghost use Rattle.cert_checker.specs.Lines.{link_named, bound_of, names_point, label_of, same_label, item_known, label_known, names_known, line_at};
 
+use crate::shown::Shown;
 use cert_format::{CertLine, LineKind};
-use net_model::{Bound, Link, Name, Network, PointId};
+use net_model::{Bound, Link, Name, PointId};
 
 /// The link that ends in the point of a name.
-pub(crate) fn link_named(net: &Network, name: &Name) -> Option<Link>
+pub(crate) fn link_named(net: &Shown, name: &Name) -> Option<Link>
     ensures link { result ≡ link_named net.now name.now }
     ensures sound { IfSome result (IsLink net.now) }
 {
     let point = net.point(name.bytes())?;
     let link = net.activation(point)?;
-    net.links().get(link.0 as usize).copied()
+    net.link_at(link)
 }
 
 /// The bound of a name.
-pub(crate) fn bound_of(net: &Network, name: &Name) -> Option<Bound>
+pub(crate) fn bound_of(net: &Shown, name: &Name) -> Option<Bound>
     ensures { result ≡ bound_of net.now name.now }
 {
     let bound = net.bound(name.bytes())?;
-    net.bounds().get(bound.0 as usize).copied()
+    net.bound_at(bound)
 }
 
 /// Whether a point has a name.
-pub(crate) fn names_point(net: &Network, name: &Name, point: PointId) -> bool
+pub(crate) fn names_point(net: &Shown, name: &Name, point: PointId) -> bool
     ensures { result ≡ names_point net.now name.now point }
 {
     match net.point(name.bytes()) {
@@ -64,7 +65,7 @@ pub(crate) fn line_at(lines: &[CertLine], number: u64) -> Option<&CertLine>
 
 /// Whether each name of a line is in the network.
 #[tactic(auto, unfolding(crate::specs::Lines::names_known))]
-pub(crate) fn names_known(net: &Network, line: &CertLine) -> bool
+pub(crate) fn names_known(net: &Shown, line: &CertLine) -> bool
     ensures { result ≡ names_known net.now line.now }
 {
     net.point(line.from.bytes()).is_some()
@@ -73,7 +74,7 @@ pub(crate) fn names_known(net: &Network, line: &CertLine) -> bool
         && is_label_known(net, &line.label)
 }
 
-fn is_item_known(net: &Network, kind: &LineKind) -> bool
+fn is_item_known(net: &Shown, kind: &LineKind) -> bool
     ensures { result ≡ item_known net.now kind.now }
 {
     match kind {
@@ -85,7 +86,7 @@ fn is_item_known(net: &Network, kind: &LineKind) -> bool
     }
 }
 
-fn is_label_known(net: &Network, label: &Option<Name>) -> bool
+fn is_label_known(net: &Shown, label: &Option<Name>) -> bool
     ensures { result ≡ label_known net.now label.now }
 {
     match label {

@@ -8,11 +8,12 @@ ghost use Rattle.cert_checker.specs.Orders.{ArePlaces};
 ghost use Rattle.cert_checker.specs.Tables.{comes_before, is_complete, stand_once};
 
 use crate::judgement::{CertFault, Refusal};
-use net_model::{Edge, Network, PointId};
+use crate::shown::Shown;
+use net_model::{Edge, PointId};
 use std::alloc::{AllocError, Global};
 
 /// No point yet has a place.
-pub(crate) fn no_places(alloc: Global, net: &Network) -> Result<Vec<Option<usize>>, AllocError>
+pub(crate) fn no_places(alloc: Global, net: &Shown) -> Result<Vec<Option<usize>>, AllocError>
     ensures { IfOk result (λ places. ArePlaces net.now [] places.items) }
 {
     vec![in alloc; None; net.points().len()]
@@ -20,7 +21,7 @@ pub(crate) fn no_places(alloc: Global, net: &Network) -> Result<Vec<Option<usize
 
 /// Fills in the place of each point of an order, up to the first that stands before in it.
 pub(crate) fn fill_places(
-    net: &Network,
+    net: &Shown,
     order: &[PointId],
     places: &mut [Option<usize>],
 ) -> Result<(), Refusal>
@@ -43,7 +44,7 @@ pub(crate) fn fill_places(
 }
 
 /// Whether each point of the network has a place.
-pub(crate) fn is_complete(net: &Network, order: &[PointId], places: &[Option<usize>]) -> bool
+pub(crate) fn is_complete(net: &Shown, order: &[PointId], places: &[Option<usize>]) -> bool
     requires { ArePlaces net.now order.now places.now }
     ensures { result ≡ is_complete net.now order.now }
 {

@@ -9,13 +9,14 @@ use crate::judgement::CertFault;
 use crate::lookup::{
     bound_of, label_of, line_at, link_named, names_known, names_point, same_label,
 };
+use crate::shown::Shown;
 use cert_format::{CertLine, LineKind};
-use net_model::{Link, MOST_WEIGHT, Name, Network, PointId, Weight};
+use net_model::{Link, MOST_WEIGHT, Name, PointId, Weight};
 
 /// A rule line, by the lines before it.
 #[tactic(auto, unfolding(crate::specs::Lines::line_passes))]
 pub(crate) fn line_passes(
-    net: &Network,
+    net: &Shown,
     earlier: &[CertLine],
     line: &CertLine,
 ) -> Result<(), CertFault>
@@ -28,7 +29,7 @@ pub(crate) fn line_passes(
     rule_passes(net, earlier, line)
 }
 
-fn rule_passes(net: &Network, earlier: &[CertLine], line: &CertLine) -> Result<(), CertFault>
+fn rule_passes(net: &Shown, earlier: &[CertLine], line: &CertLine) -> Result<(), CertFault>
     requires { All (λ l. in_range l.weight ≡ true) earlier.now }
     ensures { result ≡ rule_passes net.now earlier.now line.now line.now.kind }
 {
@@ -65,7 +66,7 @@ fn at_least(line: &CertLine, least: Weight) -> Result<(), CertFault>
 
 /// The bound rule.
 #[tactic(auto, unfolding(crate::specs::Lines::bound_passes))]
-fn bound_passes(net: &Network, line: &CertLine, name: &Name) -> Result<(), CertFault>
+fn bound_passes(net: &Shown, line: &CertLine, name: &Name) -> Result<(), CertFault>
     ensures { result ≡ bound_passes net.now line.now name.now }
 {
     let bound = bound_of(net, name).ok_or(CertFault::UnknownItem)?;
@@ -75,7 +76,7 @@ fn bound_passes(net: &Network, line: &CertLine, name: &Name) -> Result<(), CertF
 
 /// The link rule.
 #[tactic(auto, unfolding(crate::specs::Lines::link_passes))]
-fn link_passes(net: &Network, line: &CertLine, name: &Name) -> Result<(), CertFault>
+fn link_passes(net: &Shown, line: &CertLine, name: &Name) -> Result<(), CertFault>
     ensures { result ≡ link_passes net.now line.now name.now }
 {
     let link = link_named(net, name).ok_or(CertFault::UnknownItem)?;
@@ -129,7 +130,7 @@ fn up_passes(earlier: &[CertLine], line: &CertLine, i: u64, j: u64) -> Result<()
 /// The ends and the weight of a line that goes over a link and then its premise.
 #[tactic(auto, unfolding(crate::specs::Lines::back_passes))]
 fn back_passes(
-    net: &Network,
+    net: &Shown,
     link: &Link,
     second: &CertLine,
     line: &CertLine,
@@ -145,7 +146,7 @@ fn back_passes(
 /// The lower-case rule.
 #[tactic(auto, unfolding(crate::specs::Lines::low_passes))]
 fn low_passes(
-    net: &Network,
+    net: &Shown,
     earlier: &[CertLine],
     line: &CertLine,
     name: &Name,
@@ -163,7 +164,7 @@ fn low_passes(
 /// The cross-case rule.
 #[tactic(auto, unfolding(crate::specs::Lines::cross_passes))]
 fn cross_passes(
-    net: &Network,
+    net: &Shown,
     earlier: &[CertLine],
     line: &CertLine,
     name: &Name,
@@ -188,12 +189,7 @@ fn without_label(weight: Weight, shortest: Weight) -> Weight
 
 /// The removal of a label.
 #[tactic(auto, unfolding(crate::specs::Lines::drop_passes))]
-fn drop_passes(
-    net: &Network,
-    earlier: &[CertLine],
-    line: &CertLine,
-    j: u64,
-) -> Result<(), CertFault>
+fn drop_passes(net: &Shown, earlier: &[CertLine], line: &CertLine, j: u64) -> Result<(), CertFault>
     ensures { result ≡ drop_passes net.now earlier.now line.now j }
 {
     let labelled = line_at(earlier, j).ok_or(CertFault::Premise)?;
@@ -247,7 +243,7 @@ fn may_cross(line: &CertLine, second: &CertLine, name: &Name) -> bool
 }
 
 /// The edge of a line goes from a point to a point.
-fn goes(net: &Network, line: &CertLine, from: PointId, to: PointId) -> bool
+fn goes(net: &Shown, line: &CertLine, from: PointId, to: PointId) -> bool
     ensures { result ≡ goes net.now line.now from to }
 {
     names_point(net, &line.from, from) && names_point(net, &line.to, to)
@@ -261,7 +257,7 @@ fn joins(first: &CertLine, second: &CertLine, line: &CertLine) -> bool
 }
 
 /// A premise begins where a link ends, and a line goes from where the link begins to where the premise ends.
-fn reaches_back(net: &Network, link: &Link, second: &CertLine, line: &CertLine) -> bool
+fn reaches_back(net: &Shown, link: &Link, second: &CertLine, line: &CertLine) -> bool
     ensures { result ≡ reaches_back net.now link.now second.now line.now }
 {
     names_point(net, &second.from, link.to)

@@ -17,8 +17,9 @@ use crate::judgement::{CertFault, Claim, Judgement, Refusal};
 use crate::least::LeastWeights;
 use crate::order::{fill_places, is_complete, no_places, rises};
 use crate::scan::first_refused;
+use crate::shown::Shown;
 use cert_format::Entry;
-use net_model::{Edge, Name, Network, PointId};
+use net_model::{Edge, Name, PointId};
 use std::alloc::{AllocError, Global};
 use std::thread::Threads;
 
@@ -101,7 +102,7 @@ fn falls<R: Threads + Sync>(
 /// No entry gives an edge whose key has no such weight.
 fn closes<R: Threads + Sync>(
     rt: &R,
-    net: &Network,
+    net: &Shown,
     first: u64,
     edges: &[Edge],
     least: &LeastWeights,
@@ -125,7 +126,7 @@ fn closes<R: Threads + Sync>(
 /// No point is missing in an order, and each negative ordinary edge falls along it.
 fn placed_passes<R: Threads + Sync>(
     rt: &R,
-    net: &Network,
+    net: &Shown,
     order: &[PointId],
     edges: &[Edge],
     places: &[Option<usize>],
@@ -147,7 +148,7 @@ fn placed_passes<R: Threads + Sync>(
 /// The order of a table passes. `places` has a place for each point.
 fn order_passes<R: Threads + Sync>(
     rt: &R,
-    net: &Network,
+    net: &Shown,
     order: &[PointId],
     edges: &[Edge],
     places: &mut [Option<usize>],
@@ -169,7 +170,7 @@ fn order_passes<R: Threads + Sync>(
 fn ordered_passes<R: Threads + Sync>(
     rt: &R,
     alloc: Global,
-    net: &Network,
+    net: &Shown,
     order: &[PointId],
     edges: &[Edge],
     least: &LeastWeights,
@@ -194,7 +195,7 @@ fn ordered_passes<R: Threads + Sync>(
 fn edges_pass<R: Threads + Sync>(
     rt: &R,
     alloc: Global,
-    net: &Network,
+    net: &Shown,
     order: &[PointId],
     edges: &[Edge],
 ) -> Result<Result<(), Refusal>, AllocError>
@@ -232,7 +233,7 @@ fn judged(passes: Result<(), Refusal>) -> Judgement
 pub(crate) fn judge_table<R: Threads + Sync>(
     rt: &R,
     alloc: Global,
-    net: &Network,
+    net: &Shown,
     order: &[Name],
     entries: &[Entry],
 ) -> Result<Judgement, AllocError>
@@ -249,7 +250,7 @@ pub(crate) fn judge_table<R: Threads + Sync>(
 fn judge_entries<R: Threads + Sync>(
     rt: &R,
     alloc: Global,
-    net: &Network,
+    net: &Shown,
     order: &[Name],
     points: &[PointId],
     entries: &[Entry],

@@ -2,7 +2,9 @@
 use Rattle.std.proofs.Common.{◌≡◌, ℕ, List, length, Option, Some, Result, Ok, Err, refl, subst}
 use Rattle.std.specs.Prelude.{IfOk, IfSome}
 use Rattle.std.specs.declared.alloc.AllocError.{AllocError}
-use Rattle.net_model.specs.Network.{Plan}
+use Rattle.net_model.specs.Editing.{edited}
+use Rattle.net_model.specs.Network.{Plan, IsPlan}
+use Rattle.net_model.specs.ShownForm.{shown_form}
 use Rattle.net_model.specs.declared.edit.Edit.{Edit}
 use Rattle.net_model.specs.declared.ids.PointId.{PointId}
 use Rattle.strategy_model.specs.Control.{IsControllable}
@@ -13,6 +15,8 @@ use Rattle.closure_model.specs.Orders.{IsOrder, IsCycle, placed_points}
 use Rattle.closure_model.specs.ReferenceRounds.{Ending, closed, looped, RoundsEnd, in_cycle, in_order, after_one}
 use Rattle.closure_model.specs.ReferenceRound.{after_round}
 use Rattle.closure_model.specs.Tables.{Graph}
+use Rattle.net_model.proofs.ShownLemmas.{shown_sound}
+use Rattle.derivation_edits.specs.TakenAway.{AreWithdrawn, EditsWithdrawNodes, ShownFormsFollowEdits}
 use Rattle.controllability.specs.Laws.{OrderedClosuresAreControllable, StandingCyclesExclude}
 use Rattle.table_histories.specs.LaterNodes.{LaterNodesFall}
 use Rattle.parallel_rounds.specs.Propagated.{IsPropagated, Says, ending_of, rounds_of}
@@ -30,7 +34,7 @@ use Rattle.refutations.specs.Refuting.{Refutes}
 use Rattle.dispatch_net.specs.Dispatchable.{DispatchLists, IsDispatchBy}
 use Rattle.plan_session.specs.declared.answers.Report.{Report}
 use Rattle.dispatch_net.specs.OfClosure.{IsDispatchOfClosure}
-use Rattle.plan_session.specs.Sessions.{Opened, State, EndsWell, IsPlacedBy, IsSound, Opens, FollowsEdit}
+use Rattle.plan_session.specs.Sessions.{Opened, EndsWell, IsPlacedBy, IsSound, Opens, FollowsEdit}
 
 -- what an outcome says of a table is what its ending does
 pub says_well : (net : Plan) (support : Support) (outcome : Outcome) → Says net support outcome → EndsWell net support (ending_of outcome)
@@ -102,6 +106,23 @@ follows fall old edit new before start after outcome answer followed propagated 
   sound = propagated_sound new start after outcome propagated;
 }
 
+-- the same of shown forms, with exactly the nodes withdrawn that rest on what the edit takes away
+module _ (withdraw : EditsWithdrawNodes) (follow : ShownFormsFollowEdits) (old : Plan) (edit : Edit) (new : Plan) (before : IsPlan old) (after : IsPlan new) (made : edited old edit ≡ Ok new) where
+  -- an edit is followed from the one shown form to the other
+  abbrev pub Follows : Opened → Opened → Report → Type 0
+  Follows held opened report = (one : FollowsEdit (shown_form old) edit (shown_form new) held opened report) × AreWithdrawn (shown_form old) edit (shown_form new) held.support.nodes one.followed.places
+
+  pub shown_follows : (shown others : Plan) (held opened : Opened) (report : Report) → shown ≡ shown_form old → others ≡ shown_form new → IsSound shown held → FollowsEdit shown edit others held opened report → Follows held opened report
+  shown_follows shown others held opened report is also sound followed =
+      let sound_there = subst (λ (n : Plan). IsSound n held) is sound in
+      let from = subst (λ (n : Plan). FollowsEdit n edit others held opened report) is followed in
+      let follows = subst (λ (n : Plan). FollowsEdit (shown_form old) edit n held opened report) also from in
+      let kept = follows.followed in (
+        follows,
+        withdraw (shown_form old) edit (shown_form new) held.support.nodes (record { places = kept.places; kept = kept.kept }) (shown_sound old before) (shown_sound new after) (follow old edit new made)
+            sound_there.stands.derived kept.are,
+      )
+
 -- ---- the certificate
 -- rounds from the base that end in a cycle give the certificate of the network
 pub refutes : (net : Plan) (opened : Opened) (cycle : List PointId) (cert : Certificate) → Opens net opened → ¬ IsControllable net → opened.ending ≡ looped cycle → IsCertificateBy net opened.support.nodes cycle cert
@@ -134,5 +155,5 @@ dispatches net table order (Err error) closure ordered by whole = tt
 
 -- ---- a session that is not broken
 -- what is opened of it is sound
-pub opened_sound : (session : State) (opened : Opened) → session.opened ≡ Some opened → IfSome session.opened (IsSound session.net) → IsSound session.net opened
-opened_sound session opened is sound = subst (λ (o : Option Opened). IfSome o (IsSound session.net)) is sound
+pub opened_sound : (net : Plan) (held : Option Opened) (opened : Opened) → held ≡ Some opened → IfSome held (IsSound net) → IsSound net opened
+opened_sound net held opened is sound = subst (λ (o : Option Opened). IfSome o (IsSound net)) is sound

@@ -3,6 +3,7 @@ use Rattle.std.specs.Prelude.{◌≡◌, ◌≢◌, ℕ, suc, ◌≤◌, List, �
 use Rattle.std.specs.declared.alloc.AllocError.{AllocError}
 use Rattle.net_model.specs.Network.{Plan, IsPlan, HasPlanNumbers}
 use Rattle.net_model.specs.Editing.{edited}
+use Rattle.net_model.specs.ShownForm.{shown_form}
 use Rattle.net_model.specs.declared.edit.Edit.{Edit}
 use Rattle.net_model.specs.declared.edit.EditFault.TheVariants as edit_fault
 use Rattle.strategy_model.specs.Control.{IsControllable}
@@ -31,7 +32,7 @@ pub record Opened : Type 0 where
   pub support : Support
   pub ending : Ending
 
--- a session: the network as it stands, and what is opened of it, unless the session is broken
+-- a session: the network as it stands, and what is opened of its shown form, unless the session is broken
 pub record State : Type 0 where
   pub net : Plan
   pub opened : Option Opened
@@ -71,9 +72,9 @@ pub record Opens (net : Plan) (opened : Opened) : Type 0 where
   pub ends : RoundsEnd net (base_support net) rounds opened.support opened.ending
   pub sound : IsSound net opened
 
--- the session of a network, as it is opened
+-- the session of a network, as it is opened: of its shown form
 abbrev pub IsOpenedOn : Plan → State → Type 0
-IsOpenedOn net session = (opened : Opened) × Opens net opened × (session ≡ record { net = net; opened = Some opened })
+IsOpenedOn net session = (opened : Opened) × Opens (shown_form net) opened × (session ≡ record { net = net; opened = Some opened })
 
 -- ---- what an edit makes of a session
 -- What an accepted edit makes of what is opened. `followed`: first the list follows the edit; exactly the nodes that rest on nothing taken
@@ -93,9 +94,9 @@ pub record FollowsEdit (old : Plan) (edit : Edit) (new : Plan) (before after : O
   pub falls : FallFrom after.support.nodes (record { 0 = length start.nodes })
   pub sound : IsSound new after
 
--- An edit of a session is accepted: the edit makes a network of its network, and what was opened follows the edit. `withdrawn`: exactly the
--- nodes that rest on a bound or a link that the edit takes away are not kept; it takes away what it drops or sets, and what stands in the
--- new network with another number.
+-- An edit of a session is accepted: the edit makes a network of its network, and what was opened follows the edit from the one shown form to
+-- the other. `withdrawn`: exactly the nodes that rest on a bound or a link that the edit takes away are not kept; it takes away what it drops
+-- or sets, and what stands in the new shown form with another number.
 pub record Accepts (before : State) (edit : Edit) (report : Report) (after : State) : Type 0 where
   pub net : Plan
   pub made : edited before.net edit ≡ Ok net
@@ -104,8 +105,8 @@ pub record Accepts (before : State) (edit : Edit) (report : Report) (after : Sta
   pub held : Opened
   pub was : before.opened ≡ Some held
   pub opened : Opened
-  pub follows : FollowsEdit before.net edit net held opened report
-  pub withdrawn : AreWithdrawn before.net edit net held.support.nodes follows.followed.places
+  pub follows : FollowsEdit (shown_form before.net) edit (shown_form net) held opened report
+  pub withdrawn : AreWithdrawn (shown_form before.net) edit (shown_form net) held.support.nodes follows.followed.places
   pub is : after ≡ record { net = net; opened = Some opened }
 
 -- What `apply` answers, and what the session is then. It refuses the edit exactly where the session is not broken and the edit is refused,
@@ -129,15 +130,16 @@ IsVerdictOf session verdict.Controllable = IsOpen session × IsControllable sess
 IsVerdictOf session verdict.NotControllable = IsOpen session × (¬ IsControllable session.net)
 IsVerdictOf session verdict.Broken = IsBroken session
 
--- the answer to the proof of the verdict: the certificate that decides the network as it stands, whatever edits led to it
+-- the answer to the proof of the verdict: the certificate that decides the shown form of the network as it stands, and so the network,
+-- whatever edits led to it
 abbrev pub AnswersProof : State → Result Certificate AskFault → Type 0
-AnswersProof session (Ok cert) = IsOpen session × Certifies session.net cert
+AnswersProof session (Ok cert) = IsOpen session × Certifies (shown_form session.net) cert
 AnswersProof session (Err ask_fault.Broken) = IsBroken session
 AnswersProof session (Err ask_fault.OutOfMemory) = IsOpen session
 
--- what a session lends is what is opened of its network, and that is sound
+-- what a session lends is what is opened of the shown form of its network, and that is sound
 pub record Lends (session : State) (support : Support) : Type 0 where
   pub opened : Opened
   pub is : session.opened ≡ Some opened
   pub support_is : support ≡ opened.support
-  pub sound : IsSound session.net opened
+  pub sound : IsSound (shown_form session.net) opened

@@ -91,7 +91,8 @@ impl Propagated {
 
     /// Whether the network is controllable.
     pub(crate) fn is_controllable(&self, net: &Network) -> bool
-        requires { IsSound net.now self.now }
+        requires sound { IsSound net.now self.now }
+        requires no_delay { net.now.delay ≡ 0 }
         ensures { IsTrue result ↔ IsControllable net.now }
     {
         ordered_closures_are_controllable();
@@ -112,6 +113,7 @@ impl Propagated {
     ) -> Result<Certificate, AllocError>
         requires sound { IsSound net.now self.now }
         requires controllable { IsControllable net.now }
+        requires no_delay { net.now.delay ≡ 0 }
         ensures { IfOk result (Proves net.now) }
     {
         standing_cycles_exclude();
@@ -131,6 +133,7 @@ impl Propagated {
     pub(crate) fn refutation(&self, alloc: Global, net: &Network) -> Result<Certificate, AllocError>
         requires opened { Opens net.now self.now }
         requires never { ¬ IsControllable net.now }
+        requires no_delay { net.now.delay ≡ 0 }
         ensures { IfOk result (Refutes net.now) }
     {
         ordered_closures_are_controllable();
@@ -155,6 +158,7 @@ impl Propagated {
     pub(crate) fn dispatch(&self, alloc: Global, net: &Network) -> Result<Dispatch, AllocError>
         requires sound { IsSound net.now self.now }
         requires controllable { IsControllable net.now }
+        requires no_delay { net.now.delay ≡ 0 }
         ensures { IfOk result (IsDispatchOfClosure net.now) }
     {
         standing_cycles_exclude();

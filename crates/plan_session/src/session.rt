@@ -1,6 +1,7 @@
 ghost use Rattle.std.specs.Prelude.{◌≡◌, ◌≤◌, Ok, IfOk};
 ghost use Rattle.net_model.specs.Editing.{edited};
 ghost use Rattle.net_model.specs.Network.{IsPlan, HasPlanNumbers};
+ghost use Rattle.net_model.specs.ShownForm.{shown_form};
 ghost use Rattle.strategy_model.specs.Control.{IsControllable};
 ghost use Rattle.cert_format.specs.declared.certificate.Certificate.{Certificate};
 ghost use Rattle.refutations.specs.Refuting.{Refutes};
@@ -12,7 +13,7 @@ ghost use Rattle.plan_session.specs.Sessions.{IsOpen, IsOpenedOn, AnswersEdit, A
 use crate::answers::{AskFault, Report, SessionFault, Verdict};
 use crate::propagated::Propagated;
 use cert_format::Certificate;
-use derivation_edits::laws::edits_withdraw_nodes;
+use derivation_edits::laws::{edits_withdraw_nodes, shown_forms_follow_edits};
 use dispatch_net::Dispatch;
 use net_model::{Edit, EditFault, Network};
 use parallel_rounds::{Gate, NoGate};
@@ -20,15 +21,18 @@ use std::alloc::{AllocError, Global};
 use std::marker::Model;
 use std::mem;
 use std::thread::Threads;
+use strategy_model::laws::shown::controllable_is_shown;
 use support_records::Store;
 use table_proofs::laws::certificates_are_one;
 
-/// A plan under edits: the network as it stands, and its derivations, of which an edit withdraws what rests on what it takes away.
-/// Contracts see it as the network, and the derivations with how the last rounds ended, unless the session is broken, and the number of
-/// workers, on which no answer depends.
+/// A plan under edits: the network as it stands, its shown form, and the derivations of that, of which an edit withdraws what rests on what
+/// it takes away. Contracts see it as the network, and the derivations with how the last rounds ended, unless the session is broken, and
+/// the number of workers, on which no answer depends.
 #[derive(Debug, Drop)]
 pub struct Session {
     net: Network,
+    /// The shown form of the network.
+    shown: Network,
     workers: u32,
     opened: Option<Propagated>,
     /// Whether no edit was accepted since the session was opened.
@@ -46,12 +50,12 @@ impl Model for Session {
 
     ghost view = { λ session. record { state = record { net = session.net; opened = session.opened }; workers = session.workers } };
 
-    ghost invariant = { λ session. IsKept session.net session.workers session.opened session.fresh };
+    ghost invariant = { λ session. IsKept session.net session.shown session.workers session.opened session.fresh };
 }
 
 impl Session {
-    /// Opens a session of a network: rounds are made from its base by so many workers, 1 to 64; the gate is called before each row.
-    /// `AllocError` comes only for want of memory.
+    /// Opens a session of a network: rounds are made from the base of its shown form by so many workers, 1 to 64; the gate is called before
+    /// each row. `AllocError` comes only for want of memory.
     pub fn open<R: Threads + Sync, G: Gate>(
         rt: &R,
         alloc: Global,
@@ -63,19 +67,21 @@ impl Session {
         ensures opened { IfOk result (λ session. IsOpenedOn net session.state) }
         ensures workers { IfOk result (λ session. session.workers ≡ workers) }
     {
-        let opened = Propagated::of(rt, alloc, &net, workers, gate)?;
+        let shown = net.shown(alloc)?;
+        let opened = Propagated::of(rt, alloc, &shown, workers, gate)?;
         Ok(Session {
             net,
+            shown,
             workers,
             opened: Some(opened),
             fresh: true,
         })
     }
 
-    /// Edits the network: the derivations that rest on nothing taken away are kept, those of what is new come after them, and rounds are
-    /// made from there. `Edit` comes exactly where the session is not broken and the edit is refused, and then nothing changes.
-    /// `OutOfMemory` comes only for want of memory; then the session keeps its old network and is broken. `Broken` comes exactly where the
-    /// session is broken, and then nothing changes.
+    /// Edits the network, which keeps its delay: the derivations that rest on nothing taken away of the shown form are kept, those of what is
+    /// new come after them, and rounds are made from there. `Edit` comes exactly where the session is not broken and the edit is refused, and
+    /// then nothing changes. `OutOfMemory` comes only for want of memory; then the session keeps its old network and is broken. `Broken` comes
+    /// exactly where the session is broken, and then nothing changes.
     pub fn apply<R: Threads + Sync, G: Gate>(
         &mut self,
         rt: &R,
@@ -90,7 +96,7 @@ impl Session {
             return Err(SessionFault::Broken);
         }
         match self.net.apply(alloc, edit) {
-            Ok(mut new) => self.follow(rt, alloc, edit, &mut new, gate),
+            Ok(mut new) => self.follow_shown(rt, alloc, edit, &mut new, gate),
             Err(EditFault::OutOfMemory) => {
                 self.opened = None;
                 Err(SessionFault::OutOfMemory)
@@ -99,8 +105,8 @@ impl Session {
         }
     }
 
-    /// Takes the network that an edit makes as its own, in exchange for the old one, when the derivations have followed.
-    fn follow<R: Threads + Sync, G: Gate>(
+    /// Makes the shown form of the network that an edit makes, and follows the edit.
+    fn follow_shown<R: Threads + Sync, G: Gate>(
         &mut self,
         rt: &R,
         alloc: Global,
@@ -115,15 +121,42 @@ impl Session {
         ensures answers { AnswersEdit self.old.state edit.now result self.new.state }
         ensures workers { self.new.workers ≡ self.old.workers }
     {
+        let Ok(mut shown) = new.shown(alloc) else {
+            self.opened = None;
+            return Err(SessionFault::OutOfMemory);
+        };
+        self.follow(rt, alloc, edit, new, &mut shown, gate)
+    }
+
+    /// Takes the network that an edit makes and its shown form as its own, in exchange for the old ones, when the derivations have followed.
+    fn follow<R: Threads + Sync, G: Gate>(
+        &mut self,
+        rt: &R,
+        alloc: Global,
+        edit: &Edit,
+        new: &mut Network,
+        shown: &mut Network,
+        gate: &G,
+    ) -> Result<Report, SessionFault>
+        requires open { IsOpen self.old.state }
+        requires made { edited self.old.state.net edit.now ≡ Ok new.old }
+        requires plan { IsPlan new.old }
+        requires numbers { HasPlanNumbers self.old.state.net → HasPlanNumbers new.old }
+        requires shown { shown.old ≡ shown_form new.old }
+        ensures answers { AnswersEdit self.old.state edit.now result self.new.state }
+        ensures workers { self.new.workers ≡ self.old.workers }
+    {
         edits_withdraw_nodes();
+        shown_forms_follow_edits();
         // The proof reads here that the network is sound.
         let _ = self.net.points();
         let Some(opened) = &mut self.opened else {
             return Err(SessionFault::Broken);
         };
-        match opened.follow(rt, alloc, &self.net, edit, new, self.workers, gate) {
+        match opened.follow(rt, alloc, &self.shown, edit, shown, self.workers, gate) {
             Ok(report) => {
                 mem::swap(&mut self.net, new);
+                mem::swap(&mut self.shown, shown);
                 self.fresh = false;
                 Ok(report)
             }
@@ -134,9 +167,9 @@ impl Session {
         }
     }
 
-    /// Makes the session anew from its network: rounds are made from the base, as `open` makes them, and whatever was opened is dropped
-    /// first. A broken session is whole again. `AllocError` comes only for want of memory; then the session keeps its network and is
-    /// broken.
+    /// Makes the session anew from its network, which keeps its delay: rounds are made from the base, as `open` makes them, and whatever was
+    /// opened is dropped first. A broken session is whole again. `AllocError` comes only for want of memory; then the session keeps its
+    /// network and is broken.
     pub fn reopen<R: Threads + Sync, G: Gate>(
         &mut self,
         rt: &R,
@@ -147,7 +180,7 @@ impl Session {
         ensures workers { self.new.workers ≡ self.old.workers }
     {
         self.opened = None;
-        let opened = Propagated::of(rt, alloc, &self.net, self.workers, gate)?;
+        let opened = Propagated::of(rt, alloc, &self.shown, self.workers, gate)?;
         self.opened = Some(opened);
         self.fresh = true;
         Ok(())
@@ -157,10 +190,13 @@ impl Session {
     pub fn verdict(&self) -> Verdict
         ensures { IsVerdictOf self.now.state result }
     {
+        controllable_is_shown();
+        // The proof reads here that the network is sound.
+        let _ = self.net.points();
         match &self.opened {
             None => Verdict::Broken,
             Some(opened) => {
-                if opened.is_controllable(&self.net) {
+                if opened.is_controllable(&self.shown) {
                     Verdict::Controllable
                 } else {
                     Verdict::NotControllable
@@ -169,18 +205,21 @@ impl Session {
         }
     }
 
-    /// The certificate that decides the network as it stands: its table proof, where some strategy controls it, else that of its refutation
-    /// by the rounds from its base. It is a function of the network, whatever edits led to it, and the judge accepts it. `Broken` comes
-    /// exactly where the session is broken. `OutOfMemory` comes only for want of memory, and the session is as it was.
+    /// The certificate that decides the network as it stands: the table proof of its shown form, where some strategy controls it, else that of
+    /// the refutation by the rounds from the base of that. It is a function of the network, whatever edits led to it, and the judge accepts
+    /// it. `Broken` comes exactly where the session is broken. `OutOfMemory` comes only for want of memory, and the session is as it was.
     pub fn certificate<R: Threads + Sync>(
         &self,
         rt: &R,
         alloc: Global,
     ) -> Result<Certificate, AskFault>
         ensures answers { AnswersProof self.now.state result }
-        ensures one { (other : Certificate) → Certifies self.now.state.net other → IfOk result (λ cert. cert ≡ other) }
+        ensures one { (other : Certificate) → Certifies (shown_form self.now.state.net) other → IfOk result (λ cert. cert ≡ other) }
     {
         certificates_are_one();
+        controllable_is_shown();
+        // The proof reads here that the network is sound.
+        let _ = self.net.points();
         match self.verdict() {
             Verdict::Broken => Err(AskFault::Broken),
             Verdict::Controllable => Ok(self.table_proof(alloc)?),
@@ -191,12 +230,12 @@ impl Session {
     /// The table proof by the closure that the session has.
     fn table_proof(&self, alloc: Global) -> Result<Certificate, AllocError>
         requires open { IsOpen self.now.state }
-        requires controllable { IsControllable self.now.state.net }
-        ensures { IfOk result (Proves self.now.state.net) }
+        requires controllable { IsControllable (shown_form self.now.state.net) }
+        ensures { IfOk result (Proves (shown_form self.now.state.net)) }
     {
         match &self.opened {
             None => unreachable!(),
-            Some(opened) => opened.table_proof(alloc, &self.net),
+            Some(opened) => opened.table_proof(alloc, &self.shown),
         }
     }
 
@@ -206,28 +245,31 @@ impl Session {
         rt: &R,
         alloc: Global,
     ) -> Result<Certificate, AllocError>
-        requires { ¬ IsControllable self.now.state.net }
-        ensures { IfOk result (Refutes self.now.state.net) }
+        requires { ¬ IsControllable (shown_form self.now.state.net) }
+        ensures { IfOk result (Refutes (shown_form self.now.state.net)) }
     {
         match &self.opened {
-            Some(opened) if self.fresh => opened.refutation(alloc, &self.net),
+            Some(opened) if self.fresh => opened.refutation(alloc, &self.shown),
             _ => {
-                let opened = Propagated::of(rt, alloc, &self.net, self.workers, &NoGate)?;
-                opened.refutation(alloc, &self.net)
+                let opened = Propagated::of(rt, alloc, &self.shown, self.workers, &NoGate)?;
+                opened.refutation(alloc, &self.shown)
             }
         }
     }
 
-    /// The dispatchable network of the closure of the network as it stands, which is controllable. `AllocError` comes only for want of
-    /// memory.
+    /// The dispatchable network of the closure of the shown form of the network as it stands, which is controllable. `AllocError` comes only
+    /// for want of memory.
     pub fn dispatch(&self, alloc: Global) -> Result<Dispatch, AllocError>
         requires open { IsOpen self.now.state }
         requires controllable { IsControllable self.now.state.net }
-        ensures { IfOk result (IsDispatchOfClosure self.now.state.net) }
+        ensures { IfOk result (IsDispatchOfClosure (shown_form self.now.state.net)) }
     {
+        controllable_is_shown();
+        // The proof reads here that the network is sound.
+        let _ = self.net.points();
         match &self.opened {
             None => unreachable!(),
-            Some(opened) => opened.dispatch(alloc, &self.net),
+            Some(opened) => opened.dispatch(alloc, &self.shown),
         }
     }
 
@@ -238,7 +280,14 @@ impl Session {
         &self.net
     }
 
-    /// The derivation list with its table, of a session that is not broken.
+    /// The shown form of the network as it stands, whatever the session's state.
+    pub fn shown(&self) -> &Network
+        ensures { result.now ≡ shown_form self.now.state.net }
+    {
+        &self.shown
+    }
+
+    /// The derivation list of the shown form with its table, of a session that is not broken.
     pub fn store(&self) -> &Store
         requires { IsOpen self.now.state }
         ensures { Lends self.now.state result.now }
@@ -247,6 +296,15 @@ impl Session {
             None => unreachable!(),
             Some(opened) => opened.store(),
         }
+    }
+
+    /// The network as it stands and its shown form; the session ends.
+    pub fn into_networks(self) -> (Network, Network)
+        ensures stated { result.0 ≡ self.state.net }
+        ensures shown { result.1 ≡ shown_form self.state.net }
+    {
+        let Session { net, shown, .. } = self;
+        (net, shown)
     }
 
     /// The network as it stands; the session ends.

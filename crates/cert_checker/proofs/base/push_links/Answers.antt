@@ -1,5 +1,6 @@
-use Rattle.std.proofs.Common.{◌≡◌, ◌<◌, ◌+◌, ◌++◌, pos, List, [], ◌∷◌, length, map, drop, get_or, ap, ◌∙◌, subst, refl}
+use Rattle.std.proofs.Common.{◌≡◌, ◌<◌, ◌+◌, ◌++◌, pos, List, [], ◌∷◌, length, map, drop, get_or, ap, ◌∙◌, refl, arith}
 use Rattle.std.specs.List.{enumerate_from}
+use Rattle.std.proofs.lemmas.List.{get_or_default}
 use Rattle.net_model.specs.declared.part.Link.{Link}
 use Rattle.cert_checker.specs.Tables.{base_of_link}
 use Rattle.cert_checker.specs.declared.base.Base.{Base}
@@ -14,9 +15,10 @@ unfolding none
 loop-index-preserved c =
     let net = c.args.net.now in
     let i = c.loop-index.index in
-    let links = c.links-link-items.ensures.links in
-    let within : i < length net.links = subst (λ (ls : List Link). i < length ls) links c.loop-index-test.true in
-    let made : c.base_of_link-missing.result ≡ base_of_link net (i, get_or net.links i none) = c.base_of_link-missing.ensures ∙ ap (λ (ls : List Link). base_of_link net (i, get_or ls i none)) links in
+    let link = c.link_numbered-link.result in
+    let within : i < length net.links = omega (arith, c.loop-index-test.true, c.loop-index.auto.index-end, c.link_count-index-end.ensures) in
+    let is : link ≡ get_or net.links i none = c.link_numbered-link.ensures.link ∙ get_or_default net.links i link none within in
+    let made : c.base_of_link-missing.result ≡ base_of_link net (i, get_or net.links i none) = c.base_of_link-missing.ensures ∙ ap (λ (l : Link). base_of_link net (i, l)) is in
     let pushed : c.push.new.self.items ≡ c.loop-index.base.items ++ base_of_link net (i, get_or net.links i none) ∷ [] = c.in_ok-push.ensures.items ∙ ap (λ (b : Base). c.loop-index.base.items ++ b ∷ []) made in
     ap (λ (items : List Base). items ++ map (base_of_link net) (enumerate_from (i + 1) (drop (i + 1) net.links))) pushed
     ∙ link_pushed net c.loop-index.base.items i (get_or net.links i none) none within refl

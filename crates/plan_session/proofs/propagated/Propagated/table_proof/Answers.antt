@@ -23,7 +23,7 @@ table_proof-requires-clause-order c =
 
 pub unreachable-requires : goal.unreachable-requires
 unreachable-requires c =
-    looped_excludes c.args.net.now _ (subst (IsSound c.args.net.now) (sym c.self.view_is) c.requires.sound) c.standing_cycles_exclude.ensures (record { sound = c.points.ensures.sound })
+    looped_excludes c.args.net.now _ (subst (IsSound c.args.net.now) (sym c.self.view_is) c.requires.sound) c.standing_cycles_exclude.ensures (record { sound = c.points.ensures.sound; no_delay = c.requires.no_delay })
     c.in-Looped.cycle (ap ending_of c.in-Looped.is) c.requires.controllable
 
 pub returns : goal.returns

@@ -1,27 +1,21 @@
-use Rattle.std.proofs.Common.{◌≡◌, Some, Ok, ap, sym, ◌∙◌, subst}
-use Rattle.net_model.specs.Editing.{edited}
-use Rattle.net_model.specs.Network.{Plan}
-use Rattle.derivation_edits.specs.TakenAway.{AreWithdrawn}
-use Rattle.derivation_edits.proofs.TakenLemmas.{made_has_parts}
-use Rattle.plan_session.specs.Sessions.{State, SessionView, FollowsEdit}
-use Rattle.plan_session.proofs.SessionLemmas.{opened_sound}
+use Rattle.std.proofs.Common.{◌≡◌, Some, ap, sym, ◌∙◌, subst}
+use Rattle.net_model.specs.Network.{Plan, IsPlan}
+use Rattle.net_model.specs.ShownForm.{shown_form}
+use Rattle.plan_session.specs.Sessions.{State, SessionView}
+use Rattle.plan_session.proofs.SessionLemmas.{opened_sound, shown_follows}
 use Rattle.plan_session.proofs.session.Session.follow.Goals as goal
 
 pub returns-in-Ok-clause-answers : goal.returns-in-Ok-clause-answers
 returns-in-Ok-clause-answers g c =
-    let old = c.self.inside.net in
-    let edit = c.args.edit.now in
+    let old = c.args.self.now.state.net in
     let new = c.args.new.now in
     let held = c.in-Some.opened in
-    let made : edited old edit ≡ Ok new = subst (λ (n : Plan). edited n edit ≡ Ok new) (ap (λ (session : SessionView). session.state.net) (sym c.self.view_is)) c.requires.made in
-    let follows : FollowsEdit old edit new held c.follow.new.self c.in-Ok.report = c.in-Ok.ensures in
-    let list = (opened_sound (record { net = old; opened = c.self.inside.opened }) held c.in-Some.is c.self.invariant.sound).stands.derived in
-    let withdrawn : AreWithdrawn old edit new held.support.nodes follows.followed.places =
-    c.edits_withdraw_nodes.ensures old edit new held.support.nodes (record { places = follows.followed.places; kept = follows.followed.kept }) c.points.ensures.sound c.requires.plan (made_has_parts old edit new made)
-    list follows.followed.are in
+    let plan = subst (λ (session : SessionView). IsPlan session.state.net) c.self.view_is c.points.ensures.sound in
+    let shown_is : c.self.inside.shown ≡ shown_form old = c.self.invariant.shown_is ∙ ap (λ (session : SessionView). shown_form session.state.net) c.self.view_is in
+    let sound = opened_sound c.self.inside.shown c.self.inside.opened held c.in-Some.is c.self.invariant.sound in
     let both =
-    subst (λ (session : SessionView). (one : FollowsEdit session.state.net edit new held c.follow.new.self c.in-Ok.report) × AreWithdrawn session.state.net edit new held.support.nodes one.followed.places) c.self.view_is
-    (follows, withdrawn) in
+    shown_follows c.edits_withdraw_nodes.ensures c.shown_forms_follow_edits.ensures old c.args.edit.now new plan c.requires.plan c.requires.made c.self.inside.shown c.args.shown.now held c.follow.new.self c.in-Ok.report shown_is
+    c.requires.shown sound c.in-Ok.ensures in
     record {
       net = new;
       made = c.requires.made;
