@@ -1,5 +1,5 @@
 -- Where no edge of a block goes below the row, nothing that follows with them changes it.
-use Rattle.std.proofs.Common.{◌≡◌, ℕ, zero, suc, ◌+◌, ◌<◌, ◌≤◌, ◌-◌, ℤ, pos, ◌*◌, ◌≤ℤ◌, ◌+ℤ◌, Bool, true, false, cond, List, [], ◌∷◌, ◌++◌, length, map, fold, drop, get_or, append_assoc, append-nil, Option, Some, None, refl, ap, sym, subst, ◌∙◌, arith}
+use Rattle.std.proofs.Common.{◌≡◌, ℕ, zero, suc, ◌+◌, ◌<◌, ◌≤◌, ◌-◌, ℤ, pos, ◌*◌, ◌≤ℤ◌, ◌+ℤ◌, ◌==◌, ◌&&◌, Bool, true, false, cond, List, [], ◌∷◌, ◌++◌, length, map, fold, drop, get_or, append_assoc, append-nil, Option, Some, None, refl, ap, sym, subst, ◌∙◌, arith}
 use Rattle.std.specs.Prelude.{slice_get, slice_range, IsSomeAnd, int_lt, is_none}
 use Rattle.std.specs.Int.{int_max}
 use Rattle.std.specs.Option.{option_map, option_map_or}
@@ -12,12 +12,17 @@ use Rattle.std.proofs.lemmas.List.Concat.{flat_map-append}
 use Rattle.std.proofs.lemmas.List.Edits.{get_or-between, length-between}
 use Rattle.std.proofs.lemmas.List.Folds.{drop_split}
 use Rattle.std.proofs.lemmas.List.Sums.{fold-append}
-use Rattle.net_model.specs.Rules.{joined_weight}
+use Rattle.net_model.specs.Rules.{joined_weight, no_case, upper_case}
 use Rattle.net_model.specs.declared.part.Edge.{Edge}
 use Rattle.net_model.specs.Network.{Plan}
 use Rattle.net_model.specs.declared.ids.PointId.{PointId}
-use Rattle.closure_model.specs.ReferenceRow.{has_above, offered, from_first}
-use Rattle.closure_model.specs.Tables.{Graph, row_of}
+use Rattle.closure_model.specs.ReferenceRow.{given, has_above, offered, from_first}
+use Rattle.closure_model.specs.declared.rows.Why.{Why}
+use Rattle.closure_model.specs.declared.rows.Why.TheVariants.{No, Up}
+use Rattle.net_model.specs.declared.ids.LinkId.{LinkId}
+use Rattle.net_model.proofs.RuleLemmas.{no_case_gives, upper_case_gives}
+use Rattle.std.proofs.lemmas.Bool.{eqb-true}
+use Rattle.closure_model.specs.Tables.{Graph, HasEdge, row_of}
 use Rattle.closure_model.proofs.Weights.{le_then}
 use Rattle.closure_model.specs.declared.rows.Made.{Made}
 use Rattle.closure_model.specs.declared.rows.Slot.{Slot}
@@ -27,7 +32,9 @@ use Rattle.closure_model.specs.Keys.{Key, ordinary_key, row_keys}
 use Rattle.closure_model.proofs.Slots.{some_of_map}
 use Rattle.closure_model.specs.Tables.{weight_of}
 use Rattle.labelled_graph.specs.Words.{absent, held, MeetsHeld}
-use Rattle.back_propagation.specs.Blocks.{IsHeld, IsMetIn}
+use Rattle.back_propagation.specs.Blocks.{AllAreMet, IsHeld, IsMetIn}
+use Rattle.back_propagation.specs.Begun.{goes_before}
+use Rattle.back_propagation.proofs.BegunSteps.{before_is}
 use Rattle.back_propagation.specs.SlimSlots.{StandsFor}
 use Rattle.back_propagation.specs.Offering.{place_of, slot_key, after_entry, IsRowAgainst, IsOfRow}
 use Rattle.back_propagation.specs.OpenRows.{IsOffering, HasOffered}
@@ -43,6 +50,9 @@ no_slot = record { from = record { 0 = 0 }; label = None; weight = None; why = N
 
 abbrev no_entry : Entry
 no_entry = record { from = record { 0 = 0 }; label = None; weight = pos 0 }
+
+abbrev no_edge : Edge
+no_edge = record { from = record { 0 = 0 }; to = record { 0 = 0 }; label = None; weight = pos 0 }
 
 module _ (net : Plan) (table : Graph) (to : PointId) (slots : List Slot) (width : ℕ) (row : IsRowAgainst net table to slots width) (edge : Edge) (column : ℕ) (is : IsOfRow net table to edge column) where
   entry_left : (entry : Entry) → IsHeld table edge entry → IsMetIn slots width edge column entry → fold offered slots (after_entry edge entry) ≡ slots
@@ -140,6 +150,66 @@ module _ (net : Plan) (table : Graph) (to : PointId) (slots : List Slot) (width 
       let key : slot_key to slot ≡ record { to = to; from = from; label = edge.label } = slot_key_at from slot inside here in
       let label : slot.label ≡ (get_or slots column no_slot).label = ap (λ (k : Key). k.label) key ∙ sym (ap (λ (k : Key). k.label) first) in
       subst (λ (p : PointId). StandsFor (get_or words p.0 (pos 0)) slot.weight) (ap (λ (k : Key). k.from) key) (stand (get_or slots column no_slot) slot (place_of width from column) at here label)
+
+-- ---- a whole column
+-- the entry of an edge that goes before another
+abbrev entry_of : Edge → Entry
+entry_of first = record { from = first.from; label = None; weight = first.weight }
+
+before_parts : (first edge : Edge) → goes_before first edge ≡ true → (first.label ≡ None) × (first.to.0 ≡ edge.from.0)
+before_parts first edge before = by first.label refl (first.to.0 == edge.from.0) refl before
+  where
+    by : (o : Option LinkId) → first.label ≡ o → (b : Bool) → first.to.0 == edge.from.0 ≡ b → (is_none o && b) ≡ true → (first.label ≡ None) × (first.to.0 ≡ edge.from.0)
+    by None is true same both = (is, eqb-true first.to.0 edge.from.0 same)
+    by None is false same both = absurd cc
+    by (Some label) is b same both = absurd cc
+
+entry_is : (first edge : Edge) → goes_before first edge ≡ true → edge_into edge.from (entry_of first) ≡ first
+entry_is first edge before =
+    let (ordinary, meeting) = before_parts first edge before in
+    let point : edge.from ≡ first.to = λ i. record { 0 = sym meeting i } in
+    λ i. record { from = first.from; to = point i; label = sym ordinary i; weight = first.weight }
+
+-- where no word of the column falls, all edges that go before the edge are met
+pub column_met : (net : Plan) (table : Graph) (to : PointId) (slots : List Slot) (width : ℕ) (edge : Edge) (column : ℕ) (words : List ℤ) → IsRowAgainst net table to slots width → IsOfRow net table to edge column
+    → ((head slot : Slot) (other : ℕ) → slice_get slots column ≡ Some head → slice_get slots other ≡ Some slot → slot.label ≡ head.label → StandsFor (get_or words slot.from.0 (pos 0)) slot.weight)
+    → ((first : PointId) → first.0 < table.shape.points → MeetsHeld (weight_of table (ordinary_key first edge.from)) (held (get_or words first.0 (pos 0))) edge.weight) → AllAreMet table slots width edge column
+column_met net table to slots width edge column words row is stand meets first has before slot here =
+    let inside = (row.sound.keys first has).from_point in
+    words_meet table slots width edge column (get_or words first.from.0 (pos 0)) (entry_of first) (λ one at. words_of_column net table to slots width row edge column is words stand first.from one inside at)
+    (subst (HasEdge table) (sym (entry_is first edge before)) has) (meets first.from inside) refl slot here
+
+-- nothing that follows with such edges changes the row
+module _ (net : Plan) (table : Graph) (to : PointId) (slots : List Slot) (width : ℕ) (row : IsRowAgainst net table to slots width) (edge : Edge) (column : ℕ) (is : IsOfRow net table to edge column) (met : AllAreMet table slots width edge column) where
+  vain_left : (first : Edge) → HasEdge table first → fold offered slots (from_first edge first) ≡ slots
+  vain_left first has = by (goes_before first edge) refl
+    where
+      nothing : (why : Why) (o : Option Edge) → ((one : Edge) → o ≡ Some one → ⊥) → given why o ≡ []
+      nothing why None none = refl
+      nothing why (Some one) none = absurd (none one refl)
+
+      by : (b : Bool) → goes_before first edge ≡ b → fold offered slots (from_first edge first) ≡ slots
+      by true before =
+          let place = first_place net table to slots width row edge column is first has in
+          sym (first_left net table to slots width row edge column is first has no_slot (met first has before (get_or slots (place_of width first.from column) no_slot) (slice_get-get_or slots (place_of width first.from column) no_slot place)))
+      by false out =
+          let no : given (No first edge) (no_case first edge) ≡ [] = nothing (No first edge) (no_case first edge) (λ one gave. (let gives = no_case_gives first edge one gave in let clash : true ≡ false = sym (before_is first edge gives.first_ordinary gives.meeting) ∙ out in absurd cc)) in
+          let up : given (Up first edge) (upper_case first edge) ≡ [] = nothing (Up first edge) (upper_case first edge) (λ one gave. (let gives = upper_case_gives first edge one gave in let clash : true ≡ false = sym (before_is first edge gives.first_ordinary gives.meeting) ∙ out in absurd cc)) in
+          λ i. fold offered slots (no i ++ up i)
+
+  pub all_left : (firsts : List Edge) → ((i : ℕ) → i < length firsts → HasEdge table (get_or firsts i no_edge)) → fold offered slots (flat_map (from_first edge) firsts) ≡ slots
+  all_left [] held = refl
+  all_left (first ∷ firsts) held =
+      fold-append offered slots (from_first edge first) (flat_map (from_first edge) firsts)
+      ∙ (ap (λ (s : List Slot). fold offered s (flat_map (from_first edge) firsts)) (vain_left first (held 0 (omega arith))) ∙ all_left firsts (λ i below. held (suc i) (omega (arith, below))))
+
+pub vain_offers : (basis : Basis) (self : OpenRow) (edge : Edge) (column : ℕ) (firsts : List Edge) → IsOffering basis self edge column → All (HasEdge basis.table.now) firsts → AllAreMet basis.table.now self.slots self.width edge column
+    → HasOffered self self (flat_map (from_first edge) firsts)
+vain_offers basis self edge column firsts is held met = record {
+  slots = sym (all_left basis.net.now basis.table.now edge.to self.slots self.width is.slots edge column is.of_row met firsts (λ i below. All-get_or (HasEdge basis.table.now) firsts i no_edge below held));
+  queue = keeps_itself self.slots self.queue;
+  width = refl;
+}
 
 -- ---- block after block
 -- what follows with the entries before one was offered

@@ -7,6 +7,7 @@ use Rattle.closure_model.specs.Tables.{Graph, HasEdge}
 use Rattle.closure_model.specs.declared.rows.Slot.{Slot}
 use Rattle.labelled_graph.specs.Entries.{edge_into, is_ordinary}
 use Rattle.labelled_graph.specs.declared.entry.Entry.{Entry}
+use Rattle.back_propagation.specs.Begun.{goes_before}
 use Rattle.back_propagation.specs.Offering.{place_of}
 
 -- the edge of an entry is one of the table
@@ -20,3 +21,7 @@ IsMetIn slots width edge column entry = is_ordinary entry ≡ true → (slot : S
 -- from one entry to the next the points in which they begin do not fall
 abbrev pub Ascend : List Entry → Type 0
 Ascend entries = (i j : ℕ) (one other : Entry) → i ≤ j → slice_get entries i ≡ Some one → slice_get entries j ≡ Some other → one.from.0 ≤ other.from.0
+
+-- with an edge after it, no ordinary edge of a table that ends where that begins goes below the slot of the row where it begins
+abbrev pub AllAreMet : Graph → List Slot → ℕ → Edge → ℕ → Type 0
+AllAreMet table slots width edge column = (first : Edge) → HasEdge table first → goes_before first edge ≡ true → (slot : Slot) → slice_get slots (place_of width first.from column) ≡ Some slot → has_above slot (joined_weight first edge) ≡ false

@@ -6,7 +6,7 @@ ghost use Rattle.net_model.specs.Rules.{is_negative, joined_weight};
 ghost use Rattle.closure_model.specs.ReferenceRow.{given, has_above, taken, from_removal, from_link, from_first, ordinary_into, consequences};
 ghost use Rattle.closure_model.specs.Tables.{HasEdge};
 ghost use Rattle.labelled_graph.specs.Entries.{edge_into};
-ghost use Rattle.back_propagation.specs.Blocks.{Ascend, IsHeld, IsMetIn};
+ghost use Rattle.back_propagation.specs.Blocks.{AllAreMet, Ascend, IsHeld, IsMetIn};
 ghost use Rattle.back_propagation.specs.Offering.{place_of, IsSlotAt, after_entry};
 ghost use Rattle.back_propagation.specs.OpenRows.{IsOffering, HasOffered};
 
@@ -19,6 +19,9 @@ use std::alloc::AllocError;
 
 /// How many entries are looked at at once.
 const BLOCK: usize = 32;
+
+/// For how many points a whole column of words is tested in the time of one look.
+const LOOKS: usize = 8;
 
 impl OpenRow {
     /// Offers to the row what follows from an edge of it, in the order of the definition. An edge of weight 0 or more has no consequence
@@ -106,6 +109,27 @@ impl OpenRow {
         basis
             .table
             .falls_before(edge, self.slots.words(column), from, end)
+    }
+
+    /// Whether what follows with an ordinary edge of the table before the edge may go below what the row has, by words of the whole column.
+    /// It may where so few edges are asked about that a look at each is sooner.
+    pub(crate) fn may_fall(
+        &self,
+        basis: Basis<'_>,
+        edge: &Edge,
+        column: usize,
+        asked: usize,
+    ) -> bool
+        requires row { IsOffering basis self.now edge.now column }
+        ensures { result ≡ false → AllAreMet basis.entry.table.now self.now.slots self.now.width edge.now column }
+    {
+        let points = basis.net.points().len();
+        if asked <= points / LOOKS || edge.weight >= 0 {
+            return true;
+        }
+        basis
+            .table
+            .falls_before(edge, self.slots.words(column), 0, points as u32)
     }
 
     /// Offers what follows with the edges of some entries before the edge, unless it is known that nothing of it goes below what the row has.

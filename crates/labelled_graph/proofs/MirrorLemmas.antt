@@ -1,4 +1,8 @@
 -- The dense row beside the entries of a row says what the row has, before and after one key is changed.
+use Rattle.std.specs.Prelude.{int_lt, ◌<ℤ◌}
+use Rattle.std.specs.Ordering.{int_eq}
+use Rattle.std.proofs.lemmas.Int.{ints}
+use Rattle.closure_model.proofs.Weights.{same_weight}
 use Rattle.std.proofs.Common.{◌≡◌, ◌≢◌, ℕ, ◌+◌, ◌==◌, ◌<◌, ℤ, zero, suc, Bool, true, false, cond, List, [], ◌∷◌, ◌++◌, length, get_or, set, get_or-set_same, get_or-set_other, length-set, Option, Some, None, refl, ap, sym, subst, ◌∙◌, arith}
 use Rattle.std.specs.FinMap as map_of
 use Rattle.std.proofs.lemmas.Bool.{eqb-true}
@@ -10,7 +14,7 @@ use Rattle.closure_model.specs.Keys.{Key, key_of, ordinary_key}
 use Rattle.closure_model.proofs.KeyOrder.{key_test, key_total, test_apart}
 use Rattle.labelled_graph.specs.declared.entry.Entry.{Entry}
 use Rattle.labelled_graph.specs.Rows.{TargetRow, row_with, mirrored, mirrored_for, AllFitIn, AreRising, IsKept, IsMirrorOf}
-use Rattle.labelled_graph.specs.Words.{held, word_of, MeetsHeld}
+use Rattle.labelled_graph.specs.Words.{absent, held, least_word, word_of, IsTold, MeetsHeld}
 use Rattle.labelled_graph.proofs.StoredLemmas.{same_point, IsChangedAt}
 use Rattle.labelled_graph.proofs.WordLemmas.{word_of_same}
 
@@ -107,3 +111,21 @@ meets_in row words first there weight mirror fits inside meets = by (map_of.get 
     by : (o : Option ℤ) → map_of.get row.weights (ordinary_key first row.to) ≡ o → MeetsHeld (held (word_of (map_of.get row.weights (ordinary_key first row.to)))) there weight → MeetsHeld o there weight
     by None is meets = tt
     by (Some w) is meets = subst (λ (o : Option ℤ). MeetsHeld o there weight) (ap (λ (h : Option ℤ). held (word_of h)) is ∙ word_of_same w (fits (ordinary_key first row.to) w is)) meets
+
+-- ---- what a word tells
+-- what holds a weight above the least word stands for that weight alone
+told_once : (o : Option ℤ) (weight : ℤ) → held (word_of o) ≡ Some weight → least_word <ℤ weight → o ≡ Some weight
+told_once None weight is above = absurd cc
+told_once (Some w) weight is above = by (int_lt w least_word) refl (int_lt absent w) refl is
+  where
+    by : (low : Bool) → int_lt w least_word ≡ low → (high : Bool) → int_lt absent w ≡ high → held (cond low least_word (cond high absent w)) ≡ Some weight → Some w ≡ Some weight
+    by true low high is_high is = let same : least_word ≡ weight = same_weight least_word weight is in absurd (grind (arith, ints))
+    by false low true is_high is = absurd cc
+    by false low false is_high is = by_end (int_eq w absent) refl is
+      where
+        by_end : (gone : Bool) → int_eq w absent ≡ gone → cond gone None (Some w) ≡ Some weight → Some w ≡ Some weight
+        by_end true gone is = absurd cc
+        by_end false gone is = is
+
+pub mirror_told : (row : TargetRow) (words : List (Option ℤ)) (from : PointId) (weight : ℤ) → IsMirrorOf row words → IsTold words from.0 weight → map_of.get row.weights (ordinary_key from row.to) ≡ Some weight
+mirror_told row words from weight mirror told = told_once (map_of.get row.weights (ordinary_key from row.to)) weight (sym (mirror from told.inside) ∙ told.has) told.above

@@ -1,5 +1,5 @@
 -- The words of a dense row.
-use Rattle.std.specs.Prelude.{◌≡◌, ◌<◌, ℤ, pos, negsuc, ◌+ℤ◌, ◌≤ℤ◌, ◌≤◌, unsigned_abs, int_lt, List, length, Option, Some, None, IsSomeAnd, if◌then◌else◌, slice_index_or}
+use Rattle.std.specs.Prelude.{◌≡◌, ◌<◌, ℕ, ℤ, pos, negsuc, ◌+ℤ◌, ◌≤ℤ◌, ◌<ℤ◌, ◌≤◌, unsigned_abs, int_lt, List, length, Option, Some, None, IsSomeAnd, if◌then◌else◌, slice_index_or}
 use Rattle.std.specs.Int.{int_max}
 use Rattle.std.specs.Ordering.{int_eq}
 use Rattle.net_model.specs.Limits.{most_size}
@@ -29,6 +29,12 @@ nearest_word weight = if int_lt weight least_word then least_word else (if int_l
 abbrev pub word_of : Option ℤ → ℤ
 word_of None = absent
 word_of (Some weight) = nearest_word weight
+
+-- a place of a dense row tells its weight: a word that is at neither end is of that weight alone
+pub record IsTold (row : List (Option ℤ)) (place : ℕ) (weight : ℤ) : Type 0 where
+  pub inside : place < length row
+  pub has : slice_index_or row place None ≡ Some weight
+  pub above : least_word <ℤ weight
 
 -- a weight that a word holds, as every derivable weight is
 abbrev pub FitsWord : ℤ → Type 0

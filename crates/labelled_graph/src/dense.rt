@@ -1,8 +1,8 @@
-ghost use Rattle.std.specs.Prelude.{◌≡◌, ◌<◌, ◌≤◌, ◌==◌, ◌<ℤ◌, ◌+ℤ◌, ◌++◌, [], ◌∷◌, ℕ, pos, false, not, int_lt, length, map, IfOk, OnOk, None, Some, replicate};
+ghost use Rattle.std.specs.Prelude.{◌≡◌, ◌<◌, ◌≤◌, ◌==◌, ◌<ℤ◌, ◌+ℤ◌, ◌++◌, [], ◌∷◌, ℕ, pos, false, not, int_lt, length, map, IfOk, IfSome, OnOk, None, Some, replicate};
 ghost use Rattle.std.specs.Int.{int_max};
 ghost use Rattle.std.specs.List.{slice_index_or, slice_set};
 ghost use Rattle.std.specs.Ordering.{int_eq};
-ghost use Rattle.labelled_graph.specs.Words.{absent, held, nearest_word, word_of, FitsWord, MeetsHeld};
+ghost use Rattle.labelled_graph.specs.Words.{absent, held, least_word, nearest_word, word_of, FitsWord, IsTold, MeetsHeld};
 
 use net_model::{PointId, Weight};
 use std::alloc::{AllocError, Global};
@@ -85,6 +85,18 @@ impl DenseRow {
         Ok(self.words.push(word_of(weight))?)
     }
 
+    /// The weight of a point, where its word tells it: a word at either end may stand for a weight beyond it, or for none.
+    pub(crate) fn told(&self, from: PointId) -> Option<Weight>
+        ensures { IfSome result (IsTold self.now from.0) }
+    {
+        let place = from.0 as usize;
+        if place < self.words.len() {
+            told_by(self.words[place])
+        } else {
+            None
+        }
+    }
+
     /// Whether the row has no place.
     pub(crate) fn is_empty(&self) -> bool
         ensures { result ≡ (length self.now == 0) }
@@ -165,6 +177,17 @@ fn nearest_word(weight: Weight) -> i32
         ABSENT
     } else {
         weight as i32
+    }
+}
+
+/// What a word that is at neither end stands for.
+fn told_by(word: i32) -> Option<Weight>
+    ensures { IfSome result (λ weight. (weight ≡ word) × (least_word <ℤ weight) × (weight <ℤ absent)) }
+{
+    if word == ABSENT || word == i32::MIN {
+        None
+    } else {
+        Some(word as i64)
     }
 }
 

@@ -1,4 +1,4 @@
-ghost use Rattle.std.specs.Prelude.{◌≡◌, ◌<◌, ◌≤◌, ◌*◌, ◌+◌, ◌^◌, ◌<ℤ◌, pos, false, IfSome, IsSome, OnOk, OnErr, IfOk, map, slice_index_or};
+ghost use Rattle.std.specs.Prelude.{◌≡◌, ◌<◌, ◌≤◌, ◌*◌, ◌+◌, ◌^◌, ◌<ℤ◌, pos, false, IfSome, IsSome, Some, OnOk, OnErr, IfOk, map, slice_index_or};
 ghost use Rattle.std.specs.FinMap as map_of;
 ghost use Rattle.std.specs.Vec.{vec_len, vec_capacity};
 ghost use Rattle.net_model.specs.declared.ids.PointId.{PointId};
@@ -59,6 +59,26 @@ impl Row {
 
     /// The weight of a key, if it has one.
     pub(crate) fn get(&self, from: PointId, label: Option<LinkId>) -> Option<Weight>
+        ensures { result ≡ map_of.get self.now.weights (key_with self.now.to from label) }
+    {
+        match self.told(from, label) {
+            Some(weight) => Some(weight),
+            None => self.searched(from, label),
+        }
+    }
+
+    /// The weight of a key, where a word tells it.
+    fn told(&self, from: PointId, label: Option<LinkId>) -> Option<Weight>
+        ensures { IfSome result (λ weight. map_of.get self.now.weights (key_with self.now.to from label) ≡ Some weight) }
+    {
+        match label {
+            None => self.ordinary.told(from),
+            Some(_) => None,
+        }
+    }
+
+    /// The weight of a key, which is sought among the entries.
+    fn searched(&self, from: PointId, label: Option<LinkId>) -> Option<Weight>
         ensures { result ≡ map_of.get self.now.weights (key_with self.now.to from label) }
     {
         match place_of(self.entries.as_slice(), from, label) {

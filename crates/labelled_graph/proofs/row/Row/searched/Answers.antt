@@ -1,7 +1,7 @@
 use Rattle.std.proofs.Common.{rules, ◌≡◌, ◌∙◌, ap, Some, w64, to_z, of_z}
 use Rattle.labelled_graph.specs.declared.entry.Entry.{Entry}
 use Rattle.labelled_graph.proofs.RowLemmas.{read_found, read_missed}
-use Rattle.labelled_graph.proofs.row.Row.get.Goals as goal
+use Rattle.labelled_graph.proofs.row.Row.searched.Goals as goal
 
 pub returns-in-Ok : goal.returns-in-Ok
 returns-in-Ok c =
