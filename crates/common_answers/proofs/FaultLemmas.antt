@@ -37,10 +37,11 @@ part_word_short (part.BadInterval place) = lit≤ tt
 part_word_short (part.Limit w place) = lit≤ tt
 part_word_short part.OutOfMemory = lit≤ tt
 
-member_word_short : (member : Member) → length (member_word member) ≤ 6
+member_word_short : (member : Member) → length (member_word member) ≤ 7
 member_word_short member.Top = lit≤ tt
 member_word_short member.Points = lit≤ tt
 member_word_short member.Bounds = lit≤ tt
+member_word_short member.Between = lit≤ tt
 member_word_short member.Links = lit≤ tt
 
 -- words that are given so are short
@@ -53,5 +54,5 @@ which_words word w is = subst (λ (w : List ℕ). length w ≤ 18) (sym is) (whi
 pub part_words : (word : List ℕ) (fault : BuildFault) → word ≡ word_of fault → length word ≤ 18
 part_words word fault is = subst (λ (w : List ℕ). length w ≤ 18) (sym is) (part_word_short fault)
 
-pub member_words : (word : List ℕ) (member : Member) → word ≡ member_word member → length word ≤ 6
-member_words word member is = subst (λ (w : List ℕ). length w ≤ 6) (sym is) (member_word_short member)
+pub member_words : (word : List ℕ) (member : Member) → word ≡ member_word member → length word ≤ 7
+member_words word member is = subst (λ (w : List ℕ). length w ≤ 7) (sym is) (member_word_short member)

@@ -18,20 +18,20 @@ tells_line numbers fault place is above within =
     (refl, place - 1, is ∙ ap Some next, slice_get-get_or numbers (place - 1) 0 (omega arith))
 
 -- what is told of parts that are refused
-pub builds_told : (parts : List Part) (numbers : List ℕ) (fault : BuildFault) (told : DeclarationFault) → Builds (Err fault) (built parts) → TellsLine told numbers fault → BuildsParts (Err told) parts numbers
-builds_told parts numbers fault (declaration.Refused line f) builds tells =
+pub builds_told : (delay : ℕ) (parts : List Part) (numbers : List ℕ) (fault : BuildFault) (told : DeclarationFault) → Builds (Err fault) (built parts) → TellsLine told numbers fault → BuildsParts (Err told) delay parts numbers
+builds_told delay parts numbers fault (declaration.Refused line f) builds tells =
     subst (λ (g : BuildFault). IsRefusedPart parts numbers line g) (sym tells.0) (record {
       index = tells.1;
       refused = refused_is fault (built parts) (tells.1 + 1) builds tells.2;
       place = tells.2;
       at_line = tells.3;
     })
-builds_told parts numbers fault declaration.OutOfMemory builds tells = tt
+builds_told delay parts numbers fault declaration.OutOfMemory builds tells = tt
 
--- what the parts of a plan text build is what the lines declare
-pub declared_by : (answer : Result Plan DeclarationFault) (parts : List Part) (numbers : List ℕ) (plan rest : List (List ℕ)) → BuildsParts answer parts numbers → IsPlanText plan parts numbers → Answers answer (plan ++ rest) rest
-declared_by (Ok net) parts numbers plan rest builds is =
-    record { plan = plan; parts = parts; numbers = numbers; whole = refl; is_plan = is; builds = builds }
-declared_by (Err (declaration.Refused line fault)) parts numbers plan rest builds is =
-    record { plan = plan; rest = rest; parts = parts; numbers = numbers; whole = refl; is_plan = is; part = builds }
-declared_by (Err declaration.OutOfMemory) parts numbers plan rest builds is = tt
+-- what the delay and the parts of a plan text build is what the lines declare
+pub declared_by : (answer : Result Plan DeclarationFault) (delay : ℕ) (parts : List Part) (numbers : List ℕ) (plan rest : List (List ℕ)) → BuildsParts answer delay parts numbers → IsPlanText plan delay parts numbers → Answers answer (plan ++ rest) rest
+declared_by (Ok net) delay parts numbers plan rest builds is =
+    record { plan = plan; delay = delay; parts = parts; numbers = numbers; whole = refl; is_plan = is; builds = builds }
+declared_by (Err (declaration.Refused line fault)) delay parts numbers plan rest builds is =
+    record { plan = plan; rest = rest; delay = delay; parts = parts; numbers = numbers; whole = refl; is_plan = is; part = builds }
+declared_by (Err declaration.OutOfMemory) delay parts numbers plan rest builds is = tt

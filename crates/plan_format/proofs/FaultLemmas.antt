@@ -16,43 +16,51 @@ use Rattle.plan_format.specs.declared.section.PlanSection.{PlanSection}
 use Rattle.plan_format.specs.declared.section.PlanSection.TheVariants as section
 use Rattle.plan_format.specs.declared.read.Parts.{Parts}
 use Rattle.plan_format.specs.PlanLines.{plan_line}
-use Rattle.plan_format.specs.PlanParts.{Version, format_1}
+use Rattle.plan_format.specs.declared.version.PlanStage.{PlanStage}
+use Rattle.plan_format.specs.declared.version.PlanStage.TheVariants.{Opened, Going}
+use Rattle.plan_format.specs.declared.version.PlanVersion.{PlanVersion}
+use Rattle.plan_format.specs.declared.version.PlanVersion.TheVariants.{One, Two}
 use Rattle.plan_format.specs.PlanGrammar.{Says}
 use Rattle.plan_format.specs.PlanFaults.{Departs, CanBecomePlan, ExcludesPlan, Stops, IsFirstFault}
 use Rattle.plan_format.specs.PlanReading.{Progress, begun, in_section, line_in, advanced, missing, IsReached, IsFront, Brings, fault_after}
 use Rattle.plan_format.proofs.PartLemmas.{read_is}
-use Rattle.plan_format.proofs.DepartureLemmas.{departs, departs_one}
+use Rattle.plan_format.proofs.DepartureLemmas.{departs, departs_one, header_unknown}
 use Rattle.plan_format.proofs.StepLemmas.{reached, advance, goes_on, may_begin}
 use Rattle.plan_format.proofs.GrammarLemmas.{Declared, read_from, step, has_read, plan_read, says_read}
 
 -- no plan text begins with lines that were read and a line that is refused
 no_plan : (before : List (List ℕ)) (read : Progress) (next : List ℕ) (kind : FormatKind) → IsFront before read → line_in read.section (words next) ≡ Err kind → CanBecomePlan (before ++ next ∷ []) → ⊥
-no_plan before read next kind has refused (more, parts, numbers, plan) =
+no_plan before read next kind has refused (more, delay, parts, numbers, plan) =
     let text : List (List ℕ) = (before ++ next ∷ []) ++ more in
-    let good = plan_read text text [] parts numbers (sym (append-nil text)) plan in
+    let good = plan_read text text [] delay parts numbers (sym (append-nil text)) plan in
     let bad : read_from begun 1 text ≡ Err (fault_after before kind) = ap (read_from begun 1) (append_assoc before (next ∷ []) more) ∙ (has_read before (next ∷ more) read has ∙ step read (length before + 1) next more (Err kind) refused) in
     absurd (cc)
 
 headless : (read : Result PlanLine FormatKind) (kind : FormatKind) → in_section section.Header read ≡ Err kind → kind ≡ NoHeader
 headless (Ok line.Blank) kind refused = absurd (cc)
-headless (Ok line.Header) kind refused = absurd (cc)
+headless (Ok (line.Header number)) kind refused = absurd (cc)
 headless (Ok (line.Part part)) kind refused = cc
+headless (Ok (line.Delay moments)) kind refused = cc
+headless (Ok (line.Between name from low high to)) kind refused = cc
 headless (Ok line.End) kind refused = cc
 headless (Err k) kind refused = cc
 
-departs_by : (version : Version) (next : List ℕ) (read : Result PlanLine FormatKind) (kind : FormatKind) → plan_line version (words next) ≡ read → in_section section.Declarations read ≡ Err kind → Departs version (words next) kind
-departs_by version next (Ok line.Blank) kind is refused = absurd (cc)
-departs_by format_1 next (Ok line.Header) kind is refused =
-    let unknown : kind ≡ UnknownWord = cc in
-    subst (λ (ws : List (List ℕ)). Departs format_1 ws kind) (sym (read_is format_1 (words next) line.Header is)) unknown
-departs_by version next (Ok (line.Part part)) kind is refused = absurd (cc)
-departs_by version next (Ok line.End) kind is refused = absurd (cc)
-departs_by version next (Err k) kind is refused = departs version (words next) kind (is ∙ refused)
+departs_by : (version : PlanVersion) (stage : PlanStage) (next : List ℕ) (read : Result PlanLine FormatKind) (kind : FormatKind) → plan_line version stage (words next) ≡ read → in_section (section.Begun version stage) read ≡ Err kind → Departs version stage (words next) kind
+departs_by version stage next (Ok line.Blank) kind is refused = absurd (cc)
+departs_by version stage next (Ok (line.Header number)) kind is refused =
+    let unknown : UnknownWord ≡ kind = cc in
+    let said = read_is version stage (words next) (line.Header number) is in
+    subst (λ (k : FormatKind). Departs version stage (words next) k) unknown (header_unknown version stage said.0 (words next) said.2)
+departs_by version stage next (Ok (line.Part part)) kind is refused = absurd (cc)
+departs_by version stage next (Ok (line.Delay moments)) kind is refused = absurd (cc)
+departs_by version stage next (Ok (line.Between name from low high to)) kind is refused = absurd (cc)
+departs_by version stage next (Ok line.End) kind is refused = absurd (cc)
+departs_by version stage next (Err k) kind is refused = departs version stage (words next) kind (is ∙ refused)
 
-stops_by : (s : PlanSection) (before : List (List ℕ)) (parts : List Part) (numbers : List ℕ) (next : List ℕ) (more : List (List ℕ)) (kind : FormatKind) → IsReached s before parts numbers → line_in s (words next) ≡ Err kind → Stops before (next ∷ more) kind
-stops_by section.Header before parts numbers next more kind are refused = inl (are.0, headless (plan_line format_1 (words next)) kind refused)
-stops_by section.Declarations before parts numbers next more kind begins refused =
-    inr (format_1, parts, numbers, begins, departs_by format_1 next (plan_line format_1 (words next)) kind refl refused)
+stops_by : (s : PlanSection) (before : List (List ℕ)) (delay : ℕ) (parts : List Part) (numbers : List ℕ) (next : List ℕ) (more : List (List ℕ)) (kind : FormatKind) → IsReached s before delay parts numbers → line_in s (words next) ≡ Err kind → Stops before (next ∷ more) kind
+stops_by section.Header before delay parts numbers next more kind are refused = inl (are.0, headless (plan_line One Opened (words next)) kind refused)
+stops_by (section.Begun version stage) before delay parts numbers next more kind begins refused =
+    inr (version, stage, delay, parts, numbers, begins, departs_by version stage next (plan_line version stage (words next)) kind refl refused)
 
 -- a line that is refused has the first fault of its text
 pub fault_in_line : (before : List (List ℕ)) (read : Progress) (next : List ℕ) (kind : FormatKind) → IsFront before read → line_in read.section (words next) ≡ Err kind → (more : List (List ℕ)) → IsFirstFault (before ++ next ∷ more) (fault_after before kind)
@@ -63,7 +71,7 @@ fault_in_line before read next kind has refused more = record {
   at_line = refl;
   possible = goes_on before read has;
   refused = no_plan before read next kind has refused;
-  stops = stops_by read.section before read.parts read.lines next more kind has refused;
+  stops = stops_by read.section before read.delay read.parts read.lines next more kind has refused;
 }
 
 -- the answer to a line that is refused
@@ -74,9 +82,9 @@ refused_brings before next read more kind (Err (word.Kind k)) refused err is has
     subst (λ (f : FormatKind). IsFirstFault (before ++ next ∷ others) (fault_after before f)) (sym same) (fault_in_line before read next kind has refused others)
 refused_brings before next read more kind (Err word.OutOfMemory) refused err is has = tt
 
-ends_by : (s : PlanSection) (before : List (List ℕ)) (parts : List Part) (numbers : List ℕ) → IsReached s before parts numbers → Stops before [] (missing s)
-ends_by section.Header before parts numbers are = inl (are.0, refl)
-ends_by section.Declarations before parts numbers begins = inr (format_1, parts, numbers, begins, refl)
+ends_by : (s : PlanSection) (before : List (List ℕ)) (delay : ℕ) (parts : List Part) (numbers : List ℕ) → IsReached s before delay parts numbers → Stops before [] (missing s)
+ends_by section.Header before delay parts numbers are = inl (are.0, refl)
+ends_by (section.Begun version stage) before delay parts numbers begins = inr (version, stage, delay, parts, numbers, begins, refl)
 
 -- a text that ends too soon has its first fault after its last line
 pub ends_too_soon : (before : List (List ℕ)) (read : Progress) → IsFront before read → IsFirstFault before (fault_after before (missing read.section))
@@ -87,13 +95,13 @@ ends_too_soon before read has = record {
   at_line = refl;
   possible = goes_on before read has;
   refused = tt;
-  stops = ends_by read.section before read.parts read.lines has;
+  stops = ends_by read.section before read.delay read.parts read.lines has;
 }
 
 -- lines before a fault were read
 abbrev read_before : (before rest : List (List ℕ)) (kind : FormatKind) → Stops before rest kind → (read : Progress) × IsFront before read
-read_before before rest kind (inl none) = (begun, (none.0, refl, refl))
-read_before before rest kind (inr (format_1, parts, numbers, begins, stops)) = (reached section.Declarations parts numbers, begins)
+read_before before rest kind (inl none) = (begun, (none.0, refl, refl, refl))
+read_before before rest kind (inr (version, stage, delay, parts, numbers, begins, stops)) = (reached (section.Begun version stage) delay parts numbers, begins)
 
 told_at : (answer : Result Declared FormatFault) (line : ℕ) (kind : FormatKind) (fault : FormatFault) → answer ≡ Err (record { line = line; kind = kind }) → fault.line ≡ line → fault.kind ≡ kind → answer ≡ Err fault
 told_at answer line kind fault told at is =
@@ -115,11 +123,11 @@ fault_of_rest : (before rest : List (List ℕ)) (fault : FormatFault) → fault.
 fault_of_rest before [] fault at refused (inl none) = told_at _ (length before + 1) NoHeader fault refl at none.1
 fault_of_rest before (next ∷ others) fault at refused (inl none) =
     let front = read_before before (next ∷ others) fault.kind (inl none) in
-    refused_line before next others front.0 (line_in front.0.section (words next)) fault front.1 refl refused (record { line = at; kind = λ kind is. none.1 ∙ sym (headless (plan_line format_1 (words next)) kind is) })
-fault_of_rest before [] fault at refused (inr (format_1, parts, numbers, begins, stops)) = told_at _ (length before + 1) NoEnd fault refl at stops
-fault_of_rest before (next ∷ others) fault at refused (inr (format_1, parts, numbers, begins, stops)) =
-    let front = read_before before (next ∷ others) fault.kind (inr (format_1, parts, numbers, begins, stops)) in
-    refused_line before next others front.0 (line_in front.0.section (words next)) fault front.1 refl refused (record { line = at; kind = λ kind is. departs_one format_1 (words next) fault.kind kind stops (departs_by format_1 next (plan_line format_1 (words next)) kind refl is) })
+    refused_line before next others front.0 (line_in front.0.section (words next)) fault front.1 refl refused (record { line = at; kind = λ kind is. none.1 ∙ sym (headless (plan_line One Opened (words next)) kind is) })
+fault_of_rest before [] fault at refused (inr (version, stage, delay, parts, numbers, begins, stops)) = told_at _ (length before + 1) NoEnd fault refl at stops
+fault_of_rest before (next ∷ others) fault at refused (inr (version, stage, delay, parts, numbers, begins, stops)) =
+    let front = read_before before (next ∷ others) fault.kind (inr (version, stage, delay, parts, numbers, begins, stops)) in
+    refused_line before next others front.0 (line_in front.0.section (words next)) fault front.1 refl refused (record { line = at; kind = λ kind is. departs_one version stage (words next) fault.kind kind stops (departs_by version stage next (plan_line version stage (words next)) kind refl is) })
 
 -- the first fault of a text is what is read of it
 pub fault_is : (text : List (List ℕ)) (fault : FormatFault) → IsFirstFault text fault → read_from begun 1 text ≡ Err fault

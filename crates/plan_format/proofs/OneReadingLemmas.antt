@@ -1,8 +1,8 @@
 -- The lines of a text give one thing at most.
-use Rattle.std.proofs.Common.{◌≡◌, ℕ, ◌+◌, List, ◌++◌, length, drop, Some, Ok, sym, ap, ◌∙◌, arith}
+use Rattle.std.proofs.Common.{◌≡◌, ℕ, ◌+◌, List, ◌++◌, length, drop, Some, Ok, Err, sym, ap, ◌∙◌, arith}
 use Rattle.std.proofs.Math.Seq.{drop-append_seam}
 use Rattle.net_model.specs.Network.{Plan}
-use Rattle.net_model.specs.Building.{built, place_of}
+use Rattle.net_model.specs.Building.{built, delayed, declared_net, place_of}
 use Rattle.net_model.specs.declared.fault.BuildFault.{BuildFault}
 use Rattle.net_model.specs.declared.format.FormatFault.{FormatFault}
 use Rattle.plan_format.specs.PlanFaults.{IsFirstFault}
@@ -12,11 +12,11 @@ use Rattle.plan_format.proofs.GrammarLemmas.{Declared, read_from, plan_read}
 use Rattle.plan_format.proofs.FaultLemmas.{fault_is, fault_one}
 
 -- what is read of lines that declare a network, or of which a part is refused
-declared_of : (lines : List (List ℕ)) (net : Plan) (rest : List (List ℕ)) (is : DeclaresNetwork lines net rest) → read_from begun 1 lines ≡ Ok (record { parts = is.parts; lines = is.numbers; end = length is.plan })
-declared_of lines net rest is = plan_read lines is.plan rest is.parts is.numbers is.whole is.is_plan
+declared_of : (lines : List (List ℕ)) (net : Plan) (rest : List (List ℕ)) (is : DeclaresNetwork lines net rest) → read_from begun 1 lines ≡ Ok (record { delay = is.delay; parts = is.parts; lines = is.numbers; end = length is.plan })
+declared_of lines net rest is = plan_read lines is.plan rest is.delay is.parts is.numbers is.whole is.is_plan
 
-refused_of : (lines : List (List ℕ)) (line : ℕ) (fault : BuildFault) (is : RefusesPart lines line fault) → read_from begun 1 lines ≡ Ok (record { parts = is.parts; lines = is.numbers; end = length is.plan })
-refused_of lines line fault is = plan_read lines is.plan is.rest is.parts is.numbers is.whole is.is_plan
+refused_of : (lines : List (List ℕ)) (line : ℕ) (fault : BuildFault) (is : RefusesPart lines line fault) → read_from begun 1 lines ≡ Ok (record { delay = is.delay; parts = is.parts; lines = is.numbers; end = length is.plan })
+refused_of lines line fault is = plan_read lines is.plan is.rest is.delay is.parts is.numbers is.whole is.is_plan
 
 same_declared : (lines : List (List ℕ)) (a b : Declared) → read_from begun 1 lines ≡ Ok a → read_from begun 1 lines ≡ Ok b → a ≡ b
 same_declared lines a b x y = cc
@@ -27,7 +27,7 @@ rest_is lines plan rest whole = ap (drop (length plan)) whole ∙ drop-append_se
 network_one : (lines : List (List ℕ)) (net other : Plan) (rest after : List (List ℕ)) → DeclaresNetwork lines net rest → DeclaresNetwork lines other after → network net rest ≡ network other after
 network_one lines net other rest after is also =
     let same = same_declared lines _ _ (declared_of lines net rest is) (declared_of lines other after also) in
-    let parts : built is.parts ≡ built also.parts = ap (λ (d : Declared). built d.parts) same in
+    let parts : declared_net is.delay is.parts ≡ declared_net also.delay also.parts = ap (λ (d : Declared). declared_net d.delay d.parts) same in
     let net_is : net ≡ other = (let a = is.builds in let b = also.builds in cc) in
     let cut : drop (length is.plan) lines ≡ drop (length also.plan) lines = ap (λ (d : Declared). drop d.end lines) same in
     let rest_one : rest ≡ after = sym (rest_is lines is.plan rest is.whole) ∙ (cut ∙ rest_is lines also.plan after also.whole) in
@@ -41,7 +41,7 @@ no_refusal lines net rest line fault is refuses =
     let same = same_declared lines _ _ (declared_of lines net rest is) (refused_of lines line fault refuses) in
     let parts : built is.parts ≡ built refuses.parts = ap (λ (d : Declared). built d.parts) same in
     let good = is.builds in
-    let bad = refuses.part.refused in
+    let bad : declared_net is.delay is.parts ≡ Err fault = ap (delayed is.delay) (parts ∙ refuses.part.refused) in
     absurd (cc)
 
 refusal_one : (lines : List (List ℕ)) (line also_line : ℕ) (fault other : BuildFault) → RefusesPart lines line fault → RefusesPart lines also_line other → refused line fault ≡ refused also_line other

@@ -1,43 +1,58 @@
 -- The line of a part is read as that part, and no other line is.
-use Rattle.std.proofs.Common.{◌≡◌, ℕ, true, List, [], ◌∷◌, Result, Ok, Err, refl, sym, ap, ◌∙◌, subst, inl, inr, codes}
+use Rattle.std.proofs.Common.{◌≡◌, ◌≤◌, ℕ, ℤ, pos, true, List, [], ◌∷◌, Result, Ok, Err, refl, sym, ap, ◌∙◌, subst, inl, inr, codes}
 use Rattle.std.specs.Str.{bytes_eq}
-use Rattle.net_model.specs.Numbers.{name_of, integer_of}
-use Rattle.net_model.specs.Limits.{most_number}
+use Rattle.net_model.specs.Numbers.{name_of, short_name_of, natural_of, integer_of}
+use Rattle.net_model.specs.Limits.{most_delay, most_number}
 use Rattle.texts.specs.Words.{is_remark, are_passed_over}
 use Rattle.net_model.specs.declared.format.FormatKind.{FormatKind}
 use Rattle.net_model.specs.declared.format.FormatKind.TheVariants.{UnknownWord}
 use Rattle.net_model.specs.declared.part.Part.{Part}
 use Rattle.net_model.specs.declared.part.Part.TheVariants as part
-use Rattle.net_model.proofs.DepartureLemmas.{number_read, number_ok}
-use Rattle.net_model.proofs.ReadingLemmas.{choice, bind_ok, name_ok, name_read, word_is}
+use Rattle.net_model.proofs.DepartureLemmas.{number_read, number_ok, delay_read, delay_ok}
+use Rattle.net_model.proofs.ReadingLemmas.{choice, bind_ok, name_ok, name_read, short_name_ok, short_name_read, word_is}
 use Rattle.plan_format.specs.declared.plan_line.PlanLine.{PlanLine}
 use Rattle.plan_format.specs.declared.plan_line.PlanLine.TheVariants as line
-use Rattle.plan_format.specs.PlanLines.{plan_line, line_of, header_line, end_line, declares, point_line, bound_line, link_line}
-use Rattle.plan_format.specs.PlanGrammar.{AreWordsOf}
+use Rattle.plan_format.specs.PlanLines.{plan_line, line_of, second_line, delay_in, header_line, end_line, declares, point_line, bound_line, link_line, between_line, delay_line}
+use Rattle.plan_format.specs.PlanGrammar.{AreWordsOf, AreDeclarable}
 use Rattle.net_model.specs.NetworkParts.{IsDeclarable}
-use Rattle.plan_format.specs.PlanParts.{Version, format_1, version_word, part_words, header_words, end_words}
+use Rattle.plan_format.specs.declared.version.PlanStage.{PlanStage}
+use Rattle.plan_format.specs.declared.version.PlanStage.TheVariants.{Opened, Going}
+use Rattle.plan_format.specs.declared.version.PlanVersion.{PlanVersion}
+use Rattle.plan_format.specs.declared.version.PlanVersion.TheVariants.{One, Two}
+use Rattle.plan_format.specs.PlanParts.{number_of, version_word, part_words, between_words, delay_words, header_words, end_words}
 
 -- the line of a part is read as that part
-pub spelled_read : (version : Version) (p : Part) → IsDeclarable p → plan_line version (part_words p) ≡ Ok (line.Part p)
+pub spelled_read : (version : PlanVersion) (stage : PlanStage) (p : Part) → IsDeclarable p → plan_line version stage (part_words p) ≡ Ok (line.Part p)
 unfolding plan_line
-spelled_read version (part.Point name) spelled = rw (name_read name spelled) refl
-spelled_read version (part.Bound name from to most) spelled =
+spelled_read version stage (part.Point name) spelled = rw (name_read name spelled) refl
+spelled_read version stage (part.Bound name from to most) spelled =
     rw (name_read name spelled.0, name_read from spelled.1, name_read to spelled.2, number_read most spelled.3) refl
-spelled_read version (part.Link from low high to) spelled =
+spelled_read version stage (part.Link from low high to) spelled =
     rw (name_read from spelled.0, number_read low spelled.1, number_read high spelled.2, name_read to spelled.3) refl
 
-pub header_read : (version : Version) → plan_line version (header_words version) ≡ Ok line.Header
+-- the line of two bounds is read as them, and the line of a delay where it may come
+pub between_read : (stage : PlanStage) (name from : List ℕ) (low high : ℤ) (to : List ℕ) → AreDeclarable name from low high to → plan_line Two stage (between_words name from low high to) ≡ Ok (line.Between name from low high to)
 unfolding plan_line
-header_read format_1 = refl
+between_read stage name from low high to spelled =
+    rw (short_name_read name spelled.0, name_read from spelled.1, number_read low spelled.2, number_read high spelled.3, name_read to spelled.4) refl
 
-pub end_read : (version : Version) → plan_line version end_words ≡ Ok line.End
+pub told_read : (delay : ℕ) → delay ≤ most_delay → plan_line Two Opened (delay_words delay) ≡ Ok (line.Delay (pos delay))
 unfolding plan_line
-end_read version = refl
+told_read delay short = rw (delay_read delay short) refl
 
-pub blank_read : (version : Version) (words : List (List ℕ)) → are_passed_over words ≡ true → plan_line version words ≡ Ok line.Blank
+pub header_read : (version : PlanVersion) (stage : PlanStage) (said : PlanVersion) → plan_line version stage (header_words said) ≡ Ok (line.Header (number_of said))
 unfolding plan_line
-blank_read version [] blank = refl
-blank_read version (first ∷ others) blank = rw blank refl
+header_read version stage One = refl
+header_read version stage Two = refl
+
+pub end_read : (version : PlanVersion) (stage : PlanStage) → plan_line version stage end_words ≡ Ok line.End
+unfolding plan_line
+end_read version stage = refl
+
+pub blank_read : (version : PlanVersion) (stage : PlanStage) (words : List (List ℕ)) → are_passed_over words ≡ true → plan_line version stage words ≡ Ok line.Blank
+unfolding plan_line
+blank_read version stage [] blank = refl
+blank_read version stage (first ∷ others) blank = rw blank refl
 
 -- the words after the first one of the line of a part
 point_ok : (others : List (List ℕ)) (p : Part) → point_line others ≡ Ok p → (codes "point" ∷ others ≡ part_words p) × IsDeclarable p
@@ -91,33 +106,102 @@ link_ok (a ∷ b ∷ c ∷ d ∷ []) p read =
     subst (λ (q : Part). (codes "link" ∷ a ∷ b ∷ c ∷ d ∷ [] ≡ part_words q) × IsDeclarable q) same (words, (x.1, y.1, z.1, w.1))
 link_ok (a ∷ b ∷ c ∷ d ∷ e ∷ others) p read = absurd (cc)
 
-declared_ok : (version : Version) (first : List ℕ) (others : List (List ℕ)) (read : Result Part FormatKind) (l : PlanLine) → ((p : Part) → read ≡ Ok p → (first ∷ others ≡ part_words p) × IsDeclarable p) → declares read ≡ Ok l → AreWordsOf version l (first ∷ others)
+same_five : (first a b c d e f g h i j : List ℕ) → a ≡ f → b ≡ g → c ≡ h → d ≡ i → e ≡ j → first ∷ a ∷ b ∷ c ∷ d ∷ e ∷ [] ≡ first ∷ f ∷ g ∷ h ∷ i ∷ j ∷ []
+same_five first a b c d e f g h i j p q r s t = cc
+
+between_ok : (others : List (List ℕ)) (l : PlanLine) → between_line others ≡ Ok l → AreWordsOf Two l (codes "between" ∷ others)
+between_ok [] l read = absurd (cc)
+between_ok (a ∷ []) l read = absurd (cc)
+between_ok (a ∷ b ∷ []) l read = absurd (cc)
+between_ok (a ∷ b ∷ c ∷ []) l read = absurd (cc)
+between_ok (a ∷ b ∷ c ∷ d ∷ []) l read = absurd (cc)
+between_ok (a ∷ b ∷ c ∷ d ∷ e ∷ []) l read =
+    let name = bind_ok (short_name_of a) _ l read in
+    let from = bind_ok (name_of b) _ l name.2 in
+    let low = bind_ok (integer_of most_number c) _ l from.2 in
+    let high = bind_ok (integer_of most_number d) _ l low.2 in
+    let to = bind_ok (name_of e) _ l high.2 in
+    let v = short_name_ok a name.0 name.1 in
+    let w = name_ok b from.0 from.1 in
+    let x = number_ok c low.0 low.1 in
+    let y = number_ok d high.0 high.1 in
+    let z = name_ok e to.0 to.1 in
+    let same : line.Between name.0 from.0 low.0 high.0 to.0 ≡ l = cc in
+    let words : codes "between" ∷ a ∷ b ∷ c ∷ d ∷ e ∷ [] ≡ between_words name.0 from.0 low.0 high.0 to.0 = same_five _ _ _ _ _ _ _ _ _ _ _ v.0 w.0 x.0 y.0 z.0 in
+    subst (λ (k : PlanLine). AreWordsOf Two k (codes "between" ∷ a ∷ b ∷ c ∷ d ∷ e ∷ [])) same (refl, words, (v.1, w.1, x.1, y.1, z.1))
+between_ok (a ∷ b ∷ c ∷ d ∷ e ∷ f ∷ others) l read = absurd (cc)
+
+delay_line_ok : (others : List (List ℕ)) (l : PlanLine) → delay_line others ≡ Ok l → AreWordsOf Two l (codes "delay" ∷ others)
+delay_line_ok [] l read = absurd (cc)
+delay_line_ok (word ∷ []) l read =
+    let moments = bind_ok (natural_of most_delay word) _ l read in
+    let said = delay_ok word moments.0 moments.1 in
+    let same : line.Delay (pos moments.0) ≡ l = cc in
+    let words : codes "delay" ∷ word ∷ [] ≡ delay_words moments.0 = ap (λ (w : List ℕ). codes "delay" ∷ w ∷ []) said.0 in
+    subst (λ (k : PlanLine). AreWordsOf Two k (codes "delay" ∷ word ∷ [])) same (refl, moments.0, refl, words, said.1)
+delay_line_ok (word ∷ next ∷ others) l read = absurd (cc)
+
+declared_ok : (version : PlanVersion) (first : List ℕ) (others : List (List ℕ)) (read : Result Part FormatKind) (l : PlanLine) → ((p : Part) → read ≡ Ok p → (first ∷ others ≡ part_words p) × IsDeclarable p) → declares read ≡ Ok l → AreWordsOf version l (first ∷ others)
 declared_ok version first others (Ok p) l spelled said =
     let same : line.Part p ≡ l = cc in
     subst (λ (k : PlanLine). AreWordsOf version k (first ∷ others)) same (spelled p refl)
 declared_ok version first others (Err kind) l spelled said = absurd (cc)
 
-header_ok : (version : Version) (others : List (List ℕ)) (l : PlanLine) → header_line version others ≡ Ok l → AreWordsOf version l (codes "stnu" ∷ others)
+header_is : (version said : PlanVersion) (word : List ℕ) (number : ℕ) (l : PlanLine) → number ≡ number_of said → bytes_eq word (version_word said) ≡ true → line.Header number ≡ l → AreWordsOf version l (codes "stnu" ∷ word ∷ [])
+header_is version said word number l numbered spelled same =
+    subst (λ (k : PlanLine). AreWordsOf version k (codes "stnu" ∷ word ∷ [])) same (said, numbered, ap (λ (w : List ℕ). codes "stnu" ∷ w ∷ []) (word_is word (version_word said) spelled))
+
+header_ok : (version : PlanVersion) (others : List (List ℕ)) (l : PlanLine) → header_line others ≡ Ok l → AreWordsOf version l (codes "stnu" ∷ others)
 header_ok version [] l read = absurd (cc)
 header_ok version (word ∷ []) l read =
-    elim (choice (bytes_eq word (version_word version)) (Ok line.Header) (Err UnknownWord) (Ok l) read) [
-      | inl one ↦
-          let same : line.Header ≡ l = cc in
-          subst (λ (k : PlanLine). AreWordsOf version k (codes "stnu" ∷ word ∷ [])) same (ap (λ (w : List ℕ). codes "stnu" ∷ w ∷ []) (word_is word (version_word version) one.0))
-      | inr other ↦ absurd (cc)
+    elim (choice (bytes_eq word (version_word One)) _ _ (Ok l) read) [
+      | inl one ↦ let read_one : Ok (line.Header 1) ≡ Ok l = one.1 in header_is version One word 1 l refl one.0 (cc)
+      | inr other ↦ elim (choice (bytes_eq word (version_word Two)) _ _ (Ok l) other.1) [
+        | inl two ↦ let read_two : Ok (line.Header 2) ≡ Ok l = two.1 in header_is version Two word 2 l refl two.0 (cc)
+        | inr none ↦ absurd (let wrong : Err UnknownWord ≡ Ok l = none.1 in cc)
+      ]
     ]
 header_ok version (word ∷ next ∷ others) l read = absurd (cc)
 
-end_ok : (version : Version) (others : List (List ℕ)) (l : PlanLine) → end_line others ≡ Ok l → AreWordsOf version l (codes "end" ∷ others)
+end_ok : (version : PlanVersion) (others : List (List ℕ)) (l : PlanLine) → end_line others ≡ Ok l → AreWordsOf version l (codes "end" ∷ others)
 end_ok version [] l read =
     let same : line.End ≡ l = cc in
     subst (λ (k : PlanLine). AreWordsOf version k (codes "end" ∷ [])) same refl
 end_ok version (next ∷ others) l read = absurd (cc)
 
+begins_so : (version : PlanVersion) (l : PlanLine) (first spelling : List ℕ) (others : List (List ℕ)) → bytes_eq first spelling ≡ true → AreWordsOf version l (spelling ∷ others) → AreWordsOf version l (first ∷ others)
+begins_so version l first spelling others same is =
+    subst (λ (w : List ℕ). AreWordsOf version l (w ∷ others)) (sym (word_is first spelling same)) is
+
+-- which lines are read at a stage: that of the delay where nothing but blank lines stands after the header
+abbrev pub MayStand : PlanStage → PlanLine → Type 0
+MayStand stage line.Blank = Unit {0}
+MayStand stage (line.Header number) = Unit {0}
+MayStand stage (line.Part part) = Unit {0}
+MayStand stage (line.Delay moments) = stage ≡ Opened
+MayStand stage (line.Between name from low high to) = Unit {0}
+MayStand stage line.End = Unit {0}
+
+delay_in_ok : (stage : PlanStage) (first : List ℕ) (others : List (List ℕ)) (l : PlanLine) → delay_in stage first others ≡ Ok l → AreWordsOf Two l (first ∷ others)
+delay_in_ok Opened first others l read =
+    elim (choice (bytes_eq first (codes "delay")) _ _ (Ok l) read) [
+      | inl delay ↦ begins_so Two l first (codes "delay") others delay.0 (delay_line_ok others l delay.1)
+      | inr unknown ↦ absurd (let wrong : Err UnknownWord ≡ Ok l = unknown.1 in cc)
+    ]
+delay_in_ok Going first others l read = absurd (cc)
+
+second_ok : (version : PlanVersion) (stage : PlanStage) (first : List ℕ) (others : List (List ℕ)) (l : PlanLine) → second_line version stage first others ≡ Ok l → AreWordsOf version l (first ∷ others)
+second_ok One stage first others l read = absurd (cc)
+second_ok Two stage first others l read =
+    elim (choice (bytes_eq first (codes "between")) _ _ (Ok l) read) [
+      | inl between ↦ begins_so Two l first (codes "between") others between.0 (between_ok others l between.1)
+      | inr other ↦ delay_in_ok stage first others l other.1
+    ]
+
 -- a line that begins with a word of the grammar
-line_ok : (version : Version) (first : List ℕ) (others : List (List ℕ)) (l : PlanLine) → line_of version first others ≡ Ok l → AreWordsOf version l (first ∷ others)
-line_ok version first others l read =
-    let begins : (spelling : List ℕ) → bytes_eq first spelling ≡ true → AreWordsOf version l (spelling ∷ others) → AreWordsOf version l (first ∷ others) = λ spelling same is. subst (λ (w : List ℕ). AreWordsOf version l (w ∷ others)) (sym (word_is first spelling same)) is in
+line_ok : (version : PlanVersion) (stage : PlanStage) (first : List ℕ) (others : List (List ℕ)) (l : PlanLine) → line_of version stage first others ≡ Ok l → AreWordsOf version l (first ∷ others)
+line_ok version stage first others l read =
+    let begins : (spelling : List ℕ) → bytes_eq first spelling ≡ true → AreWordsOf version l (spelling ∷ others) → AreWordsOf version l (first ∷ others) = λ spelling same is. begins_so version l first spelling others same is in
     elim (choice (bytes_eq first (codes "stnu")) _ _ (Ok l) read) [
       | inl stnu ↦ begins (codes "stnu") stnu.0 (header_ok version others l stnu.1)
       | inr not_stnu ↦ elim (choice (bytes_eq first (codes "point")) _ _ (Ok l) not_stnu.1) [
@@ -128,7 +212,7 @@ line_ok version first others l read =
             | inl link ↦ begins (codes "link") link.0 (declared_ok version (codes "link") others (link_line others) l (link_ok others) link.1)
             | inr not_link ↦ elim (choice (bytes_eq first (codes "end")) _ _ (Ok l) not_link.1) [
               | inl end ↦ begins (codes "end") end.0 (end_ok version others l end.1)
-              | inr unknown ↦ absurd (let wrong : Err UnknownWord ≡ Ok l = unknown.1 in cc)
+              | inr second ↦ second_ok version stage first others l second.1
             ]
           ]
         ]
@@ -136,22 +220,59 @@ line_ok version first others l read =
     ]
 
 -- what is read of a line is what it is
-pub read_is : (version : Version) (words : List (List ℕ)) (l : PlanLine) → plan_line version words ≡ Ok l → AreWordsOf version l words
+pub read_is : (version : PlanVersion) (stage : PlanStage) (words : List (List ℕ)) (l : PlanLine) → plan_line version stage words ≡ Ok l → AreWordsOf version l words
 unfolding plan_line
-read_is version [] l read =
+read_is version stage [] l read =
     let same : line.Blank ≡ l = cc in
     subst (λ (k : PlanLine). AreWordsOf version k []) same refl
-read_is version (first ∷ others) l read =
-    elim (choice (is_remark first) (Ok line.Blank) (line_of version first others) (Ok l) read) [
+read_is version stage (first ∷ others) l read =
+    elim (choice (is_remark first) (Ok line.Blank) (line_of version stage first others) (Ok l) read) [
       | inl remark ↦
           let same : line.Blank ≡ l = cc in
           subst (λ (k : PlanLine). AreWordsOf version k (first ∷ others)) same remark.0
-      | inr other ↦ line_ok version first others l other.1
+      | inr other ↦ line_ok version stage first others l other.1
     ]
 
--- a line of the grammar is read as what it is
-pub is_read : (version : Version) (words : List (List ℕ)) (l : PlanLine) → AreWordsOf version l words → plan_line version words ≡ Ok l
-is_read version words line.Blank is = blank_read version words is
-is_read version words line.Header is = ap (plan_line version) is ∙ header_read version
-is_read version words (line.Part p) is = ap (plan_line version) is.0 ∙ spelled_read version p is.1
-is_read version words line.End is = ap (plan_line version) is ∙ end_read version
+-- only a line that may stand here is read
+going_delay : (delay : ℕ) → plan_line Two Going (delay_words delay) ≡ Err UnknownWord
+unfolding plan_line
+going_delay delay = refl
+
+delay_stands : (version : PlanVersion) (stage : PlanStage) (words : List (List ℕ)) (moments : ℤ) → plan_line version stage words ≡ Ok (line.Delay moments) → stage ≡ Opened
+delay_stands version Opened words moments here = refl
+delay_stands version Going words moments here =
+    let is = read_is version Going words (line.Delay moments) here in
+    let none : plan_line version Going words ≡ Err UnknownWord = rw is.0 (ap (plan_line Two Going) is.3 ∙ going_delay is.1) in
+    absurd (cc)
+
+pub stands : (version : PlanVersion) (stage : PlanStage) (words : List (List ℕ)) (l : PlanLine) → plan_line version stage words ≡ Ok l → MayStand stage l
+stands version stage words line.Blank here = tt
+stands version stage words (line.Header number) here = tt
+stands version stage words (line.Part part) here = tt
+stands version stage words (line.Delay moments) here = delay_stands version stage words moments here
+stands version stage words (line.Between name from low high to) here = tt
+stands version stage words line.End here = tt
+
+-- a line of the grammar that may stand here is read as what it is
+pub is_read : (version : PlanVersion) (stage : PlanStage) (words : List (List ℕ)) (l : PlanLine) → MayStand stage l → AreWordsOf version l words → plan_line version stage words ≡ Ok l
+is_read version stage words line.Blank may is = blank_read version stage words is
+is_read version stage words (line.Header number) may is =
+    ap (plan_line version stage) is.2 ∙ (header_read version stage is.0 ∙ ap (λ (n : ℕ). Ok (line.Header n)) (sym is.1))
+is_read version stage words (line.Part p) may is = ap (plan_line version stage) is.0 ∙ spelled_read version stage p is.1
+is_read version stage words (line.Delay moments) may is =
+    rw (is.0, may) (ap (plan_line Two Opened) is.3 ∙ (told_read is.1 is.4 ∙ ap (λ (n : ℤ). Ok (line.Delay n)) (sym is.2)))
+is_read version stage words (line.Between name from low high to) may is =
+    rw is.0 (ap (plan_line Two stage) is.1 ∙ between_read stage name from low high to is.2)
+is_read version stage words line.End may is = ap (plan_line version stage) is ∙ end_read version stage
+
+-- read alone, each line may stand
+opened_may : (l : PlanLine) → MayStand Opened l
+opened_may line.Blank = tt
+opened_may (line.Header number) = tt
+opened_may (line.Part part) = tt
+opened_may (line.Delay moments) = refl
+opened_may (line.Between name from low high to) = tt
+opened_may line.End = tt
+
+pub alone_read : (version : PlanVersion) (words : List (List ℕ)) (l : PlanLine) → AreWordsOf version l words → plan_line version Opened words ≡ Ok l
+alone_read version words l is = is_read version Opened words l (opened_may l) is

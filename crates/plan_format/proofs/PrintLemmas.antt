@@ -9,8 +9,9 @@ use Rattle.texts.proofs.PrintingLemmas.{flat_map-map}
 use Rattle.net_model.specs.declared.part.Part.{Part}
 use Rattle.net_model.specs.declared.part.Part.TheVariants.{Point}
 use Rattle.net_model.specs.NetworkParts.{bound_part, link_part, parts_of}
-use Rattle.plan_format.specs.PlanParts.{part_words, format_1, header_words, end_words}
-use Rattle.plan_format.specs.PlanPrinting.{printed_plan}
+use Rattle.plan_format.specs.declared.version.PlanVersion.TheVariants.{Two}
+use Rattle.plan_format.specs.PlanParts.{part_words, header_words, end_words}
+use Rattle.plan_format.specs.PlanPrinting.{delay_lines, printed_plan}
 
 -- the printed lines of parts
 abbrev printed_parts : List Part → List ℕ
@@ -24,14 +25,15 @@ printed_parts-map : {X : Type 0} (part : X → Part) (xs : List X) → printed_p
 printed_parts-map part xs =
     flat_map-map printed_line part_words (map part xs) ∙ flat_map-map (λ p. printed_line (part_words p)) part xs
 
-regrouped : (h a b c e : List ℕ) → (((h ++ a) ++ b) ++ c) ++ e ≡ h ++ ((a ++ (b ++ c)) ++ (e ++ []))
-regrouped h a b c e = simp (append_assoc, append-nil)
+regrouped : (h d a b c e : List ℕ) → ((((h ++ d) ++ a) ++ b) ++ c) ++ e ≡ h ++ (d ++ ((a ++ (b ++ c)) ++ (e ++ [])))
+regrouped h d a b c e = simp (append_assoc, append-nil)
 
 -- the pieces in the order in which they are written
-pub printed_pieces : (net : Plan) → (((([] ++ printed_line (header_words format_1)) ++ flat_map (λ name. printed_line (part_words (Point name))) net.points) ++ flat_map (λ bound. printed_line (part_words (bound_part net.points bound))) net.bounds) ++ flat_map (λ link. printed_line (part_words (link_part net.points link))) net.links) ++ printed_line end_words ≡ printed_plan net
+pub printed_pieces : (net : Plan) → ((((([] ++ printed_line (header_words Two)) ++ printed (delay_lines net.delay)) ++ flat_map (λ name. printed_line (part_words (Point name))) net.points) ++ flat_map (λ bound. printed_line (part_words (bound_part net.points bound))) net.bounds) ++ flat_map (λ link. printed_line (part_words (link_part net.points link))) net.links) ++ printed_line end_words ≡ printed_plan net
 unfolding printed_plan
 printed_pieces net =
-    let header : List ℕ = printed_line (header_words format_1) in
+    let header : List ℕ = printed_line (header_words Two) in
+    let told : List ℕ = printed (delay_lines net.delay) in
     let end : List ℕ = printed_line end_words in
     let points : List Part = map Point net.points in
     let bounds : List Part = map (bound_part net.points) net.bounds in
@@ -40,7 +42,9 @@ printed_pieces net =
     let b = printed_parts-map (bound_part net.points) net.bounds in
     let c = printed_parts-map (link_part net.points) net.links in
     let parts : printed_parts (parts_of net) ≡ printed_parts points ++ (printed_parts bounds ++ printed_parts links) = printed_parts-append points (bounds ++ links) ∙ ap (λ (rest : List ℕ). printed_parts points ++ rest) (printed_parts-append bounds links) in
+    let last : printed (map part_words (parts_of net) ++ end_words ∷ []) ≡ printed_parts (parts_of net) ++ (end ++ []) = flat_map-append printed_line (map part_words (parts_of net)) (end_words ∷ []) in
+    let rest : printed (delay_lines net.delay ++ (map part_words (parts_of net) ++ end_words ∷ [])) ≡ told ++ (printed_parts (parts_of net) ++ (end ++ [])) = flat_map-append printed_line (delay_lines net.delay) (map part_words (parts_of net) ++ end_words ∷ []) ∙ ap (λ (text : List ℕ). told ++ text) last in
     rw (← a, ← b, ← c)
-    (regrouped header (printed_parts points) (printed_parts bounds) (printed_parts links) end
-    ∙ (ap (λ (text : List ℕ). header ++ (text ++ (end ++ []))) (sym parts)
-    ∙ ap (λ (text : List ℕ). header ++ text) (sym (flat_map-append printed_line (map part_words (parts_of net)) (end_words ∷ [])))))
+    (regrouped header told (printed_parts points) (printed_parts bounds) (printed_parts links) end
+    ∙ (ap (λ (text : List ℕ). header ++ (told ++ (text ++ (end ++ [])))) (sym parts)
+    ∙ ap (λ (text : List ℕ). header ++ text) (sym rest)))

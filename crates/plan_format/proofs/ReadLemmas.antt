@@ -1,5 +1,5 @@
 -- Reading the lines of bytes one after another.
-use Rattle.std.proofs.Common.{◌≡◌, ℕ, ◌<◌, ◌≤◌, ◌+◌, ◌-◌, List, [], ◌∷◌, ◌++◌, length, map, Result, Ok, Err, refl, sym, ap, ◌∙◌, subst, arith, append_assoc, length-append}
+use Rattle.std.proofs.Common.{◌≡◌, ℕ, ◌<◌, ◌≤◌, ◌+◌, ◌-◌, ◌*◌, inl, inr, List, [], ◌∷◌, ◌++◌, length, map, Result, Ok, Err, refl, sym, ap, ◌∙◌, subst, arith, append_assoc, length-append}
 use Rattle.std.specs.Result.{IfOk, IfErr}
 use Rattle.std.proofs.lemmas.List.{length-map, append-nil}
 use Rattle.texts.specs.Lines.{lines, size_of_lines}
@@ -12,8 +12,10 @@ use Rattle.net_model.specs.declared.format.WordFault.{WordFault}
 use Rattle.net_model.specs.declared.format.WordFault.TheVariants as word
 use Rattle.net_model.specs.declared.part.Part.{Part}
 use Rattle.plan_format.specs.declared.read.Parts.{Parts}
-use Rattle.plan_format.specs.PlanGrammar.{IsBegun, header, blank, declares, IsPlanText, Says}
-use Rattle.plan_format.specs.PlanParts.{Version}
+use Rattle.plan_format.specs.PlanGrammar.{IsBegun, header, blank, delays, declares, Declares, IsPlanText, Says}
+use Rattle.plan_format.specs.declared.version.PlanStage.{PlanStage}
+use Rattle.plan_format.specs.declared.version.PlanStage.TheVariants.{Opened}
+use Rattle.plan_format.specs.declared.version.PlanVersion.{PlanVersion}
 use Rattle.plan_format.specs.PlanFaults.{IsFirstFault, IsFaultOf}
 use Rattle.plan_format.specs.PlanReading.{Progress, begun, at_line, IsFront, Brings, Reads, Refuses, ReadsLines, HasSizes, fault_after}
 use Rattle.plan_format.proofs.StepLemmas.{one_more}
@@ -85,15 +87,17 @@ at_next bytes rest text others number read more at next has = record {
 }
 
 -- the `end` line was read
-pub at_end_line : (bytes rest text others : List ℕ) (number : ℕ) (read more : Progress) (at : AtLine bytes rest number read) → IsNextLine rest text others → IsPlanText (at.before ++ text ∷ []) more.parts more.lines → ReadsLines bytes more (Ok (length bytes - length others))
+pub at_end_line : (bytes rest text others : List ℕ) (number : ℕ) (read more : Progress) (at : AtLine bytes rest number read) → IsNextLine rest text others → IsPlanText (at.before ++ text ∷ []) more.delay more.parts more.lines → ReadsLines bytes more (Ok (length bytes - length others))
 at_end_line bytes rest text others number read more at next plan =
     let left : IsLeftAfter bytes (length (at.before ++ text ∷ [])) others = subst (λ (n : ℕ). IsLeftAfter bytes n others) (one_more at.before text) (after_more bytes (length at.before) rest others at.left next.shorter next.sizes) in
     record {
       text = at.before ++ text ∷ [];
       after = lines others;
+      delay = more.delay;
       split = split_more bytes at.before text rest others at.split next.here;
       plan = plan;
       used = sym (size_before bytes (length (at.before ++ text ∷ [])) others left);
+      told = refl;
     }
 
 -- a line was refused
@@ -123,24 +127,31 @@ answer_fault bytes (Err text.OutOfMemory) fault says faults first = tt
 
 record BegunSizes (text : List (List ℕ)) (parts : List Part) (numbers : List ℕ) : Type 0 where
   numbered : length numbers ≡ length parts
-  few : length parts + 1 ≤ length text
+  few : length parts + 2 ≤ 2 * length text
 
-begun_sizes : (version : Version) (text : List (List ℕ)) (parts : List Part) (numbers : List ℕ) → IsBegun version text parts numbers → BegunSizes text parts numbers
-begun_sizes version text parts numbers (header blanks first all is) = record { numbered = refl; few = omega (arith, one_more blanks first) }
-begun_sizes version text parts numbers (blank before next ps ns begins is) =
-    let sizes = begun_sizes version before ps ns begins in
+declared_few : (version : PlanVersion) (text : List ℕ) (parts : List Part) → Declares version text parts → length parts ≤ 2
+declared_few version text parts (inl one) = let so : length parts ≡ 1 = ap length one.1 in omega (arith, so)
+declared_few version text parts (inr (name, from, low, high, to, two, is)) = let so : length parts ≡ 2 = ap length two in omega (arith, so)
+
+begun_sizes : (version : PlanVersion) (stage : PlanStage) (text : List (List ℕ)) (delay : ℕ) (parts : List Part) (numbers : List ℕ) → IsBegun version stage text delay parts numbers → BegunSizes text parts numbers
+begun_sizes version stage text delay parts numbers (header blanks first all is) = record { numbered = refl; few = omega (arith, one_more blanks first) }
+begun_sizes version stage text delay parts numbers (blank same before next d ps ns begins is) =
+    let sizes = begun_sizes version stage before delay parts numbers begins in
     record { numbered = sizes.numbered; few = omega (arith, one_more before next, sizes.few) }
-begun_sizes version text parts numbers (declares before next ps more ns begins declared) =
-    let sizes = begun_sizes version before ps ns begins in
-    let one : length more ≡ 1 = ap length declared.1 in
+begun_sizes version stage text delay parts numbers (delays before next was d ps ns begins is) =
+    let sizes = begun_sizes version Opened before was parts numbers begins in
+    record { numbered = sizes.numbered; few = omega (arith, one_more before next, sizes.few) }
+begun_sizes version stage text delay parts numbers (declares was before next d ps more ns begins declared) =
+    let sizes = begun_sizes version was before delay ps ns begins in
+    let two = declared_few version next more declared in
     let marks : length (map (λ (part : Part). length before + 1) more) ≡ length more = length-map more (λ (part : Part). length before + 1) in
     let a = length-append ps more in
     let b = length-append ns (map (λ (part : Part). length before + 1) more) in
-    record { numbered = omega (arith, sizes.numbered, marks, a, b); few = omega (arith, one_more before next, sizes.few, a, one) }
+    record { numbered = omega (arith, sizes.numbered, marks, a, b); few = omega (arith, one_more before next, sizes.few, a, two) }
 
 pub says_sizes : (bytes : List ℕ) (read : Parts) → Says bytes read → HasSizes bytes read
 says_sizes bytes read says =
-    let sizes = begun_sizes says.plan.version says.plan.begun read.parts read.lines says.plan.begins in
+    let sizes = begun_sizes says.plan.version says.plan.stage says.plan.begun says.delay read.parts read.lines says.plan.begins in
     let whole : length says.text ≡ length (says.plan.begun ++ says.plan.last ∷ []) = ap length says.plan.whole in
     let all : length (lines bytes) ≡ length (says.text ++ says.after) = ap length says.split in
     let both : length (says.text ++ says.after) ≡ length says.text + length says.after = length-append says.text says.after in

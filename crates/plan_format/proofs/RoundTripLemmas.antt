@@ -1,12 +1,12 @@
 -- A printed plan text is read back.
-use Rattle.std.proofs.Common.{◌≡◌, ℕ, ℤ, ◌<◌, ◌≤◌, ◌≤ℤ◌, pos, ◌+◌, true, List, [], ◌∷◌, ◌++◌, length, map, get_or, refl, sym, ap, subst, ◌∙◌, arith, codes, IsTrue, unsigned_abs, append_assoc, length-append}
+use Rattle.std.proofs.Common.{◌≡◌, ℕ, ℤ, ◌<◌, ◌≤◌, ◌≤ℤ◌, pos, ◌+◌, ◌==◌, Bool, true, false, cond, inl, List, [], ◌∷◌, ◌++◌, length, map, get_or, refl, sym, ap, subst, ◌∙◌, arith, codes, IsTrue, unsigned_abs, append_assoc, length-append}
 use Rattle.std.specs.List.{All, AllByRecursion}
 use Rattle.std.specs.Fmt.{signed_decimal}
-use Rattle.std.proofs.lemmas.Bool.{leb-true, le-leb, ne_eqb}
+use Rattle.std.proofs.lemmas.Bool.{leb-true, le-leb, eqb-true, ne_eqb}
 use Rattle.std.proofs.lemmas.List.{length-map, append-nil, map-append}
 use Rattle.std.proofs.lemmas.List.Elements.{recursion_from_All, All-nil, All-append, All-map}
 use Rattle.net_model.specs.Names.{is_name}
-use Rattle.net_model.specs.Limits.{within_limit, most_number}
+use Rattle.net_model.specs.Limits.{within_limit, most_delay, most_number}
 use Rattle.net_model.specs.Network.{Plan, IsPlan, HasPlanNumbers}
 use Rattle.net_model.specs.NetworkParts.{bound_part, link_part, parts_of, IsDeclarable}
 use Rattle.texts.specs.Words.{words}
@@ -17,13 +17,17 @@ use Rattle.net_model.specs.declared.part.Part.{Part}
 use Rattle.net_model.specs.declared.part.Part.TheVariants as part
 use Rattle.texts.proofs.LineLemmas.{size_of_lines-other, size_of_lines-end, size_of_lines-nil}
 use Rattle.texts.proofs.PrintingLemmas.{IsPrintable, IsPrintableLine, words-joined, plain-joined, lines-printed}
-use Rattle.net_model.proofs.SpellingLemmas.{printable_name, printable_integer}
+use Rattle.net_model.proofs.SpellingLemmas.{printable_name, printable_natural, printable_integer}
 use Rattle.plan_format.specs.declared.plan_line.PlanLine.TheVariants as line
-use Rattle.plan_format.specs.PlanGrammar.{IsBlank, IsLine, IsBegun, header, declares, IsPlanText}
+use Rattle.plan_format.specs.PlanGrammar.{IsBlank, IsLine, IsBegun, header, delays, declares, IsPlanText}
 use Rattle.plan_format.specs.PlanNetwork.{DeclaresNetwork}
-use Rattle.plan_format.specs.PlanParts.{Version, format_1, part_words, header_words, end_words}
-use Rattle.plan_format.specs.PlanPrinting.{plan_words, printed_plan, ReadsBack}
-use Rattle.net_model.proofs.PartsLemmas.{parts_build}
+use Rattle.plan_format.specs.declared.version.PlanStage.{PlanStage}
+use Rattle.plan_format.specs.declared.version.PlanStage.TheVariants.{Opened, Going}
+use Rattle.plan_format.specs.declared.version.PlanVersion.{PlanVersion}
+use Rattle.plan_format.specs.declared.version.PlanVersion.TheVariants.{Two}
+use Rattle.plan_format.specs.PlanParts.{part_words, delay_words, header_words, end_words}
+use Rattle.plan_format.specs.PlanPrinting.{delay_lines, plan_words, printed_plan, ReadsBack}
+use Rattle.net_model.proofs.PartsLemmas.{parts_declare}
 use Rattle.plan_format.proofs.StepLemmas.{one_more}
 
 printable_number : (n : ℤ) → within_limit n ≡ true → IsPrintable (signed_decimal n)
@@ -34,8 +38,11 @@ printable_number n within =
 literal_stnu : IsPrintable (codes "stnu")
 literal_stnu = record { filled = omega arith; plain = (omega arith, (omega arith, (omega arith, (omega arith, tt)))) }
 
-literal_one : IsPrintable (codes "1")
-literal_one = record { filled = omega arith; plain = (omega arith, tt) }
+literal_delay : IsPrintable (codes "delay")
+literal_delay = record { filled = omega arith; plain = (omega arith, (omega arith, (omega arith, (omega arith, (omega arith, tt))))) }
+
+literal_two : IsPrintable (codes "2")
+literal_two = record { filled = omega arith; plain = (omega arith, tt) }
 
 literal_end : IsPrintable (codes "end")
 literal_end = record { filled = omega arith; plain = (omega arith, (omega arith, (omega arith, tt))) }
@@ -63,8 +70,16 @@ printable_parts : (parts : List Part) → AllByRecursion IsDeclarable parts → 
 printable_parts [] spelled = (printable_end, tt)
 printable_parts (p ∷ parts) spelled = (printable_part p spelled.0, printable_parts parts spelled.1)
 
-printable_plan : (parts : List Part) → AllByRecursion IsDeclarable parts → AllByRecursion IsPrintableLine (plan_words parts)
-printable_plan parts spelled = ((literal_stnu, (literal_one, tt)), printable_parts parts spelled)
+printable_delay : (delay : ℕ) → delay ≤ most_delay → IsPrintableLine (delay_words delay)
+printable_delay delay short = (literal_delay, (printable_natural delay (omega arith), tt))
+
+printable_told : (none : Bool) (delay : ℕ) (others : List (List (List ℕ))) → delay ≤ most_delay → AllByRecursion IsPrintableLine others → AllByRecursion IsPrintableLine (cond none [] (delay_words delay ∷ []) ++ others)
+printable_told true delay others short printable = printable
+printable_told false delay others short printable = (printable_delay delay short, printable)
+
+printable_plan : (delay : ℕ) (parts : List Part) → delay ≤ most_delay → AllByRecursion IsDeclarable parts → AllByRecursion IsPrintableLine (plan_words delay parts)
+printable_plan delay parts short spelled =
+    ((literal_stnu, (literal_two, tt)), printable_told (delay == 0) delay (map part_words parts ++ end_words ∷ []) short (printable_parts parts spelled))
 
 -- the numbers of the lines of parts that stand one after another
 abbrev pub numbers_from : ℕ → List Part → List ℕ
@@ -74,22 +89,27 @@ numbers_from number (p ∷ parts) = number ∷ numbers_from (number + 1) parts
 line_back : (l : List (List ℕ)) → IsPrintableLine l → words (joined l) ≡ l
 line_back l printable = words-joined l printable
 
-begun_is : (version : Version) (lines text : List (List ℕ)) (parts ps : List Part) (numbers ns : List ℕ) → lines ≡ text → parts ≡ ps → numbers ≡ ns → IsBegun version lines parts numbers → IsBegun version text ps ns
-begun_is version lines text parts ps numbers ns e p n begun =
-    subst (λ (ls : List (List ℕ)). IsBegun version ls ps ns) e (subst (λ (qs : List Part). IsBegun version lines qs ns) p (subst (λ (ms : List ℕ). IsBegun version lines parts ms) n begun))
+begun_is : (version : PlanVersion) (stage : PlanStage) (lines text : List (List ℕ)) (delay : ℕ) (parts ps : List Part) (numbers ns : List ℕ) → lines ≡ text → parts ≡ ps → numbers ≡ ns → IsBegun version stage lines delay parts numbers → IsBegun version stage text delay ps ns
+begun_is version stage lines text delay parts ps numbers ns e p n begun =
+    subst (λ (ls : List (List ℕ)). IsBegun version stage ls delay ps ns) e (subst (λ (qs : List Part). IsBegun version stage lines delay qs ns) p (subst (λ (ms : List ℕ). IsBegun version stage lines delay parts ms) n begun))
+
+-- lines that have begun, however far they are
+HasBegun : PlanVersion → List (List ℕ) → ℕ → List Part → List ℕ → Type 0
+HasBegun version lines delay parts numbers = (stage : PlanStage) × IsBegun version stage lines delay parts numbers
 
 -- printed lines of parts after lines that have begun
-begun_with : (version : Version) (before : List (List ℕ)) (ps : List Part) (ns : List ℕ) (parts : List Part) → AllByRecursion IsDeclarable parts → IsBegun version before ps ns → IsBegun version (before ++ map joined (map part_words parts)) (ps ++ parts) (ns ++ numbers_from (length before + 1) parts)
-begun_with version before ps ns [] spelled begun = rw (append-nil before, append-nil ps, append-nil ns) begun
-begun_with version before ps ns (p ∷ parts) spelled begun =
+begun_with : (version : PlanVersion) (stage : PlanStage) (before : List (List ℕ)) (delay : ℕ) (ps : List Part) (ns : List ℕ) (parts : List Part) → AllByRecursion IsDeclarable parts → IsBegun version stage before delay ps ns → HasBegun version (before ++ map joined (map part_words parts)) delay (ps ++ parts) (ns ++ numbers_from (length before + 1) parts)
+unfolding HasBegun
+begun_with version stage before delay ps ns [] spelled begun = (stage, rw (append-nil before, append-nil ps, append-nil ns) begun)
+begun_with version stage before delay ps ns (p ∷ parts) spelled begun =
     let text : List ℕ = joined (part_words p) in
     let others : List (List ℕ) = map joined (map part_words parts) in
     let number : ℕ = length before + 1 in
     let is : IsLine version (line.Part p) text = (line_back (part_words p) (printable_part p spelled.0), spelled.0) in
-    let one : IsBegun version (before ++ text ∷ []) (ps ++ p ∷ []) (ns ++ number ∷ []) = declares before text ps (p ∷ []) ns begun (p, refl, is) in
-    let all = begun_with version (before ++ text ∷ []) (ps ++ p ∷ []) (ns ++ number ∷ []) parts spelled.1 one in
+    let one : IsBegun version Going (before ++ text ∷ []) delay (ps ++ p ∷ []) (ns ++ number ∷ []) = declares stage before text delay ps (p ∷ []) ns begun (inl (p, refl, is)) in
+    let all = begun_with version Going (before ++ text ∷ []) delay (ps ++ p ∷ []) (ns ++ number ∷ []) parts spelled.1 one in
     let size : length (before ++ text ∷ []) + 1 ≡ number + 1 = ap (λ (n : ℕ). n + 1) (sym (one_more before text)) in
-    begun_is version _ _ _ _ _ _ (append_assoc before (text ∷ []) others) (append_assoc ps (p ∷ []) parts) (append_assoc ns (number ∷ []) (numbers_from (length (before ++ text ∷ []) + 1) parts) ∙ ap (λ (n : ℕ). ns ++ number ∷ numbers_from n parts) size) all
+    (all.0, begun_is version all.0 _ _ delay _ _ _ _ (append_assoc before (text ∷ []) others) (append_assoc ps (p ∷ []) parts) (append_assoc ns (number ∷ []) (numbers_from (length (before ++ text ∷ []) + 1) parts) ∙ ap (λ (n : ℕ). ns ++ number ∷ numbers_from n parts) size) all.1)
 
 -- the bytes of a line and its line end
 size_of_line : (count : ℕ) (bytes rest : List ℕ) → AllByRecursion (λ byte. 31 < byte) bytes → size_of_lines (count + 1) (bytes ++ 10 ∷ rest) ≡ length bytes + 1 + size_of_lines count rest
@@ -109,18 +129,55 @@ size_of_printed (l ∷ text) printable =
     let here : size_of_lines (length text + 1) (joined l ++ 10 ∷ printed text) ≡ length (joined l) + 1 + size_of_lines (length text) (printed text) = size_of_line (length text) (joined l) (printed text) (plain-joined l printable.0) in
     rw (count, split) (omega (arith, here, size, size_of_printed text printable.1))
 
--- the printed lines of parts that can be spelled are a plan text
-plan_printed : (parts : List Part) → AllByRecursion IsDeclarable parts → IsPlanText (map joined (plan_words parts)) parts (numbers_from 2 parts)
-plan_printed parts spelled =
-    let first : List ℕ = joined (header_words format_1) in
-    let heads : IsLine format_1 line.Header first = line_back (header_words format_1) (literal_stnu, (literal_one, tt)) in
-    let begun : IsBegun format_1 (first ∷ []) [] [] = header [] first (All-nil IsBlank) heads in
+-- the number of the first part in a printed text
+pub first_number : ℕ → ℕ
+first_number delay = length (delay_lines delay) + 2
+
+-- the header and the line of the delay
+front_lines : ℕ → List (List ℕ)
+front_lines delay = joined (header_words Two) ∷ map joined (delay_lines delay)
+
+front_told : (none : Bool) (delay : ℕ) → (delay == 0) ≡ none → delay ≤ most_delay → HasBegun Two (joined (header_words Two) ∷ map joined (cond none [] (delay_words delay ∷ []))) delay [] []
+unfolding HasBegun
+front_told none delay is short =
+    let first : List ℕ = joined (header_words Two) in
+    let heads : words first ≡ header_words Two = line_back (header_words Two) (literal_stnu, (literal_two, tt)) in
+    let begun : IsBegun Two Opened (first ∷ []) 0 [] [] = header [] first (All-nil IsBlank) heads in
+    told none is first begun
+  where
+    told : (none : Bool) → (delay == 0) ≡ none → (first : List ℕ) → IsBegun Two Opened (first ∷ []) 0 [] [] → (stage : PlanStage) × IsBegun Two stage (first ∷ map joined (cond none [] (delay_words delay ∷ []))) delay [] []
+    told true is first begun =
+        let zero_delay : delay ≡ 0 = eqb-true delay 0 is in
+        (Opened, rw zero_delay begun)
+    told false is first begun =
+        let text : List ℕ = joined (delay_words delay) in
+        (Going, delays (first ∷ []) text 0 delay [] [] begun (refl, delay, refl, line_back (delay_words delay) (printable_delay delay short), short))
+
+front_begun : (delay : ℕ) → delay ≤ most_delay → HasBegun Two (front_lines delay) delay [] []
+unfolding front_lines
+front_begun delay short = front_told (delay == 0) delay refl short
+
+front_size : (delay : ℕ) → length (front_lines delay) + 1 ≡ first_number delay
+unfolding front_lines first_number
+front_size delay = omega (arith, length-map (delay_lines delay) joined)
+
+-- the printed lines of a delay and of parts that can be spelled are a plan text
+plan_printed : (delay : ℕ) (parts : List Part) → delay ≤ most_delay → AllByRecursion IsDeclarable parts → IsPlanText (map joined (plan_words delay parts)) delay parts (numbers_from (first_number delay) parts)
+unfolding HasBegun front_lines
+plan_printed delay parts short spelled =
+    let told : List (List ℕ) = map joined (delay_lines delay) in
+    let first : List ℕ = joined (header_words Two) in
+    let middle : List (List ℕ) = map joined (map part_words parts) in
+    let front = front_begun delay short in
+    let all = begun_with Two front.0 (first ∷ told) delay [] [] parts spelled front.1 in
+    let lines : map joined (delay_lines delay ++ (map part_words parts ++ end_words ∷ [])) ≡ told ++ (middle ++ joined end_words ∷ []) = map-append joined (delay_lines delay) (map part_words parts ++ end_words ∷ []) ∙ ap (λ (ls : List (List ℕ)). told ++ ls) (map-append joined (map part_words parts) (end_words ∷ [])) in
     record {
-      version = format_1;
-      begun = first ∷ map joined (map part_words parts);
+      version = Two;
+      stage = all.0;
+      begun = first ∷ (told ++ middle);
       last = joined end_words;
-      whole = ap (λ (ls : List (List ℕ)). first ∷ ls) (map-append joined (map part_words parts) (end_words ∷ []));
-      begins = begun_with format_1 (first ∷ []) [] [] parts spelled begun;
+      whole = ap (λ (ls : List (List ℕ)). first ∷ ls) (lines ∙ sym (append_assoc told middle (joined end_words ∷ [])));
+      begins = subst (λ (n : ℕ). IsBegun Two all.0 (first ∷ (told ++ middle)) delay parts (numbers_from n parts)) (front_size delay) all.1;
       ends = line_back end_words printable_end;
     }
 
@@ -150,36 +207,42 @@ unfolding printed_plan
 reads_back net plan numbers =
     let parts : List Part = parts_of net in
     let spelled = spelled_parts net plan numbers in
-    let printable = printable_plan parts spelled in
-    let text : List ℕ = printed (plan_words parts) in
-    let all : List (List ℕ) = map joined (plan_words parts) in
-    let size : size_of_lines (length (plan_words parts)) text ≡ length text = size_of_printed (plan_words parts) printable in
-    let count : length all ≡ length (plan_words parts) = length-map (plan_words parts) joined in
+    let all_words : List (List (List ℕ)) = plan_words net.delay parts in
+    let printable = printable_plan net.delay parts plan.short_delay spelled in
+    let text : List ℕ = printed all_words in
+    let all : List (List ℕ) = map joined all_words in
+    let size : size_of_lines (length all_words) text ≡ length text = size_of_printed all_words printable in
+    let count : length all ≡ length all_words = length-map all_words joined in
     record {
-      read = record { parts = parts; lines = numbers_from 2 parts; used = length text };
+      read = record { parts = parts; lines = numbers_from (first_number net.delay) parts; used = length text; delay = pos net.delay };
       said = record {
         text = all;
         after = [];
-        split = lines-printed (plan_words parts) printable ∙ sym (append-nil all);
-        plan = plan_printed parts spelled;
+        delay = net.delay;
+        split = lines-printed all_words printable ∙ sym (append-nil all);
+        plan = plan_printed net.delay parts plan.short_delay spelled;
         used = sym size ∙ ap (λ (n : ℕ). size_of_lines n text) (sym count);
+        told = refl;
       };
       whole = refl;
-      same = parts_build net plan numbers;
+      told = refl;
+      same = parts_declare net plan numbers;
     }
 
 -- and its lines declare the network, whole
-pub declares_back : (net : Plan) → IsPlan net → HasPlanNumbers net → DeclaresNetwork (lines (printed_plan net)) (record net { delay = 0 }) []
+pub declares_back : (net : Plan) → IsPlan net → HasPlanNumbers net → DeclaresNetwork (lines (printed_plan net)) net []
 unfolding printed_plan
 declares_back net plan numbers =
     let parts : List Part = parts_of net in
     let spelled = spelled_parts net plan numbers in
-    let all : List (List ℕ) = map joined (plan_words parts) in
+    let all_words : List (List (List ℕ)) = plan_words net.delay parts in
+    let all : List (List ℕ) = map joined all_words in
     record {
       plan = all;
+      delay = net.delay;
       parts = parts;
-      numbers = numbers_from 2 parts;
-      whole = lines-printed (plan_words parts) (printable_plan parts spelled) ∙ sym (append-nil all);
-      is_plan = plan_printed parts spelled;
-      builds = parts_build net plan numbers;
+      numbers = numbers_from (first_number net.delay) parts;
+      whole = lines-printed all_words (printable_plan net.delay parts plan.short_delay spelled) ∙ sym (append-nil all);
+      is_plan = plan_printed net.delay parts plan.short_delay spelled;
+      builds = parts_declare net plan numbers;
     }

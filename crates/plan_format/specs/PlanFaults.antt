@@ -4,7 +4,7 @@ use Rattle.std.specs.List.{All}
 use Rattle.std.specs.Str.{bytes_eq}
 use Rattle.texts.specs.Words.{words, are_passed_over}
 use Rattle.texts.specs.Lines.{lines}
-use Rattle.net_model.specs.Places.{Place, of_name, of_number, DepartsFrom}
+use Rattle.net_model.specs.Places.{Place, of_name, of_short_name, of_number, of_delay, DepartsFrom}
 use Rattle.net_model.specs.declared.format.FormatFault.{FormatFault}
 use Rattle.net_model.specs.declared.format.TextFault.{TextFault}
 use Rattle.net_model.specs.declared.format.TextFault.TheVariants as text
@@ -13,37 +13,52 @@ use Rattle.net_model.specs.declared.format.WordFault.TheVariants as word
 use Rattle.net_model.specs.declared.format.FormatKind.{FormatKind}
 use Rattle.net_model.specs.declared.format.FormatKind.TheVariants.{NoHeader, NoEnd}
 use Rattle.net_model.specs.declared.part.Part.{Part}
-use Rattle.plan_format.specs.PlanParts.{Version, format_1, header_words}
+use Rattle.plan_format.specs.declared.version.PlanStage.{PlanStage}
+use Rattle.plan_format.specs.declared.version.PlanStage.TheVariants.{Opened, Going}
+use Rattle.plan_format.specs.declared.version.PlanVersion.{PlanVersion}
+use Rattle.plan_format.specs.declared.version.PlanVersion.TheVariants.{One, Two}
+use Rattle.plan_format.specs.PlanParts.{header_words}
 use Rattle.plan_format.specs.PlanGrammar.{IsBlank, IsBegun, IsPlanText}
 
+-- the places after the first word of the line of the delay, which begins so where nothing but blank lines stands after the header
+abbrev pub places_of_delay : PlanStage → List ℕ → Option (List Place)
+places_of_delay Opened first = if bytes_eq first (codes "delay") then Some (of_delay ∷ []) else None
+places_of_delay Going first = None
+
+-- the places after the first word of a line that version 2 has more
+abbrev pub places_of_second : PlanVersion → PlanStage → List ℕ → Option (List Place)
+places_of_second One stage first = None
+places_of_second Two stage first =
+    if bytes_eq first (codes "between") then Some (of_short_name ∷ of_name ∷ of_number ∷ of_number ∷ of_name ∷ []) else places_of_delay stage first
+
 -- the places after the first word of each line that may come after the header of a version, or none where no such line begins so
-abbrev pub places_after : Version → List ℕ → Option (List Place)
-places_after format_1 first =
+abbrev pub places_after : PlanVersion → PlanStage → List ℕ → Option (List Place)
+places_after version stage first =
     if bytes_eq first (codes "point") then Some (of_name ∷ [])
     else (if bytes_eq first (codes "bound") then Some (of_name ∷ of_name ∷ of_name ∷ of_number ∷ [])
     else (if bytes_eq first (codes "link") then Some (of_name ∷ of_number ∷ of_number ∷ of_name ∷ [])
     else (if bytes_eq first (codes "end") then Some []
-    else None)))
+    else places_of_second version stage first)))
 
 -- the first departure of the words of a line from the forms of the lines after the header of a version
-abbrev pub Departs : Version → List (List ℕ) → FormatKind → Type 0
-Departs version [] kind = ⊥
-Departs version (first ∷ others) kind = DepartsFrom (places_after version first) others kind
+abbrev pub Departs : PlanVersion → PlanStage → List (List ℕ) → FormatKind → Type 0
+Departs version stage [] kind = ⊥
+Departs version stage (first ∷ others) kind = DepartsFrom (places_after version stage first) others kind
 
 -- the fault of a line that is read alone: it is no blank line and no header, and departs from the forms of the other lines
-pub record IsFaultAlone (version : Version) (words : List (List ℕ)) (kind : FormatKind) : Type 0 where
+pub record IsFaultAlone (version : PlanVersion) (words : List (List ℕ)) (kind : FormatKind) : Type 0 where
   pub filled : are_passed_over words ≡ false
-  pub no_header : words ≢ header_words version
-  pub departs : Departs version words kind
+  pub no_header : (said : PlanVersion) → words ≢ header_words said
+  pub departs : Departs version Opened words kind
 
 -- the fault of a line that is read alone, which takes no memory
-abbrev pub IsFaultOfLine : Version → List ℕ → WordFault → Type 0
+abbrev pub IsFaultOfLine : PlanVersion → List ℕ → WordFault → Type 0
 IsFaultOfLine version line (word.Kind kind) = IsFaultAlone version (words line) kind
 IsFaultOfLine version line word.OutOfMemory = ⊥
 
 -- a plan text may begin with these lines
 abbrev pub CanBecomePlan : List (List ℕ) → Type 0
-CanBecomePlan text = (more : List (List ℕ)) × (parts : List Part) × (numbers : List ℕ) × IsPlanText (text ++ more) parts numbers
+CanBecomePlan text = (more : List (List ℕ)) × (delay : ℕ) × (parts : List Part) × (numbers : List ℕ) × IsPlanText (text ++ more) delay parts numbers
 
 -- a plan text may begin with these lines and one more
 abbrev pub GoesOn : List (List ℕ) → Type 0
@@ -55,15 +70,15 @@ ExcludesPlan before [] = Unit {0}
 ExcludesPlan before (next ∷ others) = CanBecomePlan (before ++ next ∷ []) → ⊥
 
 -- the fault of what comes after lines with the header of a version: there is no line, or the next one departs from its form
-abbrev pub StopsAfterHeader : Version → List (List ℕ) → FormatKind → Type 0
-StopsAfterHeader version [] kind = kind ≡ NoEnd
-StopsAfterHeader version (next ∷ others) kind = Departs version (words next) kind
+abbrev pub StopsAfterHeader : PlanVersion → PlanStage → List (List ℕ) → FormatKind → Type 0
+StopsAfterHeader version stage [] kind = kind ≡ NoEnd
+StopsAfterHeader version stage (next ∷ others) kind = Departs version stage (words next) kind
 
 -- the fault of what comes after the first lines: the header is missing, or has come and no `end` line follows
 abbrev pub Stops : List (List ℕ) → List (List ℕ) → FormatKind → Type 0
 Stops before rest kind =
     (All IsBlank before × (kind ≡ NoHeader))
-    ⊎ ((version : Version) × (parts : List Part) × (numbers : List ℕ) × IsBegun version before parts numbers × StopsAfterHeader version rest kind)
+    ⊎ ((version : PlanVersion) × (stage : PlanStage) × (delay : ℕ) × (parts : List Part) × (numbers : List ℕ) × IsBegun version stage before delay parts numbers × StopsAfterHeader version stage rest kind)
 
 -- the first fault of a text: a plan text may go on after the lines before it, and not with its line
 pub record IsFirstFault (text : List (List ℕ)) (fault : FormatFault) : Type 0 where

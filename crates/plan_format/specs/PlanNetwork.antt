@@ -2,7 +2,7 @@
 use Rattle.std.specs.Prelude.{◌≡◌, ℕ, ◌+◌, List, ◌++◌, Some, None, slice_get, Result, Ok, Err, codes}
 use Rattle.std.specs.Fmt.{decimal}
 use Rattle.net_model.specs.Network.{Plan}
-use Rattle.net_model.specs.Building.{declared_net, place_of, word_of}
+use Rattle.net_model.specs.Building.{built, declared_net, place_of, word_of}
 use Rattle.net_model.specs.declared.fault.BuildFault.{BuildFault}
 use Rattle.net_model.specs.declared.format.FormatFault.{FormatFault}
 use Rattle.net_model.specs.declared.part.Part.{Part}
@@ -19,16 +19,17 @@ declaration_fault_text declaration.OutOfMemory = codes "out of memory"
 -- the lines begin with a plan text that declares the network, and the rest comes after its `end` line
 pub record DeclaresNetwork (lines : List (List ℕ)) (net : Plan) (rest : List (List ℕ)) : Type 0 where
   pub plan : List (List ℕ)
+  pub delay : ℕ
   pub parts : List Part
   pub numbers : List ℕ
   pub whole : lines ≡ plan ++ rest
-  pub is_plan : IsPlanText plan parts numbers
-  pub builds : declared_net parts ≡ Ok net
+  pub is_plan : IsPlanText plan delay parts numbers
+  pub builds : declared_net delay parts ≡ Ok net
 
 -- of these parts, each with the number of its line, the first one that is refused stands in this line, for this cause
 pub record IsRefusedPart (parts : List Part) (numbers : List ℕ) (line : ℕ) (fault : BuildFault) : Type 0 where
   pub index : ℕ
-  pub refused : declared_net parts ≡ Err fault
+  pub refused : built parts ≡ Err fault
   pub place : place_of fault ≡ Some (index + 1)
   pub at_line : slice_get numbers index ≡ Some line
 
@@ -41,17 +42,18 @@ TellsLine declaration.OutOfMemory numbers fault = place_of fault ≡ None
 pub record RefusesPart (lines : List (List ℕ)) (line : ℕ) (fault : BuildFault) : Type 0 where
   pub plan : List (List ℕ)
   pub rest : List (List ℕ)
+  pub delay : ℕ
   pub parts : List Part
   pub numbers : List ℕ
   pub whole : lines ≡ plan ++ rest
-  pub is_plan : IsPlanText plan parts numbers
+  pub is_plan : IsPlanText plan delay parts numbers
   pub part : IsRefusedPart parts numbers line fault
 
--- the answer is what the parts build, unless memory ran out
-abbrev pub BuildsParts : Result Plan DeclarationFault → List Part → List ℕ → Type 0
-BuildsParts (Ok net) parts numbers = declared_net parts ≡ Ok net
-BuildsParts (Err (declaration.Refused line fault)) parts numbers = IsRefusedPart parts numbers line fault
-BuildsParts (Err declaration.OutOfMemory) parts numbers = Unit {0}
+-- the answer is what a delay and the parts declare, unless memory ran out
+abbrev pub BuildsParts : Result Plan DeclarationFault → ℕ → List Part → List ℕ → Type 0
+BuildsParts (Ok net) delay parts numbers = declared_net delay parts ≡ Ok net
+BuildsParts (Err (declaration.Refused line fault)) delay parts numbers = IsRefusedPart parts numbers line fault
+BuildsParts (Err declaration.OutOfMemory) delay parts numbers = Unit {0}
 
 -- the answer is what the lines declare, unless memory ran out
 abbrev pub Answers : Result Plan DeclarationFault → List (List ℕ) → List (List ℕ) → Type 0

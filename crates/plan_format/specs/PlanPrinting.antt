@@ -1,25 +1,31 @@
 -- The plan text of a network.
-use Rattle.std.specs.Prelude.{◌≡◌, ℕ, List, [], ◌∷◌, ◌++◌, map, length, Ok}
+use Rattle.std.specs.Prelude.{◌≡◌, ℕ, pos, ◌==◌, List, [], ◌∷◌, ◌++◌, map, length, unsigned_abs, Ok, if◌then◌else◌}
 use Rattle.net_model.specs.Network.{Plan}
 use Rattle.texts.specs.Printing.{printed}
 use Rattle.net_model.specs.declared.part.Part.{Part}
 use Rattle.net_model.specs.NetworkParts.{parts_of}
 use Rattle.net_model.specs.Building.{declared_net}
 use Rattle.plan_format.specs.declared.read.Parts.{Parts}
+use Rattle.plan_format.specs.declared.version.PlanVersion.TheVariants.{Two}
 use Rattle.plan_format.specs.PlanGrammar.{Says}
-use Rattle.plan_format.specs.PlanParts.{part_words, format_1, header_words, end_words}
+use Rattle.plan_format.specs.PlanParts.{part_words, delay_words, header_words, end_words}
 
--- the lines of a plan text that declares parts: the header, a line for each part, and `end`
-abbrev pub plan_words : List Part → List (List (List ℕ))
-plan_words parts = header_words format_1 ∷ (map part_words parts ++ end_words ∷ [])
+-- the line of a delay, where it is not 0
+abbrev pub delay_lines : ℕ → List (List (List ℕ))
+delay_lines delay = if delay == 0 then [] else delay_words delay ∷ []
+
+-- the lines of a plan text of version 2 that tells a delay and declares parts: the header, the delay, a line for each part, and `end`
+abbrev pub plan_words : ℕ → List Part → List (List (List ℕ))
+plan_words delay parts = header_words Two ∷ (delay_lines delay ++ (map part_words parts ++ end_words ∷ []))
 
 -- the plan text of a network
 unfoldable pub printed_plan : Plan → List ℕ
-printed_plan net = printed (plan_words (parts_of net))
+printed_plan net = printed (plan_words net.delay (parts_of net))
 
--- a text that reads back, whole, to parts that build the network; a text of version 1 does not tell its delay
+-- a text that reads back, whole, as the delay and the parts of the network
 pub record ReadsBack (text : List ℕ) (net : Plan) : Type 0 where
   pub read : Parts
   pub said : Says text read
   pub whole : read.used ≡ length text
-  pub same : declared_net read.parts ≡ Ok (record net { delay = 0 })
+  pub told : read.delay ≡ pos net.delay
+  pub same : declared_net net.delay read.parts ≡ Ok net

@@ -2,10 +2,11 @@
 
 ghost use Rattle.std.specs.Prelude.{◌≡◌, ℕ, ◌<◌, ◌≤◌, ◌^◌, length, IfOk};
 ghost use Rattle.net_model.specs.Building.{place_of};
+ghost use Rattle.net_model.specs.Limits.{most_delay};
 ghost use Rattle.net_model.specs.Network.{IsPlan, HasPlanNumbers};
 ghost use Rattle.plan_format.specs.PlanNetwork.{BuildsParts, TellsLine};
 
-use net_model::{BuildFault, Network, Part};
+use net_model::{BuildFault, Network, Part, Weight};
 use std::alloc::Global;
 use std::error::Error;
 use std::fmt;
@@ -35,20 +36,22 @@ impl fmt::Display for DeclarationFault {
 
 impl Error for DeclarationFault {}
 
-/// The network of parts, each with the number of its line, or the first part that is refused.
+/// The network of parts, each with the number of its line, with a delay, or the first part that is refused.
 pub(crate) fn build(
     alloc: Global,
+    delay: u32,
     parts: &[Part],
     lines: &[u32],
 ) -> Result<Network, DeclarationFault>
     requires few { length parts.now < 2 ^ 32 }
     requires numbered { length lines.now ≡ length parts.now }
-    ensures builds { BuildsParts result parts.now lines.now }
+    requires short { delay ≤ most_delay }
+    ensures builds { BuildsParts result delay parts.now lines.now }
     ensures sound { IfOk result IsPlan }
     ensures numbers { IfOk result HasPlanNumbers }
 {
     match Network::build(alloc, parts) {
-        Ok(net) => Ok(net),
+        Ok(net) => Ok(net.with_delay(Weight::from(delay))),
         Err(fault) => Err(refused(lines, fault)),
     }
 }

@@ -1,4 +1,4 @@
-//! Plan texts, version 1: their lines, reading a text line by line or whole, and printing a network as one.
+//! Plan texts, versions 1 and 2: their lines, reading a text line by line or whole, and printing a network as one.
 #![tactic(auto)]
 
 mod declaration;
@@ -8,6 +8,7 @@ mod print;
 mod read;
 mod reader;
 mod section;
+mod version;
 
 pub use declaration::DeclarationFault;
 pub use plan_line::{PlanLine, read_plan_line};
@@ -15,3 +16,4 @@ pub use print::print_plan;
 pub use read::{Parts, read_plan};
 pub use reader::PlanReader;
 pub use section::PlanSection;
+pub use version::{PlanStage, PlanVersion};

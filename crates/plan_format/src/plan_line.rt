@@ -1,54 +1,69 @@
 //! One line of a plan text.
 
-ghost use Rattle.std.specs.Prelude.{◌≡◌, IfErr, IfOk};
+ghost use Rattle.std.specs.Prelude.{◌≡◌, ◌⊎◌, IfErr, IfOk};
 ghost use Rattle.net_model.specs.Numbers.{integer_of};
 ghost use Rattle.texts.specs.Words.{words};
 ghost use Rattle.plan_format.specs.declared.plan_line.PlanLine.{PlanLine};
 ghost use Rattle.net_model.specs.Limits.{most_number};
 ghost use Rattle.plan_format.specs.PlanFaults.{IsFaultOfLine};
 ghost use Rattle.plan_format.specs.PlanGrammar.{IsLine};
-ghost use Rattle.plan_format.specs.PlanParts.{format_1};
-ghost use Rattle.plan_format.specs.PlanLines.{plan_line, line_of, header_line, point_line, bound_line, link_line, end_line};
+ghost use Rattle.plan_format.specs.PlanParts.{version_numbered};
+ghost use Rattle.plan_format.specs.PlanLines.{plan_line, line_of, second_line, delay_in, between_line, delay_line, header_line, point_line, bound_line, link_line, end_line};
 
-use net_model::{FormatKind, MOST_NUMBER, Name, Part, Weight, WordFault, text};
+use crate::version::{PlanStage, PlanVersion};
+use net_model::{FormatKind, MOST_DELAY, MOST_NUMBER, Name, Part, Weight, WordFault, text};
 
 /// A line of a plan text.
 #[derive(Clone, Copy, Debug)]
 pub enum PlanLine {
     /// A line without words, or whose first word begins with `#`.
     Blank,
-    /// The header `stnu 1`.
-    Header,
+    /// The header `stnu 1` or `stnu 2`, with the version.
+    Header(u32),
     /// The declaration of a point, a bound or a link.
     Part(Part),
+    /// The delay, in whole moments, from 0 to `MOST_DELAY`.
+    Delay(Weight),
+    /// Two bounds that belong together, `low <= to - from <= high`: their name, from, low, high and to.
+    Between(Name, Name, Weight, Weight, Name),
     /// The last line, `end`.
     End,
 }
 
-/// Reads one line of a plan text, alone. The fault is the first one: of the first word, of the count of words, and then
-/// of the words from left to right. A line whose first word is `stnu` is the header `stnu 1` or `UnknownWord`. It takes
-/// no memory, so `OutOfMemory` never comes.
-pub fn read_plan_line(line: &[u8]) -> Result<PlanLine, WordFault>
-    ensures grammar { IfOk result (λ read. IsLine format_1 read line.now) }
-    ensures every { (read : PlanLine) → IsLine format_1 read line.now → result ≡ Ok read }
-    ensures fault { IfErr result (IsFaultOfLine format_1 line.now) }
+/// Reads one line of a plan text of a version, 1 or 2, alone. The fault is the first one: of the first word, of the count of words, and
+/// then of the words from left to right. A line whose first word is `stnu` is the header `stnu 1` or `stnu 2`, or `UnknownWord`. It
+/// takes no memory, so `OutOfMemory` never comes.
+pub fn read_plan_line(line: &[u8], version: u32) -> Result<PlanLine, WordFault>
+    requires known { (version ≡ 1) ⊎ (version ≡ 2) }
+    ensures grammar { IfOk result (λ read. IsLine (version_numbered version) read line.now) }
+    ensures every { (read : PlanLine) → IsLine (version_numbered version) read line.now → result ≡ Ok read }
+    ensures fault { IfErr result (IsFaultOfLine (version_numbered version) line.now) }
 {
-    Ok(plan_line(line)?)
+    Ok(plan_line(line, PlanVersion::numbered(version), PlanStage::Opened)?)
 }
 
 /// Reads one line of a plan text by its words.
 #[tactic(auto, unfolding(crate::specs::PlanLines::plan_line))]
-pub(crate) fn plan_line(line: &[u8]) -> Result<PlanLine, FormatKind>
-    ensures { result ≡ plan_line format_1 (words line.now) }
+pub(crate) fn plan_line(
+    line: &[u8],
+    version: PlanVersion,
+    stage: PlanStage,
+) -> Result<PlanLine, FormatKind>
+    ensures { result ≡ plan_line version stage (words line.now) }
 {
     let Some((first, rest)) = texts::first_word(line) else {
         return Ok(PlanLine::Blank);
     };
-    line_of(first, rest)
+    line_of(version, stage, first, rest)
 }
 
-fn line_of(first: &[u8], rest: &[u8]) -> Result<PlanLine, FormatKind>
-    ensures { result ≡ line_of format_1 first.now (words rest.now) }
+fn line_of(
+    version: PlanVersion,
+    stage: PlanStage,
+    first: &[u8],
+    rest: &[u8],
+) -> Result<PlanLine, FormatKind>
+    ensures { result ≡ line_of version stage first.now (words rest.now) }
 {
     if first == b"stnu".as_slice() {
         return header_line(rest);
@@ -65,12 +80,47 @@ fn line_of(first: &[u8], rest: &[u8]) -> Result<PlanLine, FormatKind>
     if first == b"end".as_slice() {
         return end_line(rest);
     }
-    Err(FormatKind::UnknownWord)
+    second_line(version, stage, first, rest)
+}
+
+/// A line that version 2 has more.
+fn second_line(
+    version: PlanVersion,
+    stage: PlanStage,
+    first: &[u8],
+    rest: &[u8],
+) -> Result<PlanLine, FormatKind>
+    ensures { result ≡ second_line version stage first.now (words rest.now) }
+{
+    match version {
+        PlanVersion::One => Err(FormatKind::UnknownWord),
+        PlanVersion::Two => {
+            if first == b"between".as_slice() {
+                return between_line(rest);
+            }
+            delay_in(stage, first, rest)
+        }
+    }
+}
+
+/// The line of the delay, where it may come.
+fn delay_in(stage: PlanStage, first: &[u8], rest: &[u8]) -> Result<PlanLine, FormatKind>
+    ensures { result ≡ delay_in stage first.now (words rest.now) }
+{
+    match stage {
+        PlanStage::Opened => {
+            if first == b"delay".as_slice() {
+                return delay_line(rest);
+            }
+            Err(FormatKind::UnknownWord)
+        }
+        PlanStage::Going => Err(FormatKind::UnknownWord),
+    }
 }
 
 /// What stands after `stnu`.
 fn header_line(rest: &[u8]) -> Result<PlanLine, FormatKind>
-    ensures { result ≡ header_line format_1 (words rest.now) }
+    ensures { result ≡ header_line (words rest.now) }
 {
     let Some((version, rest)) = texts::next_word(rest) else {
         return Err(FormatKind::UnknownWord);
@@ -79,7 +129,10 @@ fn header_line(rest: &[u8]) -> Result<PlanLine, FormatKind>
         return Err(FormatKind::UnknownWord);
     }
     if version == b"1".as_slice() {
-        return Ok(PlanLine::Header);
+        return Ok(PlanLine::Header(1));
+    }
+    if version == b"2".as_slice() {
+        return Ok(PlanLine::Header(2));
     }
     Err(FormatKind::UnknownWord)
 }
@@ -125,6 +178,35 @@ fn link_line(rest: &[u8]) -> Result<Part, FormatKind>
         number(high)?,
         text::name(to)?,
     ))
+}
+
+/// What stands after `between`.
+fn between_line(rest: &[u8]) -> Result<PlanLine, FormatKind>
+    ensures { result ≡ between_line (words rest.now) }
+{
+    let (name, rest) = text::word(rest)?;
+    let (from, rest) = text::word(rest)?;
+    let (low, rest) = text::word(rest)?;
+    let (high, rest) = text::word(rest)?;
+    let (to, rest) = text::word(rest)?;
+    text::no_more(rest)?;
+    Ok(PlanLine::Between(
+        text::short_name(name)?,
+        text::name(from)?,
+        number(low)?,
+        number(high)?,
+        text::name(to)?,
+    ))
+}
+
+/// What stands after `delay`.
+fn delay_line(rest: &[u8]) -> Result<PlanLine, FormatKind>
+    ensures { result ≡ delay_line (words rest.now) }
+{
+    let (moments, rest) = text::word(rest)?;
+    text::no_more(rest)?;
+    let moments = text::natural(moments, u64::from(MOST_DELAY))?;
+    Ok(PlanLine::Delay(moments as Weight))
 }
 
 /// What stands after `end`.

@@ -3,31 +3,44 @@
 ghost use Rattle.std.specs.Prelude.{◌≡◌, ◌++◌, IfOk, OnOk};
 ghost use Rattle.std.specs.List.{flat_map};
 ghost use Rattle.net_model.specs.Network.{HasPlanNumbers, IsBound, IsLink};
-ghost use Rattle.texts.specs.Printing.{printed_line};
+ghost use Rattle.texts.specs.Printing.{printed, printed_line};
 ghost use Rattle.net_model.specs.NetworkParts.{bound_part, link_part};
 ghost use Rattle.plan_format.specs.PlanParts.{part_words};
-ghost use Rattle.plan_format.specs.PlanPrinting.{ReadsBack, printed_plan};
+ghost use Rattle.plan_format.specs.PlanPrinting.{ReadsBack, delay_lines, printed_plan};
 
 use net_model::{Bound, Link, Name, Network, Part};
 use std::alloc::{AllocError, Global};
 use texts::push_line;
 
-/// The plan text of a network: the header, the points, the bounds and the links, each list in its order, and `end`,
-/// with one blank between words and a line end after each line. Where the numbers of the network are at most 1,000,000,000 in size, as
-/// those of a built network are, it reads back to the same three lists; it does not tell the delay. `AllocError` comes only for want of
-/// memory.
+/// The plan text of a network, in version 2: the header, the delay where it is not 0, the points, the bounds and the links, each list in its
+/// order, and `end`, with one blank between words and a line end after each line. Where the numbers of the network are at most
+/// 1,000,000,000 in size, as those of a built network are, it reads back to the same three lists and the same delay. `AllocError` comes
+/// only for want of memory.
 #[tactic(auto, unfolding(crate::specs::PlanPrinting::printed_plan))]
 pub fn print_plan(alloc: Global, net: &Network) -> Result<Vec<u8>, AllocError>
     ensures text { IfOk result (λ text. text.items ≡ printed_plan net.now) }
     ensures read_back { HasPlanNumbers net.now → IfOk result (λ text. ReadsBack text.items net.now) }
 {
     let mut out = Vec::new(alloc);
-    push_line(&mut out, b"stnu", &[b"1".as_slice()])?;
+    push_line(&mut out, b"stnu", &[b"2".as_slice()])?;
+    push_delay(alloc, &mut out, net)?;
     push_points(&mut out, net.points())?;
     push_bounds(alloc, &mut out, net)?;
     push_links(alloc, &mut out, net)?;
     push_line(&mut out, b"end", &[])?;
     Ok(out)
+}
+
+/// The line of the delay, where it is not 0.
+fn push_delay(alloc: Global, out: &mut Vec<u8>, net: &Network) -> Result<(), AllocError>
+    ensures { OnOk result (out.new.items ≡ out.old.items ++ printed (delay_lines net.now.delay)) }
+{
+    let delay = net.delay();
+    if delay == 0 {
+        return Ok(());
+    }
+    let moments = delay.to_string(alloc)?;
+    push_line(out, b"delay", &[moments.as_bytes()])
 }
 
 fn push_points(out: &mut Vec<u8>, points: &[Name]) -> Result<(), AllocError>

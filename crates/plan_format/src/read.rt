@@ -10,7 +10,7 @@ ghost use Rattle.plan_format.specs.PlanReading.{HasSizes, Reads, ReadsLines, Ref
 
 use crate::plan_line::PlanLine;
 use crate::reader::PlanReader;
-use net_model::{FormatFault, Items, Part, TextFault, WordFault};
+use net_model::{FormatFault, Items, Part, TextFault, Weight, WordFault};
 use std::alloc::Global;
 
 /// What a plan text declares.
@@ -22,10 +22,12 @@ pub struct Parts {
     pub lines: Items<u32>,
     /// The number of bytes up to the end of the `end` line, its line end included where it has one.
     pub used: usize,
+    /// The delay, in whole moments, from 0 to `MOST_DELAY`.
+    pub delay: Weight,
 }
 
-/// Reads a plan text: the header `stnu 1`, declarations of points, bounds and links, and `end`, with blank lines
-/// between. Nothing after the `end` line is looked at. The fault is the one of the first bad line: `NoHeader` where the
+/// Reads a plan text: the header `stnu 1` or `stnu 2`, declarations of points, bounds and links, in version 2 also of two bounds in one
+/// line and first of the delay, and `end`, with blank lines between. Nothing after the `end` line is looked at. The fault is the one of the first bad line: `NoHeader` where the
 /// first line that is not blank is no header, or where there is no such line, at the number after the last line;
 /// `NoEnd` at the number after the last line where there is no `end`; else that of the line. `OutOfMemory` comes only
 /// for want of memory. There are fewer than 2^31 bytes.
@@ -48,11 +50,13 @@ fn read_text(alloc: Global, bytes: &[u8]) -> Result<Parts, TextFault>
 {
     let mut reader = PlanReader::new(alloc);
     let used = read_lines(&mut reader, bytes)?;
+    let delay = reader.delay();
     let (parts, lines) = reader.into_parts();
     Ok(Parts {
         parts: Items::new(parts),
         lines: Items::new(lines),
         used,
+        delay,
     })
 }
 

@@ -1,14 +1,16 @@
 //! The lines of a plan text, one after another.
 
-ghost use Rattle.std.specs.Prelude.{◌≡◌, ◌<◌, ◌∷◌, ◌++◌, [], length, OnOk, OnErr};
+ghost use Rattle.std.specs.Prelude.{◌≡◌, ◌<◌, ◌+◌, ◌∷◌, ◌++◌, [], length, OnOk, OnErr};
 ghost use Rattle.net_model.specs.Limits.{most_lines};
 ghost use Rattle.texts.specs.Words.{words};
 ghost use Rattle.plan_format.specs.PlanReading.{in_section, line_in};
+ghost use Rattle.plan_format.specs.declared.version.PlanStage.{PlanStage};
+ghost use Rattle.plan_format.specs.declared.version.PlanVersion.{PlanVersion};
 
 use crate::declaration::{DeclarationFault, build};
 use crate::plan_line::{PlanLine, plan_line};
 use crate::section::PlanSection;
-use net_model::{FormatKind, MOST_LINES, Network, Part, WordFault};
+use net_model::{FormatKind, MOST_LINES, Network, Part, Weight, WordFault, between_parts};
 use std::alloc::{AllocError, Global};
 use std::marker::Model;
 
@@ -17,29 +19,31 @@ use std::marker::Model;
 #[derive(Debug, Drop)]
 pub struct PlanReader {
     section: PlanSection,
+    delay: u32,
     parts: Vec<Part>,
     lines: Vec<u32>,
 }
 
 impl Model for PlanReader {
     ghost use Rattle.std.specs.Prelude.{◌≡◌, ◌≤◌, length};
-    ghost use Rattle.net_model.specs.Limits.{most_lines};
+    ghost use Rattle.net_model.specs.Limits.{most_delay, most_lines};
     ghost use Rattle.plan_format.specs.PlanReading.{Progress};
 
     ghost Value = { Progress };
 
-    ghost view = { λ r. record { section = r.section; parts = r.parts.items; lines = r.lines.items } };
+    ghost view = { λ r. record { section = r.section; delay = r.delay; parts = r.parts.items; lines = r.lines.items } };
 
-    ghost invariant = { λ r. (length r.lines.items ≡ length r.parts.items) × (length r.parts.items ≤ most_lines) };
+    ghost invariant = { λ r. (length r.lines.items ≡ length r.parts.items) × (length r.parts.items ≤ most_lines) × (r.delay ≤ most_delay) };
 }
 
 impl PlanReader {
-    ghost use Rattle.std.specs.Prelude.{◌≡◌, ◌+◌, ℕ, List, ◌++◌, length, IfOk, OnErr, OnOk};
+    ghost use Rattle.std.specs.Prelude.{◌≡◌, ◌+◌, ◌≤◌, ℕ, pos, List, ◌++◌, length, IfOk, OnErr, OnOk};
+    ghost use Rattle.net_model.specs.Limits.{most_delay};
     ghost use Rattle.texts.specs.Words.{words};
     ghost use Rattle.net_model.specs.Network.{IsPlan, HasPlanNumbers};
     ghost use Rattle.plan_format.specs.PlanGrammar.{IsPlanText};
     ghost use Rattle.plan_format.specs.PlanFaults.{IsFirstFault};
-    ghost use Rattle.plan_format.specs.PlanReading.{Brings, IsFront, SaysLine, advanced, begun, fault_after, line_in, missing};
+    ghost use Rattle.plan_format.specs.PlanReading.{Brings, IsFront, IsWithin, SaysLine, advanced, begun, fault_after, line_in, missing};
     ghost use Rattle.plan_format.specs.PlanNetwork.{Answers, BuildsParts};
 
     /// Before the first line.
@@ -49,6 +53,7 @@ impl PlanReader {
     {
         PlanReader {
             section: PlanSection::Header,
+            delay: 0,
             parts: Vec::new(alloc),
             lines: Vec::new(alloc),
         }
@@ -59,6 +64,14 @@ impl PlanReader {
         ensures { result ≡ self.now.section }
     {
         self.section
+    }
+
+    /// The delay that was told, in whole moments, or 0.
+    pub fn delay(&self) -> Weight
+        ensures told { result ≡ pos self.now.delay }
+        ensures short { self.now.delay ≤ most_delay }
+    {
+        Weight::from(self.delay)
     }
 
     /// The parts that were declared, in their order.
@@ -77,8 +90,9 @@ impl PlanReader {
 
     /// Reads the next line, which has this number, in its place and keeps what it declares. With `End` the plan has ended, and
     /// the caller reads nothing more. The fault of a line that cannot come is the first one of its text: `NoHeader` before the
-    /// header, `UnknownWord` of a second one, and else that of `read_plan_line`. `OutOfMemory` comes only for want of memory, as
-    /// which a part more than 2,147,483,648 counts. A refused line and want of memory change nothing.
+    /// header, `UnknownWord` of a second one, and of a delay after another line that tells something, and else that of
+    /// `read_plan_line` in the version of the header. `OutOfMemory` comes only for want of memory, as which a part more than
+    /// 2,147,483,648 counts. A refused line and want of memory change nothing.
     pub fn read_line(&mut self, number: u32, line: &[u8]) -> Result<PlanLine, WordFault>
         ensures said { SaysLine result (line_in self.old.section (words line.now)) }
         ensures kept { IfOk result (λ said. self.new ≡ advanced self.old number said) }
@@ -90,15 +104,28 @@ impl PlanReader {
         Ok(said)
     }
 
-    /// Keeps what a line declares.
+    /// Keeps what a line tells.
     fn keep(&mut self, number: u32, said: &PlanLine) -> Result<(), AllocError>
+        requires { IsWithin said.now }
         ensures kept { OnOk result (self.new ≡ advanced self.old number said.now) }
         ensures refused { OnErr result (self.new ≡ self.old) }
     {
         match said {
             PlanLine::Blank | PlanLine::End => {}
-            PlanLine::Header => self.section = PlanSection::Declarations,
-            PlanLine::Part(part) => push(&mut self.parts, &mut self.lines, *part, number)?,
+            PlanLine::Header(version) => self.section = PlanSection::opened(*version),
+            PlanLine::Delay(moments) => {
+                self.delay = moments.unsigned_abs() as u32;
+                self.section = self.section.gone_on();
+            }
+            PlanLine::Part(part) => {
+                push(&mut self.parts, &mut self.lines, *part, number)?;
+                self.section = self.section.gone_on();
+            }
+            PlanLine::Between(name, from, low, high, to) => {
+                let two = between_parts(name, *from, *low, *high, *to);
+                push_two(&mut self.parts, &mut self.lines, two, number)?;
+                self.section = self.section.gone_on();
+            }
         }
         Ok(())
     }
@@ -111,15 +138,20 @@ impl PlanReader {
         self.section.missing()
     }
 
-    /// The network of the parts that were declared, or the first part that is refused, with the number of its line.
+    /// The network of the delay and the parts that were declared, or the first part that is refused, with the number of its line.
     /// `OutOfMemory` comes only for want of memory.
     pub fn build(&self, alloc: Global) -> Result<Network, DeclarationFault>
-        ensures builds { BuildsParts result self.now.parts self.now.lines }
-        ensures declares { (plan rest : List (List ℕ)) → IsPlanText plan self.now.parts self.now.lines → Answers result (plan ++ rest) rest }
+        ensures builds { BuildsParts result self.now.delay self.now.parts self.now.lines }
+        ensures declares { (plan rest : List (List ℕ)) → IsPlanText plan self.now.delay self.now.parts self.now.lines → Answers result (plan ++ rest) rest }
         ensures sound { IfOk result IsPlan }
         ensures numbers { IfOk result HasPlanNumbers }
     {
-        build(alloc, self.parts.as_slice(), self.lines.as_slice())
+        build(
+            alloc,
+            self.delay,
+            self.parts.as_slice(),
+            self.lines.as_slice(),
+        )
     }
 
     /// The parts, and the number of the line of each.
@@ -129,6 +161,7 @@ impl PlanReader {
     {
         let PlanReader {
             section: _,
+            delay: _,
             parts,
             lines,
         } = self;
@@ -140,10 +173,10 @@ impl PlanReader {
 fn line_in(section: PlanSection, line: &[u8]) -> Result<PlanLine, FormatKind>
     ensures { result ≡ line_in section (words line.now) }
 {
-    let said = plan_line(line);
+    let said = plan_line(line, section.version(), section.stage());
     match section {
         PlanSection::Header => at_header(said),
-        PlanSection::Declarations => after_header(said),
+        PlanSection::Begun(_, _) => after_header(said),
     }
 }
 
@@ -152,16 +185,16 @@ fn at_header(said: Result<PlanLine, FormatKind>) -> Result<PlanLine, FormatKind>
 {
     match said {
         Ok(PlanLine::Blank) => Ok(PlanLine::Blank),
-        Ok(PlanLine::Header) => Ok(PlanLine::Header),
+        Ok(PlanLine::Header(version)) => Ok(PlanLine::Header(version)),
         _ => Err(FormatKind::NoHeader),
     }
 }
 
 fn after_header(said: Result<PlanLine, FormatKind>) -> Result<PlanLine, FormatKind>
-    ensures { result ≡ in_section PlanSection.Declarations said }
+    ensures { (version : PlanVersion) → (stage : PlanStage) → result ≡ in_section (PlanSection.Begun version stage) said }
 {
     match said {
-        Ok(PlanLine::Header) => Err(FormatKind::UnknownWord),
+        Ok(PlanLine::Header(_)) => Err(FormatKind::UnknownWord),
         others => others,
     }
 }
@@ -185,6 +218,31 @@ fn push(
     parts.reserve(1)?;
     lines.reserve(1)?;
     parts.push_reserved(part);
+    lines.push_reserved(line);
+    Ok(())
+}
+
+/// Two parts more, and the number of their line for each, in the same way.
+fn push_two(
+    parts: &mut Vec<Part>,
+    lines: &mut Vec<u32>,
+    two: (Part, Part),
+    line: u32,
+) -> Result<(), AllocError>
+    ensures few { OnOk result (length parts.old.items + 1 < most_lines) }
+    ensures parts { OnOk result (parts.new.items ≡ parts.old.items ++ two.0 ∷ two.1 ∷ []) }
+    ensures lines { OnOk result (lines.new.items ≡ lines.old.items ++ line ∷ line ∷ []) }
+    ensures parts_stay { OnErr result (parts.new.items ≡ parts.old.items) }
+    ensures lines_stay { OnErr result (lines.new.items ≡ lines.old.items) }
+{
+    if parts.len() >= MOST_LINES as usize - 1 {
+        return Err(AllocError);
+    }
+    parts.reserve(2)?;
+    lines.reserve(2)?;
+    parts.push_reserved(two.0);
+    parts.push_reserved(two.1);
+    lines.push_reserved(line);
     lines.push_reserved(line);
     Ok(())
 }

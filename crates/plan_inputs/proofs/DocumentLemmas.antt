@@ -5,12 +5,11 @@ use Rattle.std.specs.List.{All}
 use Rattle.std.proofs.lemmas.List.Elements.{All-nil, All-head, All-tail, All-push}
 use Rattle.std.proofs.lemmas.Slice.Eq.{bytes_eq-Decides}
 use Rattle.texts.specs.Words.{words}
-use Rattle.net_model.specs.Building.{built, place_of}
+use Rattle.net_model.specs.Building.{built, declared_net, delayed, place_of}
 use Rattle.net_model.specs.Network.{Plan}
 use Rattle.net_model.specs.declared.fault.BuildFault.{BuildFault}
-use Rattle.net_model.specs.declared.part.Part.{Part}
 use Rattle.plan_format.specs.PlanParts.{end_words}
-use Rattle.plan_json.specs.Document.{Fault as Wrong}
+use Rattle.plan_json.specs.Document.{Fault as Wrong, PlanParts}
 use Rattle.plan_json.specs.Reading.{declared}
 use Rattle.plan_json.specs.declared.fault.JsonFault.TheVariants as json
 use Rattle.command_engine.specs.Grammars.{Next, Line, NoLine, Leads, ReadsBy, number_after}
@@ -178,10 +177,10 @@ module _ (past : ℕ) where
   pub document_by : ReadsBy document_reader (record { text = document_begun; test = record {} }) past (document_texts past)
   document_by = tested_by bytes_reader bytes_tests (record {}) document_begun past (bytes_texts past) bytes_by
 
-  -- lines that are a document declare the network that its parts build
-  pub document_declares : (document : List (List ℕ)) (last : List ℕ) (rest : List (List ℕ)) (parts : List Part) (net : Plan) → All IsInside document → IsEndLine last → declared (bytes_of document) ≡ Some (Ok parts) → built parts ≡ Ok net
+  -- lines that are a document declare the network of its delay and its parts
+  pub document_declares : (document : List (List ℕ)) (last : List ℕ) (rest : List (List ℕ)) (plan : PlanParts) (net : Plan) → All IsInside document → IsEndLine last → declared (bytes_of document) ≡ Some (Ok plan) → declared_net plan.delay plan.parts ≡ Ok net
       → (document_texts past).declares (document ++ last ∷ rest) net rest
-  document_declares document last rest parts net inside ends says builds = record {
+  document_declares document last rest plan net inside ends says builds = record {
     value = bytes_of document;
     text = document ++ last ∷ [];
     whole = sym (append_assoc document (last ∷ []) rest);
@@ -189,40 +188,40 @@ module _ (past : ℕ) where
     passes = ap made_by says ∙ ap placed_by builds;
   }
 
--- ---- the parts of a document of which the network is made
+-- ---- the delay and the parts of a document of which the network is made
 pub record Made (bytes : List ℕ) (net : Plan) : Type 0 where
-  pub parts : List Part
-  pub says : declared bytes ≡ Some (Ok parts)
-  pub builds : built parts ≡ Ok net
+  pub plan : PlanParts
+  pub says : declared bytes ≡ Some (Ok plan)
+  pub builds : declared_net plan.delay plan.parts ≡ Ok net
 
-made_by_parts : (bytes : List ℕ) (net : Plan) (parts : List Part) (answer : Result Plan BuildFault) → declared bytes ≡ Some (Ok parts) → built parts ≡ answer → placed_by answer ≡ Ok net → Made bytes net
-made_by_parts bytes net parts (Ok other) says builds is = let same : other ≡ net = cc in record { parts = parts; says = says; builds = builds ∙ ap Ok same }
-made_by_parts bytes net parts (Err why) says builds is = absurd (cc)
+made_by_parts : (bytes : List ℕ) (net : Plan) (plan : PlanParts) (answer : Result Plan BuildFault) → declared bytes ≡ Some (Ok plan) → declared_net plan.delay plan.parts ≡ answer → placed_by answer ≡ Ok net → Made bytes net
+made_by_parts bytes net plan (Ok other) says builds is = let same : other ≡ net = cc in record { plan = plan; says = says; builds = builds ∙ ap Ok same }
+made_by_parts bytes net plan (Err why) says builds is = absurd (cc)
 
 pub made_of : (bytes : List ℕ) (net : Plan) → network_of_document bytes ≡ Ok net → Made bytes net
 made_of bytes net made = by (declared bytes) refl made
   where
-    by : (said : Option (Result (List Part) Wrong)) → declared bytes ≡ said → made_by said ≡ Ok net → Made bytes net
+    by : (said : Option (Result PlanParts Wrong)) → declared bytes ≡ said → made_by said ≡ Ok net → Made bytes net
     by None says is = absurd (cc)
     by (Some (Err wrong)) says is = absurd (cc)
-    by (Some (Ok parts)) says is = made_by_parts bytes net parts (built parts) says refl is
+    by (Some (Ok plan)) says is = made_by_parts bytes net plan (declared_net plan.delay plan.parts) says refl is
 
 -- ---- a document is refused by its fault
-part_fault : (parts : List Part) (why : BuildFault) (place : Option ℕ) (fault : Fault) → built parts ≡ Err why → place_of why ≡ place → PartFault (unwrap_or place 0) why ≡ fault
-    → IsDocumentFault (Some (Ok parts)) fault
-part_fault parts why None fault refuses is same = absurd (no_memory parts why refuses is)
-part_fault parts why (Some place) fault refuses is same = (why, place, refuses, is, sym same)
+part_fault : (plan : PlanParts) (why : BuildFault) (place : Option ℕ) (fault : Fault) → built plan.parts ≡ Err why → place_of why ≡ place → PartFault (unwrap_or place 0) why ≡ fault
+    → IsDocumentFault (Some (Ok plan)) fault
+part_fault plan why None fault refuses is same = absurd (no_memory plan.parts why refuses is)
+part_fault plan why (Some place) fault refuses is same = (why, place, refuses, is, sym same)
 
-refused_is : (said : Option (Result (List Part) Wrong)) (fault : Fault) → made_by said ≡ Err fault → IsDocumentFault said fault
+refused_is : (said : Option (Result PlanParts Wrong)) (fault : Fault) → made_by said ≡ Err fault → IsDocumentFault said fault
 refused_is None fault refuses = let same : Document json.NotJson ≡ fault = cc in sym same
 refused_is (Some (Err wrong)) fault refuses = let same : Document (told wrong) ≡ fault = cc in sym same
-refused_is (Some (Ok parts)) fault refuses = by (built parts) refl refuses
+refused_is (Some (Ok plan)) fault refuses = by (built plan.parts) refl refuses
   where
-    by : (answer : Result Plan BuildFault) → built parts ≡ answer → placed_by answer ≡ Err fault → IsDocumentFault (Some (Ok parts)) fault
+    by : (answer : Result Plan BuildFault) → built plan.parts ≡ answer → placed_by (delayed plan.delay answer) ≡ Err fault → IsDocumentFault (Some (Ok plan)) fault
     by (Ok net) builds made = absurd (cc)
     by (Err why) builds made =
         let same : PartFault (unwrap_or (place_of why) 0) why ≡ fault = cc in
-        part_fault parts why (place_of why) fault builds refl same
+        part_fault plan why (place_of why) fault builds refl same
 
 pub refused_so : (bytes : List ℕ) (fault : Fault) → network_of_document bytes ≡ Err fault → IsDocumentFault (declared bytes) fault
 refused_so bytes fault refuses = refused_is (declared bytes) fault refuses

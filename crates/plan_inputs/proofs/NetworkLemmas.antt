@@ -1,5 +1,5 @@
 -- What a list of parts builds.
-use Rattle.std.proofs.Common.{◌≡◌, ◌≢◌, ◌∷◌, [], ℕ, ℤ, ◌+◌, ◌<◌, ◌≤ℤ◌, Bool, true, false, List, Option, Some, None, Result, Ok, Err, IfOk, IsTrue, refl, sym, ap, ◌∙◌, subst, arith, rules, not, is_some, nat_le, int_lt, pos, ◌==◌, ◌||◌, length, position}
+use Rattle.std.proofs.Common.{◌≡◌, ◌≢◌, ◌∷◌, [], ℕ, ℤ, ◌+◌, ◌<◌, ◌≤◌, ◌≤ℤ◌, inl, inr, unsigned_abs, Bool, true, false, List, Option, Some, None, Result, Ok, Err, IfOk, IsTrue, refl, sym, ap, ◌∙◌, subst, arith, rules, not, is_some, nat_le, int_lt, pos, ◌==◌, ◌||◌, length, position}
 use Rattle.std.specs.Prelude.{unwrap_or}
 use Rattle.std.specs.List.{All}
 use Rattle.std.specs.Option.{option_map}
@@ -10,10 +10,10 @@ use Rattle.std.proofs.lemmas.Int.{ints}
 use Rattle.std.proofs.lemmas.List.Elements.{All-nil, All-cons, All-append, All-head, All-tail}
 use Rattle.std.proofs.lemmas.List.Quantifiers.{position-Some}
 use Rattle.std.proofs.lemmas.Map.Keys.{IsDistinct-from_apart}
-use Rattle.net_model.specs.Limits.{most_points, most_links, most_bounds, within_limit, within_size}
+use Rattle.net_model.specs.Limits.{most_points, most_links, most_bounds, most_delay, within_limit, within_size}
 use Rattle.net_model.specs.Names.{is_name}
-use Rattle.net_model.specs.Network.{Plan, IsPlan, IsBound, IsLink, point_named, bound_named, activation, empty}
-use Rattle.net_model.specs.Building.{◌>>=◌, refuse_if, named, with_point, with_bound, with_link, with_part, with_parts, built, at_place, place_of}
+use Rattle.net_model.specs.Network.{Plan, IsPlan, IsBound, IsLink, HasPlanNumbers, point_named, bound_named, activation, empty}
+use Rattle.net_model.specs.Building.{◌>>=◌, refuse_if, named, with_point, with_bound, with_link, with_part, with_parts, built, declared_net, at_place, place_of}
 use Rattle.net_model.specs.declared.ids.PointId.{PointId}
 use Rattle.net_model.specs.declared.part.Bound.{Bound}
 use Rattle.net_model.specs.declared.part.Link.{Link}
@@ -22,8 +22,13 @@ use Rattle.net_model.specs.declared.part.Part.TheVariants as part
 use Rattle.net_model.specs.declared.fault.BuildFault.{BuildFault}
 use Rattle.net_model.proofs.EditLemmas.{shown_within_limit}
 use Rattle.net_model.proofs.NetworkLemmas.{IsPlan-more_points, IsPlan-more_bounds, IsPlan-more_links}
-use Rattle.plan_format.specs.PlanGrammar.{IsBegun, header, blank, declares}
-use Rattle.plan_format.specs.PlanParts.{Version}
+use Rattle.net_model.proofs.DelayLemmas.{delayed_ok, sound_with_delay}
+use Rattle.net_model.proofs.BetweenLemmas.{declarable_pair}
+use Rattle.net_model.proofs.PlanNumbers.{built_numbers}
+use Rattle.plan_format.specs.PlanGrammar.{IsBegun, header, blank, delays, declares, Declares}
+use Rattle.plan_format.specs.declared.version.PlanStage.{PlanStage}
+use Rattle.plan_format.specs.declared.version.PlanStage.TheVariants.{Opened}
+use Rattle.plan_format.specs.declared.version.PlanVersion.{PlanVersion}
 use Rattle.plan_format.specs.PlanNetwork.{DeclaresNetwork}
 use Rattle.net_model.specs.NetworkParts.{IsDeclarable}
 
@@ -209,12 +214,27 @@ parts_sound place net made (part ∷ parts) spelled sound builds =
     (λ more also rest. parts_sound (place + 1) more made parts (All-tail IsDeclarable part parts spelled) also rest) builds
 
 -- the parts of a plan text can be spelled
-spelled_parts : (version : Version) (lines : List (List ℕ)) (parts : List Part) (numbers : List ℕ) → IsBegun version lines parts numbers → All IsDeclarable parts
-spelled_parts version lines parts numbers (header blanks first all is) = All-nil IsDeclarable
-spelled_parts version lines parts numbers (blank before next ps ns begins is) = spelled_parts version before ps ns begins
-spelled_parts version lines parts numbers (declares before next ps more ns begins declared) =
-    let one : All IsDeclarable (declared.0 ∷ []) = All-cons IsDeclarable declared.0 [] declared.2.1 (All-nil IsDeclarable) in
-    All-append IsDeclarable ps more (spelled_parts version before ps ns begins) (subst (All IsDeclarable) (sym declared.1) one)
+spelled_line : (version : PlanVersion) (line : List ℕ) (parts : List Part) → Declares version line parts → All IsDeclarable parts
+spelled_line version line parts (inl one) =
+    subst (All IsDeclarable) (sym one.1) (All-cons IsDeclarable one.0 [] one.2.1 (All-nil IsDeclarable))
+spelled_line version line parts (inr (name, from, low, high, to, two, is)) =
+    subst (All IsDeclarable) (sym two) (declarable_pair name from low high to is.2.0 is.2.1 is.2.2 is.2.3 is.2.4)
+
+spelled_parts : (version : PlanVersion) (stage : PlanStage) (lines : List (List ℕ)) (delay : ℕ) (parts : List Part) (numbers : List ℕ) → IsBegun version stage lines delay parts numbers → All IsDeclarable parts
+spelled_parts version stage lines delay parts numbers (header blanks first all is) = All-nil IsDeclarable
+spelled_parts version stage lines delay parts numbers (blank same before next d ps ns begins is) = spelled_parts version stage before delay parts numbers begins
+spelled_parts version stage lines delay parts numbers (delays before next was d ps ns begins is) = spelled_parts version Opened before was parts numbers begins
+spelled_parts version stage lines delay parts numbers (declares was before next d ps more ns begins declared) =
+    All-append IsDeclarable ps more (spelled_parts version was before delay ps ns begins) (spelled_line version next more declared)
+
+-- the delay of a plan text is within its limit
+short_begun : (version : PlanVersion) (stage : PlanStage) (lines : List (List ℕ)) (delay : ℕ) (parts : List Part) (numbers : List ℕ) → IsBegun version stage lines delay parts numbers → delay ≤ most_delay
+short_begun version stage lines delay parts numbers (header blanks first all is) = omega arith
+short_begun version stage lines delay parts numbers (blank same before next d ps ns begins is) = short_begun version stage before delay parts numbers begins
+short_begun version stage lines delay parts numbers (delays before next was d ps ns begins is) =
+    let same : delay ≡ is.1 = ap unsigned_abs is.2 in
+    omega (arith, same, is.4)
+short_begun version stage lines delay parts numbers (declares was before next d ps more ns begins declared) = short_begun version was before delay ps ns begins
 
 empty_sound : IsPlan empty
 empty_sound = record {
@@ -231,9 +251,35 @@ empty_sound = record {
 }
 
 -- what parts build that can be spelled is sound
-pub built_sound : (parts : List Part) (net : Plan) → All IsDeclarable parts → built parts ≡ Ok net → IsPlan net
+built_sound : (parts : List Part) (net : Plan) → All IsDeclarable parts → built parts ≡ Ok net → IsPlan net
 built_sound parts net spelled builds = parts_sound 0 empty net parts spelled empty_sound builds
 
--- a network that lines declare is sound
-pub declared_sound : (lines : List (List ℕ)) (net : Plan) (rest : List (List ℕ)) → DeclaresNetwork lines net rest → IsPlan net
-declared_sound lines net rest is = built_sound is.parts net (spelled_parts is.is_plan.version is.is_plan.begun is.parts is.numbers is.is_plan.begins) is.builds
+-- a sound network of which the numbers are those that a plan may have
+pub record IsGiven (net : Plan) : Type 0 where
+  pub plan : IsPlan net
+  pub numbers : HasPlanNumbers net
+
+numbers_of : (net : Plan) (answer : Result Plan BuildFault) → IfOk answer HasPlanNumbers → answer ≡ Ok net → HasPlanNumbers net
+numbers_of net (Ok made) numbers is = let same : made ≡ net = cc in subst HasPlanNumbers same numbers
+numbers_of net (Err why) numbers is = absurd (cc)
+
+with_delay_given : (net : Plan) (delay : ℕ) → IsPlan net → HasPlanNumbers net → delay ≤ most_delay → IsGiven (record net { delay = delay })
+with_delay_given net delay plan numbers short = record {
+  plan = sound_with_delay net delay plan numbers short;
+  numbers = record { bounds = numbers.bounds; links = numbers.links };
+}
+
+-- what a delay within its limit and parts that can be spelled declare is so
+pub declared_given : (delay : ℕ) (parts : List Part) (net : Plan) → delay ≤ most_delay → All IsDeclarable parts → declared_net delay parts ≡ Ok net → IsGiven net
+declared_given delay parts net short spelled builds =
+    let made = delayed_ok delay (built parts) net builds in
+    let numbers = numbers_of made.0 (built parts) (built_numbers parts) made.1 in
+    subst IsGiven (sym made.2) (with_delay_given made.0 delay (built_sound parts made.0 spelled made.1) numbers short)
+
+-- and a network that lines declare
+pub lines_given : (lines : List (List ℕ)) (net : Plan) (rest : List (List ℕ)) → DeclaresNetwork lines net rest → IsGiven net
+lines_given lines net rest is =
+    let begins = is.is_plan.begins in
+    let version = is.is_plan.version in
+    let stage = is.is_plan.stage in
+    declared_given is.delay is.parts net (short_begun version stage is.is_plan.begun is.delay is.parts is.numbers begins) (spelled_parts version stage is.is_plan.begun is.delay is.parts is.numbers begins) is.builds

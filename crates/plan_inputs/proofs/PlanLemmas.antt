@@ -8,17 +8,20 @@ use Rattle.std.proofs.lemmas.List.Elements.{All-nil}
 use Rattle.std.proofs.lemmas.Option.{slice_get-get_or, slice_get-map}
 use Rattle.texts.specs.Words.{words}
 use Rattle.net_model.specs.Network.{Plan}
-use Rattle.net_model.specs.Building.{built, declared_net, place_of}
+use Rattle.net_model.specs.Building.{built, declared_net, delayed, place_of}
 use Rattle.net_model.specs.declared.fault.BuildFault.{BuildFault}
 use Rattle.net_model.specs.declared.format.FormatFault.{FormatFault}
 use Rattle.net_model.specs.declared.format.FormatKind.{FormatKind}
 use Rattle.net_model.specs.declared.part.Part.{Part}
 use Rattle.net_model.proofs.PlaceLemmas.{built_place}
 use Rattle.plan_format.specs.PlanFaults.{IsFirstFault}
-use Rattle.plan_format.specs.PlanGrammar.{IsBlank, IsBegun, header, blank, declares}
+use Rattle.plan_format.specs.PlanGrammar.{IsBlank, IsBegun, header, blank, delays, declares}
 use Rattle.plan_format.specs.PlanNetwork.{DeclaresNetwork, IsRefusedPart}
-use Rattle.plan_format.specs.PlanParts.{Version}
-use Rattle.plan_format.specs.PlanReading.{Progress, IsFront, advanced, begun, fault_after, line_in, missing}
+use Rattle.net_model.specs.Between.{between_parts}
+use Rattle.plan_format.specs.declared.version.PlanStage.{PlanStage}
+use Rattle.plan_format.specs.declared.version.PlanStage.TheVariants.{Opened}
+use Rattle.plan_format.specs.declared.version.PlanVersion.{PlanVersion}
+use Rattle.plan_format.specs.PlanReading.{Progress, IsFront, with_more, gone_on, advanced, begun, fault_after, line_in, missing}
 use Rattle.plan_format.specs.declared.plan_line.PlanLine.{PlanLine}
 use Rattle.plan_format.specs.declared.plan_line.PlanLine.TheVariants as line
 use Rattle.plan_format.proofs.FaultLemmas.{fault_in_line, fault_is, fault_one, ends_too_soon}
@@ -45,8 +48,8 @@ use Rattle.plan_inputs.proofs.NetworkLemmas.{no_memory}
 
 -- ---- what the lines of a plan declare, they declare once
 read_of : (past : ℕ) (lines : List (List ℕ)) (declared : DeclaredParts) (rest : List (List ℕ)) (is : DeclaresParts past lines declared rest)
-    → read_from begun 1 lines ≡ Ok (record { parts = declared.parts; lines = is.numbers; end = length is.plan })
-read_of past lines declared rest is = plan_read lines is.plan rest declared.parts is.numbers is.whole is.is_plan
+    → read_from begun 1 lines ≡ Ok (record { delay = declared.delay; parts = declared.parts; lines = is.numbers; end = length is.plan })
+read_of past lines declared rest is = plan_read lines is.plan rest declared.delay declared.parts is.numbers is.whole is.is_plan
 
 same_read : (lines : List (List ℕ)) (a b : Declared) → read_from begun 1 lines ≡ Ok a → read_from begun 1 lines ≡ Ok b → a ≡ b
 same_read lines a b x y = cc
@@ -54,17 +57,18 @@ same_read lines a b x y = cc
 rest_is : (lines plan rest : List (List ℕ)) → lines ≡ plan ++ rest → drop (length plan) lines ≡ rest
 rest_is lines plan rest whole = ap (drop (length plan)) whole ∙ drop-append_seam plan rest
 
-abbrev told_of : List Part → List ℕ → DeclaredParts
-told_of parts lines = record { parts = parts; lines = lines }
+abbrev told_of : ℕ → List Part → List ℕ → DeclaredParts
+told_of delay parts lines = record { delay = delay; parts = parts; lines = lines }
 
 same_parts : (past : ℕ) (lines : List (List ℕ)) (declared other : DeclaredParts) (rest after : List (List ℕ)) → DeclaresParts past lines declared rest → DeclaresParts past lines other after → (declared ≡ other) × (rest ≡ after)
 same_parts past lines declared other rest after is also =
     let same = same_read lines _ _ (read_of past lines declared rest is) (read_of past lines other after also) in
+    let delay : declared.delay ≡ other.delay = ap (λ (d : Declared). d.delay) same in
     let parts : declared.parts ≡ other.parts = ap (λ (d : Declared). d.parts) same in
     let numbers : is.numbers ≡ also.numbers = ap (λ (d : Declared). d.lines) same in
     let told : declared.lines ≡ other.lines = is.numbered ∙ (ap (λ (ns : List ℕ). map (λ (n : ℕ). past + n) ns) numbers ∙ sym also.numbered) in
     let cut : drop (length is.plan) lines ≡ drop (length also.plan) lines = ap (λ (d : Declared). drop d.end lines) same in (
-      ap (λ (ps : List Part). told_of ps declared.lines) parts ∙ ap (λ (ns : List ℕ). told_of other.parts ns) told,
+      λ i. told_of (delay i) (parts i) (told i),
       sym (rest_is lines is.plan rest is.whole) ∙ (cut ∙ rest_is lines also.plan after also.whole),
     )
 
@@ -84,28 +88,46 @@ module _ (past : ℕ) where
   -- ---- where the reading stands
   -- what was read of the text, with the numbers that its lines have in the input
   abbrev in_input : Progress → PlanText
-  in_input read = record { reader = record { section = read.section; parts = read.parts; lines = map (λ number. past + number) read.lines } }
+  in_input read = record { reader = record { section = read.section; delay = read.delay; parts = read.parts; lines = map (λ number. past + number) read.lines } }
 
   -- the lines are the front of a plan
   abbrev Stands : List (List ℕ) → PlanText → Type 0
   Stands lines text = (read : Progress) × IsFront lines read × (text ≡ in_input read)
 
-  -- the number of a part in the input
-  part_number : (lines : List (List ℕ)) (numbers : List ℕ) → map (λ (n : ℕ). past + n) numbers ++ number_after past lines ∷ [] ≡ map (λ (n : ℕ). past + n) (numbers ++ (length lines + 1) ∷ [])
-  part_number lines numbers =
+  -- the numbers of parts of one line in the input
+  same_number : (number : ℕ) (more : List Part) → map (λ (part : Part). past + number) more ≡ map (λ (n : ℕ). past + n) (map (λ (part : Part). number) more)
+  same_number number [] = refl
+  same_number number (part ∷ more) = ap (λ (ns : List ℕ). (past + number) ∷ ns) (same_number number more)
+
+  part_numbers : (lines : List (List ℕ)) (numbers : List ℕ) (more : List Part) → map (λ (n : ℕ). past + n) numbers ++ map (λ (part : Part). number_after past lines) more ≡ map (λ (n : ℕ). past + n) (numbers ++ map (λ (part : Part). length lines + 1) more)
+  part_numbers lines numbers more =
       let at : number_after past lines ≡ past + (length lines + 1) = omega arith in
-      ap (λ (n : ℕ). map (λ (k : ℕ). past + k) numbers ++ n ∷ []) at ∙ sym (map-append (λ (k : ℕ). past + k) numbers ((length lines + 1) ∷ []))
+      ap (λ (n : ℕ). map (λ (k : ℕ). past + k) numbers ++ map (λ (part : Part). n) more) at
+      ∙ (ap (λ (ns : List ℕ). map (λ (k : ℕ). past + k) numbers ++ ns) (same_number (length lines + 1) more)
+      ∙ sym (map-append (λ (k : ℕ). past + k) numbers (map (λ (part : Part). length lines + 1) more)))
+
+  goes_with : (lines : List (List ℕ)) (next : List ℕ) (read : Progress) (more : List Part) (to : PlanText) → IsFront (lines ++ next ∷ []) (with_more read (length lines + 1) more) → record { reader = with_more (in_input read).reader (number_after past lines) more } ≡ to → Stands (lines ++ next ∷ []) to
+  goes_with lines next read more to front same = (
+    with_more read (length lines + 1) more,
+    front,
+    sym same ∙ ap (λ (ns : List ℕ). record { reader = record { section = gone_on read.section; delay = read.delay; parts = read.parts ++ more; lines = ns } }) (part_numbers lines read.lines more),
+  )
 
   goes_by : (lines : List (List ℕ)) (next : List ℕ) (read : Progress) (said : Result PlanLine FormatKind) (to : PlanText) → line_in read.section (words next) ≡ said → IsFront lines read → parts_step (in_input read) (number_after past lines) said ≡ Goes to → Stands (lines ++ next ∷ []) to
   goes_by lines next read (Ok line.Blank) to is front goes = (read, advance lines next (length lines + 1) line.Blank read refl is front, (let same : in_input read ≡ to = cc in sym same))
-  goes_by lines next read (Ok line.Header) to is front goes =
-      let more = advanced read (length lines + 1) line.Header in
-      (more, advance lines next (length lines + 1) line.Header read refl is front, (let same : in_input more ≡ to = cc in sym same))
+  goes_by lines next read (Ok (line.Header version)) to is front goes =
+      let more = advanced read (length lines + 1) (line.Header version) in
+      (more, advance lines next (length lines + 1) (line.Header version) read refl is front, (let same : in_input more ≡ to = cc in sym same))
   goes_by lines next read (Ok (line.Part part)) to is front goes =
-      let more = advanced read (length lines + 1) (line.Part part) in
-      let numbers = part_number lines read.lines in
-      let same : record { reader = record { section = read.section; parts = read.parts ++ part ∷ []; lines = map (λ (n : ℕ). past + n) read.lines ++ number_after past lines ∷ [] } } ≡ to = cc in
-      (more, advance lines next (length lines + 1) (line.Part part) read refl is front, sym same ∙ ap (λ (ns : List ℕ). record { reader = record { section = read.section; parts = read.parts ++ part ∷ []; lines = ns } }) numbers)
+      let same : record { reader = with_more (in_input read).reader (number_after past lines) (part ∷ []) } ≡ to = cc in
+      goes_with lines next read (part ∷ []) to (advance lines next (length lines + 1) (line.Part part) read refl is front) same
+  goes_by lines next read (Ok (line.Delay moments)) to is front goes =
+      let more = advanced read (length lines + 1) (line.Delay moments) in
+      (more, advance lines next (length lines + 1) (line.Delay moments) read refl is front, (let same : in_input more ≡ to = cc in sym same))
+  goes_by lines next read (Ok (line.Between name from low high end)) to is front goes =
+      let two = between_parts name from low high end in
+      let same : record { reader = with_more (in_input read).reader (number_after past lines) two } ≡ to = cc in
+      goes_with lines next read two to (advance lines next (length lines + 1) (line.Between name from low high end) read refl is front) same
   goes_by lines next read (Ok line.End) to is front goes = absurd (cc)
   goes_by lines next read (Err kind) to is front goes = absurd (cc)
 
@@ -114,13 +136,15 @@ module _ (past : ℕ) where
       goes_by lines next read (line_in read.section (words next)) to refl front (subst (λ (text : PlanText). parts_reader.reads text (number_after past lines) next ≡ Goes to) same goes)
 
   stands : (lines : List (List ℕ)) (state : PlanText) → Leads parts_reader plan_begun past lines state → Stands lines state
-  stands lines state leads = stands_by parts_reader plan_begun past Stands (begun, (All-nil IsBlank, refl, refl), refl) stands_step lines state leads
+  stands lines state leads = stands_by parts_reader plan_begun past Stands (begun, (All-nil IsBlank, refl, refl, refl), refl) stands_step lines state leads
 
   -- ---- a line is refused
   refused_by : (lines : List (List ℕ)) (next : List ℕ) (read : Progress) (said : Result PlanLine FormatKind) (fault : Fault) → line_in read.section (words next) ≡ said → IsFront lines read → parts_step (in_input read) (number_after past lines) said ≡ Refused fault → (parts_texts past).refuses lines (Line next) fault
   refused_by lines next read (Ok line.Blank) fault is front refuses = absurd (cc)
-  refused_by lines next read (Ok line.Header) fault is front refuses = absurd (cc)
+  refused_by lines next read (Ok (line.Header version)) fault is front refuses = absurd (cc)
   refused_by lines next read (Ok (line.Part part)) fault is front refuses = absurd (cc)
+  refused_by lines next read (Ok (line.Delay moments)) fault is front refuses = absurd (cc)
+  refused_by lines next read (Ok (line.Between name from low high to)) fault is front refuses = absurd (cc)
   refused_by lines next read (Ok line.End) fault is front refuses = absurd (cc)
   refused_by lines next read (Err kind) fault is front refuses =
       let same : Format (number_after past lines) kind ≡ fault = cc in
@@ -129,10 +153,12 @@ module _ (past : ℕ) where
   -- ---- the plan ends
   gives_by : (lines : List (List ℕ)) (next : List ℕ) (others : List (List ℕ)) (read : Progress) (said : Result PlanLine FormatKind) (declared : DeclaredParts) → line_in read.section (words next) ≡ said → IsFront lines read → parts_step (in_input read) (number_after past lines) said ≡ Gives declared → DeclaresParts past (lines ++ next ∷ others) declared others
   gives_by lines next others read (Ok line.Blank) declared is front gives = absurd (cc)
-  gives_by lines next others read (Ok line.Header) declared is front gives = absurd (cc)
+  gives_by lines next others read (Ok (line.Header version)) declared is front gives = absurd (cc)
   gives_by lines next others read (Ok (line.Part part)) declared is front gives = absurd (cc)
+  gives_by lines next others read (Ok (line.Delay moments)) declared is front gives = absurd (cc)
+  gives_by lines next others read (Ok (line.Between name from low high to)) declared is front gives = absurd (cc)
   gives_by lines next others read (Ok line.End) declared is front gives =
-      let same : record { parts = read.parts; lines = map (λ (n : ℕ). past + n) read.lines } ≡ declared = cc in
+      let same : record { delay = read.delay; parts = read.parts; lines = map (λ (n : ℕ). past + n) read.lines } ≡ declared = cc in
       subst (λ (d : DeclaredParts). DeclaresParts past (lines ++ next ∷ others) d others) same (record {
         plan = lines ++ next ∷ [];
         numbers = read.lines;
@@ -207,16 +233,17 @@ module _ (past : ℕ) where
       to : (plan_texts past).declares lines net rest → DeclaresNetwork lines net rest
       to passes = record {
         plan = passes.declared.plan;
+        delay = passes.value.delay;
         parts = passes.value.parts;
         numbers = passes.declared.numbers;
         whole = passes.declared.whole;
         is_plan = passes.declared.is_plan;
-        builds = made_of passes.value.lines (declared_net passes.value.parts) net passes.passes;
+        builds = made_of passes.value.lines (declared_net passes.value.delay passes.value.parts) net passes.passes;
       }
 
       from : DeclaresNetwork lines net rest → (plan_texts past).declares lines net rest
       from is = record {
-        value = record { parts = is.parts; lines = map (λ (n : ℕ). past + n) is.numbers };
+        value = record { delay = is.delay; parts = is.parts; lines = map (λ (n : ℕ). past + n) is.numbers };
         text = is.plan;
         whole = is.whole;
         declared = record { plan = is.plan; numbers = is.numbers; whole = is.whole; is_plan = is.is_plan; numbered = refl };
@@ -224,11 +251,12 @@ module _ (past : ℕ) where
       }
 
   -- ---- a plan text is refused at its end by its first part that is refused, in the line of that
-  numbered : (version : Version) (lines : List (List ℕ)) (parts : List Part) (numbers : List ℕ) → IsBegun version lines parts numbers → length numbers ≡ length parts
-  numbered version lines parts numbers (header blanks first all is) = refl
-  numbered version lines parts numbers (blank before next ps ns begins is) = numbered version before parts numbers begins
-  numbered version lines parts numbers (declares before next ps more ns begins declared) =
-      let so_far = numbered version before ps ns begins in
+  numbered : (version : PlanVersion) (stage : PlanStage) (lines : List (List ℕ)) (delay : ℕ) (parts : List Part) (numbers : List ℕ) → IsBegun version stage lines delay parts numbers → length numbers ≡ length parts
+  numbered version stage lines delay parts numbers (header blanks first all is) = refl
+  numbered version stage lines delay parts numbers (blank same before next d ps ns begins is) = numbered version stage before delay parts numbers begins
+  numbered version stage lines delay parts numbers (delays before next was d ps ns begins is) = numbered version Opened before was parts numbers begins
+  numbered version stage lines delay parts numbers (declares was before next d ps more ns begins declared) =
+      let so_far = numbered version was before delay ps ns begins in
       let marks : length (map (λ (part : Part). length before + 1) more) ≡ length more = length-map more (λ (part : Part). length before + 1) in
       let a = length-append ps more in
       let b = length-append ns (map (λ (part : Part). length before + 1) more) in
@@ -261,16 +289,16 @@ module _ (past : ℕ) where
     refused : built parts ≡ Err why
     told : PartFault (line_of_part lines why) why ≡ fault
 
-  refused_by_parts : (lines : List ℕ) (parts : List Part) (answer : Result Plan BuildFault) (fault : Fault) → built parts ≡ answer → built_by lines answer ≡ Err fault → RefusedBy lines parts fault
-  refused_by_parts lines parts (Ok net) fault is refuses = absurd (cc)
-  refused_by_parts lines parts (Err why) fault is refuses = record { why = why; refused = is; told = (let same : PartFault (line_of_part lines why) why ≡ fault = cc in same) }
+  refused_by_parts : (lines : List ℕ) (delay : ℕ) (parts : List Part) (answer : Result Plan BuildFault) (fault : Fault) → built parts ≡ answer → built_by lines (delayed delay answer) ≡ Err fault → RefusedBy lines parts fault
+  refused_by_parts lines delay parts (Ok net) fault is refuses = absurd (cc)
+  refused_by_parts lines delay parts (Err why) fault is refuses = record { why = why; refused = is; told = (let same : PartFault (line_of_part lines why) why ≡ fault = cc in same) }
 
   pub refuses_plan : (lines : List (List ℕ)) (next : List ℕ) (fault : Fault) → FailsTest (parts_texts past) parts_tests (record {}) past lines (Line next) fault → RefusesPlan past lines (Line next) fault
   refuses_plan lines next fault fails =
       let is = fails.declared in
       let same : next ≡ fails.line = (let comes = fails.comes in cc) in
-      let by = refused_by_parts fails.value.lines fails.value.parts (declared_net fails.value.parts) fault refl fails.fails in
-      let at = refused_at fails.value.parts is.numbers by.why (place_of by.why) by.refused (numbered is.is_plan.version is.is_plan.begun fails.value.parts is.numbers is.is_plan.begins) refl in
+      let by = refused_by_parts fails.value.lines fails.value.delay fails.value.parts (built fails.value.parts) fault refl fails.fails in
+      let at = refused_at fails.value.parts is.numbers by.why (place_of by.why) by.refused (numbered is.is_plan.version is.is_plan.stage is.is_plan.begun fails.value.delay fails.value.parts is.numbers is.is_plan.begins) refl in
       let plan : is.plan ≡ lines ++ next ∷ [] = sym (append-nil is.plan) ∙ (sym is.whole ∙ ap (λ (l : List ℕ). lines ++ l ∷ []) (sym same)) in
       let told : line_of_part fails.value.lines by.why ≡ past + at.number = ap (λ (ns : List ℕ). line_of_part ns by.why) is.numbered ∙ at.told in (
         at.number,
@@ -280,6 +308,7 @@ module _ (past : ℕ) where
           record {
             plan = is.plan;
             rest = others;
+            delay = fails.value.delay;
             parts = fails.value.parts;
             numbers = is.numbers;
             whole = sym (append_assoc lines (next ∷ []) others) ∙ ap (λ (ls : List (List ℕ)). ls ++ others) (sym plan);

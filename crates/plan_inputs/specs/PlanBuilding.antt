@@ -1,19 +1,20 @@
 -- What is made of what an input declares as a plan: the network that it builds, or the fault by which it is refused as a whole.
 use Rattle.std.specs.Prelude.{◌≡◌, ℕ, ◌-◌, List, Option, Some, None, Result, Ok, Err, unwrap_or, slice_get}
 use Rattle.std.specs.Option.{option_and_then}
-use Rattle.net_model.specs.Building.{declared_net, place_of}
+use Rattle.net_model.specs.Building.{built, declared_net, place_of}
 use Rattle.net_model.specs.Network.{Plan}
 use Rattle.net_model.specs.declared.fault.BuildFault.{BuildFault}
 use Rattle.net_model.specs.declared.part.Part.{Part}
-use Rattle.plan_json.specs.Document.{Fault as Wrong, shape, bad_name, number_limit}
+use Rattle.plan_json.specs.Document.{Fault as Wrong, PlanParts, shape, bad_name, number_limit}
 use Rattle.plan_json.specs.Reading.{declared}
 use Rattle.plan_json.specs.declared.fault.JsonFault.{JsonFault}
 use Rattle.plan_json.specs.declared.fault.JsonFault.TheVariants as json
 use Rattle.common_answers.specs.declared.faults.Fault.{Fault}
 use Rattle.common_answers.specs.declared.faults.Fault.TheVariants.{Part as PartFault, Document}
 
--- the parts that a plan text declares, and the number of the line of each in the input
+-- the delay and the parts that a plan text declares, and the number of the line of each part in the input
 pub record DeclaredParts : Type 0 where
+  pub delay : ℕ
   pub parts : List Part
   pub lines : List ℕ
 
@@ -26,9 +27,9 @@ abbrev pub built_by : List ℕ → Result Plan BuildFault → Result Plan Fault
 built_by lines (Ok net) = Ok net
 built_by lines (Err why) = Err (PartFault (line_of_part lines why) why)
 
--- the network of declared parts, or the first one that is refused
+-- the network of a delay and of declared parts, or the first part that is refused
 abbrev pub network_of_parts : DeclaredParts → Result Plan Fault
-network_of_parts declared = built_by declared.lines (declared_net declared.parts)
+network_of_parts declared = built_by declared.lines (declared_net declared.delay declared.parts)
 
 -- a fault of a document, as it is told
 abbrev pub told : Wrong → JsonFault
@@ -42,10 +43,10 @@ placed_by (Ok net) = Ok net
 placed_by (Err why) = Err (PartFault (unwrap_or (place_of why) 0) why)
 
 -- the network of a document by what its bytes say, or its fault: they have no reading, or it is that of the document, or a part is refused
-abbrev pub document_by : Option (Result (List Part) Wrong) → Result Plan Fault
+abbrev pub document_by : Option (Result PlanParts Wrong) → Result Plan Fault
 document_by None = Err (Document json.NotJson)
 document_by (Some (Err wrong)) = Err (Document (told wrong))
-document_by (Some (Ok parts)) = placed_by (declared_net parts)
+document_by (Some (Ok plan)) = placed_by (declared_net plan.delay plan.parts)
 
 -- the network of a document of these bytes, or its fault
 abbrev pub network_of_document : List ℕ → Result Plan Fault
@@ -53,10 +54,10 @@ network_of_document bytes = document_by (declared bytes)
 
 -- The fault of a document by what its bytes say: they have no reading, or it is that of the document; or a part is refused, told by its
 -- place among the parts.
-abbrev pub IsDocumentFault : Option (Result (List Part) Wrong) → Fault → Type 0
+abbrev pub IsDocumentFault : Option (Result PlanParts Wrong) → Fault → Type 0
 IsDocumentFault None fault = fault ≡ Document json.NotJson
 IsDocumentFault (Some (Err wrong)) fault = fault ≡ Document (told wrong)
-IsDocumentFault (Some (Ok parts)) fault = (why : BuildFault) × (place : ℕ) × (declared_net parts ≡ Err why) × (place_of why ≡ Some place) × (fault ≡ PartFault place why)
+IsDocumentFault (Some (Ok plan)) fault = (why : BuildFault) × (place : ℕ) × (built plan.parts ≡ Err why) × (place_of why ≡ Some place) × (fault ≡ PartFault place why)
 
 -- a document is refused as a whole by its fault, and each part that is refused has a place
 abbrev pub DocumentsAreRefusedByTheirFaults : Type 0

@@ -1,10 +1,11 @@
 -- A plan in an input, as a plan text or as a JSON document.
-use Rattle.std.specs.Prelude.{ℕ, Bool, true, false, List, codes}
+use Rattle.std.specs.Prelude.{◌≡◌, ◌↔◌, ℕ, Bool, true, false, List, codes, min, Result, Ok}
+use Rattle.net_model.specs.Limits.{most_delay}
 use Rattle.net_model.specs.Network.{Plan}
 use Rattle.command_engine.specs.Alternatives.{either_reader}
 use Rattle.command_engine.specs.Grammars.{Grammar}
 use Rattle.command_engine.specs.Reading.{Reader}
-use Rattle.command_engine.specs.Testing.{tested_reader}
+use Rattle.command_engine.specs.Testing.{tested_grammar, tested_reader}
 use Rattle.command_engine.specs.declared.alternatives.Either.{Either}
 use Rattle.command_engine.specs.declared.alternatives.Either.TheVariants.{Left, Right}
 use Rattle.command_engine.specs.declared.testing.Tested.{Tested}
@@ -14,6 +15,8 @@ use Rattle.plan_inputs.specs.DocumentTexts.{bytes_tests, document_texts}
 use Rattle.plan_inputs.specs.PlanDocument.{bytes_reader, document_begun}
 use Rattle.plan_inputs.specs.PlanText.{parts_reader, plan_begun}
 use Rattle.plan_inputs.specs.PlanTexts.{parts_tests, plan_texts}
+use Rattle.plan_inputs.specs.declared.delay.Delay.{Delay}
+use Rattle.plan_inputs.specs.declared.delay.Delay.TheVariants.{Own, Moments}
 use Rattle.plan_inputs.specs.declared.plan_document.BuildDocument.{BuildDocument}
 use Rattle.plan_inputs.specs.declared.plan_input.Notation.{Notation}
 use Rattle.plan_inputs.specs.declared.plan_input.Notation.TheVariants.{Text, Json}
@@ -30,25 +33,38 @@ abbrev pub notation_by : Bool → Notation
 notation_by true = Json
 notation_by false = Text
 
--- a plan in this notation, of which nothing else is said
-abbrev pub in_notation : Notation → PlanForm
-in_notation notation = record { notation = notation }
+-- the form of a plan, by whether the flag `--json` is given, and the delay that is asked
+abbrev pub form_by : Bool → Delay → PlanForm
+form_by json delay = record { notation = notation_by json; delay = delay }
 
--- the form of a plan, by whether the flag `--json` is given
-abbrev pub form_by : Bool → PlanForm
-form_by json = in_notation (notation_by json)
+-- a plan in this notation, with its own delay
+abbrev pub in_notation : Notation → PlanForm
+in_notation notation = record { notation = notation; delay = Own }
+
+-- a network with the delay that is asked: its own, or so many moments, of which no more count than a delay may have
+abbrev pub delayed : Delay → Plan → Plan
+delayed Own net = net
+delayed (Moments moments) net = record net { delay = min moments most_delay }
+
+-- each network passes, with the delay that is asked
+abbrev pub delay_tests : Delay → Plan → (number : ℕ) → Result Plan Fault
+delay_tests delay net number = Ok (delayed delay net)
 
 -- how far a plan of either notation was read
-abbrev pub PlanInput : Type 0
-PlanInput = Either (Tested PlanText BuildPlan) (Tested DocumentSoFar BuildDocument)
+abbrev pub NotedPlan : Type 0
+NotedPlan = Either (Tested PlanText BuildPlan) (Tested DocumentSoFar BuildDocument)
 
-abbrev pub begun_in : Notation → PlanInput
+-- and with the delay that is asked
+abbrev pub PlanInput : Type 0
+PlanInput = Tested NotedPlan Delay
+
+abbrev pub begun_in : Notation → NotedPlan
 begun_in Text = Left (record { text = plan_begun; test = record {} })
 begun_in Json = Right (record { text = document_begun; test = record {} })
 
 -- before the first line
 abbrev pub input_begun : PlanForm → PlanInput
-input_begun form = begun_in form.notation
+input_begun form = record { text = begun_in form.notation; test = form.delay }
 
 -- the reader of plan texts, and that of documents, each with the test that a network is built
 abbrev pub plan_reader : Reader (Tested PlanText BuildPlan) Plan Fault
@@ -57,18 +73,29 @@ plan_reader = tested_reader parts_reader parts_tests
 abbrev pub document_reader : Reader (Tested DocumentSoFar BuildDocument) Plan Fault
 document_reader = tested_reader bytes_reader bytes_tests
 
--- the reader of plans of either form
-abbrev pub input_reader : Reader PlanInput Plan Fault
-input_reader = either_reader plan_reader document_reader
+-- the reader of plans of either notation
+abbrev pub noted_reader : Reader NotedPlan Plan Fault
+noted_reader = either_reader plan_reader document_reader
 
+-- the reader of plans of any form
+abbrev pub input_reader : Reader PlanInput Plan Fault
+input_reader = tested_reader noted_reader delay_tests
+
+-- the grammar of a plan of this notation
 abbrev pub texts_in : Notation → ℕ → Grammar Plan Fault
 texts_in Text = plan_texts
 texts_in Json = document_texts
 
--- the grammar of a plan of this form, where so many lines stand before it in the input
+-- the grammar of a plan of this form, where so many lines stand before it in the input: what it declares has the delay that is asked
 abbrev pub plans_in : PlanForm → ℕ → Grammar Plan Fault
-plans_in form = texts_in form.notation
+plans_in form past = tested_grammar (texts_in form.notation past) delay_tests form.delay past
 
 -- the grammar of a plan of this form with which the input begins
 abbrev pub plan_in : PlanForm → Grammar Plan Fault
 plan_in form = plans_in form 0
+
+-- Lines declare as a plan of a form just the networks that they declare as a plan of its notation, with the delay that is asked.
+abbrev pub PlansHaveTheDelayAsked : Type 0
+PlansHaveTheDelayAsked =
+    (form : PlanForm) (past : ℕ) (lines : List (List ℕ)) (net : Plan) (rest : List (List ℕ))
+    → (plans_in form past).declares lines net rest ↔ ((plain : Plan) × (texts_in form.notation past).declares lines plain rest × (net ≡ delayed form.delay plain))

@@ -1,4 +1,4 @@
--- A plan text as a text that is read line by line, which says the parts that it declares.
+-- A plan text as a text that is read line by line, which says the delay and the parts that it declares.
 use Rattle.std.specs.Prelude.{ℕ, Result, Ok, Err}
 use Rattle.texts.specs.Words.{words}
 use Rattle.net_model.specs.declared.format.FormatKind.{FormatKind}
@@ -21,7 +21,7 @@ plan_begun = record { reader = begun }
 
 -- what a line brings, by what it says in its place
 abbrev pub parts_step : PlanText → ℕ → Result PlanLine FormatKind → Step PlanText DeclaredParts Fault
-parts_step text number (Ok line.End) = Gives (record { parts = text.reader.parts; lines = text.reader.lines })
+parts_step text number (Ok line.End) = Gives (record { delay = text.reader.delay; parts = text.reader.parts; lines = text.reader.lines })
 parts_step text number (Ok said) = Goes (record { reader = advanced text.reader number said })
 parts_step text number (Err kind) = Refused (Format number kind)
 

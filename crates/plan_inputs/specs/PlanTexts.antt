@@ -24,13 +24,13 @@ IsPlanFront lines = (read : Progress) × IsFront lines read
 abbrev pub IsPlanFault : List (List ℕ) → ℕ → FormatKind → Type 0
 IsPlanFault lines number kind = IsFirstFault lines (record { line = number; kind = kind })
 
--- the lines begin with a plan text that declares these parts, each told by the number of its line in the input, where so many lines stand
+-- the lines begin with a plan text that declares this delay and these parts, each told by the number of its line in the input, where so many lines stand
 -- before it; and the rest comes after its `end` line
 pub record DeclaresParts (past : ℕ) (lines : List (List ℕ)) (declared : DeclaredParts) (rest : List (List ℕ)) : Type 0 where
   pub plan : List (List ℕ)
   pub numbers : List ℕ
   pub whole : lines ≡ plan ++ rest
-  pub is_plan : IsPlanText plan declared.parts numbers
+  pub is_plan : IsPlanText plan declared.delay declared.parts numbers
   pub numbered : declared.lines ≡ map (λ number. past + number) numbers
 
 -- the grammar of the parts of a plan text, where so many lines stand before it in the input

@@ -2,6 +2,7 @@
 
 ghost use Rattle.std.specs.Prelude.{ℕ};
 ghost use Rattle.plan_inputs.specs.PlanBuilding.{DocumentsAreRefusedByTheirFaults};
+ghost use Rattle.plan_inputs.specs.PlanInput.{PlansHaveTheDelayAsked};
 ghost use Rattle.plan_inputs.specs.PlanTexts.{AreAsTheFormatSays};
 
 /// Wherever a plan text stands in an input, its grammar declares just the networks that the format says, and it is refused as a whole by its
@@ -14,4 +15,10 @@ pub fn plan_texts_are_as_the_format_says()
 /// place.
 pub fn documents_are_refused_by_their_faults()
     ensures { DocumentsAreRefusedByTheirFaults }
+{}
+
+/// Lines declare as a plan of a form just the networks that they declare as a plan of its notation, with the delay that is asked, where one
+/// is, in place of the plan's own.
+pub fn plans_have_the_delay_that_is_asked()
+    ensures { PlansHaveTheDelayAsked }
 {}

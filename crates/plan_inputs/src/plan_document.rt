@@ -1,7 +1,8 @@
 //! A plan as a JSON document: its bytes, and the network that they declare.
 
-ghost use Rattle.std.specs.Prelude.{◌≡◌, ◌<◌, ◌^◌, length, IfOk, OnOk};
-ghost use Rattle.net_model.specs.Building.{built};
+ghost use Rattle.std.specs.Prelude.{◌≡◌, ◌<◌, ◌≤ℤ◌, ◌^◌, pos, unsigned_abs, length, IfOk, OnOk};
+ghost use Rattle.net_model.specs.Building.{declared_net};
+ghost use Rattle.net_model.specs.Limits.{most_delay};
 ghost use Rattle.texts.specs.Words.{words};
 ghost use Rattle.command_engine.specs.declared.machines.Stop.{Stop};
 ghost use Rattle.plan_inputs.specs.DocumentTexts.{bytes_tests, bytes_texts};
@@ -11,7 +12,7 @@ ghost use Rattle.plan_inputs.specs.PlanDocument.{are_end, bytes_reader, document
 use crate::plan_network::PlanNetwork;
 use command_engine::{InGrammar, Step, Stop, Test, Text};
 use common_answers::Fault;
-use net_model::{FormatKind, Items, Network, Part};
+use net_model::{FormatKind, Items, Network, Part, Weight};
 use plan_json::{JsonFault, from_json};
 use std::alloc::{AllocError, Global};
 use std::marker::Model;
@@ -149,20 +150,26 @@ impl Test<Items<u8>, Fault> for BuildDocument {
         _number: u32,
     ) -> Result<Result<PlanNetwork, Fault>, AllocError> {
         match from_json(alloc, value.as_slice()) {
-            Ok(parts) => build(alloc, parts.as_slice()),
+            Ok(plan) => build(alloc, plan.delay, plan.parts.as_slice()),
             Err(JsonFault::OutOfMemory) => Err(AllocError),
             Err(fault) => Ok(Err(Fault::Document(fault))),
         }
     }
 }
 
-/// The network of the parts of a document, or the first one that is refused, told by its place.
-fn build(alloc: Global, parts: &[Part]) -> Result<Result<PlanNetwork, Fault>, AllocError>
-    requires { length parts.now < 2 ^ 32 }
-    ensures { IfOk result (λ made. made ≡ placed_by (built parts.now)) }
+/// The network of the delay and the parts of a document, or the first part that is refused, told by its place.
+fn build(
+    alloc: Global,
+    delay: Weight,
+    parts: &[Part],
+) -> Result<Result<PlanNetwork, Fault>, AllocError>
+    requires few { length parts.now < 2 ^ 32 }
+    requires from_nought { pos 0 ≤ℤ delay }
+    requires short { delay ≤ℤ pos most_delay }
+    ensures { IfOk result (λ made. made ≡ placed_by (declared_net (unsigned_abs delay) parts.now)) }
 {
     match Network::build(alloc, parts) {
-        Ok(net) => Ok(Ok(PlanNetwork::new(net))),
+        Ok(net) => Ok(Ok(PlanNetwork::new(net.with_delay(delay)))),
         Err(fault) => match fault.place() {
             Some(place) => Ok(Err(Fault::Part(place, fault))),
             None => Err(AllocError),

@@ -1,6 +1,6 @@
 //! The network that an input declares.
 
-use net_model::Network;
+use net_model::{Network, Weight};
 use std::marker::Model;
 
 /// The network that an input declares. Contracts see it as the network; its numbers are those that a plan may have.
@@ -20,7 +20,8 @@ impl Model for PlanNetwork {
 }
 
 impl PlanNetwork {
-    ghost use Rattle.std.specs.Prelude.{◌≡◌};
+    ghost use Rattle.std.specs.Prelude.{◌≡◌, ◌≤◌};
+    ghost use Rattle.net_model.specs.Limits.{most_delay};
     ghost use Rattle.net_model.specs.Network.{HasPlanNumbers};
 
     /// A network whose numbers are those that a plan may have.
@@ -29,6 +30,16 @@ impl PlanNetwork {
         ensures { result ≡ net }
     {
         PlanNetwork { net }
+    }
+
+    /// The same network with a delay of so many moments, 0 to 1,000,000.
+    pub fn with_delay(self, moments: u32) -> PlanNetwork
+        requires { moments ≤ most_delay }
+        ensures { result ≡ record self { delay = moments } }
+    {
+        PlanNetwork {
+            net: self.net.with_delay(Weight::from(moments)),
+        }
     }
 
     /// The network.

@@ -1,4 +1,4 @@
-//! The text of a plan: the parts that it declares, and the network that they build.
+//! The text of a plan: the delay and the parts that it declares, and the network that they build.
 
 ghost use Rattle.std.specs.Prelude.{◌≡◌};
 ghost use Rattle.plan_inputs.specs.PlanText.{parts_reader, plan_begun};
@@ -13,13 +13,13 @@ use plan_port::MOST_LINE;
 use std::alloc::{AllocError, Global};
 use std::marker::Model;
 
-/// A plan text, and how far it was read. It says the parts that it declares.
+/// A plan text, and how far it was read. It says the delay and the parts that it declares.
 #[derive(Drop)]
 pub struct PlanText {
     reader: PlanReader,
 }
 
-/// The parts that a plan text declares, and the number of the line of each in the input.
+/// The delay and the parts that a plan text declares, and the number of the line of each part in the input.
 #[derive(Drop)]
 pub struct Declarations {
     reader: PlanReader,
@@ -30,7 +30,7 @@ impl Model for Declarations {
 
     ghost Value = { DeclaredParts };
 
-    ghost view = { λ declared. record { parts = declared.reader.parts; lines = declared.reader.lines } };
+    ghost view = { λ declared. record { delay = declared.reader.delay; parts = declared.reader.parts; lines = declared.reader.lines } };
 }
 
 impl Declarations {
@@ -51,7 +51,7 @@ impl Declarations {
         self.reader.lines()
     }
 
-    /// The network of the parts, or the first part that is refused, told by the number of its line. `AllocError` comes only for want of
+    /// The network of the delay and the parts, or the first part that is refused, told by the number of its line. `AllocError` comes only for want of
     /// memory.
     pub fn build(&self, alloc: Global) -> Result<Result<PlanNetwork, Fault>, AllocError>
         ensures { IfOk result (λ made. made ≡ network_of_parts self.now) }
@@ -76,7 +76,7 @@ impl PlanText {
 
     /// What was declared.
     fn into_declarations(self) -> Declarations
-        ensures { result ≡ record { parts = self.reader.parts; lines = self.reader.lines } }
+        ensures { result ≡ record { delay = self.reader.delay; parts = self.reader.parts; lines = self.reader.lines } }
     {
         let PlanText { reader } = self;
         Declarations { reader }

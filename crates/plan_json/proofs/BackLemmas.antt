@@ -1,10 +1,10 @@
--- The document of a network declares its parts.
-use Rattle.std.proofs.Common.{◌≡◌, ℕ, ◌+◌, ◌<◌, ◌^◌, List, [], ◌∷◌, map, length, true, ℤ, pos, negsuc, ◌≤ℤ◌, Some, Ok, IsTrue, refl, arith}
+-- The document of a network declares its delay and its parts.
+use Rattle.std.proofs.Common.{◌≡◌, ℕ, ◌+◌, ◌<◌, ◌≤◌, ◌^◌, List, [], ◌∷◌, map, length, true, ℤ, pos, negsuc, ◌≤ℤ◌, Some, Ok, IsTrue, refl, arith}
 use Rattle.std.specs.List.{All, slice_index_or}
-use Rattle.std.proofs.lemmas.Bool.{lt-ltb}
+use Rattle.std.proofs.lemmas.Bool.{lt-ltb, le-leb}
 use Rattle.std.proofs.lemmas.Bool.Decides.{nat_tests}
 use Rattle.std.proofs.lemmas.List.Elements.{All-head, All-tail}
-use Rattle.net_model.specs.Limits.{within_limit}
+use Rattle.net_model.specs.Limits.{within_limit, most_delay}
 use Rattle.net_model.specs.Names.{is_name}
 use Rattle.net_model.specs.Network.{Plan, IsPlan, IsBound, IsLink, HasPlanNumbers}
 use Rattle.net_model.specs.NetworkParts.{point_name, bound_part as declared_bound, link_part as declared_link, parts_of}
@@ -13,15 +13,15 @@ use Rattle.net_model.specs.declared.part.Link.{Link}
 use Rattle.net_model.specs.declared.part.Part.TheVariants as part
 use Rattle.serde_json.specs.Data.{string}
 use Rattle.serde_json.specs.Find.{as_i64, of_integer}
-use Rattle.plan_json.specs.Document.{bound_form, bound_part, document_parts, items_parts, link_form, link_part, lists_parts, point_part, top_of}
+use Rattle.plan_json.specs.Document.{bound_form, bound_parts, document_plan, items_parts, link_form, link_parts, lists_parts, lists_plan, point_parts, top_of}
 use Rattle.plan_json.specs.Writing.{bound_data, document_of, link_data}
 use Rattle.plan_json.specs.declared.place.Place.{Place}
 use Rattle.plan_json.specs.declared.place.PartList.TheVariants as list
 use Rattle.plan_json.proofs.ViewLemmas.{list_of_items}
 
 -- a point is read back
-point_back : (place : Place) (name : List ℕ) → is_name name ≡ true → point_part place (string name) ≡ Ok (part.Point name)
-unfolding point_part
+point_back : (place : Place) (name : List ℕ) → is_name name ≡ true → point_parts place (string name) ≡ Ok (part.Point name ∷ [])
+unfolding point_parts
 point_back place name named = rw named refl
 
 whole_back : (n : ℤ) → within_limit n ≡ true → as_i64 (of_integer n) ≡ Some n
@@ -32,14 +32,14 @@ whole_back (negsuc n) within = refl
 
 -- a bound is read back
 bound_back : (place : Place) (points : List (List ℕ)) (bound : Bound) → is_name bound.name ≡ true → is_name (point_name points bound.from) ≡ true → is_name (point_name points bound.to) ≡ true
-    → within_limit bound.most ≡ true → bound_part place (bound_data points bound) ≡ Ok (declared_bound points bound)
-unfolding bound_part bound_form
+    → within_limit bound.most ≡ true → bound_parts place (bound_data points bound) ≡ Ok (declared_bound points bound ∷ [])
+unfolding bound_parts bound_form
 bound_back place points bound named from to within = rw (whole_back bound.most within, named, from, to, within) refl
 
 -- a link is read back
 link_back : (place : Place) (points : List (List ℕ)) (link : Link) → is_name (point_name points link.from) ≡ true → is_name (point_name points link.to) ≡ true
-    → within_limit link.low ≡ true → within_limit link.high ≡ true → link_part place (link_data points link) ≡ Ok (declared_link points link)
-unfolding link_part link_form
+    → within_limit link.low ≡ true → within_limit link.high ≡ true → link_parts place (link_data points link) ≡ Ok (declared_link points link ∷ [])
+unfolding link_parts link_form
 link_back place points link from to low high = rw (whole_back link.low low, whole_back link.high high, from, to, low, high) refl
 
 -- the shortest duration is within the limit where the longest is
@@ -81,11 +81,19 @@ links_back net plan count (link ∷ links) sound limited =
     let rest = links_back net plan (count + 1) links (All-tail (IsLink net) link links sound) (All-tail (λ (l : Link). within_limit l.high ≡ true) link links limited) in
     rw (first, rest) refl
 
--- the document of a network declares its parts
-pub document_back : (net : Plan) → IsPlan net → HasPlanNumbers net → document_parts (document_of net) ≡ Ok (parts_of net)
-unfolding top_of lists_parts
+-- the delay is read back
+delay_back : (n : ℕ) → n ≤ most_delay → as_i64 (of_integer (pos n)) ≡ Some (pos n)
+delay_back n short =
+    let small : n < 2 ^ 63 = omega (arith, short) in
+    rw (lt-ltb n (2 ^ 63) small) refl
+
+-- the document of a network declares its delay and its parts
+pub document_back : (net : Plan) → IsPlan net → HasPlanNumbers net → document_plan (document_of net) ≡ Ok (record { delay = net.delay; parts = parts_of net })
+unfolding top_of lists_parts lists_plan
 document_back net plan numbers =
     rw (
+      delay_back net.delay plan.short_delay,
+      le-leb net.delay most_delay plan.short_delay,
       list_of_items (map string net.points),
       list_of_items (map (bound_data net.points) net.bounds),
       list_of_items (map (link_data net.points) net.links),

@@ -4,12 +4,12 @@ use Rattle.std.specs.Fmt.{decimal}
 use Rattle.std.specs.List.{All, AllByRecursion, list_all, slice_index_or}
 use Rattle.std.specs.Str.Parse.{AllDigits}
 use Rattle.std.specs.Char.{digit_value}
-use Rattle.std.proofs.lemmas.Bool.{and_parts, leb-true}
+use Rattle.std.proofs.lemmas.Bool.{and_parts, le-leb, leb-true}
 use Rattle.std.proofs.lemmas.Bool.Decides.{nat_tests}
 use Rattle.std.proofs.lemmas.Fmt.{decimal_is_IsNumeral}
 use Rattle.std.proofs.lemmas.List.Elements.{All-head, All-tail}
 use Rattle.std.proofs.lemmas.List.Folds.{list_all-append}
-use Rattle.net_model.specs.Limits.{within_limit, most_number}
+use Rattle.net_model.specs.Limits.{within_limit, most_delay, most_number}
 use Rattle.net_model.specs.Names.{is_name, is_name_byte, is_letter}
 use Rattle.net_model.specs.Network.{Plan, IsPlan, IsBound, IsLink, HasPlanNumbers}
 use Rattle.net_model.specs.NetworkParts.{point_name}
@@ -264,22 +264,27 @@ links_marked net plan (link ∷ links) sound limited =
     (link_marked net plan link (All-head (IsLink net) link links sound) (All-head (λ (l : Link). within_limit l.high ≡ true) link links limited))
     (links_marked net plan links (All-tail (IsLink net) link links sound) (All-tail (λ (l : Link). within_limit l.high ≡ true) link links limited))
 
+-- a delay within its limit is within the limit of numbers
+short_within : (delay : ℕ) → delay ≤ most_delay → within_limit (pos delay) ≡ true
+short_within delay short = le-leb delay most_number (omega (arith, short))
+
 -- after the first bracket
 members_marked : (net : Plan) → IsPlan net → HasPlanNumbers net → AllByRecursion IsMarked (members_tokens (members_outline (members_of_document net)))
 members_marked net plan numbers =
-    let last : List Token = token.key (codes "stnu") ∷ token.number (number_text (of_integer (pos 1))) ∷ token.end_object ∷ [] in
+    let last : List Token = token.key (codes "stnu") ∷ token.number (number_text (of_integer (pos 2))) ∷ token.end_object ∷ [] in
     let points : List Token = items_tokens (items_outline (items_of (map string net.points))) ++ last in
     let links : List Token = items_tokens (items_outline (items_of (map (link_data net.points) net.links))) ++ token.key (codes "points") ∷ token.begin_array ∷ points in
-    let all_last : AllByRecursion IsMarked last = (key_marked (codes "stnu") refl, (number_marked (pos 1) refl, (bracket_marked token.end_object refl refl, tt))) in
+    let all_last : AllByRecursion IsMarked last = (key_marked (codes "stnu") refl, (number_marked (pos 2) refl, (bracket_marked token.end_object refl refl, tt))) in
     let all_points : AllByRecursion IsMarked points = both (items_tokens (items_outline (items_of (map string net.points)))) last (points_marked net.points plan.points_named) all_last in
     let all_links : AllByRecursion IsMarked links =
     both (items_tokens (items_outline (items_of (map (link_data net.points) net.links)))) (token.key (codes "points") ∷ token.begin_array ∷ points) (links_marked net plan net.links plan.links_sound numbers.links)
-    (key_marked (codes "points") refl, (bracket_marked token.begin_array refl refl, all_points)) in (
+    (key_marked (codes "points") refl, (bracket_marked token.begin_array refl refl, all_points)) in
+    let delay : List Token = token.key (codes "delay") ∷ token.number (number_text (of_integer (pos net.delay))) ∷ token.key (codes "links") ∷ token.begin_array ∷ links in (
       key_marked (codes "bounds") refl,
       (
         bracket_marked token.begin_array refl refl,
-        both (items_tokens (items_outline (items_of (map (bound_data net.points) net.bounds)))) (token.key (codes "links") ∷ token.begin_array ∷ links) (bounds_marked net plan net.bounds plan.bounds_sound numbers.bounds)
-            (key_marked (codes "links") refl, (bracket_marked token.begin_array refl refl, all_links)),
+        both (items_tokens (items_outline (items_of (map (bound_data net.points) net.bounds)))) delay (bounds_marked net plan net.bounds plan.bounds_sound numbers.bounds)
+            (key_marked (codes "delay") refl, (number_marked (pos net.delay) (short_within net.delay plan.short_delay), (key_marked (codes "links") refl, (bracket_marked token.begin_array refl refl, all_links)))),
       ),
     )
 

@@ -8,7 +8,7 @@ use Rattle.net_model.specs.Network.{Plan, IsPlan, HasPlanNumbers}
 use Rattle.net_model.specs.NetworkParts.{parts_of}
 use Rattle.net_model.specs.declared.part.Bound.{Bound}
 use Rattle.net_model.specs.declared.part.Link.{Link}
-use Rattle.net_model.proofs.PartsLemmas.{parts_build}
+use Rattle.net_model.proofs.PartsLemmas.{parts_declare}
 use Rattle.serde_json.specs.Data.{Data, string, depth, items_depth}
 use Rattle.serde_json.specs.Find.{is_float, of_integer}
 use Rattle.serde_json.specs.Read.{read}
@@ -36,7 +36,7 @@ links_have_none points [] = refl
 links_have_none points (link ∷ links) = rw (whole_is_no_float link.high, whole_is_no_float link.low) (links_have_none points links)
 
 pub has_no_float : (net : Plan) → has_float (document_of net) ≡ false
-has_no_float net = rw (bounds_have_none net.points net.bounds, links_have_none net.points net.links, points_have_none net.points) refl
+has_no_float net = rw (whole_is_no_float (pos net.delay), bounds_have_none net.points net.bounds, links_have_none net.points net.links, points_have_none net.points) refl
 
 points_are_flat : (points : List (List ℕ)) → items_depth (items_of (map string points)) ≤ 0
 points_are_flat [] = omega arith
@@ -67,10 +67,10 @@ value_is net document text is utf8 reads =
     let same : read text ≡ Some (document_of net) = reads (subst (λ d. depth d ≤ 127) (sym is) (is_flat net)) ∙ ap Some is in
     rw (is_utf8-from_IsUtf8 text utf8) same
 
--- whose parts build the network
+-- which declares the network
 pub reads_back : (net : Plan) (document : Data) (text : List ℕ) → IsPlan net → HasPlanNumbers net → document ≡ document_of net → IsUtf8 text → (depth document ≤ 127 → read text ≡ Some document) → ReadsBack text net
 reads_back net document text plan numbers is utf8 reads = record {
-  parts = parts_of net;
+  plan = record { delay = net.delay; parts = parts_of net };
   said = rw (value_is net document text is utf8 reads) (ap Some (document_back net plan numbers));
-  same = parts_build net plan numbers;
+  same = parts_declare net plan numbers;
 }

@@ -1,26 +1,26 @@
 -- What the bytes of a document say. What a JSON text is (RFC 8259) is read as `serde_json` reads it.
-use Rattle.std.specs.Prelude.{◌≡◌, ℕ, List, ◌++◌, Option, Some, None, option_map, Result, Ok, Err, if◌then◌else◌}
+use Rattle.std.specs.Prelude.{◌≡◌, ◌≤◌, ℕ, List, ◌++◌, Option, Some, None, option_map, Result, Ok, Err, if◌then◌else◌}
 use Rattle.std.specs.List.{All}
 use Rattle.std.specs.Str.{is_utf8}
 use Rattle.net_model.specs.NetworkParts.{IsDeclarable}
-use Rattle.net_model.specs.declared.part.Part.{Part}
+use Rattle.net_model.specs.Limits.{most_delay}
 use Rattle.serde_json.specs.Data.{Data}
 use Rattle.serde_json.specs.Read.{read}
 use Rattle.plan_json.specs.declared.fault.JsonFault.{JsonFault}
 use Rattle.plan_json.specs.declared.fault.JsonFault.TheVariants.{NotJson, Shape, BadName, NumberLimit, OutOfMemory}
-use Rattle.plan_json.specs.Document.{Fault, shape, bad_name, number_limit, document_parts, ◌>>=◌}
+use Rattle.plan_json.specs.Document.{Fault, shape, bad_name, number_limit, PlanParts, document_plan, ◌>>=◌}
 
 -- the value of the bytes, where they have a reading as a JSON text
 abbrev pub json_value : List ℕ → Option Data
 json_value bytes = if is_utf8 bytes then read bytes else None
 
--- the parts that the bytes declare, or the first fault of their document; none where they have no reading
-abbrev pub declared : List ℕ → Option (Result (List Part) Fault)
-declared bytes = option_map document_parts (json_value bytes)
+-- the delay and the parts that the bytes declare, or the first fault of their document; none where they have no reading
+abbrev pub declared : List ℕ → Option (Result PlanParts Fault)
+declared bytes = option_map document_plan (json_value bytes)
 
--- the parts that bytes declare can be declared
+-- the parts that bytes declare can be declared, and their delay is within its limit
 abbrev pub DeclaredPartsAreDeclarable : Type 0
-DeclaredPartsAreDeclarable = (bytes : List ℕ) (parts : List Part) → declared bytes ≡ Some (Ok parts) → All IsDeclarable parts
+DeclaredPartsAreDeclarable = (bytes : List ℕ) (plan : PlanParts) → declared bytes ≡ Some (Ok plan) → All IsDeclarable plan.parts × (plan.delay ≤ most_delay)
 
 -- the fault that was answered is that of what is read, unless memory ran out
 abbrev pub Fails : {Y : Type 0} → JsonFault → Result Y Fault → Type 0
@@ -40,7 +40,7 @@ abbrev pub with_front : {X : Type 0} → List X → Result (List X) Fault → Re
 with_front front read = read >>= λ rest. Ok (front ++ rest)
 
 -- the answer is what the bytes say, unless memory ran out
-abbrev pub Answers : {X : Type 0} → (X → List Part) → Result X JsonFault → Option (Result (List Part) Fault) → Type 0
+abbrev pub Answers : {X : Type 0} → (X → PlanParts) → Result X JsonFault → Option (Result PlanParts Fault) → Type 0
 Answers seen (Ok x) said = said ≡ Some (Ok (seen x))
 Answers seen (Err NotJson) said = said ≡ None
 Answers seen (Err (Shape member place)) said = said ≡ Some (Err (shape member place))

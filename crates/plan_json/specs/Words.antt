@@ -4,12 +4,13 @@ use Rattle.std.specs.Fmt.{decimal}
 use Rattle.plan_json.specs.declared.fault.JsonFault.{JsonFault}
 use Rattle.plan_json.specs.declared.fault.JsonFault.TheVariants.{NotJson, Shape, BadName, NumberLimit, OutOfMemory}
 use Rattle.plan_json.specs.declared.fault.Member.{Member}
-use Rattle.plan_json.specs.declared.fault.Member.TheVariants.{Top, Points, Bounds, Links}
+use Rattle.plan_json.specs.declared.fault.Member.TheVariants.{Top, Points, Bounds, Between, Links}
 
 abbrev pub member_word : Member → List ℕ
 member_word Top = codes "top"
 member_word Points = codes "points"
 member_word Bounds = codes "bounds"
+member_word Between = codes "between"
 member_word Links = codes "links"
 
 abbrev pub json_fault_text : JsonFault → List ℕ

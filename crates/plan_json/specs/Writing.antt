@@ -1,5 +1,5 @@
 -- The document of a network, and its text.
-use Rattle.std.specs.Prelude.{◌≡◌, ℕ, List, [], ◌∷◌, ◌++◌, map, codes, Some, Ok}
+use Rattle.std.specs.Prelude.{◌≡◌, ℕ, pos, List, [], ◌∷◌, ◌++◌, map, codes, Some, Ok}
 use Rattle.std.specs.List.{All, join_with_byte}
 use Rattle.texts.specs.Lines.{lines}
 use Rattle.texts.specs.Words.{words}
@@ -10,8 +10,7 @@ use Rattle.net_model.specs.NetworkParts.{point_name, parts_of}
 use Rattle.net_model.specs.Building.{declared_net}
 use Rattle.net_model.specs.declared.part.Bound.{Bound}
 use Rattle.net_model.specs.declared.part.Link.{Link}
-use Rattle.net_model.specs.declared.part.Part.{Part}
-use Rattle.plan_json.specs.Document.{document_parts}
+use Rattle.plan_json.specs.Document.{PlanParts, document_plan}
 use Rattle.plan_json.specs.Reading.{declared}
 use Rattle.serde_json.specs.Data.{Data, Members, number, unsigned, string, array, object, no_members, member}
 use Rattle.serde_json.specs.Find.{of_integer}
@@ -34,13 +33,14 @@ link_data points link =
     (member (codes "low") (number (of_integer link.low))
     (member (codes "to") (string (point_name points link.to)) no_members))))
 
--- the document of a network, its members in alphabetical order
+-- the document of a network, in version 2, its members in alphabetical order
 abbrev pub members_of_document : Plan → Members
 members_of_document net =
     member (codes "bounds") (array (items_of (map (bound_data net.points) net.bounds)))
+    (member (codes "delay") (number (of_integer (pos net.delay)))
     (member (codes "links") (array (items_of (map (link_data net.points) net.links)))
     (member (codes "points") (array (items_of (map string net.points)))
-    (member (codes "stnu") (number (unsigned 1)) no_members)))
+    (member (codes "stnu") (number (unsigned 2)) no_members))))
 
 abbrev pub document_of : Plan → Data
 document_of net = object (members_of_document net)
@@ -50,11 +50,11 @@ document_of net = object (members_of_document net)
 abbrev pub document_text : Data → List ℕ
 document_text document = pretty (json_tokens (outline document))
 
--- a text that is read back as parts that build the network; it does not tell its delay
+-- a text that is read back as the delay and the parts of the network
 pub record ReadsBack (text : List ℕ) (net : Plan) : Type 0 where
-  pub parts : List Part
-  pub said : declared text ≡ Some (Ok parts)
-  pub same : declared_net parts ≡ Ok (record net { delay = 0 })
+  pub plan : PlanParts
+  pub said : declared text ≡ Some (Ok plan)
+  pub same : declared_net plan.delay plan.parts ≡ Ok net
 
 -- A text that can stand before a line `end` in an input, and is read there whole: its lines, none of which has `end` as its only word, with
 -- byte 10 between.
@@ -68,6 +68,6 @@ pub record StandsBeforeEnd (text : List ℕ) : Type 0 where
 abbrev pub DocumentsStandInInputs : Type 0
 DocumentsStandInInputs = (net : Plan) → IsPlan net → HasPlanNumbers net → StandsBeforeEnd (document_text (document_of net))
 
--- the document of a network declares its parts
+-- the document of a network declares its delay and its parts
 abbrev pub DocumentsReadBack : Type 0
-DocumentsReadBack = (net : Plan) → IsPlan net → HasPlanNumbers net → document_parts (document_of net) ≡ Ok (parts_of net)
+DocumentsReadBack = (net : Plan) → IsPlan net → HasPlanNumbers net → document_plan (document_of net) ≡ Ok (record { delay = net.delay; parts = parts_of net })

@@ -10,6 +10,7 @@ pub enum Member {
     Top,
     Points,
     Bounds,
+    Between,
     Links,
 }
 
@@ -25,6 +26,7 @@ impl Member {
             Member::Top => "top",
             Member::Points => "points",
             Member::Bounds => "bounds",
+            Member::Between => "between",
             Member::Links => "links",
         }
     }
@@ -41,7 +43,7 @@ impl fmt::Display for Member {
     }
 }
 
-/// Why a document is not read: the first fault of it, in the order top, points, bounds and links, within a list item by item, and
+/// Why a document is not read: the first fault of it, in the order top, points, bounds, between and links, within a list item by item, and
 /// within an item in the order of the variants. The number is the place of the item in its list, from 1, and 0 at the top.
 #[derive(Clone, Copy, Debug, PartialEq, Eq, Hash)]
 pub enum JsonFault {
@@ -51,7 +53,7 @@ pub enum JsonFault {
     Shape(Member, u32),
     /// A text in the place of a name is not a name.
     BadName(Member, u32),
-    /// A number is beyond 1,000,000,000 in size.
+    /// A number is beyond 1,000,000,000 in size, or, at the top, the delay beyond 1,000,000.
     NumberLimit(Member, u32),
     /// There was no memory.
     OutOfMemory,

@@ -4,7 +4,7 @@ ghost use Rattle.plan_json.specs.DocumentGrammar.{DocumentsAreReadAsDeclared, Do
 ghost use Rattle.plan_json.specs.Reading.{DeclaredPartsAreDeclarable};
 ghost use Rattle.plan_json.specs.Writing.{DocumentsReadBack, DocumentsStandInInputs};
 
-/// The document of a network declares its parts: its points, its bounds and its links, each list in its order.
+/// The document of a network declares its delay and its parts: its points, its bounds and its links, each list in its order.
 #[tactic(auto, using(crate::proofs::BackLemmas::document_back))]
 pub fn documents_read_back()
     ensures { DocumentsReadBack }
@@ -16,7 +16,7 @@ pub fn documents_stand_in_inputs()
     ensures { DocumentsStandInInputs }
 {}
 
-/// The names of the parts that a document declares are names, and their numbers are within the limit of a plan.
+/// The names of the parts that a document declares are names, and their numbers are within the limit of a plan, as its delay is.
 #[tactic(auto, using(crate::proofs::PartsLemmas::said_declarable))]
 pub fn declared_parts_are_declarable()
     ensures { DeclaredPartsAreDeclarable }
@@ -28,7 +28,7 @@ pub fn documents_are_read_as_declared()
     ensures { DocumentsAreReadAsDeclared }
 {}
 
-/// A document declares parts or has a first fault, never both, and one alone.
+/// A document declares a plan or has a first fault, never both, and one alone.
 #[tactic(auto, using(crate::proofs::OneReadingLemmas::one_reading))]
 pub fn documents_give_one_reading()
     ensures { DocumentsGiveOneReading }

@@ -9,5 +9,5 @@ mod read;
 mod write;
 
 pub use fault::{JsonFault, Member};
-pub use read::from_json;
+pub use read::{JsonPlan, from_json};
 pub use write::to_json;

@@ -10,6 +10,7 @@ use crate::fault::{JsonFault, Member};
 pub(crate) enum PartList {
     Points,
     Bounds,
+    Between,
     Links,
 }
 
@@ -30,6 +31,7 @@ impl PartList {
         match self {
             PartList::Points => Member::Points,
             PartList::Bounds => Member::Bounds,
+            PartList::Between => Member::Between,
             PartList::Links => Member::Links,
         }
     }

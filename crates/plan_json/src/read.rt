@@ -1,30 +1,43 @@
 //! Reading a document.
 
-ghost use Rattle.std.specs.Prelude.{◌≡◌, ◌≤◌, ◌⊎◌, length, IfOk, MatchResult, None, Some};
-ghost use Rattle.net_model.specs.Limits.{most_lines};
+ghost use Rattle.std.specs.Prelude.{◌≡◌, ◌≤◌, ◌≤ℤ◌, ◌⊎◌, pos, unsigned_abs, length, IfOk, MatchResult, None, Some};
+ghost use Rattle.net_model.specs.Limits.{most_delay, most_lines};
 ghost use Rattle.serde_json.specs.View.{view};
 ghost use Rattle.plan_json.specs.Reading.{Answers, declared, json_value};
 
-use crate::document::document_parts;
+use crate::document::document_plan;
 use crate::fault::JsonFault;
-use net_model::Part;
+use net_model::{Part, Weight};
 use serde_json::Value;
 use std::alloc::Global;
 
-/// The parts that a document declares, in their order, or its first fault. A document is one object of the members `stnu`, which is 1,
+/// What a document declares.
+#[derive(Debug, Drop)]
+pub struct JsonPlan {
+    /// The parts, in their order.
+    pub parts: Vec<Part>,
+    /// The delay, in whole moments, from 0 to `MOST_DELAY`.
+    pub delay: Weight,
+}
+
+/// The delay and the parts that a document declares, or its first fault. A document is one object of the members `stnu`, which is 1 or 2,
 /// `points`, a list of names, and, where they are there, `bounds` and `links`: lists of objects of exactly `name`, `from`, `to` and
-/// `most`, and of exactly `from`, `low`, `high` and `to`. `NotJson` comes exactly where the bytes have no reading as a JSON text. `Shape`
-/// of the top, with the place 0, comes where the document is no object, has another member or lacks one, is of another version, or a list
-/// is no list; of an item where its form is another, or a number is not whole or does not fit 64 bits. `BadName` comes where a text is not
-/// a name, and `NumberLimit` where a number is beyond 1,000,000,000 in size. The first of them is answered: in the order top, points,
-/// bounds, links, within a list item by item, and within an item in this order. Of members of one name the last one counts. `OutOfMemory`
-/// comes only for want of memory, as which a part more than 2,147,483,648 counts.
-pub fn from_json(alloc: Global, bytes: &[u8]) -> Result<Vec<Part>, JsonFault>
-    ensures says { Answers (λ parts. parts.items) result (declared bytes.now) }
-    ensures few { IfOk result (λ parts. length parts.items ≤ most_lines) }
+/// `most`, and of exactly `from`, `low`, `high` and `to`. Where `stnu` is 2 it may also have `delay`, a whole number from 0, and `between`,
+/// a list of objects of exactly `name`, `from`, `low`, `high` and `to`, each of which declares two parts. `NotJson` comes exactly where the
+/// bytes have no reading as a JSON text. `Shape` of the top, with the place 0, comes where the document is no object, has another member or
+/// lacks one, is of another version, a list is no list, or the delay is none; of an item where its form is another, or a number is not
+/// whole or does not fit 64 bits. `BadName` comes where a text is not a name, or that of two bounds has more than 28 bytes; and
+/// `NumberLimit` where a number is beyond 1,000,000,000 in size, and of the top where the delay is above `MOST_DELAY`. The first of them is
+/// answered: in the order top, points, bounds, between, links, within a list item by item, and at the top and within an item in this order.
+/// Of members of one name the last one counts. `OutOfMemory` comes only for want of memory, as which a part more than 2,147,483,648 counts.
+pub fn from_json(alloc: Global, bytes: &[u8]) -> Result<JsonPlan, JsonFault>
+    ensures says { Answers (λ plan. record { delay = unsigned_abs plan.delay; parts = plan.parts.items }) result (declared bytes.now) }
+    ensures from_nought { IfOk result (λ plan. pos 0 ≤ℤ plan.delay) }
+    ensures short { IfOk result (λ plan. plan.delay ≤ℤ pos most_delay) }
+    ensures few { IfOk result (λ plan. length plan.parts.items ≤ most_lines) }
 {
     let document = parsed(alloc, bytes)?;
-    document_parts(alloc, &document)
+    document_plan(alloc, &document)
 }
 
 /// The value of a JSON text.

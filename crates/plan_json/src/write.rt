@@ -11,10 +11,10 @@ use net_model::{Bound, Link, Name, Network, PointId};
 use serde_json::{Value, json};
 use std::alloc::{AllocError, Global};
 
-/// The document of a network, in the pretty layout of `serde_json`: an object of `bounds`, `links`, `points` and `stnu`, with the members
-/// of each item in alphabetical order, and no line end after it. It reads back to the same three lists; it does not tell the
-/// delay. The numbers of the network are at most 1,000,000,000 in size, as those of a built network are. `AllocError` comes only for want of
-/// memory.
+/// The document of a network, in version 2, in the pretty layout of `serde_json`: an object of `bounds`, `delay`, `links`, `points` and
+/// `stnu`, with the members of each item in alphabetical order, and no line end after it. It reads back to the same three lists and the
+/// same delay. The numbers of the network are at most 1,000,000,000 in size, as those of a built network are. `AllocError` comes only for
+/// want of memory.
 #[tactic(auto, using(crate::proofs::WritingLemmas::text_is, crate::proofs::WritingLemmas::reads_back))]
 pub fn to_json(alloc: Global, net: &Network) -> Result<Vec<u8>, AllocError>
     requires { HasPlanNumbers net.now }
@@ -33,7 +33,8 @@ fn document_of(alloc: Global, net: &Network) -> Result<Value, AllocError>
     let bounds = bounds_of(alloc, net)?;
     let links = links_of(alloc, net)?;
     let points = texts_of(alloc, net.points())?;
-    json!(in alloc; {"bounds": bounds, "links": links, "points": points, "stnu": 1u64})
+    let delay = net.delay();
+    json!(in alloc; {"bounds": bounds, "delay": delay, "links": links, "points": points, "stnu": 2u64})
 }
 
 /// The texts of names.
