@@ -29,7 +29,7 @@ use Rattle.cert_format.proofs.SaidLemmas.{keyword_is}
 use Rattle.cert_format.proofs.WordLemmas.{keyword_spelled, text_read}
 
 -- where what is read next is refused, the other words depart from their places
-abbrev RestDeparts : {A B : Type 0} → (A → Result B FormatKind) → List Place → List (List ℕ) → FormatKind → Type 0
+abbrev pub RestDeparts : {A B : Type 0} → (A → Result B FormatKind) → List Place → List (List ℕ) → FormatKind → Type 0
 RestDeparts {A} next rest others fault = (x : A) → next x ≡ Err fault → DepartFirst rest others fault
 
 -- a word is what its place asks for where it is read, and departs from it where it is refused
@@ -44,7 +44,7 @@ step place rest word others fault (Err k) next is later all =
     inl (subst (λ (f : FormatKind). Departs place word f) same (is.departs k refl))
 step place rest word others fault (Ok x) next is later all = inr (is.fits x refl, later x all)
 
-name_step : {B : Type 0} (rest : List Place) (word : List ℕ) (others : List (List ℕ)) (fault : FormatKind) (next : List ℕ → Result B FormatKind) → RestDeparts next rest others fault → (name_of word >>= next) ≡ Err fault → DepartFirst (name ∷ rest) (word ∷ others) fault
+pub name_step : {B : Type 0} (rest : List Place) (word : List ℕ) (others : List (List ℕ)) (fault : FormatKind) (next : List ℕ → Result B FormatKind) → RestDeparts next rest others fault → (name_of word >>= next) ≡ Err fault → DepartFirst (name ∷ rest) (word ∷ others) fault
 name_step rest word others fault next later all =
     step name rest word others fault (name_of word) next (record { departs = λ k read. name_err word k read; fits = λ x read. name_fits word x read }) later all
   where
@@ -55,7 +55,7 @@ number_step : {B : Type 0} (rest : List Place) (word : List ℕ) (others : List 
 number_step rest word others fault next later all =
     step line_number rest word others fault (number_of word) next (record { departs = λ k read. natural_err word most_line_number k read; fits = λ x read. let is = natural_ok word most_line_number x read in (x, is.0, is.1) }) later all
 
-weight_step : {B : Type 0} (rest : List Place) (word : List ℕ) (others : List (List ℕ)) (fault : FormatKind) (next : ℤ → Result B FormatKind) → RestDeparts next rest others fault → (weight_of word >>= next) ≡ Err fault → DepartFirst (weight ∷ rest) (word ∷ others) fault
+pub weight_step : {B : Type 0} (rest : List Place) (word : List ℕ) (others : List (List ℕ)) (fault : FormatKind) (next : ℤ → Result B FormatKind) → RestDeparts next rest others fault → (weight_of word >>= next) ≡ Err fault → DepartFirst (weight ∷ rest) (word ∷ others) fault
 weight_step rest word others fault next later all =
     step weight rest word others fault (weight_of word) next (record { departs = λ k read. integer_err word most_written_weight k read; fits = λ x read. let is = integer_ok word most_written_weight x read in (x, is.0, is.1) }) later all
 

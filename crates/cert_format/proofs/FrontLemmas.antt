@@ -34,10 +34,10 @@ filled-append [] ys = refl
 filled-append (line ∷ xs) ys =
     ap (λ (rest : List (List (List ℕ))). cond (are_passed_over (words line)) rest (words line ∷ rest)) (filled-append xs ys) ∙ filled_by (are_passed_over (words line)) (words line) (filled_words xs) (filled_words ys)
 
-filled_blank : (line : List ℕ) → are_passed_over (words line) ≡ true → filled_words (line ∷ []) ≡ []
+pub filled_blank : (line : List ℕ) → are_passed_over (words line) ≡ true → filled_words (line ∷ []) ≡ []
 filled_blank line blank = rw blank refl
 
-filled_line : (line : List ℕ) (said : List (List ℕ)) → are_passed_over (words line) ≡ false → words line ≡ said → filled_words (line ∷ []) ≡ said ∷ []
+pub filled_line : (line : List ℕ) (said : List (List ℕ)) → are_passed_over (words line) ≡ false → words line ≡ said → filled_words (line ∷ []) ≡ said ∷ []
 filled_line line said filled is = rw filled (ap (λ (w : List (List ℕ)). w ∷ []) is)
 
 -- a text that goes on
@@ -76,10 +76,10 @@ reaches-append : (xs ys : List CertText) (p q r : Progress) → Reaches p xs q �
 reaches-append [] ys p q r first second = subst (λ (s : Progress). Reaches s ys r) (sym first) second
 reaches-append (t ∷ xs) ys p q r first second = (first.0, first.1, reaches-append xs ys (advanced p t) q r first.2 second)
 
-head_is : {A : Type 0} (x y : A) (xs ys : List A) → x ∷ xs ≡ y ∷ ys → x ≡ y
+pub head_is : {A : Type 0} (x y : A) (xs ys : List A) → x ∷ xs ≡ y ∷ ys → x ≡ y
 head_is x y xs ys same = cc
 
-tail_is : {A : Type 0} (x y : A) (xs ys : List A) → x ∷ xs ≡ y ∷ ys → xs ≡ ys
+pub tail_is : {A : Type 0} (x y : A) (xs ys : List A) → x ∷ xs ≡ y ∷ ys → xs ≡ ys
 tail_is x y xs ys same = cc
 
 no_words : (said : List CertText) → [] ≡ map text_words said → said ≡ []
@@ -142,7 +142,7 @@ words_of_texts say spell [] more each = refl
 words_of_texts say spell (x ∷ xs) more each =
     ap (λ (w : List (List ℕ)). w ∷ map text_words (map say xs ++ more)) (each x) ∙ ap (λ (ws : List (List (List ℕ))). spell x ∷ ws) (words_of_texts say spell xs more each)
 
-words_of_all : {A : Type 0} (say : A → CertText) (spell : A → List (List ℕ)) (xs : List A) → ((x : A) → text_words (say x) ≡ spell x) → map text_words (map say xs) ≡ map spell xs
+pub words_of_all : {A : Type 0} (say : A → CertText) (spell : A → List (List ℕ)) (xs : List A) → ((x : A) → text_words (say x) ≡ spell x) → map text_words (map say xs) ≡ map spell xs
 words_of_all say spell xs each =
     ap (map text_words) (sym (append-nil (map say xs))) ∙ words_of_texts say spell xs [] each ∙ append-nil (map spell xs)
 
@@ -333,10 +333,10 @@ no_entry section.Entries label other another = absurd (another refl)
 no_entry s None other another = refl
 no_entry s (Some label) other another = refl
 
-refuted : {b : Bool} → b ≡ false → b ≡ true → ⊥
+pub refuted : {b : Bool} → b ≡ false → b ≡ true → ⊥
 refuted no_is yes_is = let wrong : false ≡ true = sym no_is ∙ yes_is in cc
 
-filled_push : {A : Type 0} (xs : List A) (x : A) → xs ++ x ∷ [] ≢ []
+pub filled_push : {A : Type 0} (xs : List A) (x : A) → xs ++ x ∷ [] ≢ []
 filled_push [] x = λ none. absurd (cc)
 filled_push (first ∷ xs) x = λ none. absurd (cc)
 

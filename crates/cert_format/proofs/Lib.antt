@@ -10,3 +10,9 @@ pub mod RoundTripLemmas
 pub mod ReadingLemmas
 pub mod OnceLemmas
 pub mod PassingLemmas
+pub mod StrongWordLemmas
+pub mod StrongFormLemmas
+pub mod StrongFrontLemmas
+pub mod StrongReadingLemmas
+pub mod StrongPrintLemmas
+pub mod StrongOnceLemmas

@@ -46,7 +46,7 @@ not_both weight word k (inr a) fits =
     let same : unsigned_abs a.0 ≡ unsigned_abs fits.0 = ap unsigned_abs (one_integer word a.0 fits.0 a.1 fits.1) in
     omega (arith, a.2, fits.2)
 
-first_departure : (ps : List Place) (ws : List (List ℕ)) (k l : FormatKind) → DepartFirst ps ws k → DepartFirst ps ws l → k ≡ l
+pub first_departure : (ps : List Place) (ws : List (List ℕ)) (k l : FormatKind) → DepartFirst ps ws k → DepartFirst ps ws l → k ≡ l
 first_departure [] ws k l a b = absurd a
 first_departure (place ∷ ps) [] k l a b = absurd a
 first_departure (place ∷ ps) (word ∷ ws) k l (inl a) (inl b) = one_departure place word k l a b
@@ -108,7 +108,7 @@ refused_read front line p kind (Ok t) is excludes departs read = absurd (exclude
 refused_read front line p kind (Err other) is excludes departs read =
     ap (λ (k : FormatKind). Err k) (fault_in p.section (words line) other kind (line_err p.section (words line) other read) departs)
 
-fault_is : (line other : ℕ) (kind : FormatKind) (fault : FormatFault) → fault.line ≡ other + 1 → line ≡ 1 + other → fault.kind ≡ kind → (let f : FormatFault = record { line = line; kind = kind } in f) ≡ fault
+pub fault_is : (line other : ℕ) (kind : FormatKind) (fault : FormatFault) → fault.line ≡ other + 1 → line ≡ 1 + other → fault.kind ≡ kind → (let f : FormatFault = record { line = line; kind = kind } in f) ≡ fault
 fault_is line other kind fault place at same =
     let number : line ≡ fault.line = omega (arith, place, at) in
     ap (λ (n : ℕ). let f : FormatFault = record { line = n; kind = kind } in f) number ∙ ap (λ (k : FormatKind). let f : FormatFault = record { line = fault.line; kind = k } in f) (sym same)

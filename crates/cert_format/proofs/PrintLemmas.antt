@@ -23,11 +23,11 @@ entry_written out first from weight to label =
     (simp (append_assoc, append-nil))
 
 -- the lines of a list, as they are written one after another
-abbrev all_printed : {X : Type 0} → (X → List (List ℕ)) → List X → List ℕ
+abbrev pub all_printed : {X : Type 0} → (X → List (List ℕ)) → List X → List ℕ
 all_printed line xs = flat_map (λ x. printed_line (line x)) xs
 
 -- printed lines after those of a list
-printed_after : {X : Type 0} (line : X → List (List ℕ)) (xs : List X) (others : List (List (List ℕ))) → printed (map line xs ++ others) ≡ all_printed line xs ++ printed others
+pub printed_after : {X : Type 0} (line : X → List (List ℕ)) (xs : List X) (others : List (List (List ℕ))) → printed (map line xs ++ others) ≡ all_printed line xs ++ printed others
 printed_after line xs others =
     flat_map-append printed_line (map line xs) others ∙ ap (λ front. front ++ printed others) (flat_map-map printed_line line xs)
 

@@ -44,13 +44,13 @@ printable_keyword keyword.Edge = record { filled = omega arith; plain = (omega a
 printable_keyword keyword.Upper = record { filled = omega arith; plain = (omega arith, (omega arith, (omega arith, (omega arith, (omega arith, tt))))) }
 printable_keyword keyword.End = record { filled = omega arith; plain = (omega arith, (omega arith, (omega arith, tt))) }
 
-printable_one : IsPrintable (codes "1")
+pub printable_one : IsPrintable (codes "1")
 printable_one = record { filled = omega arith; plain = (omega arith, tt) }
 
 printable_number : (n : ℕ) → n ≤ most_line_number → IsPrintable (decimal n)
 printable_number n within = printable_natural n (omega arith)
 
-printable_weight : (w : ℤ) → unsigned_abs w ≤ most_written_weight → IsPrintable (signed_decimal w)
+pub printable_weight : (w : ℤ) → unsigned_abs w ≤ most_written_weight → IsPrintable (signed_decimal w)
 printable_weight w within = printable_integer w (omega arith)
 
 both : {A : Type 0} (P : A → Type 0) (xs ys : List A) → AllByRecursion P xs → AllByRecursion P ys → AllByRecursion P (xs ++ ys)
@@ -106,7 +106,7 @@ pub written_end : IsWritten end_words
 written_end = record { printable = (printable_keyword keyword.End, tt); filled = refl }
 
 -- lines of one kind, and more after them
-all_more : {A : Type 0} (spell : A → List (List ℕ)) (P : A → Type 0) (xs : List A) (more : List (List (List ℕ))) → ((x : A) → P x → IsWritten (spell x)) → AllByRecursion P xs → AllByRecursion IsWritten more → AllByRecursion IsWritten (map spell xs ++ more)
+pub all_more : {A : Type 0} (spell : A → List (List ℕ)) (P : A → Type 0) (xs : List A) (more : List (List (List ℕ))) → ((x : A) → P x → IsWritten (spell x)) → AllByRecursion P xs → AllByRecursion IsWritten more → AllByRecursion IsWritten (map spell xs ++ more)
 all_more spell P [] more each spelled written = written
 all_more spell P (x ∷ xs) more each spelled written = (each x spelled.0, all_more spell P xs more each spelled.1 written)
 
@@ -118,12 +118,12 @@ all_written (TableProof order entries) spelled =
     let rows = all_more entry_words IsSpelledEntry entries (end_words ∷ []) written_entry (recursion_from_All IsSpelledEntry entries spelled.1) (written_end, tt) in
     (written_header, (written_table, all_more order_words (λ point. IsTrue (is_name point)) order _ written_order (recursion_from_All (λ point. IsTrue (is_name point)) order spelled.0) rows))
 
-all_printable : (text : List (List (List ℕ))) → AllByRecursion IsWritten text → AllByRecursion IsPrintableLine text
+pub all_printable : (text : List (List (List ℕ))) → AllByRecursion IsWritten text → AllByRecursion IsPrintableLine text
 all_printable [] written = tt
 all_printable (line ∷ text) written = (written.0.printable, all_printable text written.1)
 
 -- no line that was written is blank
-filled_joined : (text : List (List (List ℕ))) → AllByRecursion IsWritten text → filled_words (map joined text) ≡ text
+pub filled_joined : (text : List (List (List ℕ))) → AllByRecursion IsWritten text → filled_words (map joined text) ≡ text
 filled_joined [] written = refl
 filled_joined (line ∷ text) written =
     rw (words-joined line written.0.printable, written.0.filled) (ap (λ (others : List (List (List ℕ))). line ∷ others) (filled_joined text written.1))

@@ -32,7 +32,7 @@ use Rattle.cert_format.proofs.WordLemmas.{text_words, text_word, IsSpelledText, 
 number_ok : (word : List ℕ) (n : ℕ) → number_of word ≡ Ok n → (word ≡ decimal n) × (n ≤ most_line_number)
 number_ok word n read = spelled_natural most_line_number n word read (omega arith)
 
-weight_ok : (word : List ℕ) (w : ℤ) → weight_of word ≡ Ok w → (word ≡ signed_decimal w) × (unsigned_abs w ≤ most_written_weight)
+pub weight_ok : (word : List ℕ) (w : ℤ) → weight_of word ≡ Ok w → (word ≡ signed_decimal w) × (unsigned_abs w ≤ most_written_weight)
 weight_ok word w read = spelled_integer most_written_weight w word read (omega arith)
 
 -- what stands after the operands of a rule line, FROM, TO, LABEL where there is one, and W, is the edge of the line

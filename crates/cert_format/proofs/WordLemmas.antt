@@ -64,7 +64,7 @@ IsSpelledText text.End = Unit {0}
 number_read : (n : ℕ) → n ≤ most_line_number → number_of (decimal n) ≡ Ok n
 number_read n within = natural_spelled most_line_number n within (omega arith)
 
-weight_read : (w : ℤ) → unsigned_abs w ≤ most_written_weight → weight_of (signed_decimal w) ≡ Ok w
+pub weight_read : (w : ℤ) → unsigned_abs w ≤ most_written_weight → weight_of (signed_decimal w) ≡ Ok w
 weight_read w within = integer_spelled most_written_weight w within (omega arith)
 
 unlabelled_read : (kind : LineKind) (none : false ≡ has_label kind) (from to : List ℕ) (weight : ℤ) → IsTrue (is_name from) → IsTrue (is_name to) → unsigned_abs weight ≤ most_written_weight → unlabelled kind none from to (signed_decimal weight) ≡ Ok (record { kind = kind; from = from; to = to; label = None; weight = weight; labelled = none })

@@ -6,5 +6,10 @@ pub mod CertificateWords
 pub mod CertificateGrammar
 pub mod CertificateLines
 pub mod CertificateText
+pub mod StrongWords
+pub mod StrongForms
+pub mod StrongGrammar
+pub mod StrongLines
+pub mod StrongReading
 pub mod Laws
 pub mod JudgementForms

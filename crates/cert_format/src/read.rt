@@ -320,7 +320,7 @@ fn number(word: &[u8]) -> Result<u64, FormatKind>
 }
 
 /// The weight of an edge.
-fn weight_of(word: &[u8]) -> Result<Weight, FormatKind>
+pub(crate) fn weight_of(word: &[u8]) -> Result<Weight, FormatKind>
     ensures { result ≡ weight_of word.now }
 {
     text::integer(word, MOST_WRITTEN_WEIGHT)

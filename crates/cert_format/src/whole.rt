@@ -52,7 +52,7 @@ fn read_lines(alloc: Global, bytes: &[u8]) -> Result<Certificate, TextFault>
 }
 
 /// The fault of a text at a line.
-fn at_line(number: u32, fault: WordFault) -> TextFault
+pub(crate) fn at_line(number: u32, fault: WordFault) -> TextFault
     ensures { result ≡ at_line number fault }
 {
     match fault {

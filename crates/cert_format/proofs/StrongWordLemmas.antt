@@ -1,0 +1,229 @@
+-- The line of a strong certificate that spells a text is read as that text, and what is read of a line is what it spells.
+use Rattle.std.proofs.Common.{◌≡◌, ◌⊎◌, ℕ, Bool, true, false, List, [], ◌∷◌, Option, None, Some, Result, Ok, Err, refl, sym, ap, ◌∙◌, subst, inl, inr, codes, IsTrue, find}
+use Rattle.std.specs.Str.{bytes_eq}
+use Rattle.std.specs.Fmt.{signed_decimal}
+use Rattle.net_model.specs.Names.{is_name}
+use Rattle.net_model.specs.Numbers.{name_of}
+use Rattle.texts.specs.Words.{is_remark, are_passed_over}
+use Rattle.net_model.specs.declared.format.FormatKind.{FormatKind}
+use Rattle.net_model.specs.declared.format.FormatKind.TheVariants.{UnknownWord}
+use Rattle.net_model.proofs.ReadingLemmas.{choice, bind_ok, name_ok, name_read, word_is}
+use Rattle.cert_format.specs.CertificateLines.{weight_of}
+use Rattle.cert_format.specs.CertificateWords.{end_words}
+use Rattle.cert_format.specs.StrongForms.{spelled, first_words, word_of}
+use Rattle.cert_format.specs.StrongWords.{header_words, by_words, ring_words, IsSpelledBy}
+use Rattle.cert_format.specs.StrongGrammar.{admits}
+use Rattle.cert_format.specs.StrongLines.{header_line, by_words_of, by_line, by_text, ring_line, end_line, line_of, admitted, refused_in, line_in}
+use Rattle.cert_format.specs.declared.strong_word.StrongWord.{StrongWord}
+use Rattle.cert_format.specs.declared.strong_word.StrongWord.TheVariants as word
+use Rattle.cert_format.specs.declared.strong_section.StrongSection.{StrongSection}
+use Rattle.cert_format.specs.declared.strong_section.StrongSection.TheVariants as section
+use Rattle.cert_format.specs.declared.strong_cert.StrongLine.{StrongLine}
+use Rattle.cert_format.specs.declared.strong_read.StrongText.{StrongText}
+use Rattle.cert_format.specs.declared.strong_read.StrongText.TheVariants as text
+use Rattle.cert_format.proofs.WordLemmas.{weight_read}
+use Rattle.cert_format.proofs.SaidLemmas.{weight_ok}
+
+-- the words of a line, by what it says
+abbrev pub text_words : StrongText → List (List ℕ)
+text_words text.Blank = []
+text_words text.Header = header_words
+text_words (text.By line) = by_words line
+text_words (text.Ring point) = ring_words point
+text_words text.End = end_words
+
+-- its first word
+abbrev pub text_word : StrongText → StrongWord
+text_word text.Blank = word.End
+text_word text.Header = word.Strong
+text_word (text.By line) = word.By
+text_word (text.Ring point) = word.Ring
+text_word text.End = word.End
+
+-- what stands after it
+abbrev text_tail : StrongText → List (List ℕ)
+text_tail text.Blank = []
+text_tail text.Header = codes "1" ∷ []
+text_tail (text.By line) = line.bound ∷ line.from ∷ line.to ∷ signed_decimal line.weight ∷ []
+text_tail (text.Ring point) = point ∷ []
+text_tail text.End = []
+
+-- what it says can be spelled
+abbrev pub IsSpelledText : StrongText → Type 0
+IsSpelledText text.Blank = ⊥
+IsSpelledText text.Header = Unit {0}
+IsSpelledText (text.By line) = IsSpelledBy line
+IsSpelledText (text.Ring point) = IsTrue (is_name point)
+IsSpelledText text.End = Unit {0}
+
+pub word_spelled : (w : StrongWord) → word_of (spelled w) ≡ Some w
+word_spelled word.Strong = refl
+word_spelled word.By = refl
+word_spelled word.Ring = refl
+word_spelled word.End = refl
+
+pub no_remark : (w : StrongWord) (others : List (List ℕ)) → are_passed_over (spelled w ∷ others) ≡ false
+no_remark word.Strong others = refl
+no_remark word.By others = refl
+no_remark word.Ring others = refl
+no_remark word.End others = refl
+
+words_of_text : (said : StrongText) → IsSpelledText said → text_words said ≡ spelled (text_word said) ∷ text_tail said
+words_of_text text.Blank spelling = absurd spelling
+words_of_text text.Header spelling = refl
+words_of_text (text.By line) spelling = refl
+words_of_text (text.Ring point) spelling = refl
+words_of_text text.End spelling = refl
+
+tail_read : (said : StrongText) → IsSpelledText said → line_of (text_word said) (text_tail said) ≡ Ok said
+tail_read text.Blank spelling = absurd spelling
+tail_read text.Header spelling = refl
+tail_read (text.By line) spelling =
+    rw (name_read line.bound spelling.bound, name_read line.from spelling.from, name_read line.to spelling.to, weight_read line.weight spelling.weight) refl
+tail_read (text.Ring point) spelling = rw (name_read point spelling) refl
+tail_read text.End spelling = refl
+
+-- a line that begins with a word that may come is read
+admitted_read : (s : StrongSection) (w : StrongWord) (others : List (List ℕ)) (said : StrongText) → admits s w ≡ true → line_of w others ≡ Ok said → line_in s (spelled w ∷ others) ≡ Ok said
+unfolding line_in
+admitted_read s w others said may read = rw (no_remark w others, word_spelled w, may, read) refl
+
+-- the line that spells a text is read as that text
+pub text_read : (s : StrongSection) (said : StrongText) → admits s (text_word said) ≡ true → IsSpelledText said → line_in s (text_words said) ≡ Ok said
+text_read s said may spelling =
+    ap (line_in s) (words_of_text said spelling) ∙ admitted_read s (text_word said) (text_tail said) said may (tail_read said spelling)
+
+pub blank_read : (s : StrongSection) (words : List (List ℕ)) → are_passed_over words ≡ true → line_in s words ≡ Ok text.Blank
+unfolding line_in
+blank_read s [] blank = refl
+blank_read s (first ∷ others) blank = rw blank refl
+
+-- a first word and what stands after it are the words of what is read
+record IsSaid (first : StrongWord) (others : List (List ℕ)) (said : StrongText) : Type 0 where
+  words : spelled first ∷ others ≡ text_words said
+  spelling : IsSpelledText said
+  first_word : text_word said ≡ first
+
+header_is : (others : List (List ℕ)) (said : StrongText) → header_line others ≡ Ok said → IsSaid word.Strong others said
+header_is [] said read = absurd cc
+header_is (version ∷ []) said read =
+    elim (choice (bytes_eq version (codes "1")) (Ok text.Header) (Err UnknownWord) (Ok said) read) [
+      | inl one ↦
+          let same : text.Header ≡ said = let both : Ok text.Header ≡ Ok said = one.1 in cc in
+          subst (λ (t : StrongText). IsSaid word.Strong (version ∷ []) t) same (record { words = ap (λ (w : List ℕ). codes "strong" ∷ w ∷ []) (word_is version (codes "1") one.0); spelling = tt; first_word = refl })
+      | inr other ↦ absurd (let wrong : Err UnknownWord ≡ Ok said = other.1 in cc)
+    ]
+header_is (version ∷ next ∷ others) said read = absurd cc
+
+four : (a b c d x y z w : List ℕ) → a ≡ x → b ≡ y → c ≡ z → d ≡ w → codes "by" ∷ a ∷ b ∷ c ∷ d ∷ [] ≡ codes "by" ∷ x ∷ y ∷ z ∷ w ∷ []
+four a b c d x y z w p q r s = cc
+
+-- a line of a bound is what its words spell
+by_words_are : (bound from to weight : List ℕ) (line : StrongLine) → by_words_of bound from to weight ≡ Ok line → (codes "by" ∷ bound ∷ from ∷ to ∷ weight ∷ [] ≡ by_words line) × IsSpelledBy line
+by_words_are bound from to weight line read =
+    let first = bind_ok (name_of bound) _ line read in
+    let second = bind_ok (name_of from) _ line first.2 in
+    let third = bind_ok (name_of to) _ line second.2 in
+    let last = bind_ok (weight_of weight) _ line third.2 in
+    let b = name_ok bound first.0 first.1 in
+    let x = name_ok from second.0 second.1 in
+    let y = name_ok to third.0 third.1 in
+    let w = weight_ok weight last.0 last.1 in
+    let made : StrongLine = record { bound = first.0; from = second.0; to = third.0; weight = last.0 } in
+    let same : made ≡ line = cc in
+    let its : (codes "by" ∷ bound ∷ from ∷ to ∷ weight ∷ [] ≡ by_words made) × IsSpelledBy made = (four bound from to weight _ _ _ _ b.0 x.0 y.0 w.0, record { bound = b.1; from = x.1; to = y.1; weight = w.1 }) in
+    subst (λ (l : StrongLine). (codes "by" ∷ bound ∷ from ∷ to ∷ weight ∷ [] ≡ by_words l) × IsSpelledBy l) same its
+
+by_is : (others : List (List ℕ)) (line : StrongLine) → by_line others ≡ Ok line → (codes "by" ∷ others ≡ by_words line) × IsSpelledBy line
+by_is [] line read = absurd cc
+by_is (a ∷ []) line read = absurd cc
+by_is (a ∷ b ∷ []) line read = absurd cc
+by_is (a ∷ b ∷ c ∷ []) line read = absurd cc
+by_is (a ∷ b ∷ c ∷ d ∷ []) line read = by_words_are a b c d line read
+by_is (a ∷ b ∷ c ∷ d ∷ e ∷ others) line read = absurd cc
+
+by_said : (others : List (List ℕ)) (read : Result StrongLine FormatKind) (said : StrongText) → ((line : StrongLine) → read ≡ Ok line → (codes "by" ∷ others ≡ by_words line) × IsSpelledBy line) → by_text read ≡ Ok said → IsSaid word.By others said
+by_said others (Ok line) said is read =
+    let same : text.By line ≡ said = cc in
+    let its = is line refl in
+    subst (λ (t : StrongText). IsSaid word.By others t) same (record { words = its.0; spelling = its.1; first_word = refl })
+by_said others (Err kind) said is read = absurd cc
+
+ring_is : (others : List (List ℕ)) (said : StrongText) → ring_line others ≡ Ok said → IsSaid word.Ring others said
+ring_is [] said read = absurd cc
+ring_is (a ∷ []) said read =
+    let first = bind_ok (name_of a) _ said read in
+    let is = name_ok a first.0 first.1 in
+    let same : text.Ring first.0 ≡ said = cc in
+    subst (λ (t : StrongText). IsSaid word.Ring (a ∷ []) t) same (record { words = ap (λ (w : List ℕ). codes "ring" ∷ w ∷ []) is.0; spelling = is.1; first_word = refl })
+ring_is (a ∷ b ∷ others) said read = absurd cc
+
+end_is : (others : List (List ℕ)) (said : StrongText) → end_line others ≡ Ok said → IsSaid word.End others said
+end_is [] said read =
+    let same : text.End ≡ said = cc in
+    subst (λ (t : StrongText). IsSaid word.End [] t) same (record { words = refl; spelling = tt; first_word = refl })
+end_is (a ∷ others) said read = absurd cc
+
+line_of_is : (first : StrongWord) (others : List (List ℕ)) (said : StrongText) → line_of first others ≡ Ok said → IsSaid first others said
+line_of_is word.Strong others said read = header_is others said read
+line_of_is word.By others said read = by_said others (by_line others) said (by_is others) read
+line_of_is word.Ring others said read = ring_is others said read
+line_of_is word.End others said read = end_is others said read
+
+find_passes : (test : StrongWord → Bool) (ws : List StrongWord) (w : StrongWord) → find test ws ≡ Some w → test w ≡ true
+find_passes test [] w found = absurd cc
+find_passes test (x ∷ ws) w found =
+    elim (choice (test x) (Some x) (find test ws) (Some w) found) [
+      | inl here ↦ let same : x ≡ w = let both : Some x ≡ Some w = here.1 in cc in subst (λ (y : StrongWord). test y ≡ true) same here.0
+      | inr after ↦ find_passes test ws w after.1
+    ]
+
+pub word_read : (first : List ℕ) (w : StrongWord) → word_of first ≡ Some w → first ≡ spelled w
+word_read first w found = word_is first (spelled w) (find_passes (λ x. bytes_eq first (spelled x)) first_words w found)
+
+refused_ok : (s : StrongSection) (read : Result StrongText FormatKind) (said : StrongText) → refused_in s read ≡ Ok said → read ≡ Ok said
+refused_ok section.Header (Ok t) said read = read
+refused_ok section.Lines (Ok t) said read = read
+refused_ok section.By (Ok t) said read = read
+refused_ok section.Ring (Ok t) said read = read
+refused_ok section.Header (Err kind) said read = absurd cc
+refused_ok section.Lines (Err kind) said read = absurd cc
+refused_ok section.By (Err kind) said read = absurd cc
+refused_ok section.Ring (Err kind) said read = absurd cc
+
+admitted_ok : (s : StrongSection) (first : Option StrongWord) (others : List (List ℕ)) (said : StrongText) → admitted s first others ≡ Ok said → (w : StrongWord) × (first ≡ Some w) × (admits s w ≡ true) × (line_of w others ≡ Ok said)
+admitted_ok s None others said read = absurd cc
+admitted_ok s (Some w) others said read =
+    elim (choice (admits s w) (line_of w others) (Err UnknownWord) (Ok said) read) [
+      | inl may ↦ (w, refl, may.0, may.1)
+      | inr other ↦ absurd (let wrong : Err UnknownWord ≡ Ok said = other.1 in cc)
+    ]
+
+-- a line that spells a text that may come
+pub record IsPlaced (s : StrongSection) (line : List (List ℕ)) (said : StrongText) : Type 0 where
+  pub filled : are_passed_over line ≡ false
+  pub words : line ≡ text_words said
+  pub spelling : IsSpelledText said
+  pub may : admits s (text_word said) ≡ true
+
+placed : (s : StrongSection) (first : List ℕ) (w : StrongWord) (others : List (List ℕ)) (said : StrongText) → first ≡ spelled w → admits s w ≡ true → IsSaid w others said → IsPlaced s (first ∷ others) said
+placed s first w others said same may is =
+    let words : first ∷ others ≡ spelled w ∷ others = ap (λ (x : List ℕ). x ∷ others) same in
+    record {
+      filled = ap are_passed_over words ∙ no_remark w others;
+      words = words ∙ is.words;
+      spelling = is.spelling;
+      may = ap (admits s) is.first_word ∙ may;
+    }
+
+-- what is read of a line in its section: it is blank, or it spells what is read
+pub line_is : (s : StrongSection) (line : List (List ℕ)) (said : StrongText) → line_in s line ≡ Ok said → ((said ≡ text.Blank) × (are_passed_over line ≡ true)) ⊎ IsPlaced s line said
+unfolding line_in
+line_is s [] said read = let same : said ≡ text.Blank = cc in inl (same, refl)
+line_is s (first ∷ others) said read =
+    elim (choice (is_remark first) (Ok text.Blank) (refused_in s (admitted s (word_of first) others)) (Ok said) read) [
+      | inl remark ↦ let same : said ≡ text.Blank = (let both : Ok text.Blank ≡ Ok said = remark.1 in cc) in inl (same, remark.0)
+      | inr other ↦
+          let found = admitted_ok s (word_of first) others said (refused_ok s (admitted s (word_of first) others) said other.1) in
+          inr (placed s first found.0 others said (word_read first found.0 found.1) found.2 (line_of_is found.0 others said found.3))
+    ]

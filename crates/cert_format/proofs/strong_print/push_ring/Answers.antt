@@ -1,0 +1,15 @@
+use Rattle.std.proofs.Common.{rules, List, ℕ, IsTrue}
+use Rattle.std.proofs.lemmas.List.Elements.{All-more}
+use Rattle.net_model.specs.Names.{is_name}
+use Rattle.texts.specs.Printing.{printed_line}
+use Rattle.cert_format.specs.StrongWords.{ring_words}
+use Rattle.cert_format.proofs.PrintLemmas.{written_more}
+use Rattle.cert_format.proofs.strong_print.push_ring.Goals as goal
+
+pub loop-point-preserved : goal.loop-point-preserved
+loop-point-preserved c =
+    let print : List ℕ → List ℕ = λ point. printed_line (ring_words point) in
+    record {
+      text = rw (c.in_ok-push_line.ensures, c.bytes.ensures.text, c.loop-point.invariant.text) (written_more print c.args.out.now.items c.args.ring.now c.loop-point.point-index c.point-item.result c.loop-point-test.true (search rules));
+      spelled = All-more (λ point. IsTrue (is_name point)) c.args.ring.now c.loop-point.point-index c.point-item.result c.loop-point-test.true c.loop-point.invariant.spelled (search rules);
+    }

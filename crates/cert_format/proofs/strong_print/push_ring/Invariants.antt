@@ -1,0 +1,12 @@
+use Rattle.std.proofs.Common.{◌≡◌, ◌++◌, take, All, IsTrue}
+use Rattle.std.specs.List.{flat_map}
+use Rattle.texts.specs.Printing.{printed_line}
+use Rattle.net_model.specs.Names.{is_name}
+use Rattle.cert_format.specs.StrongWords.{ring_words}
+use Rattle.cert_format.proofs.strong_print.push_ring.Given as goal
+
+abbrev pub invariant-loop-point : goal.invariant-loop-point
+invariant-loop-point l = record {
+  text : l.out.items ≡ l.fn.out.items ++ flat_map (λ point. printed_line (ring_words point)) (take l.point-index l.ring);
+  spelled : All (λ point. IsTrue (is_name point)) (take l.point-index l.ring);
+}

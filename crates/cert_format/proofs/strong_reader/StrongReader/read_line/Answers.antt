@@ -1,0 +1,6 @@
+use Rattle.cert_format.proofs.StrongReadingLemmas.{answer_brings}
+use Rattle.cert_format.proofs.strong_reader.StrongReader.read_line.Goals as goal
+
+pub returns-clause-brings : goal.returns-clause-brings
+returns-clause-brings c = λ front is.
+    answer_brings front c.args.line.now _ _ c.take_line.result c.take_line.ensures.said c.take_line.ensures.kept is

@@ -1,0 +1,133 @@
+//! One line of a strong certificate.
+
+ghost use Rattle.std.specs.Prelude.{◌≡◌};
+ghost use Rattle.texts.specs.Words.{words};
+ghost use Rattle.cert_format.specs.StrongLines.{by_line, by_words_of, ring_line, header_line, end_line, line_of, admitted, refused_in, line_in};
+
+use crate::read::weight_of;
+use crate::strong_cert::StrongLine;
+use crate::strong_section::StrongSection;
+use crate::strong_word::StrongWord;
+use net_model::{FormatKind, Name, text};
+
+/// A line of a strong certificate.
+#[derive(Clone, Copy, Debug, PartialEq, Eq)]
+pub enum StrongText {
+    /// A line without words, or whose first word begins with `#`.
+    Blank,
+    /// The header `strong 1`.
+    Header,
+    /// A line of a bound.
+    By(StrongLine),
+    /// A point of a ring.
+    Ring(Name),
+    /// The last line, `end`.
+    End,
+}
+
+/// Reads a line in a section by its words.
+#[tactic(auto, unfolding(crate::specs::StrongLines::line_in))]
+pub(crate) fn line_in(section: StrongSection, line: &[u8]) -> Result<StrongText, FormatKind>
+    ensures { result ≡ line_in section (words line.now) }
+{
+    let Some((first, rest)) = texts::first_word(line) else {
+        return Ok(StrongText::Blank);
+    };
+    refused_in(section, admitted(section, StrongWord::of(first), rest))
+}
+
+/// What stands after the first word of a line in a section.
+fn admitted(
+    section: StrongSection,
+    first: Option<StrongWord>,
+    rest: &[u8],
+) -> Result<StrongText, FormatKind>
+    ensures { result ≡ admitted section first (words rest.now) }
+{
+    match first {
+        Some(first) if section.admits(first) => line_of(first, rest),
+        _ => Err(FormatKind::UnknownWord),
+    }
+}
+
+/// Where the header must come, a line that is not the header is `NoHeader`.
+fn refused_in(
+    section: StrongSection,
+    read: Result<StrongText, FormatKind>,
+) -> Result<StrongText, FormatKind>
+    ensures { result ≡ refused_in section read }
+{
+    match (section, read) {
+        (StrongSection::Header, Err(_)) => Err(FormatKind::NoHeader),
+        (_, read) => read,
+    }
+}
+
+/// What stands after the first word of a line.
+fn line_of(first: StrongWord, rest: &[u8]) -> Result<StrongText, FormatKind>
+    ensures { result ≡ line_of first (words rest.now) }
+{
+    match first {
+        StrongWord::Strong => header_line(rest),
+        StrongWord::By => Ok(StrongText::By(by_line(rest)?)),
+        StrongWord::Ring => ring_line(rest),
+        StrongWord::End => end_line(rest),
+    }
+}
+
+/// What stands after `strong`.
+fn header_line(rest: &[u8]) -> Result<StrongText, FormatKind>
+    ensures { result ≡ header_line (words rest.now) }
+{
+    let Some((version, rest)) = texts::next_word(rest) else {
+        return Err(FormatKind::UnknownWord);
+    };
+    if texts::next_word(rest).is_some() {
+        return Err(FormatKind::UnknownWord);
+    }
+    if version == b"1".as_slice() {
+        return Ok(StrongText::Header);
+    }
+    Err(FormatKind::UnknownWord)
+}
+
+/// What stands after `by`.
+fn by_line(rest: &[u8]) -> Result<StrongLine, FormatKind>
+    ensures { result ≡ by_line (words rest.now) }
+{
+    let (bound, rest) = text::word(rest)?;
+    let (from, rest) = text::word(rest)?;
+    let (to, rest) = text::word(rest)?;
+    let (weight, rest) = text::word(rest)?;
+    text::no_more(rest)?;
+    by_words(bound, from, to, weight)
+}
+
+/// A bound, the ends of an edge and its weight.
+fn by_words(bound: &[u8], from: &[u8], to: &[u8], weight: &[u8]) -> Result<StrongLine, FormatKind>
+    ensures { result ≡ by_words_of bound.now from.now to.now weight.now }
+{
+    Ok(StrongLine {
+        bound: text::name(bound)?,
+        from: text::name(from)?,
+        to: text::name(to)?,
+        weight: weight_of(weight)?,
+    })
+}
+
+/// What stands after `ring`.
+fn ring_line(rest: &[u8]) -> Result<StrongText, FormatKind>
+    ensures { result ≡ ring_line (words rest.now) }
+{
+    let (point, rest) = text::word(rest)?;
+    text::no_more(rest)?;
+    Ok(StrongText::Ring(text::name(point)?))
+}
+
+/// What stands after `end`.
+fn end_line(rest: &[u8]) -> Result<StrongText, FormatKind>
+    ensures { result ≡ end_line (words rest.now) }
+{
+    text::no_more(rest)?;
+    Ok(StrongText::End)
+}

@@ -1,0 +1,114 @@
+//! The lines of a strong certificate, one after another.
+
+use crate::strong_cert::{StrongCert, StrongLine};
+use crate::strong_read::{StrongText, line_in};
+use crate::strong_section::StrongSection;
+use net_model::{FormatKind, Items, Name, WordFault};
+use std::alloc::{AllocError, Global};
+use std::marker::Model;
+
+/// A strong certificate of which lines are read one after another. Contracts see it as what was read: the section that is
+/// reached, the lines of bounds and the points of a ring.
+#[derive(Debug, Drop)]
+pub struct StrongReader {
+    section: StrongSection,
+    by: Vec<StrongLine>,
+    ring: Vec<Name>,
+}
+
+impl Model for StrongReader {
+    ghost use Rattle.cert_format.specs.StrongGrammar.{StrongProgress};
+
+    ghost Value = { StrongProgress };
+
+    ghost view = { λ r. record { section = r.section; by = r.by.items; ring = r.ring.items } };
+}
+
+impl StrongReader {
+    ghost use Rattle.std.specs.Prelude.{◌≡◌, ℕ, List, [], IfOk, OnOk, OnErr};
+    ghost use Rattle.texts.specs.Words.{words};
+    ghost use Rattle.cert_format.specs.StrongGrammar.{IsFirstStrongFault, IsStrongFront, begun, strong_of, missing};
+    ghost use Rattle.cert_format.specs.StrongLines.{line_in};
+    ghost use Rattle.cert_format.specs.CertificateText.{fault_after};
+    ghost use Rattle.cert_format.specs.StrongReading.{StrongBrings, SaysStrongLine, advanced};
+
+    /// Before the first line.
+    pub fn new(alloc: Global) -> StrongReader
+        ensures begun { result ≡ begun }
+        ensures front { IsStrongFront [] result }
+    {
+        StrongReader {
+            section: StrongSection::Header,
+            by: Vec::new(alloc),
+            ring: Vec::new(alloc),
+        }
+    }
+
+    /// The section that is reached.
+    pub fn section(&self) -> StrongSection
+        ensures { result ≡ self.now.section }
+    {
+        self.section
+    }
+
+    /// Reads the next line in its place and keeps what it says. After the front of a certificate the lines are a longer
+    /// front, or at `End` they declare the certificate, or the line has their first fault. A line that is refused changes
+    /// nothing, and want of memory neither. The caller reads nothing more after `End`.
+    pub fn read_line(&mut self, line: &[u8]) -> Result<StrongText, WordFault>
+        ensures brings { (front : List (List ℕ)) → IsStrongFront front self.old → StrongBrings front line.now result self.new }
+        ensures said { SaysStrongLine result (line_in self.old.section (words line.now)) }
+        ensures kept { IfOk result (λ said. self.new ≡ advanced self.old said) }
+        ensures refused { OnErr result (self.new ≡ self.old) }
+    {
+        self.take_line(line)
+    }
+
+    /// Reads the next line in its place and keeps what it says.
+    fn take_line(&mut self, line: &[u8]) -> Result<StrongText, WordFault>
+        ensures said { SaysStrongLine result (line_in self.old.section (words line.now)) }
+        ensures kept { IfOk result (λ said. self.new ≡ advanced self.old said) }
+        ensures refused { OnErr result (self.new ≡ self.old) }
+    {
+        let said = line_in(self.section, line)?;
+        self.keep(&said)?;
+        Ok(said)
+    }
+
+    /// The fault where the lines end here: `NoHeader` before the header, else `NoEnd`, in the line after them.
+    pub fn missing(&self) -> FormatKind
+        ensures missing { result ≡ missing self.now.section }
+        ensures fault { (front : List (List ℕ)) → IsStrongFront front self.now → IsFirstStrongFault front (fault_after front result) }
+    {
+        self.section().missing()
+    }
+
+    /// Keeps what a line says.
+    fn keep(&mut self, said: &StrongText) -> Result<(), AllocError>
+        ensures kept { OnOk result (self.new ≡ advanced self.old said.now) }
+        ensures refused { OnErr result (self.new ≡ self.old) }
+    {
+        match said {
+            StrongText::Blank | StrongText::End => {}
+            StrongText::Header => self.section = StrongSection::Lines,
+            StrongText::By(line) => {
+                self.by.push(*line)?;
+                self.section = StrongSection::By;
+            }
+            StrongText::Ring(point) => {
+                self.ring.push(*point)?;
+                self.section = StrongSection::Ring;
+            }
+        }
+        Ok(())
+    }
+
+    /// The certificate of all lines that were read.
+    pub fn into_certificate(self) -> StrongCert
+        ensures { result ≡ strong_of self }
+    {
+        StrongCert {
+            by: Items::new(self.by),
+            ring: Items::new(self.ring),
+        }
+    }
+}

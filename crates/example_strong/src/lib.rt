@@ -1,0 +1,11 @@
+//! Strong schedules, certificates that there is none, and their judgement: examples, tried as tests.
+#![tactic(auto)]
+
+#[cfg(test)]
+mod certificates;
+#[cfg(test)]
+mod judgements;
+#[cfg(test)]
+mod plans;
+#[cfg(test)]
+mod schedules;

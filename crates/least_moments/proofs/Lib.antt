@@ -1,0 +1,5 @@
+pub mod RoundLemmas
+pub mod HistoryLemmas
+pub mod TraceLemmas
+pub mod LeastLemmas
+pub mod TurnLemmas

@@ -1,0 +1,52 @@
+ghost use Rattle.std.specs.Prelude.{◌≡◌, ◌≤◌, ◌<◌, ℕ, length, unsigned_abs, is_some, IfOk};
+ghost use Rattle.std.specs.List.{All, position};
+ghost use Rattle.least_moments.specs.History.{AreWithin};
+ghost use Rattle.least_moments.specs.Least.{FindsLeast};
+
+use crate::rounds::raise;
+use crate::trace::trace;
+use crate::turn::from_lowest;
+use net_model::{Edge, Items, PointId};
+use std::alloc::{AllocError, Global};
+
+/// What is found of edges.
+#[derive(Debug, Drop)]
+pub enum Found {
+    /// The least moments that keep them, one for each point.
+    Moments(Items<u64>),
+    /// The places of edges that are a closed walk of negative total, in which no point comes twice, from its point of least
+    /// number on.
+    Loop(Items<usize>),
+}
+
+/// The least moments that keep edges between so many points (`to - from <= weight` for each), or a loop of edges of negative
+/// total exactly where no moments keep them. `AllocError` comes only for want of memory.
+pub fn least_moments(alloc: Global, points: usize, edges: &[Edge]) -> Result<Found, AllocError>
+    requires few { points ≤ 2000 }
+    requires within { AreWithin points edges.now }
+    requires sizes { All (λ edge. unsigned_abs edge.weight ≤ 5000000000000) edges.now }
+    ensures { IfOk result (FindsLeast points edges.now) }
+{
+    let mut now = vec![in alloc; 0; points]?;
+    let mut levels = Vec::new(alloc);
+    for _ in 0..points + 1 {
+        let made = raise(alloc, edges, now.as_slice())?;
+        if first_raised(made.raised.as_slice()).is_none() {
+            return Ok(Found::Moments(Items::new(now)));
+        }
+        now = made.after;
+        levels.push(Items::new(made.raised))?;
+    }
+    let levels = levels.as_slice();
+    let start = first_raised(levels[points].as_slice()).unwrap();
+    let walk = trace(alloc, edges, points, levels, PointId(start as u32))?;
+    let turned = from_lowest(alloc, edges, walk.as_slice())?;
+    Ok(Found::Loop(Items::new(turned)))
+}
+
+/// The first point that was raised.
+fn first_raised(raised: &[Option<usize>]) -> Option<usize>
+    ensures { result ≡ position (λ by. is_some by) raised.now }
+{
+    raised.iter().position(|by| by.is_some())
+}

@@ -1,0 +1,9 @@
+//! The command `strong`: one schedule of the executable points for every situation, or a certificate that there is none.
+#![tactic(auto)]
+
+mod asking;
+mod laws;
+mod times;
+
+pub use asking::AskStrong;
+pub use laws::strong_is_read_exactly;

@@ -1,0 +1,16 @@
+pub mod ChainLemmas
+pub mod SumLemmas
+pub mod StrongLemmas
+pub mod ReducingLemmas
+pub mod WayLemmas
+pub mod ClimbLemmas
+pub mod ExcludeLemmas
+pub mod JudgeLemmas
+pub mod HeightLemmas
+pub mod EdgesLemmas
+pub mod SizeLemmas
+pub mod NameLemmas
+pub mod RingLemmas
+pub mod BoundLinesLemmas
+pub mod CertificateLemmas
+pub mod DelayLemmas

@@ -1,0 +1,6 @@
+pub mod Strong
+pub mod Chains
+pub mod Reducing
+pub mod Judgement
+pub mod Answers
+pub mod Laws
