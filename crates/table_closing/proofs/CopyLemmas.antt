@@ -1,5 +1,5 @@
 -- Tables that are lowered to the edges of one another.
-use Rattle.std.proofs.Common.{◌≡◌, ℕ, ◌+◌, ◌<◌, ◌≤◌, ℤ, ◌==◌, ◌⊎◌, List, [], ◌∷◌, length, take, get_or, Option, Some, None, IfSome, refl, ap, sym, subst, ◌∙◌, inl, inr, arith}
+use Rattle.std.proofs.Common.{◌≡◌, ℕ, ◌+◌, ◌<◌, ◌≤◌, ℤ, ◌==◌, ◌⊎◌, List, [], ◌∷◌, length, take, get_or, Bool, true, false, Option, Some, None, IfSome, refl, ap, sym, subst, ◌∙◌, inl, inr, arith}
 use Rattle.std.specs.Prelude.{MatchOption, slice_get}
 use Rattle.std.specs.List.{All, Contains}
 use Rattle.std.proofs.lemmas.Bool.Decides.{nat_tests}
@@ -14,14 +14,14 @@ use Rattle.net_model.specs.declared.part.Link.{Link}
 use Rattle.closure_model.specs.Closure.{IsClosure, HoldsDerivable}
 use Rattle.closure_model.specs.Derivable.{IsDerivable, IsDerivableFor, IsLeastDerivable}
 use Rattle.closure_model.specs.Keys.{Key, shape_of, key_of}
-use Rattle.closure_model.specs.Tables.{Graph, weight_of, HasEdge, HasAtMost, IsAtMost, base_edges, edges_of, row_of, no_edges, lowered}
+use Rattle.closure_model.specs.Tables.{Graph, weight_of, HasEdge, HasAtMost, IsAtMost, base_edges, edges_of, row_of, no_edges, lowered, has_at_most}
 use Rattle.closure_model.proofs.BaseLemmas.{all_contained}
 use Rattle.closure_model.proofs.LawProofs.{rules_keep_derivable, closed_and_derivable_is_closure}
 use Rattle.closure_model.proofs.Lists.{Contains-cases, Contains-none, Contains-filter, Contains-filter_from}
-use Rattle.closure_model.proofs.TableLemmas.{listed_edge, edge_listed, no_edges-has_none, lowered-at_most, lowered-cases, lowered-shape, lowered-has, at_most_below, at_most_from, IsAtMost-itself, IsAtMost-trans}
+use Rattle.closure_model.proofs.TableLemmas.{listed_edge, edge_listed, no_edges-has_none, lowered-at_most, lowered-cases, lowered-shape, lowered-has, at_most_below, at_most_from, at_most_test, at_most_tested, has_at_most_itself, IsAtMost-itself, IsAtMost-trans}
 use Rattle.table_closing.proofs.GivingLemmas.{held_one, label_known, labelled_end}
-use Rattle.table_closing.proofs.WayLemmas.{derivable_is}
-use Rattle.table_closing.specs.Closing.{IsOnWay, IsOfDerivable, IsLoweredTo, IsEdgeInto, IsHeld}
+use Rattle.table_closing.proofs.WayLemmas.{closed_way_is_closure, derivable_is}
+use Rattle.table_closing.specs.Closing.{IsOnWay, IsOfDerivable, IsDenseOf, IsLoweredTo, IsEdgeInto, IsHeld, TestsTo}
 
 -- ---- a table that was lowered
 pub lowered_none : (net : Plan) (table : Graph) (among : Edge → Type 0) → IsOfDerivable net table → ((edge : Edge) → among edge → ⊥) → IsLoweredTo net among table table
@@ -164,6 +164,29 @@ lowered_itself net old new among all lower each = record { of_derivable = lower.
 pub way_below : (net : Plan) (table dense : Graph) (end : ℕ) → IsOnWay net table → length net.points ≤ end → IsLoweredTo net (IsBelow table end) (no_edges (shape_of net)) dense → IsOnWay net dense
 way_below net table dense end way done lower = way_by net dense table way lower.of_derivable (λ edge has. lower.has edge (has, let ends = (derivable_is net way.plan edge (way.derivable edge has)).to_point in omega (arith, ends, done)))
 
+-- ---- a table that has each edge of another stays so where the other is lowered to edges that it meets
+pub bounded_none : (net : Plan) (low table : Graph) → table ≡ no_edges (shape_of net) → IsAtMost low table
+bounded_none net low table is edge has = absurd (no_edges-has_none (shape_of net) edge (subst (λ (g : Graph). HasEdge g edge) is has))
+
+pub bounded_one : (low old new : Graph) (edge : Edge) → IsAtMost low old → HasAtMost low edge → new ≡ lowered old edge → IsAtMost low new
+bounded_one low old new edge under met is = subst (IsAtMost low) (sym is) (λ other has. by other (lowered-cases old edge other has))
+  where
+    by : (other : Edge) → (other ≡ edge) ⊎ HasEdge old other → HasAtMost low other
+    by other (inl same) = subst (HasAtMost low) (sym same) met
+    by other (inr has) = under other has
+
+pub row_bounded : (table : Graph) (to : PointId) (row : List Edge) → row ≡ row_of table to → All (HasAtMost table) row
+row_bounded table to row is = subst (All (HasAtMost table)) (sym is)
+    (all_contained (HasAtMost table) (row_of table to) (λ edge inside. has_at_most_itself table edge (listed_edge table edge (Contains-filter_from (λ (e : Edge). e.to.0 == to.0) (edges_of table) edge inside))))
+
+-- the dense table of a table on its way
+pub dense_below : (net : Plan) (table dense : Graph) (end : ℕ) → IsOnWay net table → length net.points ≤ end → IsLoweredTo net (IsBelow table end) (no_edges (shape_of net)) dense → IsAtMost table dense → IsDenseOf net table dense
+dense_below net table dense end way done lower under = record {
+  way = way_below net table dense end way done lower;
+  at_most = λ edge has. lower.has edge (has, let ends = (derivable_is net way.plan edge (way.derivable edge has)).to_point in omega (arith, ends, done));
+  no_less = under;
+}
+
 -- ---- a table that was lowered to a closure is the closure
 pub still_on_way : (net : Plan) (among : Edge → Type 0) (old new : Graph) → IsOnWay net old → IsLoweredTo net among old new → IsOnWay net new
 still_on_way net among old new way lower = way_by net new old way lower.of_derivable lower.at_most
@@ -182,3 +205,14 @@ lowered_to_closure net closure old table is lower = closed_and_derivable_is_clos
     closes edge follows =
         at_most_below table closure edge lower.has
         (closure_has net closure is edge (rules_keep_derivable net (edges_of table) edge (all_contained (IsDerivable net) (edges_of table) (λ other inside. lower.of_derivable.derivable other (listed_edge table other inside))) follows))
+
+-- what the dense table comes to, the table does
+pub tested_dense : (net : Plan) (table dense : Graph) (found : Option Edge) → IsOnWay net table → IsDenseOf net table dense → TestsTo net dense found → TestsTo net table found
+tested_dense net table dense None way is closes = λ edge follows.
+    at_most_below table dense edge is.no_less
+    (closure_has net dense (closed_way_is_closure net dense is.way closes) edge (rules_keep_derivable net (edges_of table) edge (all_contained (IsDerivable net) (edges_of table) (λ other inside. way.derivable other (listed_edge table other inside))) follows))
+tested_dense net table dense (Some edge) way is unmet = record { derivable = unmet.derivable; missed = by (has_at_most table edge) refl }
+  where
+    by : (b : Bool) → has_at_most table edge ≡ b → has_at_most table edge ≡ false
+    by false is_so = is_so
+    by true met = let there : has_at_most dense edge ≡ true = at_most_test dense edge (at_most_below dense table edge is.at_most (at_most_tested table edge met)) in let missed = unmet.missed in absurd cc

@@ -24,6 +24,12 @@ pub record IsOfDerivable (net : Plan) (table : Graph) : Type 0 where
   pub fits : IsFor net table
   pub derivable : HoldsDerivable net table
 
+-- a dense table is on its way, and each of it and another table has the edges of the other at weights that are no greater
+pub record IsDenseOf (net : Plan) (table dense : Graph) : Type 0 where
+  pub way : IsOnWay net dense
+  pub at_most : IsAtMost dense table
+  pub no_less : IsAtMost table dense
+
 -- a table of derivable edges is another that was lowered to each of some edges
 pub record IsLoweredTo (net : Plan) (among : Edge → Type 0) (old new : Graph) : Type 0 where
   pub of_derivable : IsOfDerivable net new

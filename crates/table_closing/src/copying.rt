@@ -1,8 +1,8 @@
 ghost use Rattle.std.specs.Prelude.{◌≡◌, ◌<◌, length, Some, None, IfOk, IfSome, OnOk, slice_get};
 ghost use Rattle.std.specs.List.{All, Contains};
 ghost use Rattle.closure_model.specs.Derivable.{IsDerivable};
-ghost use Rattle.closure_model.specs.Tables.{HasEdge};
-ghost use Rattle.table_closing.specs.Closing.{IsOnWay, IsOfDerivable, IsLoweredTo, IsEdgeInto};
+ghost use Rattle.closure_model.specs.Tables.{Graph, HasEdge, HasAtMost, IsAtMost};
+ghost use Rattle.table_closing.specs.Closing.{IsOnWay, IsOfDerivable, IsDenseOf, IsLoweredTo, IsEdgeInto};
 
 use crate::dense::DenseTable;
 use crate::giving::{labelled, ordinary};
@@ -17,7 +17,7 @@ pub(crate) fn dense_of(
     table: &Table,
 ) -> Result<DenseTable, AllocError>
     requires { IsOnWay net.now table.now }
-    ensures { IfOk result (IsOnWay net.now) }
+    ensures { IfOk result (IsDenseOf net.now table.now) }
 {
     let mut dense = DenseTable::without_edges(alloc, net)?;
     for to in 0..net.points().len() as u32 {
@@ -31,7 +31,8 @@ pub(crate) fn dense_of(
 fn lower_to_row(dense: &mut DenseTable, net: &Network, row: &[Edge])
     requires dense { IsOfDerivable net.now dense.old }
     requires row { All (IsDerivable net.now) row.now }
-    ensures { IsLoweredTo net.now (Contains row.now) dense.old dense.new }
+    ensures lowered { IsLoweredTo net.now (Contains row.now) dense.old dense.new }
+    ensures bounded { (low : Graph) → IsAtMost low dense.old → All (HasAtMost low) row.now → IsAtMost low dense.new }
 {
     for edge in row {
         dense.lower_to(edge);

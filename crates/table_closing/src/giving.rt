@@ -10,8 +10,8 @@ use crate::dense::DenseTable;
 use net_model::{Edge, LinkId, Network, PointId};
 use reduction_rules::{cross_case, lower_case, no_case, removal, upper_case};
 
-/// An edge without its label, if it has one.
-pub(crate) fn freed(net: &Network, edge: &Edge) -> Option<Edge>
+/// What the removal of its label gives from an edge, if it has one.
+pub fn freed(net: &Network, edge: &Edge) -> Option<Edge>
     requires { IsDerivable net.now edge.now }
     ensures exact { result ≡ removal net.now edge.now }
     ensures derivable { IfSome result (IsDerivable net.now) }
@@ -21,8 +21,8 @@ pub(crate) fn freed(net: &Network, edge: &Edge) -> Option<Edge>
     removal(net, edge)
 }
 
-/// What follows from an edge over the link that ends where it begins.
-pub(crate) fn over_link(net: &Network, edge: &Edge) -> Option<Edge>
+/// What the lower-case or the cross-case rule gives from an edge over the link that ends where it begins, if there is one.
+pub fn over_link(net: &Network, edge: &Edge) -> Option<Edge>
     requires { IsDerivable net.now edge.now }
     ensures { IsOverLinks net.now edge.now result }
 {
@@ -47,8 +47,8 @@ fn over_this_link(net: &Network, link: LinkId, edge: &Edge) -> Option<Edge>
     }
 }
 
-/// What follows from two edges in a row.
-pub(crate) fn after(net: &Network, first: &Edge, edge: &Edge) -> Option<Edge>
+/// What the no-case or the upper-case rule gives from two edges, the first of which ends where the other begins.
+pub fn after(net: &Network, first: &Edge, edge: &Edge) -> Option<Edge>
     requires first { IsDerivable net.now first.now }
     requires edge { IsDerivable net.now edge.now }
     ensures { IsAfter net.now first.now edge.now result }

@@ -9,6 +9,9 @@ mod giving;
 pub mod laws;
 mod lowering;
 mod sharing;
+mod testing;
 mod unmet;
 
 pub use closing::{Closed, close};
+pub use giving::{after, freed, over_link};
+pub use testing::unmet_edge;

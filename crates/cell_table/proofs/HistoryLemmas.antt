@@ -1,0 +1,67 @@
+-- Every list of steps of cells keeps the rule.
+use Rattle.std.proofs.Common.{◌≡◌, ℕ, ◌<◌, ℤ, pos, ◌-ℤ◌, List, [], set, min, Some, refl, sym, subst, ◌∙◌, arith}
+use Rattle.std.proofs.lemmas.Int.{ints}
+use Rattle.std.proofs.lemmas.List.{set-get_or}
+use mathlib.Core.Option.{some}
+use lib.ListN.{get_elem?}
+use Rattle.atomic_table.specs.Table.{State}
+use Rattle.atomic_table.proofs.Lists.{set_else}
+use Rattle.net_model.specs.Limits.{IsWeight}
+use Rattle.net_model.specs.declared.part.Edge.{Edge}
+use Rattle.closure_model.specs.Derivable.{IsDerivable}
+use Rattle.closure_model.specs.Keys.{Key, IsKey, key_of, shape_of}
+use Rattle.cell_table.specs.CellHistory.{CellHistory, make, load, lower, split, join, IsSound, StepsAreTableHistories, place_in, word_in}
+use Rattle.cell_table.specs.CellRule.{IsKnown, OfLive, IsShown}
+use Rattle.cell_table.specs.Places.{absent, added, held}
+use Rattle.cell_table.specs.Views.{looked, offered, joined_with}
+use Rattle.cell_table.specs.declared.view.About.{About}
+use Rattle.cell_table.specs.declared.view.Standing.{Standing}
+use Rattle.cell_table.specs.declared.view.Standing.TheVariants.{Live}
+use Rattle.cell_table.specs.declared.view.View.{View}
+use Rattle.table_closing.proofs.WayLemmas.{derivable_weight}
+use Rattle.cell_table.proofs.EndLemmas.{derivable_key}
+use Rattle.cell_table.proofs.FillLemmas.{opens}
+use Rattle.cell_table.proofs.PlaceLemmas.{held_is}
+use Rattle.cell_table.proofs.RuleLemmas.{all_at}
+use Rattle.cell_table.proofs.TableLemmas.{shown_loaded, shown_offered, split_live, join_live}
+
+-- a word that holds a weight of an edge is below that of a key without one
+present_of : (code : ℕ) (weight : ℤ) → IsWeight weight → weight ≡ pos code -ℤ pos added → code < absent
+present_of code weight within is = grind (arith, ints)
+
+abbrev state : List ℕ → List Standing → State (Unit {0}) Standing
+state words views = record { words = words; homes = []; views = views }
+
+module _ (about : About) (sound : IsSound about) where
+  known_at : (words : List ℕ) (views : List Standing) (shown : IsShown about (state words views)) (seat : ℕ) (view : View) → get_elem? views seat ≡ some (Live view) → view.about ≡ about
+  known_at words views shown seat view at = (all_at (OfLive (IsKnown about shown.past.table)) views seat (Live view) at shown.seats).about_is
+
+  module _ (words : List ℕ) (before : List Standing) (shown : IsShown about (state words before)) (seat : ℕ) (view : View) (at : get_elem? before seat ≡ some (Live view)) where
+    after_load : (key : Key) → IsKey (shape_of about.net.value) key → IsShown about (state words (set before seat (Live (looked view key (word_in about words key)))))
+    after_load key is =
+        subst (λ (ws : List ℕ). IsShown about (state ws (set before seat (Live (looked view key (word_in about words key)))))) (set-get_or words (place_in about key) 0)
+        (shown_loaded about 0 seat view (known_at words before shown seat view at) key is (state words before) shown at)
+
+    after_lower : (edge : Edge) (code : ℕ) → IsDerivable about.net.value edge → held code ≡ Some edge.weight
+        → IsShown about (state (set words (place_in about (key_of edge)) (min (word_in about words (key_of edge)) code)) (set before seat (Live (offered view (key_of edge) (word_in about words (key_of edge)) edge.weight))))
+    after_lower edge code derivable holds =
+        let (_, coded) = held_is code edge.weight holds in
+        let present = present_of code edge.weight (derivable_weight about.net.value sound.plan edge derivable) coded in
+        subst (λ (w : ℤ). IsShown about (state (set words (place_in about (key_of edge)) (min (word_in about words (key_of edge)) code)) (set before seat (Live (offered view (key_of edge) (word_in about words (key_of edge)) w))))) (sym coded)
+        (shown_offered about 0 seat view (known_at words before shown seat view at) edge derivable (derivable_key about.net.value sound.plan edge derivable) code present coded (state words before) shown at)
+
+  keeps : (words : List ℕ) (views : List Standing) → CellHistory about words views → IsShown about (state words views)
+  keeps _ _ (make words views are is) =
+      subst (λ (l : List Standing). IsShown about (state words l)) (sym is) (opens about about.net.value about.first.value words refl refl sound.plan sound.fits sound.derivable are)
+  keeps _ _ (load words before after seat view key history at there is) =
+      subst (λ (l : List Standing). IsShown about (state words l)) (sym is) (after_load words before (keeps words before history) seat view at key there)
+  keeps _ _ (lower words next before after seat view edge code history at derivable holds less is) =
+      subst (λ (p : List ℕ × List Standing). IsShown about (state p.0 p.1)) (λ i. (sym less i, sym is i)) (after_lower words before (keeps words before history) seat view at edge code derivable holds)
+  keeps _ _ (split words before after seat view history at may is) =
+      subst (λ (l : List Standing). IsShown about (state words l)) (sym is) (split_live about seat view (state words before) (keeps words before history) at)
+  keeps _ _ (join words before after seat other view joining history at there apart is) =
+      subst (λ (l : List Standing). IsShown about (state words l)) (sym is)
+      (join_live about seat other view joining (state words before) (keeps words before history) at apart (set_else before seat other (Live (joined_with view joining)) apart ∙ there))
+
+pub every_step_is_one_of_a_history : StepsAreTableHistories
+every_step_is_one_of_a_history about words views sound history = keeps about sound words views history

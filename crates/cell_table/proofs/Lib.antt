@@ -1,0 +1,11 @@
+pub mod PlaceLemmas
+pub mod RuleLemmas
+pub mod TableLemmas
+pub mod EndLemmas
+pub mod FillLemmas
+pub mod TakeLemmas
+pub mod CloseLemmas
+pub mod SweepLemmas
+pub mod SettleLemmas
+pub mod HistoryLemmas
+pub mod LawLemmas

@@ -1,0 +1,14 @@
+pub mod Limits
+pub mod Places
+pub mod Views
+pub mod CellRule
+pub mod Steps
+pub mod Shared
+pub mod Seats
+pub mod Filling
+pub mod CellHistory
+pub mod Faults
+pub mod Taking
+pub mod Sweeping
+pub mod Settling
+pub mod Laws

@@ -1,0 +1,8 @@
+/// Why there are no cells.
+#[derive(Clone, Copy, Debug, PartialEq, Eq)]
+pub enum CellFault {
+    /// There are more than 1,000,000 keys: so many.
+    TooMany(u32),
+    /// There was no memory.
+    OutOfMemory,
+}
