@@ -1,0 +1,126 @@
+-- Each step of a desk keeps the rule: one word and one seat change, and the history is one step longer.
+use Rattle.std.proofs.Common.{◌≡◌, ◌≢◌, ℕ, zero, suc, ◌+◌, ◌-◌, ◌<◌, ◌⊎◌, List, [], ◌∷◌, ◌++◌, length, get_or, set, map, eqb, eq-eqb, ne_eqb, Bool, cond, Option, Some, None, refl, ap, sym, subst, ◌∙◌, inl, inr, arith}
+use Rattle.std.specs.List.{All}
+use Rattle.std.proofs.lemmas.Bool.{cases_eq}
+use Rattle.std.proofs.lemmas.List.{map-set}
+use Rattle.std.proofs.lemmas.List.Elements.{All-nil, All-head, All-tail, All-set, All-push, All-append}
+use Rattle.std.proofs.Math.ListN as lists
+use mathlib.Core.Option.{some, some-injective, some-ne-none}
+use lib.ListN.{get_elem?}
+use prog.Atomic.{either}
+use Rattle.atomic_table.specs.Table.{State}
+use Rattle.atomic_table.proofs.Lists.{exchanged}
+use Rattle.net_model.specs.declared.ids.LinkId.{LinkId}
+use Rattle.sensor_desk.specs.DeskHistory.{Entries, DeskStep, DeskHistory, steps, moment_at, stands_after, told_by, stepped}
+use Rattle.sensor_desk.specs.DeskRule.{Stands, IsPast, IsKnown, OfLive, IsLed}
+use Rattle.sensor_desk.specs.Views.{notes_of}
+use Rattle.sensor_desk.specs.Words.{word_of, held, words_of, place_of}
+use Rattle.sensor_desk.specs.declared.view.About.{About}
+use Rattle.sensor_desk.specs.declared.view.Note.{Note}
+use Rattle.sensor_desk.specs.declared.view.Standing.{Standing}
+use Rattle.sensor_desk.specs.declared.view.Standing.TheVariants.{Live, Spent}
+use Rattle.sensor_desk.specs.declared.view.View.{View}
+use Rattle.sensor_desk.proofs.HistoryLemmas.{here, stands_on, history_sized}
+
+-- what holds of each element holds of the one at a place
+pub all_at : {X : Type 0} (P : X → Type 0) (xs : List X) (i : ℕ) (x : X) → get_elem? xs i ≡ some x → All P xs → P x
+all_at P [] i x at all = absurd (some-ne-none x (sym at))
+all_at P (y ∷ ys) zero x at all = subst P (some-injective y x at) (All-head P y ys all)
+all_at P (y ∷ ys) (suc i) x at all = all_at P ys i x at (All-tail P y ys all)
+
+-- ---- words
+pub held_none : (word : ℕ) → word ≡ 0 → held word ≡ None
+held_none word is = ap (λ (b : Bool). cond b None (Some (word - 1))) (eq-eqb word 0 is)
+
+pub held_some : (word : ℕ) → word ≢ 0 → held word ≡ Some (word - 1)
+held_some word other = ap (λ (b : Bool). cond b None (Some (word - 1))) (ne_eqb word 0 other)
+
+pub held_word : (stands : Option ℕ) → held (word_of stands) ≡ stands
+held_word None = refl
+held_word (Some moment) = held_some (moment + 1) (λ e. omega arith) ∙ ap Some (omega arith)
+
+pub word_held : (word : ℕ) → word_of (held word) ≡ word
+word_held word = by (cases_eq word 0)
+  where
+    back : (n : ℕ) → n ≢ 0 → n - 1 + 1 ≡ n
+    back zero other = absurd (other refl)
+    back (suc n) other = omega arith
+
+    by : (word ≡ 0) ⊎ (word ≢ 0) → word_of (held word) ≡ word
+    by (inl is) = ap word_of (held_none word is) ∙ sym is
+    by (inr other) = ap word_of (held_some word other) ∙ back word other
+
+-- the word of a link
+pub word_at : (entries : Entries) (link : LinkId) → get_or (words_of entries) (place_of link) 0 ≡ word_of (moment_at entries link)
+word_at entries link = lists.get_or-map word_of entries link.0 None
+
+pub words_after : (entries : Entries) (step : DeskStep) (word : ℕ) → word ≡ word_of (told_by step) → set (words_of entries) (place_of step.link) word ≡ words_of (stepped entries step)
+words_after entries step word is = ap (λ (n : ℕ). 0 ∷ set (map word_of entries) step.link.0 n) is ∙ ap (λ (l : List ℕ). 0 ∷ l) (sym (map-set word_of entries step.link.0 (told_by step)))
+
+-- the word after a post, and after a load
+pub word_posted : (word moment : ℕ) → either (eqb word 0) (moment + 1) word ≡ word_of (stands_after (held word) (Some moment))
+word_posted word moment =
+    exchanged word 0 (moment + 1) (λ (n : ℕ). n ≡ word_of (stands_after (held word) (Some moment)))
+    (λ is. ap (λ (o : Option ℕ). word_of (stands_after o (Some moment))) (sym (held_none word is)))
+    (λ other. sym (word_held word) ∙ (ap word_of (held_some word other) ∙ ap (λ (o : Option ℕ). word_of (stands_after o (Some moment))) (sym (held_some word other))))
+
+pub stands_still : (stands : Option ℕ) → stands_after stands None ≡ stands
+stands_still None = refl
+stands_still (Some moment) = refl
+
+-- ---- a step at the word of a link
+module _ (about : About) (s : State (Unit {0}) Standing) (led : IsLed about s) (id : ℕ) (link : LinkId) (is : link.0 < length about.net.value.links) where
+  abbrev pub found : ℕ
+  found = get_or s.words (place_of link) 0
+
+  pub finds : held found ≡ moment_at led.entries link
+  finds = ap (λ (ws : List ℕ). held (get_or ws (place_of link) 0)) led.words ∙ (ap held (word_at led.entries link) ∙ held_word (moment_at led.entries link))
+
+  module _ (offered : Option ℕ) where
+    abbrev pub step : DeskStep
+    step = record { seat = id; link = link; offered = offered; found = held found }
+
+    within : link.0 < length led.entries
+    within = subst (λ (n : ℕ). link.0 < n) (sym (history_sized (length about.net.value.links) led.steps led.entries led.history)) is
+
+    note_on : (note : Note) → Stands led.entries note → Stands (stepped led.entries step) note
+    note_on note stands = stands_on led.entries step within finds note.link note.moment stands
+
+    standing_on : (standing : Standing) → OfLive (IsKnown about led.entries) standing → OfLive (IsKnown about (stepped led.entries step)) standing
+    standing_on (Live view) known = record { about_is = known.about_is; notes = λ k d lt. note_on (get_or view.notes k d) (known.notes k d lt) }
+    standing_on Spent known = tt
+
+    -- what stands for the link after the step, as a note
+    pub told_note : (stands : Option ℕ) → told_by step ≡ stands → All (Stands (stepped led.entries step)) (notes_of link stands)
+    told_note None is_none = All-nil (Stands (stepped led.entries step))
+    told_note (Some moment) is_some =
+        All-push (Stands (stepped led.entries step)) [] (record { link = link; moment = moment }) (All-nil (Stands (stepped led.entries step))) (here led.entries step within ∙ is_some)
+
+    pub led_after : (word : ℕ) → word ≡ word_of (told_by step) → (standing : Standing) → OfLive (IsKnown about (stepped led.entries step)) standing
+        → IsLed about record { words = set s.words (place_of link) word; homes = s.homes; views = set s.views id standing }
+    led_after word told standing known = record {
+      steps = led.steps ++ step ∷ [];
+      entries = stepped led.entries step;
+      history = steps led.steps (led.steps ++ step ∷ []) led.entries (stepped led.entries step) step led.history is finds refl refl;
+      words = ap (λ (ws : List ℕ). set ws (place_of link) word) led.words ∙ words_after led.entries step word told;
+      seats = All-set (OfLive (IsKnown about (stepped led.entries step))) s.views id standing known (λ k d lt. standing_on (get_or s.views k d) (led.seats k d lt));
+    }
+
+    -- what a live seat knows after the step, with notes that stand
+    pub known_after : (view after : View) → get_elem? s.views id ≡ some (Live view) → after.about ≡ view.about → (notes : List Note) → after.notes ≡ view.notes ++ notes
+        → All (Stands (stepped led.entries step)) notes → IsKnown about (stepped led.entries step) after
+    known_after view after at same notes notes_are stand =
+        let known = all_at (OfLive (IsKnown about led.entries)) s.views id (Live view) at led.seats in
+        let before = standing_on (Live view) known in record {
+          about_is = same ∙ known.about_is;
+          notes = subst (All (Stands (stepped led.entries step))) (sym notes_are) (All-append (Stands (stepped led.entries step)) view.notes notes before.notes stand);
+        }
+
+-- what a seat knows of the past
+pub past_of : (about : About) (s : State (Unit {0}) Standing) (led : IsLed about s) (id : ℕ) (view : View) → get_elem? s.views id ≡ some (Live view) → IsPast view led.entries
+past_of about s led id view at =
+    let known = all_at (OfLive (IsKnown about led.entries)) s.views id (Live view) at led.seats in record {
+      steps = led.steps;
+      history = subst (λ (a : About). DeskHistory (length a.net.value.links) led.steps led.entries) (sym known.about_is) led.history;
+      notes = known.notes;
+    }

@@ -1,0 +1,11 @@
+pub mod Limits
+pub mod DeskHistory
+pub mod Words
+pub mod Views
+pub mod DeskRule
+pub mod Steps
+pub mod Desks
+pub mod Seats
+pub mod Feeders
+pub mod Following
+pub mod Closing

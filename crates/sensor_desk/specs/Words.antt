@@ -1,0 +1,20 @@
+-- The words of a desk: word 0 is 0, and each link has the word after its number. This project's own choice.
+use Rattle.std.specs.Prelude.{ℕ, suc, ◌+◌, ◌-◌, ◌==◌, List, ◌∷◌, map, Option, Some, None, if◌then◌else◌}
+use Rattle.net_model.specs.declared.ids.LinkId.{LinkId}
+use Rattle.sensor_desk.specs.DeskHistory.{Entries}
+
+-- the word of what stands for a link
+abbrev pub word_of : Option ℕ → ℕ
+word_of None = 0
+word_of (Some moment) = moment + 1
+
+-- what a word says
+abbrev pub held : ℕ → Option ℕ
+held word = if word == 0 then None else Some (word - 1)
+
+abbrev pub words_of : Entries → List ℕ
+words_of entries = 0 ∷ map word_of entries
+
+-- where the word of a link is
+abbrev pub place_of : LinkId → ℕ
+place_of link = suc link.0

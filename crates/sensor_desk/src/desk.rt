@@ -1,0 +1,151 @@
+ghost use Rattle.std.specs.Prelude.{◌≡◌, ◌<◌, ◌≤◌, ◌^◌, ◌+◌, length, IfOk};
+ghost use Rattle.std.specs.Mem.Slots.{slots_items, slots_len, IsFull};
+ghost use Rattle.sensor_desk.specs.DeskRule.{IsLeft};
+ghost use Rattle.sensor_desk.specs.Limits.{most_seats};
+ghost use Rattle.sensor_desk.specs.Desks.{IsSeatOf, HasLink, Posts, Reads, Looks};
+ghost use Rattle.sensor_desk.specs.Views.{first_view, split_from, split_off, joined_with};
+ghost use Rattle.sensor_desk.specs.Words.{held};
+
+use crate::posted::Posted;
+use crate::rule::{Histories, Joining, Looking, Posting, Reading, Splitting};
+use crate::seat::DeskSeat;
+use crate::view::{About, Standing};
+use atomic_table::{Closed, Table};
+use net_model::{LinkId, Network};
+use std::alloc::{AllocError, Global};
+use std::marker::Model;
+use std::snapshot::Snapshot;
+
+/// A desk at which feeders post the moments at which links were over. For each link the first post stands, and no later one changes it. A
+/// desk is shared by reference; whoever steps at it holds a seat of it.
+#[derive(Drop)]
+pub struct Desk {
+    table: Table<(), Standing, About, Histories, Global>,
+}
+
+impl Model for Desk {
+    ghost use Rattle.sensor_desk.specs.Desks.{DeskSeen};
+    ghost use Rattle.sensor_desk.specs.Seats.{desk_code, IsDesk};
+
+    ghost Value = { DeskSeen };
+
+    ghost coded = { desk_code };
+
+    ghost view = { λ desk. record { id = desk.table.shared.table_id; about = desk.table.shared.key } };
+
+    ghost invariant = { λ desk. IsDesk desk.table.shared.table_id desk.table.shared.key };
+}
+
+impl Desk {
+    /// The desk of a network, at which nothing is posted, and the first of its seats, from which all others are split. There are 1 to 65
+    /// seats. Where a network has a delay, the desk is that of its shown form. `AllocError` comes only for want of memory; then nothing was
+    /// made. No other call of a desk takes memory.
+    pub fn new(alloc: Global, net: &Network, seats: u32) -> Result<(Desk, DeskSeat), AllocError>
+        requires seats { (1 ≤ seats) × (seats ≤ most_seats) }
+        ensures about { IfOk result (λ made. (made.0.about.net.value ≡ net.now) × (made.0.about.seats ≡ seats)) }
+        ensures seat { IfOk result (λ made. made.1 ≡ record { desk = made.0.id; view = first_view made.0.about }) }
+    {
+        let words = vec![in alloc; 0; net.links().len() + 1]?;
+        let about = About {
+            net: Snapshot::of(net),
+            seats,
+        };
+        let (table, place) = Table::of_words(alloc, words.as_slice(), &about)?;
+        Ok((
+            Desk { table },
+            DeskSeat {
+                place,
+                to_split: seats - 1,
+            },
+        ))
+    }
+
+    /// Splits a seat from one that may split. The new seat was told nothing, and may not split.
+    pub fn split(&self, seat: &mut DeskSeat) -> DeskSeat
+        requires seat { IsSeatOf self.now seat.old }
+        requires may { 0 < seat.old.view.to_split }
+        ensures from { seat.new ≡ record { desk = seat.old.desk; view = split_from seat.old.view } }
+        ensures off { result ≡ record { desk = seat.old.desk; view = split_off seat.old.view } }
+        ensures seats { IsSeatOf self.now seat.new × IsSeatOf self.now result }
+    {
+        let place = self.table.shared.split_seat::<Splitting>(&mut seat.place);
+        seat.to_split -= 1;
+        DeskSeat { place, to_split: 0 }
+    }
+
+    /// Joins a seat into another, which takes over what the joined one was told. What its own steps found stays as it was.
+    pub fn join(&self, into: &mut DeskSeat, from: DeskSeat)
+        requires seats { IsSeatOf self.now into.old × IsSeatOf self.now from }
+        ensures joined { into.new ≡ record { desk = into.old.desk; view = joined_with into.old.view from.view } }
+        ensures seat { IsSeatOf self.now into.new }
+    {
+        let DeskSeat { place, .. } = from;
+        self.table
+            .shared
+            .join_seat::<Joining>(&mut into.place, place);
+    }
+
+    /// Posts the moment, below 2^63, at which a link was over: one atomic step. `First` exactly where nothing stood for the link at that
+    /// step; then this moment stands from then on. Else `Before`, with the moment that stands, and nothing changes.
+    pub fn post(&self, seat: &mut DeskSeat, link: LinkId, moment: u64) -> Posted
+        requires seat { IsSeatOf self.now seat.old }
+        requires link { HasLink self.now link }
+        requires moment { moment < 2 ^ 63 }
+        ensures posts { Posts seat.old seat.new link moment result }
+        ensures seat { IsSeatOf self.now seat.new }
+    {
+        let place = link.0 as usize + 1;
+        let word = self
+            .table
+            .shared
+            .compare_exchange::<Posting>(&mut seat.place, place, 0, moment + 1);
+        match moment_of_word(word) {
+            None => Posted::First,
+            Some(moment) => Posted::Before(moment),
+        }
+    }
+
+    /// Reads the moment that stands for a link: one load. `None` exactly where nothing stood for it at that step; a moment that is read
+    /// stands for good.
+    pub fn read(&self, seat: &mut DeskSeat, link: LinkId) -> Option<u64>
+        requires seat { IsSeatOf self.now seat.old }
+        requires link { HasLink self.now link }
+        ensures reads { Reads seat.old seat.new link result }
+        ensures seat { IsSeatOf self.now seat.new }
+    {
+        let place = link.0 as usize + 1;
+        let word = self.table.shared.load::<Reading>(&mut seat.place, place);
+        moment_of_word(word)
+    }
+
+    /// Looks at what stands for a link, as `read`, and notes nothing.
+    pub(crate) fn look(&self, seat: &mut DeskSeat, link: LinkId) -> Option<u64>
+        requires seat { IsSeatOf self.now seat.old }
+        requires link { HasLink self.now link }
+        ensures { Looks seat.old seat.new link result }
+    {
+        let place = link.0 as usize + 1;
+        let word = self.table.shared.load::<Looking>(&mut seat.place, place);
+        moment_of_word(word)
+    }
+
+    /// The words as they are at the end of a desk.
+    pub(crate) fn into_words(self, seat: DeskSeat) -> Closed<(), Global>
+        requires seat { IsSeatOf self seat }
+        ensures left { IsLeft self.about seat.view (slots_items result.words) }
+        ensures full { IsFull result.words }
+        ensures count { slots_len result.words ≡ length self.about.net.value.links + 1 }
+        ensures none { slots_len result.slots ≡ 0 }
+    {
+        let Desk { table } = self;
+        let DeskSeat { place, .. } = seat;
+        table.close_with(place)
+    }
+}
+
+/// What a word of a link says: nothing where it is 0, else the moment below it.
+pub(crate) fn moment_of_word(word: u64) -> Option<u64>
+    ensures { result ≡ held word }
+{
+    if word == 0 { None } else { Some(word - 1) }
+}
