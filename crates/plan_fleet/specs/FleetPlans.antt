@@ -1,0 +1,101 @@
+-- One plan of a fleet: its network, its execution where it is controllable, and how it stands. It is executed by its shown form, so the
+-- moments of an execution are those at which completions are shown. This project's own choice.
+use Rattle.std.specs.Prelude.{◌≡◌, ◌≢◌, ◌⊎◌, ℕ, List, length, Option, Some, None}
+use Rattle.net_model.specs.Network.{Plan}
+use Rattle.net_model.specs.ShownForm.{shown_form}
+use Rattle.net_model.specs.declared.ids.PointId.{PointId}
+use Rattle.strategy_model.specs.Control.{IsControllable}
+use Rattle.closure_model.specs.Tables.{Graph}
+use Rattle.execution_model.specs.Feeding.{Execution, started, IsFed, IsFinished}
+use Rattle.execution_model.specs.Laws.{IsDispatchedByClosure, setting_of}
+use Rattle.execution_model.specs.declared.feeding.Fed.{Fed}
+use Rattle.execution_model.specs.declared.feeding.Fed.TheVariants as fed
+use Rattle.execution_model.specs.declared.feeding.Finished.{Finished}
+use Rattle.execution_model.specs.declared.feeding.Finished.TheVariants as finished
+use Rattle.plan_fleet.specs.declared.states.State.{State}
+use Rattle.plan_fleet.specs.declared.states.State.TheVariants as state
+use Rattle.plan_fleet.specs.declared.states.FleetFed.{FleetFed}
+use Rattle.plan_fleet.specs.declared.states.FleetFed.TheVariants as fleet_fed
+use Rattle.plan_fleet.specs.declared.states.FleetFinished.{FleetFinished}
+use Rattle.plan_fleet.specs.declared.states.FleetFinished.TheVariants as fleet_finished
+
+-- a plan of a fleet
+pub record FleetPlan : Type 0 where
+  pub net : Plan
+  pub execution : Option Execution
+  pub state : State
+
+-- the execution of a plan that runs has no refusal; each is one of as many points as the network has
+pub record IsFleetPlan (member : FleetPlan) : Type 0 where
+  pub runs : member.state ≡ state.Running → (execution : Execution) × (member.execution ≡ Some execution) × (execution.refused ≡ None)
+  pub points : (execution : Execution) → member.execution ≡ Some execution
+      → length execution.setting.dispatch ≡ length member.net.points
+
+-- a controllable plan is executed by the closure of its shown form
+pub record IsRunningAtFirst (net : Plan) (member : FleetPlan) : Type 0 where
+  pub controllable : IsControllable net
+  pub table : Graph
+  pub order : List PointId
+  pub by_closure : IsDispatchedByClosure (shown_form net) table order
+  pub execution : member.execution ≡ Some (started (setting_of (shown_form net) table))
+  pub runs : member.state ≡ state.Running
+
+-- every other is not executed
+pub record IsRefutedAtFirst (net : Plan) (member : FleetPlan) : Type 0 where
+  pub never : ¬ IsControllable net
+  pub execution : member.execution ≡ None
+  pub stands : member.state ≡ state.NotControllable
+
+-- how a plan is opened: it runs exactly where it is controllable
+abbrev pub OpensTo : Plan → FleetPlan → Type 0
+OpensTo net member = (member.net ≡ net) × (IsRunningAtFirst net member ⊎ IsRefutedAtFirst net member)
+
+-- how a plan stands at first, by its execution
+abbrev pub state_at_first : Option Execution → State
+state_at_first (Some execution) = state.Running
+state_at_first None = state.NotControllable
+
+-- how a plan that runs stands after a feed, and after its end
+abbrev pub state_fed : Fed → State
+state_fed fed.Acts = state.Running
+state_fed (fed.Refused why) = state.Ended
+state_fed (fed.Ended why) = state.Ended
+
+abbrev pub state_finished : Finished → State
+state_finished finished.Complete = state.Complete
+state_finished (finished.Unfinished point) = state.Ended
+state_finished (finished.Ended why) = state.Ended
+
+-- a plan that runs is fed: its execution is, and a feed that is refused ends it
+pub record IsFedPlan (member : FleetPlan) (moment : ℕ) (listed : List PointId) (answer : Fed) (after : FleetPlan) : Type 0 where
+  pub runs : member.state ≡ state.Running
+  pub execution : Execution
+  pub then_execution : Execution
+  pub was : member.execution ≡ Some execution
+  pub feeds : IsFed execution moment listed answer then_execution
+  pub is : after ≡ record { net = member.net; execution = Some then_execution; state = state_fed answer }
+
+-- a feed of a plan: nothing changes exactly where it does not run
+abbrev pub FeedsPlan : FleetPlan → (moment : ℕ) → List PointId → FleetFed → FleetPlan → Type 0
+FeedsPlan member moment listed (fleet_fed.Fed answer) after = IsFedPlan member moment listed answer after
+FeedsPlan member moment listed fleet_fed.Idle after = (member.state ≢ state.Running) × (after ≡ member)
+
+-- a plan that runs is finished: its execution is, and it is complete or has ended
+pub record IsFinishedPlan (member : FleetPlan) (answer : Finished) (after : FleetPlan) : Type 0 where
+  pub runs : member.state ≡ state.Running
+  pub execution : Execution
+  pub then_execution : Execution
+  pub was : member.execution ≡ Some execution
+  pub finishes : IsFinished execution answer then_execution
+  pub is : after ≡ record { net = member.net; execution = Some then_execution; state = state_finished answer }
+
+-- the end of a plan: nothing changes exactly where it does not run
+abbrev pub FinishesPlan : FleetPlan → FleetFinished → FleetPlan → Type 0
+FinishesPlan member (fleet_finished.Finished answer) after = IsFinishedPlan member answer after
+FinishesPlan member fleet_finished.Idle after = (member.state ≢ state.Running) × (after ≡ member)
+
+-- a plan that runs is ended; every other stays as it is
+abbrev pub EndsPlan : FleetPlan → FleetPlan → Type 0
+EndsPlan member after =
+    ((member.state ≡ state.Running) × (after ≡ record member { state = state.Ended }))
+    ⊎ ((member.state ≢ state.Running) × (after ≡ member))

@@ -1,0 +1,4 @@
+pub mod Limits
+pub mod FleetPlans
+pub mod Fleets
+pub mod Openings
