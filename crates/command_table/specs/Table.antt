@@ -3,22 +3,25 @@ use Rattle.std.specs.Prelude.{◌≡◌, ◌⊎◌, ◌↔◌, ◌∷◌, codes,
 use Rattle.std.specs.Str.{bytes_eq}
 use Rattle.plan_port.specs.Talk.{Seen}
 use Rattle.stnu_run.specs.Checking.{check_syntax}
-use Rattle.stnu_run.specs.DefinedRuns.{program_of}
+use Rattle.stnu_run.specs.DefinedRuns.{program_of, strong_word}
 use Rattle.stnu_run.specs.Forging.{forge_syntax}
 use Rattle.stnu_run.specs.Judging.{judge_syntax}
 use Rattle.stnu_run.specs.Playing.{play_syntax}
 use Rattle.stnu_run.specs.Running.{run_syntax}
-use Rattle.stnu_run.specs.Sessions.{session_syntax}
+use Rattle.session_command.specs.Sessions.{session_syntax}
 use Rattle.stnu_run.specs.Showing.{show_syntax}
-use Rattle.stnu_run.specs.Statuses.{IsRefusal, StatusHasCause}
-use Rattle.stnu_run.specs.WordLaws.{SayCheckFlags, SayForge, SayForm, SayFormAndWorkers, SayForms, SayPlay}
+use Rattle.command_frame.specs.Statuses.{IsRefusal, StatusHasCause}
+use Rattle.command_frame.specs.PlanWords.{SayFormAndWorkers}
+use Rattle.stnu_run.specs.WordLaws.{SayCheckFlags, SayForge, SayForms, SayJudge, SayPlay}
 use Rattle.stnu_run.specs.declared.checking.CheckFlags.{CheckFlags}
 use Rattle.stnu_run.specs.declared.forging.ForgeWords.{ForgeWords}
 use Rattle.stnu_run.specs.declared.judging.Judge.{Judge}
 use Rattle.plan_inputs.specs.declared.plan_input.PlanForm.{PlanForm}
 use Rattle.stnu_run.specs.declared.playing.PlayWords.{PlayWords}
 use Rattle.stnu_run.specs.declared.showing.Show.{Show}
-use Rattle.stnu_run.specs.declared.status.Status.{Status}
+use Rattle.command_frame.specs.declared.status.Status.{Status}
+use Rattle.strong_command.specs.Asking.{SayStrong}
+use Rattle.strong_command.specs.declared.asking.AskStrong.{AskStrong}
 
 -- the one where this is so, else the other
 infixr 5 when◌these◌else◌
@@ -26,16 +29,17 @@ abbrev pub when◌these◌else◌ : Bool → Type 0 → Type 0 → Type 0
 when true these one else other = one
 when false these one else other = other
 
--- These are the words of a command after its own: of `judge` none, or `--json`; of each other command they spell its uses, as its line of
--- the table says.
+-- These are the words of a command after its own: they spell its uses, as its line of the table says, and the values of its options are such
+-- as it takes.
 abbrev pub AreOfCommand : (command : List ℕ) (words : List (List ℕ)) → Type 0
 AreOfCommand command words =
-    when bytes_eq command (codes "judge") these ((judge : Judge) × SayForm judge_syntax judge.form words)
+    when bytes_eq command (codes "judge") these ((judge : Judge) × SayJudge judge_syntax judge words)
     else when bytes_eq command (codes "check") these ((flags : CheckFlags) × SayCheckFlags check_syntax flags words)
     else when bytes_eq command (codes "run") these ((form : PlanForm) × SayFormAndWorkers run_syntax form words)
     else when bytes_eq command (codes "session") these ((form : PlanForm) × SayFormAndWorkers session_syntax form words)
     else when bytes_eq command (codes "show") these ((show : Show) × SayForms show_syntax show words)
     else when bytes_eq command (codes "play") these ((said : PlayWords) × SayPlay play_syntax said words)
+    else when bytes_eq command strong_word these ((asked : AskStrong) × SayStrong asked words)
     else when bytes_eq command (codes "forge") these ((said : ForgeWords) × SayForge forge_syntax said words)
     else ⊥
 

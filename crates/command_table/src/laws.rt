@@ -2,10 +2,12 @@
 
 ghost use Rattle.command_table.specs.Table.{RunsRefuseExactlyWordsOutsideTheTable, WordsAreRefusedOutsideTheTable};
 
+use session_command::session_is_read_exactly;
 use stnu_run::{
     check_is_read_exactly, forge_is_read_exactly, judge_is_read_exactly, play_is_read_exactly,
-    run_is_read_exactly, session_is_read_exactly, show_is_read_exactly,
+    run_is_read_exactly, show_is_read_exactly,
 };
+use strong_command::strong_is_read_exactly;
 
 /// The program of some words is the refusal of words exactly where they are not in the table of commands.
 pub fn words_are_refused_outside_the_table()
@@ -17,6 +19,7 @@ pub fn words_are_refused_outside_the_table()
     session_is_read_exactly();
     show_is_read_exactly();
     play_is_read_exactly();
+    strong_is_read_exactly();
     forge_is_read_exactly();
 }
 

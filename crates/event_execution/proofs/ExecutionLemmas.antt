@@ -3,13 +3,16 @@ use Rattle.std.proofs.Common.{◌≡◌, ◌⊎◌, ℕ, ◌+◌, List, [], ◌�
 use Rattle.std.proofs.lemmas.List.{length-append}
 use Rattle.std.proofs.lemmas.Option.{same_Some}
 use Rattle.texts.specs.Lines.{InputLine}
-use Rattle.net_model.specs.Network.{Plan}
+use Rattle.net_model.specs.Network.{Plan, IsPlan}
+use Rattle.net_model.specs.ShownForm.{shown_form, shown_situation}
 use Rattle.net_model.specs.declared.fault.BuildFault.TheVariants as part
 use Rattle.net_model.specs.declared.format.FormatKind.TheVariants as kind
 use Rattle.net_model.specs.declared.ids.PointId.{PointId}
 use Rattle.closure_model.specs.Tables.{Graph}
 use Rattle.strategy_model.specs.Control.{IsControllable, IsEarliest}
+use Rattle.strategy_model.specs.ShownSchedules.{shown_schedule}
 use Rattle.strategy_model.specs.Situations.{Satisfies}
+use Rattle.strategy_model.proofs.ShownFormLemmas.{satisfies_as_shown}
 use Rattle.texts.specs.Limits.{most_line}
 use Rattle.plan_port.specs.Lines.{Comes, coming}
 use Rattle.event_stream.specs.EventText.{EventLine, blank, completed, done}
@@ -17,10 +20,12 @@ use Rattle.execution_model.specs.Acts.{scheduled}
 use Rattle.net_model.specs.Moments.{Moments}
 use Rattle.execution_model.specs.Feeding.{Execution, started, taken, first_open, IsDueAnswer}
 use Rattle.execution_model.specs.Laws.{setting_of, IsDispatchedByClosure, going_on, ended, AreWithinLimit}
+use Rattle.execution_model.specs.ShownStreams.{FitsAsShown}
 use Rattle.execution_model.specs.Streams.{Listing, IsFaithful, Fits}
 use Rattle.execution_model.specs.Timely.{fed_all}
 use Rattle.execution_model.specs.declared.feeding.Act.{Act}
 use Rattle.execution_model.specs.declared.feeding.Why.{Why}
+use Rattle.execution_model.proofs.ShownStreamLemmas.{streams_are_shown}
 use Rattle.execution_model.proofs.StreamLemmas.{done_shows}
 use Rattle.command_engine.specs.Inputs.{texts, room_after}
 use Rattle.command_engine.specs.Limits.{most_input}
@@ -250,6 +255,26 @@ module _ (laws : ExecutionLaws) where
           ends_so = there.ends_so.1;
         }
 
+    -- what is promised of the network as it is stated, by its shown form
+    module _ (net : Plan) (listings : List Listing) (situation : List ℕ) (plan : IsPlan net) where
+      puts_stated_so_far : (day : IsUnderway opens input (shown_form net) listings) (fits : FitsAsShown net (going_on listings) situation)
+          → PutsSoFar (shown_form net) (shown_schedule net fits.schedule) day.lines.before listings put
+      puts_stated_so_far day fits =
+          let (shown, same) = (streams_are_shown net (going_on listings) plan).fits situation fits in
+          subst (λ (schedule : List ℕ). PutsSoFar (shown_form net) schedule day.lines.before listings put) same
+          (puts_so_far (shown_form net) listings day (shown.earliest.strategy, shown.earliest.controls) (shown_situation net situation) shown)
+
+      puts_stated_day : (day : IsDay opens input (shown_form net) listings done) (fits : FitsAsShown net (ended listings) situation)
+          → Satisfies net fits.schedule × PutsDay (shown_form net) (shown_schedule net fits.schedule) day.underway.lines.before listings put end
+      puts_stated_day day fits =
+          let (shown, same) = (streams_are_shown net (ended listings) plan).fits situation fits in
+          let controls : IsControllable (shown_form net) = (shown.earliest.strategy, shown.earliest.controls) in
+          let satisfies = earliest_satisfies (shown_form net) (shown_situation net situation) shown.schedule shown.earliest in
+          let puts = puts_day (shown_form net) listings day.underway controls day.last day.others day.next day.comes day.tells (shown_situation net situation) shown in (
+            (satisfies_as_shown net fits.schedule plan).1 (subst (Satisfies (shown_form net)) same satisfies),
+            subst (λ (schedule : List ℕ). PutsDay (shown_form net) schedule day.underway.lines.before listings put end) same puts,
+          )
+
     pub execution_keeps : ExecutionPromise opens input put end
     execution_keeps = record {
       underway = λ net listings situation day fits. puts_so_far net listings day (fits.earliest.strategy, fits.earliest.controls) situation fits;
@@ -260,6 +285,7 @@ module _ (laws : ExecutionLaws) where
       refuses = refuses_by;
       faulty = λ fault has.
           fault_next has.net has.listings has.underway has.controllable (fed_over has.net has.listings has.underway has.controllable has.faithful) fault has.next;
+      stated = record { underway = puts_stated_so_far; executes = puts_stated_day };
     }
 
   -- ---- to the lines of an input

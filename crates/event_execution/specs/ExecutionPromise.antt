@@ -1,17 +1,20 @@
 -- What is promised of an execution over lines of events, of any command that opens one.
 use Rattle.std.specs.Prelude.{◌≡◌, ℕ, List, ◌++◌, Some, Err}
 use Rattle.texts.specs.Lines.{InputLine}
-use Rattle.net_model.specs.Network.{Plan}
+use Rattle.net_model.specs.Network.{Plan, IsPlan}
+use Rattle.net_model.specs.ShownForm.{shown_form}
 use Rattle.net_model.specs.declared.ids.PointId.{PointId}
+use Rattle.strategy_model.specs.ShownSchedules.{shown_schedule}
 use Rattle.strategy_model.specs.Situations.{Satisfies}
 use Rattle.event_stream.specs.EventText.{EventLine, blank, completed, done}
 use Rattle.execution_model.specs.Feeding.{Execution, taken, first_open}
 use Rattle.execution_model.specs.Laws.{going_on, ended}
+use Rattle.execution_model.specs.ShownStreams.{FitsAsShown}
 use Rattle.execution_model.specs.Streams.{Listing, Fits}
 use Rattle.execution_model.specs.declared.feeding.Why.{Why}
 use Rattle.command_engine.specs.declared.endings.End.{End}
 use Rattle.command_engine.specs.declared.endings.End.TheVariants as ends
-use Rattle.event_execution.specs.Day.{Opening, IsUnderway, IsWholeDay, IsRefusedDay, number_of, PutsSoFar, PutsDay}
+use Rattle.event_execution.specs.Day.{Opening, IsUnderway, IsDay, IsWholeDay, IsRefusedDay, number_of, PutsSoFar, PutsDay}
 use Rattle.event_execution.specs.Due.{IsFedBy}
 use Rattle.event_execution.specs.EventAnswers.{why_words, unfinished_words, event_line}
 use Rattle.event_execution.specs.EventFaults.{HasEventFault, event_refusal}
@@ -43,11 +46,23 @@ pub record RefusesLine (net : Plan) (listings : List Listing) (told : EventLine)
 abbrev pub EndsRefused : {opens : Opening} {input : List InputLine} → IsRefusedDay opens input → (put : List ℕ) → End → Type 0
 EndsRefused refused put end = RefusesLine refused.net refused.listings refused.told (number_of refused) put end
 
+-- What is promised of the executions of the shown form of a network that lines of an input open, of the network as it is stated. `underway`:
+-- while the stream goes on, and lists what is shown of the earliest schedule of a situation, the acts of this schedule are put. `executes`:
+-- where the stream is done, they are all put, and the schedule, in which each listed completion happened the delay before its listed moment,
+-- satisfies the network. The acts of a schedule are those of it as it is shown.
+pub record KeepsAsStated (opens : Opening) (input : List InputLine) (put : List ℕ) (end : End) : Type 0 where
+  pub underway : (net : Plan) (listings : List Listing) (situation : List ℕ) → IsPlan net → (day : IsUnderway opens input (shown_form net) listings)
+      → (fits : FitsAsShown net (going_on listings) situation) → PutsSoFar (shown_form net) (shown_schedule net fits.schedule) day.lines.before listings put
+  pub executes : (net : Plan) (listings : List Listing) (situation : List ℕ) → IsPlan net → (day : IsDay opens input (shown_form net) listings done)
+      → (fits : FitsAsShown net (ended listings) situation)
+      → Satisfies net fits.schedule × PutsDay (shown_form net) (shown_schedule net fits.schedule) day.underway.lines.before listings put end
+
 -- What is promised of the executions that lines of an input open. `underway`: while the stream goes on and is faithful, the acts of the
 -- earliest schedule of the situation that the stream fits are put, whatever comes after. `executes`: for a controllable network and a
 -- faithful stream that is done, the acts of the earliest schedule of the situation that the stream fits are put, which with the completions
 -- listed is the whole schedule, and satisfies the network. `refuses`: the run ends by a refused event, with the number of its line and the
 -- cause, where a line tells what no faithful stream does. `faulty`: it ends by a fault, with its line, where the lines of events have one.
+-- `stated`: of an execution of the shown form, what is promised of the network as it is stated.
 pub record ExecutionPromise (opens : Opening) (input : List InputLine) (put : List ℕ) (end : End) : Type 0 where
   pub underway : (net : Plan) (listings : List Listing) (situation : List ℕ) → (day : IsUnderway opens input net listings)
       → (fits : Fits net (going_on listings) situation) → PutsSoFar net fits.schedule day.lines.before listings put
@@ -55,3 +70,4 @@ pub record ExecutionPromise (opens : Opening) (input : List InputLine) (put : Li
       → (fits : Fits net (ended listings) situation) → Satisfies net fits.schedule × PutsDay net fits.schedule whole.day.underway.lines.before listings put end
   pub refuses : (refused : IsRefusedDay opens input) → EndsRefused refused put end
   pub faulty : (fault : Fault) → HasEventFault opens input fault → PutsLast (event_refusal fault) put × (end ≡ fault_end fault)
+  pub stated : KeepsAsStated opens input put end

@@ -13,8 +13,8 @@ use dispatch_net::Dispatch;
 use net_model::Network;
 use std::alloc::{AllocError, Global};
 
-/// Begins the execution of a controllable network by the dispatchable network of its closure, and puts that the network is controllable,
-/// and the first due moment. `AllocError` comes only for want of memory.
+/// Begins the execution of a controllable network without a delay by the dispatchable network of its closure, and puts that the network is
+/// controllable, and the first due moment. `AllocError` comes only for want of memory.
 pub fn begin_dispatched(
     alloc: Global,
     answer: &mut Answer,
@@ -23,6 +23,7 @@ pub fn begin_dispatched(
 ) -> Result<Onward<Executing>, AllocError>
     requires empty { answer.old.text ≡ [] }
     requires dispatch { IsDispatchOfClosure net dispatch }
+    requires no_delay { net.delay ≡ 0 }
     ensures begins { IfOk result (BeginsExecution net answer.new.text) }
     ensures room { IfOk result (λ onward. HasRoom executing_machine onward answer.new.capacity) }
 {

@@ -1,6 +1,6 @@
 //! Days that are played out, with their situations.
 
-ghost use Rattle.std.specs.Prelude.{IfOk};
+ghost use Rattle.std.specs.Prelude.{◌≡◌, IfOk};
 ghost use Rattle.strategy_model.specs.Situations.{IsSituation};
 ghost use Rattle.dispatch_net.specs.OfClosure.{IsDispatchOfClosure};
 ghost use Rattle.situation_player.specs.Playing.{IsStartedByClosure};
@@ -77,12 +77,13 @@ fn told(
         return Err(Fail::from("not controllable"));
     };
     let dispatch = session.dispatch(alloc)?;
-    day(alloc, session.network(), dispatch, which)
+    day(alloc, session.shown(), dispatch, which)
 }
 
-/// A day of a network, played out on its dispatchable network.
+/// A day of a network without a delay, played out on its dispatchable network.
 fn day(alloc: Global, net: &Network, dispatch: Dispatch, which: &str) -> Result<String, Fail>
-    requires { IsDispatchOfClosure net.now dispatch }
+    requires of { IsDispatchOfClosure net.now dispatch }
+    requires no_delay { net.now.delay ≡ 0 }
 {
     let situation = situation_of(alloc, net, which)?;
     let mut executor = start(alloc, net, dispatch)?;
@@ -94,9 +95,10 @@ fn day(alloc: Global, net: &Network, dispatch: Dispatch, which: &str) -> Result<
     Ok(text)
 }
 
-/// The execution of a network on what no others imply of the dispatchable network of its closure.
+/// The execution of a network without a delay on what no others imply of the dispatchable network of its closure.
 fn start(alloc: Global, net: &Network, dispatch: Dispatch) -> Result<Executor, Fail>
-    requires { IsDispatchOfClosure net.now dispatch }
+    requires of { IsDispatchOfClosure net.now dispatch }
+    requires no_delay { net.now.delay ≡ 0 }
     ensures { IfOk result (IsStartedByClosure net.now) }
 {
     // The proof reads here that the network is sound.

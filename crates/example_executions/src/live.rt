@@ -15,12 +15,15 @@ use std::alloc::Global;
 use std::test::Fail;
 use std::thread::Threads;
 
-/// The dispatchable network of the closure of a network.
+/// The dispatchable network of the closure of a network without a delay.
 fn dispatch(rt: &(impl Threads + Sync), alloc: Global, net: &Network) -> Result<Dispatch, Fail>
     ensures dispatched { IfOk result (IsDispatchOf net.now) }
     ensures whole { IfOk result (λ dispatch. length dispatch.made ≡ length net.now.points) }
     ensures kept { IfOk result (λ dispatch. length dispatch.kept ≡ length net.now.points) }
 {
+    if net.delay() != 0 {
+        return Err(Fail::from("a delay"));
+    }
     let mut store = Plain::of(alloc, net)?;
     let _points = net.points();
     let Outcome::Closed { rounds: _, order } = propagate(rt, alloc, net, &mut store, 1, &NoGate)?

@@ -88,7 +88,7 @@ fn certificate(
 }
 
 /// The bytes of a text, with line ends.
-fn with_line_ends(alloc: Global, text: &str) -> Result<Vec<u8>, AllocError> {
+pub(crate) fn with_line_ends(alloc: Global, text: &str) -> Result<Vec<u8>, AllocError> {
     text.bytes()
         .map(|byte| if byte == b'|' { b'\n' } else { byte })
         .collect(alloc)

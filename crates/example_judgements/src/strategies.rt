@@ -1,3 +1,6 @@
+ghost use Rattle.std.specs.Prelude.{IfOk};
+ghost use Rattle.net_model.specs.Network.{HasPlanNumbers};
+
 use net_model::{BuildFault, Items, Name, NameFault, Network, Part, PointId, Weight};
 use std::alloc::{AllocError, Global};
 use std::process::Abort;
@@ -23,7 +26,9 @@ fn link(from: &str, low: Weight, high: Weight, to: &str) -> Result<Part, NameFau
 }
 
 /// A link from A to C of one or two moments, and D at the moment of C.
-fn together(alloc: Global) -> Result<Network, Fail> {
+fn together(alloc: Global) -> Result<Network, Fail>
+    ensures { IfOk result HasPlanNumbers }
+{
     let parts = [
         Part::Point(name("A")?),
         Part::Point(name("C")?),
@@ -146,6 +151,26 @@ fn check_schedules(rt: &impl Abort, alloc: Global, net: &Network) -> Result<(), 
     Ok(())
 }
 
+/// Strategies, the duration of the link and what is played, of the same network with a delay of 1: C is seen a moment after it came.
+const LATE_PLAYS: [(Example, u64, Option<[u64; 3]>); 4] = [
+    (Example::Whole, 1, Some([0, 1, 2])),
+    (Example::Whole, 2, None),
+    (Example::WithoutLast, 1, None),
+    (Example::Contingent, 1, None),
+];
+
+fn check_late_plays(rt: &impl Abort, alloc: Global, net: Network) -> Result<(), AllocError>
+    requires { HasPlanNumbers net }
+{
+    let late = net.with_delay(1);
+    for (example, duration, wanted) in LATE_PLAYS {
+        let schedule = played(alloc, &late, example, duration)?;
+        let moments = schedule.as_ref().map(|schedule| schedule.as_slice());
+        assert!(rt; moments == wanted.as_ref().map(|moments| &moments[..]));
+    }
+    Ok(())
+}
+
 fn check(rt: &impl Abort, alloc: Global, net: &Network) -> Result<(), Fail> {
     check_plays(rt, alloc, net)?;
     Ok(check_schedules(rt, alloc, net)?)
@@ -154,5 +179,6 @@ fn check(rt: &impl Abort, alloc: Global, net: &Network) -> Result<(), Fail> {
 #[test]
 fn strategies_play_and_schedules_satisfy(rt: HostRuntime) -> Result<(), Fail> {
     let net = together(rt.alloc())?;
-    check(&rt, rt.alloc(), &net)
+    check(&rt, rt.alloc(), &net)?;
+    Ok(check_late_plays(&rt, rt.alloc(), net)?)
 }

@@ -2,7 +2,7 @@
 #![tactic(auto)]
 
 use edit_script::{Step, read_step};
-use net_model::{Edit, Network, WordFault};
+use net_model::{Edit, MOST_DELAY, Network, Weight, WordFault};
 use plan_format::PlanReader;
 use std::alloc::Global;
 use std::test::Fail;
@@ -13,6 +13,17 @@ pub fn network(alloc: Global, lines: &str) -> Result<Network, Fail> {
     let mut reader = PlanReader::new(alloc);
     read_lines(&mut reader, lines)?;
     Ok(reader.build(alloc)?)
+}
+
+/// The same with a delay. It fails besides where that is below 0 or above `MOST_DELAY`.
+pub fn network_with_delay(alloc: Global, lines: &str, delay: Weight) -> Result<Network, Fail> {
+    let mut reader = PlanReader::new(alloc);
+    read_lines(&mut reader, lines)?;
+    let net = reader.build(alloc)?;
+    if delay < 0 || delay > Weight::from(MOST_DELAY) {
+        return Err(Fail::from("no such delay"));
+    }
+    Ok(net.with_delay(delay))
 }
 
 fn read_lines(reader: &mut PlanReader, lines: &str) -> Result<(), WordFault> {

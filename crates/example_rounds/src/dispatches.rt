@@ -12,7 +12,7 @@ use std::process::Abort;
 use std::test::Fail;
 use std::thread::Threads;
 
-/// The dispatchable network of the closure of a network, if its table has an order.
+/// The dispatchable network of the closure of a network without a delay, if its table has an order.
 fn dispatch<R: Threads + Sync>(
     rt: &R,
     alloc: Global,
@@ -20,6 +20,9 @@ fn dispatch<R: Threads + Sync>(
 ) -> Result<Option<Dispatch>, Fail>
     ensures { IfOk result (λ found. IfSome found (λ dispatch. length dispatch.kept ≡ length net.now.points)) }
 {
+    if net.delay() != 0 {
+        return Err(Fail::from("a delay"));
+    }
     let mut store = Plain::of(alloc, net)?;
     let _points = net.points();
     let Outcome::Closed { rounds: _, order } = propagate(rt, alloc, net, &mut store, 1, &NoGate)?

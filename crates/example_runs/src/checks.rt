@@ -127,8 +127,8 @@ fn expect_too_many_points<R: Abort + AllocGlobal + Threads + Sync>(
     rt: &R,
     words: &Vec<String>,
 ) -> Result<(), AllocError> {
-    let plan = plan_of_points(rt.alloc(), 1_001)?;
-    expect_check(rt, words, plan.as_str(), "error limit 1002 points", 4)
+    let plan = plan_of_points(rt.alloc(), 2_001)?;
+    expect_check(rt, words, plan.as_str(), "error limit 2002 points", 4)
 }
 
 fn try_row<R: Abort + AllocGlobal + Threads + Sync>(

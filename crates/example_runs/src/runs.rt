@@ -17,6 +17,25 @@ stnu judge => stnu 1|point A|point C|point D|bound b1 D C 1|bound b2 C D -1|link
 stnu judge => stnu 1|point A|point C|point D|bound b1 D C 1|bound b2 C D -1|link A 3 8 C|end|certificate 1|refutation|bound b1 D C 1|bound b2 C D -1|link C C A -8|low C 2 A D 3|up 1 3 D A C -7|drop 5 D A -3|no 4 6 A A 0|walk 7|end| => refused 8 walk-not-negative 0| => 1
 stnu judge => stnu 1|point A|point C|point D|bound b1 D C 1|bound b2 C D -1|link A 3 8 C|end|certificate 1|refutation|bound b1 D C 1|bound b2 C D -1|link C C A -8|low C 2 A D 2|up 1 3 D A C -7|drop 5 D A -3|no 4 7 A A -1|walk 7|end| => refused 7 premise| => 1
 stnu judge => stnu 1|end|certificate 1|refutation|end| => refused 1 walk-broken| => 1
+stnu strong => stnu 1|point A|point B|bound b1 A B 5|bound b2 B A -2|end| => strongly controllable|time A 0|time B 2| => 0
+stnu strong => stnu 1|point A|point C|point D|bound b1 D C 4|link A 3 8 C|end| => strongly controllable|time A 0|time D 4| => 0
+stnu strong => stnu 1|point A|point C|point D|bound e1 C D 0|bound e2 D C 0|link A 3 8 C|end| => not strongly controllable|strong 1|by e1 A D 3|by e2 D A -8|end| => 1
+stnu strong => stnu 2|delay 5|point A|point C|point D|bound e1 C D 0|bound e2 D C 0|link A 3 8 C|end| => not strongly controllable|strong 1|by e1 A D 3|by e2 D A -8|end| => 1
+stnu strong => stnu 1|point A|point B|link A 1 2 B|link B 1 2 A|end| => not strongly controllable|strong 1|ring A|ring B|end| => 1
+stnu strong => stnu 1|end| => strongly controllable| => 0
+stnu strong --json => {\"stnu\":1,\"points\":[\"A\",\"B\"],\"bounds\":[|{\"name\":\"b1\",\"from\":\"A\",\"to\":\"B\",\"most\":3},{\"name\":\"b2\",\"from\":\"B\",\"to\":\"A\",\"most\":-5}]}|end| => not strongly controllable|strong 1|by b1 A B 3|by b2 B A -5|end| => 1
+stnu strong => stnu 1|point A|point A|end| => error plan 3 duplicate-name| => 3
+stnu strong --workers 2 => stnu 1|point A|point B|bound b1 A B 5|bound b2 B A -2|end| => error words| => 2
+stnu strong --delay 0 => stnu 1|point A|point B|bound b1 A B 5|bound b2 B A -2|end| => error words| => 2
+stnu judge --strong => stnu 1|point A|point C|point D|bound e1 C D 0|bound e2 D C 0|link A 3 8 C|end|strong 1|by e1 A D 3|by e2 D A -8|end| => accepted not strongly controllable| => 0
+stnu judge --strong => stnu 2|delay 5|point A|point C|point D|bound e1 C D 0|bound e2 D C 0|link A 3 8 C|end|strong 1|by e1 A D 3|by e2 D A -8|end| => accepted not strongly controllable| => 0
+stnu judge --strong => stnu 1|point A|point C|point D|bound e1 C D 0|bound e2 D C 0|link A 3 8 C|end|strong 1|by e1 A D 2|by e2 D A -8|end| => refused 1 too-low 2 3| => 1
+stnu judge --strong => stnu 1|point A|point C|point D|bound e1 C D 0|bound e2 D C 0|link A 3 8 C|end|strong 1|end| => refused 1 walk-broken| => 1
+stnu judge --strong => stnu 1|point A|point C|point D|bound e1 C D 0|bound e2 D C 0|link A 3 8 C|end|strong 1|by e1 A D 3|ring C|end| => error format 11 unknown-word| => 3
+stnu judge --strong => stnu 1|point A|point C|point D|bound e1 C D 0|bound e2 D C 0|link A 3 8 C|end|certificate 1|refutation|end| => error format 9 no-header| => 3
+stnu judge --strong => stnu 1|point A|point C|point D|bound e1 C D 0|bound e2 D C 0|link A 3 8 C|end| => error format 9 no-header| => 3
+stnu judge => stnu 1|point A|point C|point D|bound e1 C D 0|bound e2 D C 0|link A 3 8 C|end|strong 1|by e1 A D 3|by e2 D A -8|end| => error format 9 no-header| => 3
+stnu judge --strong --delay 0 => stnu 1|point A|point C|point D|bound e1 C D 0|bound e2 D C 0|link A 3 8 C|end|strong 1|by e1 A D 3|by e2 D A -8|end| => error words| => 2
 stnu judge => stnu 1|point A|point B|bound b1 A B 5|bound b2 B A -2|end|certificate 1|table|order A|order B|edge A A 3|edge B A -2|edge A B 5|end| => accepted controllable| => 0
 stnu judge => stnu 1|point A|point B|bound b1 A B 5|bound b2 B A -2|end|certificate 1|table|order A|order B|edge B A -2|edge A B 5|end| => refused 3 not-closed| => 1
 stnu judge => stnu 1|point A|point B|bound b1 A B 5|bound b2 B A -2|end|certificate 1|table|order B|order A|edge A A 3|edge B A -2|edge A B 5|end| => refused 4 order-broken| => 1
@@ -86,7 +105,25 @@ stnu judge => stnu 1|point A|bound b A A -1|end|certificate 1|refutation|no 0 1 
 stnu judge => stnu 1|point A|bound b A A -1|end|certificate 1|refutation|no -1 1 A A -2|end| => error format 7 bad-number| => 3
 stnu judge => stnu 1|point A|bound b A A -1|end|certificate 1|refutation|end| => refused 1 walk-broken| => 1
 stnu run => stnu 1|point A|point C|point D|bound b1 D C 4|link A 3 8 C|end|at 01| => controllable|due 0|error format 8 bad-number| => 3
-stnu run => stnu 1|point A|point C|point D|bound b1 D C 4|link A 3 8 C|end|at 0 C!| => controllable|due 0|error format 8 bad-name| => 3";
+stnu run => stnu 1|point A|point C|point D|bound b1 D C 4|link A 3 8 C|end|at 0 C!| => controllable|due 0|error format 8 bad-name| => 3
+stnu check --delay 1 => stnu 1|point A|point C|point D|bound e1 C D 0|bound e2 D C 0|link A 3 8 C|end| => not controllable|certificate 1|refutation|bound e1 C D -1|bound e2 D C 1|link C C A -9|up 2 3 D A C -8|low C 1 A D 3|up 5 4 A A C -5|drop 6 A A -4|walk 7|end| => 1
+stnu judge --delay 1 => stnu 1|point A|point C|point D|bound e1 C D 0|bound e2 D C 0|link A 3 8 C|end|certificate 1|refutation|bound e1 C D -1|bound e2 D C 1|link C C A -9|up 2 3 D A C -8|low C 1 A D 3|up 5 4 A A C -5|drop 6 A A -4|walk 7|end| => accepted not controllable| => 0
+stnu judge => stnu 1|point A|point C|point D|bound e1 C D 0|bound e2 D C 0|link A 3 8 C|end|certificate 1|refutation|bound e1 C D -1|bound e2 D C 1|link C C A -9|up 2 3 D A C -8|low C 1 A D 3|up 5 4 A A C -5|drop 6 A A -4|walk 7|end| => refused 1 too-low -1 0| => 1
+stnu run --delay 1 => stnu 1|point A|point C|point D|bound b1 D C 4|link A 3 8 C|end|at 0|at 4 C|done| => controllable|due 0|act 0 A|due 4|act 4 D|due none|complete| => 0
+stnu run --delay=1 --workers 2 => stnu 1|point A|point C|point D|bound b1 D C 4|link A 3 8 C|end|at 0|at 3 C| => controllable|due 0|act 0 A|due 4|error event 9 too-soon C 4| => 7
+stnu run --delay 1 => stnu 1|point A|point C|point D|bound b1 D C 4|link A 3 8 C|end|at 0|at 9| => controllable|due 0|act 0 A|due 4|error event 9 overdue C 9| => 7
+stnu play shortest --delay 1 => stnu 1|point A|point C|point D|bound b1 D C 4|link A 3 8 C|end| => controllable|time A 0|time C 3|time D 4| => 0
+stnu play longest --delay 1 => stnu 1|point A|point C|point D|bound b1 D C 4|link A 3 8 C|end| => controllable|time A 0|time C 8|time D 4| => 0
+stnu session --delay 1 => stnu 1|point A|point C|point D|bound b1 D C 4|end|add link A 3 8 C|report|table|proof|plan|end| => ready|ok|report 0 1 2|after D A 4|wait D C 4|table end|certificate 1|table|order A|order C|order D|edge A A 0|edge C A -4|upper C C -9|edge D A -4|upper D C -4|edge D C 5|end|stnu 2|delay 1|point A|point C|point D|bound b1 D C 4|link A 3 8 C|end| => 0
+stnu session --delay 1000000 => stnu 1|end|verdict|end| => ready|controllable| => 0
+stnu check --delay 1000001 => stnu 1|end| => error words| => 2
+stnu check --delay -1 => stnu 1|end| => error words| => 2
+stnu check --delay 01 => stnu 1|end| => error words| => 2
+stnu check --delay= => stnu 1|end| => error words| => 2
+stnu check --delay => stnu 1|end| => error words| => 2
+stnu check --delay 1 --delay 1 => stnu 1|end| => error words| => 2
+stnu show --delay 0 => stnu 1|end| => error words| => 2
+stnu forge 7 2 --delay 0 =>  => error words| => 2";
 
 /// Rows: how many bytes a take gives at most, where that is above 0, which take and which put fails; and then as above.
 const FAILING_CALLS: &str = "0 2 0 => stnu judge => stnu 1|point A| => error read| => 5

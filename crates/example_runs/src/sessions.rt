@@ -21,8 +21,8 @@ stnu session => stnu 1|point A|point C|point D|bound b1 D C 4|link A 3 8 C|end|t
 stnu session => stnu 1|point A|point B|point C|bound b1 B A -2|bound b2 C B -3|bound b3 C A -4|end|table|go|at 0|at 4|done| => ready|after B A 2|after C A 4|after C B 3|table end|controllable|due 0|act 0 A|due 2|act 2 B|due 5|act 5 C|complete| => 0
 stnu session => stnu 1|point A|point C|point D|bound b1 D C 4|link A 3 8 C|end|verdict|proof|report|# a remark||end| => ready|controllable|certificate 1|table|order A|order C|order D|edge A A 0|edge C A -3|upper C C -8|edge D A -3|upper D C -4|edge D C 4|end|report none| => 0
 stnu session => stnu 1|point A|point C|point D|bound b1 D C 1|bound b2 C D -1|link A 3 8 C|end|table|go|end| => ready|not controllable|not controllable| => 0
-stnu session => stnu 1|point A|point C|point D|bound b1 D C 4|link A 3 8 C|end|add point E|add bound b2 E D -5|set bound b1 6|set link C 2 9|drop bound b2|add bound b3 E A 0|plan|end| => ready|ok|ok|ok|ok|ok|ok|stnu 1|point A|point C|point D|point E|bound b1 D C 6|bound b3 E A 0|link A 2 9 C|end| => 0
-stnu session => stnu 1|end|add point A|report|drop point A|plan|verdict|table|end| => ready|ok|report 0 0 1|ok|stnu 1|end|controllable|table end| => 0
+stnu session => stnu 1|point A|point C|point D|bound b1 D C 4|link A 3 8 C|end|add point E|add bound b2 E D -5|set bound b1 6|set link C 2 9|drop bound b2|add bound b3 E A 0|plan|end| => ready|ok|ok|ok|ok|ok|ok|stnu 2|point A|point C|point D|point E|bound b1 D C 6|bound b3 E A 0|link A 2 9 C|end| => 0
+stnu session => stnu 1|end|add point A|report|drop point A|plan|verdict|table|end| => ready|ok|report 0 0 1|ok|stnu 2|end|controllable|table end| => 0
 stnu session => stnu 1|point A|point C|point D|bound b1 D C 4|link A 3 8 C|end|add point A|drop point Q|add bound b1 A D 0|add bound b2 A Q 0|drop bound b2|set bound b2 1|add link D 1 2 C|add link D 1 2 D|add link D 0 2 A|set link C 3 2|set link D 1 2|drop link A|drop point A|report|verdict|end| => ready|refused duplicate-name|refused unknown-name|refused duplicate-name|refused unknown-name|refused unknown-name|refused unknown-name|refused two-links-on-point|refused link-to-itself|refused bad-interval|refused bad-interval|refused unknown-name|refused unknown-name|refused still-used link C|report none|controllable| => 0
 stnu session => stnu 1|point A|end|frob|end| => ready|error format 4 unknown-word| => 3
 stnu session => stnu 1|point A|end|verdict|set point A| => ready|controllable|error format 5 unknown-word| => 3
@@ -38,7 +38,10 @@ stnu session => stnu 1|point A => error format 3 no-end| => 3
 stnu session => stnu 1|point A|point C|point D|bound b1 D C 4|link A 3 8 C|end|go|at 0|at 9| => ready|controllable|due 0|act 0 A|due 4|error event 10 overdue C 8| => 7
 stnu session => stnu 1|point A|point C|point D|bound b1 D C 4|link A 3 8 C|end|go|end| => ready|controllable|due 0|error format 9 unknown-word| => 3
 stnu session => stnu 1|point A|point C|point D|bound b1 D C 4|link A 3 8 C|end|go => ready|controllable|due 0|error format 9 no-end| => 3
-stnu session --json => {\"stnu\":1,\"points\":[\"A\"]}|end|verdict|plan|end| => ready|controllable|stnu 1|point A|end| => 0
+stnu session --json => {\"stnu\":1,\"points\":[\"A\"]}|end|verdict|plan|end| => ready|controllable|stnu 2|point A|end| => 0
+stnu session => stnu 2|delay 1|end|add point A|plan|add between w A 1 2 A| => ready|ok|stnu 2|delay 1|point A|end|error format 6 unknown-word| => 3
+stnu session --delay 3 => stnu 1|point A|end|plan|end| => ready|stnu 2|delay 3|point A|end| => 0
+stnu session --delay=3 => stnu 2|delay 1|point A|end|plan|end| => ready|stnu 2|delay 3|point A|end| => 0
 stnu session --workers=0 => stnu 1|end|end| => error words| => 2
 stnu session now => stnu 1|end|end| => error words| => 2";
 

@@ -5,8 +5,8 @@ ghost use Rattle.std.specs.Prelude.{◌≡◌, ◌<◌, length};
 use cert_format::print_certificate;
 use dispatch_net::Dispatch;
 use edit_script::{Step, read_step};
-use example_plans::network;
-use net_model::{Edit, LinkId, Name, Network, PointId};
+use example_plans::network_with_delay;
+use net_model::{Edit, LinkId, Name, Network, PointId, Weight};
 use parallel_rounds::NoGate;
 use plan_session::{Session, SessionFault, Verdict};
 use std::alloc::Global;
@@ -56,6 +56,35 @@ const SESSIONS: [(&str, &str, &str); 7] = [
     ),
 ];
 
+/// The same of plans with a delay: a link that makes its point contingent, and so the bound beside it another; a loop that only the delay
+/// makes; a link that is set, and the session reopened; and a link that is dropped, by which that from its point gains the delay.
+const DELAYED: [(Weight, &str, &str, &str); 4] = [
+    (
+        1,
+        "point A|point C|point D|bound b1 D C 4",
+        "add link A 3 8 C|table|verdict|drop link C|verdict",
+        "ok 0 1 2|after D A 4|wait D C 4|table end|controllable|ok 0 6 1|controllable|",
+    ),
+    (
+        1,
+        "point A|point C|point D|bound e1 C D 0|bound e2 D C 0|link A 3 8 C",
+        "verdict|proof|drop link C|verdict|reopen|verdict|add link A 3 8 C|proof",
+        "not controllable|certificate 1|refutation|bound e1 C D -1|bound e2 D C 1|link C C A -9|up 2 3 D A C -8|low C 1 A D 3|up 5 4 A A C -5|drop 6 A A -4|walk 7|end|ok 0 11 1|controllable|reopened|controllable|ok 0 2 2|certificate 1|refutation|bound e1 C D -1|bound e2 D C 1|link C C A -9|up 2 3 D A C -8|low C 1 A D 3|up 5 4 A A C -5|drop 6 A A -4|walk 7|end|",
+    ),
+    (
+        1,
+        "point A|point C|point D|bound b1 D C 4|link A 3 8 C",
+        "table|set link C 3 9|table|reopen|table|proof",
+        "after D A 4|wait D C 4|table end|ok 1 5 2|after D A 4|wait D C 5|table end|reopened|after D A 4|wait D C 5|table end|certificate 1|table|order A|order C|order D|edge A A 0|edge C A -4|upper C C -10|edge D A -4|upper D C -5|edge D C 5|end|",
+    ),
+    (
+        2,
+        "point A|point C|point D|point E|bound e1 C E 3|bound e2 E D 0|link A 2 4 C|link C 1 2 D",
+        "proof|drop link C|verdict|proof|add link A 2 4 C|reopen|proof",
+        "certificate 1|table|order A|order C|order D|order E|edge A A 0|edge C A -4|upper C C -6|edge D A -4|upper D C -6|edge E A -4|upper E C -6|edge C C 0|edge D C -1|upper D D -2|edge E C 0|upper E D 0|edge E D 2|edge C E 1|end|ok 1 13 2|controllable|certificate 1|table|order A|order C|order D|order E|edge C C 0|upper C D 1|edge D C -3|upper D D -4|edge E C -2|upper E D -2|edge E D 2|edge C E 3|end|ok 1 7 3|reopened|certificate 1|table|order A|order C|order D|order E|edge A A 0|edge C A -4|upper C C -6|edge D A -4|upper D C -6|edge E A -4|upper E C -6|edge C C 0|edge D C -1|upper D D -2|edge E C 0|upper E D 0|edge E D 2|edge C E 1|end|",
+    ),
+];
+
 #[test]
 fn sessions_answer(rt: HostRuntime) -> Result<(), Fail> {
     for workers in [1, 2, 7, 64] {
@@ -70,33 +99,47 @@ fn try_sessions<R: Abort + Threads + Sync>(
     workers: u32,
 ) -> Result<(), Fail> {
     for (plan, lines, expected) in SESSIONS {
-        let text = answers(rt, alloc, plan, lines, workers)?;
+        let text = answers(rt, alloc, plan, 0, lines, workers)?;
         assert_eq!(rt; text.as_str(), expected, "{plan}: {lines}");
+    }
+    for (delay, plan, lines, expected) in DELAYED {
+        let text = answers(rt, alloc, plan, delay, lines, workers)?;
+        assert_eq!(rt; text.as_str(), expected, "{delay} {plan}: {lines}");
     }
     Ok(())
 }
 
-/// The answers of a session of a plan to lines.
-fn answers<R: Threads + Sync>(
+/// The answers of a session of a plan with a delay to lines.
+fn answers<R: Abort + Threads + Sync>(
     rt: &R,
     alloc: Global,
     plan: &str,
+    delay: Weight,
     lines: &str,
     workers: u32,
 ) -> Result<String, Fail> {
     let mut text = String::new(alloc);
-    let mut session = open(rt, alloc, plan, workers)?;
+    let mut session = open(rt, alloc, network_with_delay(alloc, plan, delay)?, workers)?;
     answer_all(rt, alloc, &mut session, lines, &mut text)?;
+    see_delays(rt, session, delay);
     Ok(text)
+}
+
+/// The network keeps its delay, and its shown form has none.
+fn see_delays(rt: &impl Abort, session: Session, delay: Weight) {
+    assert!(rt; session.network().delay() == delay);
+    assert!(rt; session.shown().delay() == 0);
+    let (stated, shown) = session.into_networks();
+    assert!(rt; stated.delay() == delay);
+    assert!(rt; shown.delay() == 0);
 }
 
 fn open<R: Threads + Sync>(
     rt: &R,
     alloc: Global,
-    plan: &str,
+    net: Network,
     workers: u32,
 ) -> Result<Session, Fail> {
-    let net = network(alloc, plan)?;
     if workers < 1 || workers > 64 {
         return Err(Fail::from("no such workers"));
     }
@@ -190,7 +233,7 @@ fn push_table(alloc: Global, session: &Session, text: &mut String) -> Result<(),
     match session.verdict() {
         Verdict::Controllable => {
             let dispatch = session.dispatch(alloc)?;
-            push_points(alloc, session.network(), &dispatch, text)
+            push_points(alloc, session.shown(), &dispatch, text)
         }
         verdict => push_line(text, verdict_word(verdict)),
     }

@@ -1,10 +1,15 @@
+ghost use Rattle.std.specs.Prelude.{◌≡◌, ◌⊎◌};
+
 use crate::rows::{cells, feed};
-use plan_format::{PlanLine, PlanReader, PlanSection, print_plan, read_plan, read_plan_line};
+use plan_format::{
+    PlanLine, PlanReader, PlanSection, PlanStage, PlanVersion, print_plan, read_plan,
+    read_plan_line,
+};
 use std::alloc::{AllocError, Global};
 use std::process::Abort;
 use std::test::Fail;
 
-/// Lines that are read alone, and what each is.
+/// Lines that are read alone in version 1, and what each is.
 const LINES: &str = "\
 \t\r => blank
   #point A => blank
@@ -25,10 +30,12 @@ Point A => unknown-word
 poin A => unknown-word
 ends => unknown-word
 delay 1 => unknown-word
+between b A 1 2 A => unknown-word
 certificate 1 => unknown-word
 \x0bpoint A => unknown-word
 stnu => unknown-word
-stnu 2 => unknown-word
+stnu 2 => header
+stnu 3 => unknown-word
 stnu 01 => unknown-word
 stnu 1 x => unknown-word
 point a! => bad-name
@@ -48,32 +55,74 @@ bound b A B 99999999999999999999999999999999999999999999999999999999999999999999
 link A 1000000001 5 9B => number-limit
 link A 5 -1000000001 9B => number-limit";
 
+/// Lines that are read alone in version 2, and what each is.
+const SECOND: &str = "\
+stnu 1 => header
+stnu 2 => header
+stnu 3 => unknown-word
+point A => part
+end => end
+delay 0 => delay
+delay 1000000 => delay
+between b A -1000000000 1000000000 A => between
+between aaaaaaaaaaaaaaaaaaaaaaaaaaaa A 2 1 B => between
+delay => word-count
+delay 1 2 => word-count
+between b A 1 2 => word-count
+between 9 9 9 9 9 9 => word-count
+delays 1 => unknown-word
+betwee b A 1 2 B => unknown-word
+between aaaaaaaaaaaaaaaaaaaaaaaaaaaaa A 1 2 B => bad-name
+between aaaaaaaaaaaaaaaaaaaaaaaaaaaaa 9 01 2 B => bad-name
+between b 9 1000000001 2 B => bad-name
+between b A 1 2 9 => bad-name
+delay -1 => bad-number
+delay -0 => bad-number
+delay 01 => bad-number
+delay A => bad-number
+between b A 1 - 9 => bad-number
+delay 1000001 => number-limit
+delay 99999999999999999999999999999999999999999999999 => number-limit
+between b A -1000000001 - 9 => number-limit
+between b A 1 1000000001 9 => number-limit";
+
 /// What a line is, or its fault.
-fn shown_line(alloc: Global, line: &str) -> Result<String, AllocError> {
-    match read_plan_line(line.as_bytes()) {
+fn shown_line(alloc: Global, line: &str, version: u32) -> Result<String, AllocError>
+    requires { (version ≡ 1) ⊎ (version ≡ 2) }
+{
+    match read_plan_line(line.as_bytes(), version) {
         Ok(PlanLine::Blank) => "blank".to_string(alloc),
-        Ok(PlanLine::Header) => "header".to_string(alloc),
+        Ok(PlanLine::Header(_)) => "header".to_string(alloc),
         Ok(PlanLine::Part(_)) => "part".to_string(alloc),
+        Ok(PlanLine::Delay(_)) => "delay".to_string(alloc),
+        Ok(PlanLine::Between(_, _, _, _, _)) => "between".to_string(alloc),
         Ok(PlanLine::End) => "end".to_string(alloc),
         Err(fault) => fault.to_string(alloc),
     }
 }
 
-#[test]
-fn lines(rt: HostRuntime) -> Result<(), Fail> {
-    for row in LINES.split('\n') {
+fn are_lines<R: Abort>(rt: &R, alloc: Global, rows: &str, version: u32) -> Result<(), Fail>
+    requires { (version ≡ 1) ⊎ (version ≡ 2) }
+{
+    for row in rows.split('\n') {
         let (line, answer) = cells(row).ok_or("a row")?;
-        let shown = shown_line(rt.alloc(), line)?;
+        let shown = shown_line(alloc, line, version)?;
         assert_eq!(rt; shown.as_str(), answer, "{line}");
     }
     Ok(())
 }
 
+#[test]
+fn lines(rt: HostRuntime) -> Result<(), Fail> {
+    are_lines(&rt, rt.alloc(), LINES, 1)?;
+    are_lines(&rt, rt.alloc(), SECOND, 2)
+}
+
 /// Plan texts, and what is printed of the network that each declares, or the fault.
 const PLANS: &str = "\
-stnu 1|end => stnu 1|end|
-#| stnu 1|point\tA1|point C1|link A1 1 3 C1|bound b1 C1 A1 -2|point A2|bound end A2 A1 1000000000|end|foo => stnu 1|point A1|point C1|point A2|bound b1 C1 A1 -2|bound end A2 A1 1000000000|link A1 1 3 C1|end|
-stnu 1|point A|point B|bound b A B 0|bound A B B 5|end => stnu 1|point A|point B|bound b A B 0|bound A B B 5|end|
+stnu 1|end => stnu 2|end|
+#| stnu 1|point\tA1|point C1|link A1 1 3 C1|bound b1 C1 A1 -2|point A2|bound end A2 A1 1000000000|end|foo => stnu 2|point A1|point C1|point A2|bound b1 C1 A1 -2|bound end A2 A1 1000000000|link A1 1 3 C1|end|
+stnu 1|point A|point B|bound b A B 0|bound A B B 5|end => stnu 2|point A|point B|bound b A B 0|bound A B B 5|end|
 point A|end => no-header in line 1
 |#|end => no-header in line 3
 stnu 1 x|end => no-header in line 1
@@ -95,7 +144,27 @@ stnu 1|point A|link X 1 2 A|end => unknown-name in line 3
 stnu 1|point A|link A 1 2 A|end => link-to-itself in line 3
 stnu 1|point A|point B|point C|link A 1 2 B|# x|link C 0 2 B|end => two-links-on-point in line 7
 stnu 1|point A|point B|link A 0 4 B|end => bad-interval in line 4
-stnu 1|point A|point B|link A 3 2 B|end => bad-interval in line 4";
+stnu 1|point A|point B|link A 3 2 B|end => bad-interval in line 4
+stnu 2|end => stnu 2|end|
+stnu 2||delay 0|# x|end => stnu 2|end|
+stnu 2|delay 1|point A|point B|between w A 2 5 B|end => stnu 2|delay 1|point A|point B|bound w.max A B 5|bound w.min B A -2|end|
+stnu 2|#|delay 1000000|end => stnu 2|delay 1000000|end|
+stnu 2|point A|point B|between w A 5 -2 B|link A 1 2 B|end => stnu 2|point A|point B|bound w.max A B -2|bound w.min B A -5|link A 1 2 B|end|
+stnu 1|delay 1|end => unknown-word in line 2
+stnu 1|between|end => unknown-word in line 2
+stnu 2|delay|end => word-count in line 2
+stnu 2|delay 1000001|end => number-limit in line 2
+stnu 2|delay 1|delay 1|end => unknown-word in line 3
+stnu 2|delay 1||delay|end => unknown-word in line 4
+stnu 2|point A|delay 1|end => unknown-word in line 3
+stnu 2|point A|point A|between w A 1 2|end => word-count in line 4
+delay 1|stnu 2|end => no-header in line 1
+stnu 3|end => no-header in line 1
+stnu 2|stnu 2|end => unknown-word in line 2
+stnu 2|delay 1 => no-end in line 3
+stnu 2|point A|bound w.max A A 1|between w A 0 0 A|end => duplicate-name in line 4
+stnu 2|point A|bound w.min A A 1|between w A 0 0 A|end => duplicate-name in line 4
+stnu 2|point A|between w A 0 0 X|end => unknown-name in line 3";
 
 /// The plan text of the network that was read, with `|` for each line end, or why there is none.
 fn declared(alloc: Global, reader: &PlanReader) -> Result<Vec<u8>, AllocError> {
@@ -136,7 +205,7 @@ fn plans(rt: HostRuntime) -> Result<(), Fail> {
     Ok(())
 }
 
-/// Whole texts: their fault, or the lines of their parts and the bytes that were used.
+/// Whole texts: their fault, or the lines of their parts, the bytes that were used and the delay.
 const TEXTS: &str = "\
 | => no-header in line 2
  => no-header in line 1
@@ -145,9 +214,10 @@ stnu 1 => no-end in line 2
 stnu 1| => no-end in line 2
 stnu 1|| => no-end in line 3
 stnu 1|point A|end x => word-count in line 3
-stnu 1|end => [] 10
-stnu 1|end|foo => [] 11
-stnu 1\r||point A\r|# x|point B|bound A A B 1||link A 1 2 B|  end  \r|foo => [3, 5, 6, 8] 67";
+stnu 1|end => [] 10 0
+stnu 1|end|foo => [] 11 0
+stnu 2|delay 3|point A|point B|between w A 1 2 B|end => [3, 4, 5, 5] 52 3
+stnu 1\r||point A\r|# x|point B|bound A A B 1||link A 1 2 B|  end  \r|foo => [3, 5, 6, 8] 67 0";
 
 /// The text of a row, with its line ends.
 fn with_line_ends(alloc: Global, row: &str) -> Result<Vec<u8>, AllocError> {
@@ -156,13 +226,13 @@ fn with_line_ends(alloc: Global, row: &str) -> Result<Vec<u8>, AllocError> {
     Ok(text)
 }
 
-/// The lines of the parts of a text and the bytes that were used, or the fault.
+/// The lines of the parts of a text, the bytes that were used and the delay, or the fault.
 fn answer_to_whole(alloc: Global, text: &[u8]) -> Result<String, AllocError> {
     if text.len() > 1_000 {
         return Err(AllocError);
     }
     match read_plan(alloc, text) {
-        Ok(read) => format!(in alloc; "{:?} {}", read.lines.as_slice(), read.used),
+        Ok(read) => format!(in alloc; "{:?} {} {}", read.lines.as_slice(), read.used, read.delay),
         Err(fault) => fault.to_string(alloc),
     }
 }
@@ -201,15 +271,18 @@ fn points(alloc: Global, count: u32) -> Result<String, Fail> {
 
 #[test]
 fn largest_plan(rt: HostRuntime) -> Result<(), Fail> {
-    let accepted = points(rt.alloc(), 1_000)?;
-    assert_eq!(rt; accepted.as_str(), "1000");
-    let refused = points(rt.alloc(), 1_001)?;
-    assert_eq!(rt; refused.as_str(), "limit in line 1002");
+    let accepted = points(rt.alloc(), 2_000)?;
+    assert_eq!(rt; accepted.as_str(), "2000");
+    let refused = points(rt.alloc(), 2_001)?;
+    assert_eq!(rt; refused.as_str(), "limit in line 2002");
     Ok(())
 }
 
 fn look_at(rt: &impl Abort, reader: &PlanReader) {
-    assert_eq!(rt; reader.section(), PlanSection::Declarations);
+    assert_eq!(rt;
+        reader.section(),
+        PlanSection::Begun(PlanVersion::One, PlanStage::Going)
+    );
     assert_eq!(rt; reader.parts().len(), 1);
     assert_eq!(rt; reader.lines(), [3].as_slice());
 }

@@ -1,6 +1,7 @@
 -- `check` keeps its promise.
 use Rattle.std.proofs.Common.{◌≡◌, ℕ, Bool, true, false, List, [], ◌++◌, sym, ap, ◌∙◌, true≢false}
 use Rattle.net_model.specs.Network.{Plan}
+use Rattle.net_model.specs.ShownForm.{shown_form}
 use Rattle.cert_format.specs.CertificateWords.{printed_certificate}
 use Rattle.cert_format.specs.declared.certificate.Certificate.{Certificate}
 use Rattle.table_proofs.specs.Certified.{Proves}
@@ -12,7 +13,7 @@ use Rattle.stnu_run.specs.Checking.{PutsYes}
 use Rattle.common_answers.specs.Faults.{refusing}
 use Rattle.plan_inputs.specs.PlanInput.{plan_in}
 use Rattle.stnu_run.specs.declared.checking.CheckFlags.{CheckFlags}
-use Rattle.stnu_run.proofs.DecidedLemmas.{after_line, yes_by, refutes_by}
+use Rattle.command_frame.proofs.DecidedLemmas.{after_line, yes_by, refutes_by}
 
 -- what is put of a controllable network begins with that line
 yes_begins : (proof : Bool) (net : Plan) (put : List ℕ) (end : End) → PutsYes proof net put end → (more : List ℕ) × (put ≡ controllable_line ++ more)
@@ -20,7 +21,7 @@ yes_begins false net put end puts = ([], puts.0)
 yes_begins true net put end (cert, proves, puts) = (printed_certificate cert, puts.0)
 
 -- where a proof is wanted, what stands after that line is the proof
-proof_after : (proof : Bool) (net : Plan) (put : List ℕ) (end : End) → proof ≡ true → PutsYes proof net put end → (more : List ℕ) → put ≡ controllable_line ++ more → (cert : Certificate) × Proves net cert × (more ≡ printed_certificate cert)
+proof_after : (proof : Bool) (net : Plan) (put : List ℕ) (end : End) → proof ≡ true → PutsYes proof net put end → (more : List ℕ) → put ≡ controllable_line ++ more → (cert : Certificate) × Proves (shown_form net) cert × (more ≡ printed_certificate cert)
 proof_after false net put end wanted puts more same = absurd (true≢false (sym wanted))
 proof_after true net put end wanted (cert, proves, puts) more same = (cert, proves, ap after_line (sym same ∙ puts.0))
 

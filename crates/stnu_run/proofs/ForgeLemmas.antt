@@ -1,8 +1,12 @@
 -- What `forge` tells is one.
-use Rattle.std.proofs.Common.{◌≡◌, ℕ, List, ◌++◌, length, Ok, inl, inr, refl, sym, append_assoc, ap, ◌∙◌, subst}
+use Rattle.std.proofs.Common.{◌≡◌, ℕ, List, ◌++◌, length, Result, Ok, IfOk, inl, inr, refl, sym, append_assoc, ap, ◌∙◌, subst}
 use Rattle.std.proofs.lemmas.List.{length-map}
 use Rattle.net_model.specs.Building.{built}
 use Rattle.net_model.specs.Network.{Plan}
+use Rattle.net_model.specs.ShownForm.{shown_form}
+use Rattle.net_model.specs.declared.fault.BuildFault.{BuildFault}
+use Rattle.net_model.proofs.DelayLemmas.{built_delay}
+use Rattle.net_model.proofs.ShownLemmas.{shown_same}
 use Rattle.closure_model.specs.Tables.{edges_of}
 use Rattle.strategy_model.specs.Laws.{AtMostOneEarliest}
 use Rattle.cert_format.specs.declared.certificate.Certificate.{Certificate}
@@ -12,13 +16,13 @@ use Rattle.table_proofs.specs.Proving.{entry_of}
 use Rattle.table_proofs.proofs.LawProofs.{certificates_are_one}
 use Rattle.situation_player.specs.ForgedParts.{forged_parts}
 use Rattle.stnu_run.specs.Forging.{Adds, IsLastMoment, TellsControllable, TellsForged, TellsRefuted, TellsVerdict, controllable_text, counts_text, forge_program, greatest_of, judged_line, refuted_text, size_of}
-use Rattle.stnu_run.specs.Programs.{EachDefinesOne}
+use Rattle.command_frame.specs.Programs.{EachDefinesOne}
 use Rattle.stnu_run.specs.Which.{situation_of}
 use Rattle.stnu_run.specs.declared.forging.ForgeWords.{ForgeWords}
-use Rattle.stnu_run.specs.declared.telling.TellingEnd.{TellingEnd}
-use Rattle.stnu_run.specs.declared.telling.TellingEnd.TheVariants.{Told}
+use Rattle.command_frame.specs.declared.telling.TellingEnd.{TellingEnd}
+use Rattle.command_frame.specs.declared.telling.TellingEnd.TheVariants.{Told}
 use Rattle.stnu_run.specs.declared.which.Which.TheVariants.{Longest}
-use Rattle.stnu_run.proofs.ProgramLemmas.{told_defines_one}
+use Rattle.command_frame.proofs.ProgramLemmas.{told_defines_one}
 
 -- ---- what is put, text after text
 
@@ -43,13 +47,19 @@ told_controllable net cert last before after proves is_last puts =
     let text : ℕ → List ℕ = λ entries. controllable_text entries last ++ judged_line (judgement_of net cert) in
     (text (size_of cert), puts, record { cert = cert; proves = proves; last = last; is_last = is_last; is = ap text (entries_are net cert proves); told = refl })
 
--- where the verdict of a network that is forged is put after what it has, that is told
+-- a network that is forged has no delay
+no_delay : (words : ForgeWords) (net : Plan) → built (forged_parts words.number words.tasks) ≡ Ok net → net.delay ≡ 0
+no_delay words net forged = subst (λ (made : Result Plan BuildFault). IfOk made (λ n. n.delay ≡ 0)) forged (built_delay (forged_parts words.number words.tasks))
+
+-- where the verdict of the shown form of a network that is forged, which is the network itself, is put after what it has, that is told
 pub told_forged : (words : ForgeWords) (net same : Plan) (counted put : List ℕ) (end : TellingEnd) → built (forged_parts words.number words.tasks) ≡ Ok net → same ≡ net → counted ≡ counts_text net
-    → Adds (λ more. TellsVerdict same more end) counted put → TellsForged words put end
+    → Adds (λ more. TellsVerdict (shown_form same) more end) counted put → TellsForged words put end
 told_forged words net same counted put end forged is counts puts = record {
   net = net;
   forged = forged;
-  verdict = subst (λ (n : Plan). Adds (λ more. TellsVerdict n more end) (counts_text net) put) is (subst (λ (text : List ℕ). Adds (λ more. TellsVerdict same more end) text put) counts puts);
+  verdict =
+      subst (λ (n : Plan). Adds (λ more. TellsVerdict n more end) (counts_text net) put) (ap shown_form is ∙ shown_same net (no_delay words net forged))
+      (subst (λ (text : List ℕ). Adds (λ more. TellsVerdict (shown_form same) more end) text put) counts puts);
 }
 
 -- ---- what is told is one

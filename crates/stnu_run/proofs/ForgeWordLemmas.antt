@@ -6,15 +6,15 @@ use Rattle.situation_player.specs.ForgedParts.{most_tasks}
 use Rattle.command_words.specs.Arguments.{operand_texts}
 use Rattle.command_words.specs.Spelling.{Use}
 use Rattle.command_words.specs.Syntax.{Text}
-use Rattle.stnu_run.specs.Counts.{count_within, number_within}
+use Rattle.command_frame.specs.Counts.{count_within, number_within}
 use Rattle.stnu_run.specs.Forging.{forge_asked, forge_syntax, forge_words, most_number, number_given, tasks_given}
-use Rattle.stnu_run.specs.Requests.{asked_by}
+use Rattle.command_frame.specs.Requests.{asked_by}
 use Rattle.stnu_run.specs.WordLaws.{SayForge}
-use Rattle.stnu_run.specs.Workers.{WorkersDecideNothing}
+use Rattle.command_frame.specs.Workers.{WorkersDecideNothing}
 use Rattle.stnu_run.specs.declared.forging.ForgeWords.{ForgeWords}
-use Rattle.stnu_run.proofs.CountLemmas.{count_is, count_read, number_is, number_read}
-use Rattle.stnu_run.proofs.OperandLemmas.{two_texts}
-use Rattle.stnu_run.proofs.WorkersLemmas.{decide_nothing_said, said_by_uses}
+use Rattle.command_frame.proofs.CountLemmas.{count_is, count_read, number_is, number_read}
+use Rattle.command_frame.proofs.OperandLemmas.{two_texts}
+use Rattle.command_frame.proofs.WorkersLemmas.{decide_nothing_said, said_by_uses}
 
 small_number : most_number < 2 ^ 64
 small_number = lit< tt

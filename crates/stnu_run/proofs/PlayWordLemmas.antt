@@ -7,23 +7,23 @@ use Rattle.std.specs.Str.{bytes_eq}
 use Rattle.std.proofs.Common.{lit<}
 use Rattle.std.proofs.lemmas.Slice.Eq.{bytes_eq-Decides}
 use Rattle.net_model.specs.Numbers.{natural_of}
-use Rattle.command_words.specs.Arguments.{is_given, operand_texts}
+use Rattle.command_words.specs.Arguments.{operand_texts}
 use Rattle.command_words.specs.Spelling.{Use}
 use Rattle.command_words.specs.Syntax.{Text}
-use Rattle.stnu_run.specs.Counts.{number_within}
-use Rattle.plan_inputs.specs.PlanInput.{form_by, json_name}
-use Rattle.stnu_run.specs.Playing.{play_asked, play_syntax}
-use Rattle.stnu_run.specs.Requests.{asked_by}
+use Rattle.command_frame.specs.Counts.{number_within}
+use Rattle.stnu_run.specs.Playing.{play_asked, play_syntax, play_words}
+use Rattle.command_frame.specs.Requests.{asked_by}
 use Rattle.stnu_run.specs.Which.{CanBeNamed, most_situation, which_given, which_of, which_word}
 use Rattle.stnu_run.specs.WordLaws.{SayPlay}
-use Rattle.stnu_run.specs.Workers.{WorkersDecideNothing}
+use Rattle.command_frame.specs.Workers.{WorkersDecideNothing}
 use Rattle.plan_inputs.specs.declared.plan_input.PlanForm.{PlanForm}
 use Rattle.stnu_run.specs.declared.playing.PlayWords.{PlayWords}
 use Rattle.stnu_run.specs.declared.which.Which.{Which}
 use Rattle.stnu_run.specs.declared.which.Which.TheVariants.{Longest, Shortest, Numbered}
-use Rattle.stnu_run.proofs.CountLemmas.{number_is, number_read}
-use Rattle.stnu_run.proofs.OperandLemmas.{one_text}
-use Rattle.stnu_run.proofs.WorkersLemmas.{decide_nothing_said, said_by_uses}
+use Rattle.command_frame.proofs.CountLemmas.{number_is, number_read}
+use Rattle.command_frame.proofs.FormWordLemmas.{form_said, said_form, same_form, says_form}
+use Rattle.command_frame.proofs.OperandLemmas.{one_text}
+use Rattle.command_frame.proofs.WorkersLemmas.{decide_nothing_said, said_by_uses}
 
 small : most_situation < 2 ^ 64
 small = lit< tt
@@ -82,25 +82,24 @@ is_named (Numbered number) can =
 
 -- ---- the words of `play`
 
-abbrev with_form : PlanForm → Option Which → Option PlayWords
-with_form form which = option_map (λ w. record { form = form; which = w }) which
-
 abbrev said_words : List Use → Option PlayWords
-said_words uses = with_form (form_by (is_given json_name uses)) (which_given (slice_get (operand_texts uses) 0))
+said_words uses = play_words (said_form uses) (which_given (slice_get (operand_texts uses) 0))
 
 -- the number of workers decides nothing of the day
 pub workers_decide_no_day : WorkersDecideNothing play_syntax play_asked
 workers_decide_no_day =
     decide_nothing_said play_syntax refl play_asked said_words (λ uses. refl) refl
-    (λ uses others differ. ap (λ (json : Bool). with_form (form_by json) (which_given (slice_get (operand_texts uses) 0))) (differ.flags json_name refl)
-    ∙ ap (λ (texts : List Text). with_form (form_by (is_given json_name others)) (which_given (slice_get texts 0))) differ.operands)
+    (λ uses others differ. ap (λ (form : Option PlanForm). play_words form (which_given (slice_get (operand_texts uses) 0))) (same_form uses others differ)
+    ∙ ap (λ (texts : List Text). play_words (said_form others) (which_given (slice_get texts 0))) differ.operands)
 
-said_day : (form : PlanForm) (word : Text) (found : Option Which) (said : PlayWords) → which_of word ≡ found → with_form form found ≡ Some said → (form ≡ said.form) × (word ≡ which_word said.which) × CanBeNamed said.which
-said_day form word None said same is = absurd cc
-said_day form word (Some which) said same is =
+said_day : (given : Option PlanForm) (word : Text) (found : Option Which) (said : PlayWords) → which_of word ≡ found → play_words given found ≡ Some said
+    → (given ≡ Some said.form) × (word ≡ which_word said.which) × CanBeNamed said.which
+said_day None word found said same is = absurd cc
+said_day (Some form) word None said same is = absurd cc
+said_day (Some form) word (Some which) said same is =
     let one : record { form = form; which = which } ≡ said = cc in
     let named = named_is word which same in
-    (ap (λ (s : PlayWords). s.form) one, named.0 ∙ ap (λ (s : PlayWords). which_word s.which) one, subst (λ (s : PlayWords). CanBeNamed s.which) one named.1)
+    (ap (λ (s : PlayWords). Some s.form) one, named.0 ∙ ap (λ (s : PlayWords). which_word s.which) one, subst (λ (s : PlayWords). CanBeNamed s.which) one named.1)
 
 pub play_exactly : (words : List Text) (said : PlayWords) → asked_by play_syntax play_asked words ≡ Some said ↔ SayPlay play_syntax said words
 play_exactly words said = (to, from)
@@ -110,15 +109,15 @@ play_exactly words said = (to, from)
         let found = (said_by_uses play_syntax refl play_asked said_words (λ uses. refl) words said).0 is in
         let uses = found.0.uses in
         let text = one_text uses (codes "WHICH") found.0.says.operands in
-        let given : with_form (form_by (is_given json_name uses)) (which_of text.0) ≡ Some said = ap (λ (texts : List Text). with_form (form_by (is_given json_name uses)) (which_given (slice_get texts 0))) (sym text.1) ∙ found.1 in
-        let day = said_day (form_by (is_given json_name uses)) text.0 (which_of text.0) said refl given in
-        record { say = record { say = found.0; given = day.0 }; operands = text.1 ∙ ap (λ (t : Text). t ∷ []) day.1; named = day.2 }
+        let given : play_words (said_form uses) (which_of text.0) ≡ Some said = ap (λ (texts : List Text). play_words (said_form uses) (which_given (slice_get texts 0))) (sym text.1) ∙ found.1 in
+        let day = said_day (said_form uses) text.0 (which_of text.0) said refl given in
+        record { say = record { say = found.0; given = says_form uses said.form day.0 }; operands = text.1 ∙ ap (λ (t : Text). t ∷ []) day.1; named = day.2 }
 
     from : SayPlay play_syntax said words → asked_by play_syntax play_asked words ≡ Some said
     from say =
         let uses = say.say.say.uses in
         let given : said_words uses ≡ Some said =
-        ap (λ (form : PlanForm). with_form form (which_given (slice_get (operand_texts uses) 0))) say.say.given
-        ∙ (ap (λ (texts : List Text). with_form said.form (which_given (slice_get texts 0))) say.operands
-        ∙ ap (with_form said.form) (is_named said.which say.named)) in
+        ap (λ (form : Option PlanForm). play_words form (which_given (slice_get (operand_texts uses) 0))) (form_said uses said.form say.say.given)
+        ∙ (ap (λ (texts : List Text). play_words (Some said.form) (which_given (slice_get texts 0))) say.operands
+        ∙ ap (play_words (Some said.form)) (is_named said.which say.named)) in
         (said_by_uses play_syntax refl play_asked said_words (λ u. refl) words said).1 (say.say.say, given)

@@ -2,7 +2,9 @@
 use Rattle.std.proofs.Common.{◌≡◌, ◌⊎◌, ℕ, List, [], ◌++◌, length, refl, sym, ap, ◌∙◌, subst, inl, inr, append_assoc, append-nil}
 use Rattle.texts.specs.Lines.{InputLine, input_lines, lines}
 use Rattle.net_model.specs.Network.{Plan}
+use Rattle.net_model.specs.ShownForm.{shown_form}
 use Rattle.strategy_model.specs.Control.{IsControllable}
+use Rattle.controllability.proofs.OrderLemmas.{ordered_closures_are_controllable}
 use Rattle.cert_format.specs.declared.certificate.Certificate.{Certificate}
 use Rattle.refutations.specs.Refuting.{Refutes}
 use Rattle.execution_model.specs.Feeding.{started}
@@ -49,33 +51,41 @@ module _ (form : PlanForm) where
 
   -- or a certificate is put
   record RefutedSo (net : Plan) (put : List ℕ) (end : End) : Type 0 where
+    pub never : ¬ IsControllable net
     pub cert : Certificate
-    pub refutes : Refutes net cert
+    pub refutes : Refutes (shown_form net) cert
     pub puts : PutsRefuted cert put end
+
+  -- the network is controllable and the execution of its shown form is opened, or a certificate is put
+  abbrev IsBegun : Plan → (number room : ℕ) → List InputLine → List ℕ → End → Type 0
+  IsBegun net number room rest put end = (IsControllable net × Opened (shown_form net) number room rest put end) ⊎ RefutedSo net put end
 
   module _ (net : Plan) (number room : ℕ) (rest : List InputLine) (put answer more : List ℕ) (onward : Onward Course) (end : End) (all : put ≡ answer ++ more)
       (on : GoesOn run_begins input_reader refusing executing_machine onward number room rest more end) where
     goes_as : (other : Onward Course) → onward ≡ other → GoesOn run_begins input_reader refusing executing_machine other number room rest more end
     goes_as other is = subst (λ (o : Onward Course). GoesOn run_begins input_reader refusing executing_machine o number room rest more end) is on
 
-    begun : run_begins form net answer onward → Opened net number room rest put end ⊎ RefutedSo net put end
-    begun (inl (controllable, begins)) = inl (record {
-      controllable = controllable;
-      table = begins.table;
-      order = begins.order;
-      by_closure = begins.by_closure;
-      due = begins.due;
-      first = begins.first;
-      more = more;
-      all = all ∙ (ap (λ (a : List ℕ). a ++ more) begins.put ∙ append_assoc controllable_line (due_line begins.due) more);
-      later = goes_as _ begins.goes;
-    })
-    begun (inr (cert, refutes, (ended, puts, is))) =
+    begun : run_begins form net answer onward → IsBegun net number room rest put end
+    begun (inl (controllable, begins)) = inl (
+      controllable,
+      record {
+        controllable = ordered_closures_are_controllable (shown_form net) begins.table begins.order begins.by_closure.instant begins.by_closure.closure begins.by_closure.ordered;
+        table = begins.table;
+        order = begins.order;
+        by_closure = begins.by_closure;
+        due = begins.due;
+        first = begins.first;
+        more = more;
+        all = all ∙ (ap (λ (a : List ℕ). a ++ more) begins.put ∙ append_assoc controllable_line (due_line begins.due) more);
+        later = goes_as _ begins.goes;
+      },
+    )
+    begun (inr (never, (cert, refutes, (ended, puts, is)))) =
         let over = goes_as _ is in
-        inr (record { cert = cert; refutes = refutes; puts = (all ∙ (ap (λ (m : List ℕ). answer ++ m) over.0 ∙ (append-nil answer ∙ puts.0)), over.1 ∙ puts.1) })
+        inr (record { never = never; cert = cert; refutes = refutes; puts = (all ∙ (ap (λ (m : List ℕ). answer ++ m) over.0 ∙ (append-nil answer ∙ puts.0)), over.1 ∙ puts.1) })
 
   opened_or : (net : Plan) (number room : ℕ) (rest : List InputLine) (put : List ℕ) (end : End) → Follows (Given net number room rest) put end
-      → Opened net number room rest put end ⊎ RefutedSo net put end
+      → IsBegun net number room rest put end
   opened_or net number room rest put end (answer, more, onward, begins, all, on) = begun net number room rest put answer more onward end all on begins
 
   -- where it is opened after these lines, it is one that they open
@@ -107,11 +117,11 @@ module _ (form : PlanForm) where
     opens_by : (net : Plan) (put : List ℕ) (end : End) → Begins net put end → OpensExecution net put end
     opens_by net put end (number, room, rest, follows) = by (opened_or net number room rest put end follows)
       where
-        by : Opened net number room rest put end ⊎ RefutedSo net put end → OpensExecution net put end
-        by (inl opened) =
-            let first = due_answered net _ _ opened.by_closure [] (started (setting_of net opened.table)) refl refl opened.due opened.first in
-            inl (opened.controllable, (opened.due, opened.more, first, opened.all))
-        by (inr refuted) = inr (refuted.refutes.never, (refuted.cert, refuted.refutes.accepted, refuted.puts))
+        by : IsBegun net number room rest put end → OpensExecution net put end
+        by (inl (controllable, opened)) =
+            let first = due_answered (shown_form net) _ _ opened.by_closure [] (started (setting_of (shown_form net) opened.table)) refl refl opened.due opened.first in
+            inl (controllable, (opened.due, opened.more, first, opened.all))
+        by (inr refuted) = inr (refuted.never, (refuted.cert, refuted.refutes.accepted, refuted.puts))
 
     opens_text : (input put : List ℕ) (end : End) → AnswersOrRefuses (plan_in form) refusing Begins input put end → AnswersOrRefuses (plan_in form) refusing OpensExecution input put end
     opens_text input put end (inl (net, after, is, begins)) = inl (net, after, is, opens_by net put end begins)
@@ -120,14 +130,14 @@ module _ (form : PlanForm) where
     module _ (input put : List ℕ) (end : End) (follows : Follows (outcome_of (input_lines input)) put end) where
       -- lines of a plan of a controllable network open its execution
       leads : (used rest : List InputLine) (net : Plan) (before : List ℕ) → input_lines input ≡ used ++ rest → (plan_opens form).opens used rest net before → IsControllable net → IsOpened as_named net used rest before put end
-      leads used rest net before divided (declares, nothing) controls = by (opened_or net (length used) (room_after most_input used) rest put end here)
+      leads used rest net before divided (stated, declares, as_shown, nothing) controls = by (opened_or stated (length used) (room_after most_input used) rest put end here)
         where
-          here : Follows (Given net (length used) (room_after most_input used) rest) put end
-          here = subst (λ (o : Outcome Plan Fault). Follows o put end) (declared_read input_reader (input_begun form) (plan_in form) (input_by form 0) (input_lines input) used rest net divided declares) follows
+          here : Follows (Given stated (length used) (room_after most_input used) rest) put end
+          here = subst (λ (o : Outcome Plan Fault). Follows o put end) (declared_read input_reader (input_begun form) (plan_in form) (input_by form 0) (input_lines input) used rest stated divided declares) follows
 
-          by : Opened net (length used) (room_after most_input used) rest put end ⊎ RefutedSo net put end → IsOpened as_named net used rest before put end
-          by (inl opened) = opened_after net used rest before put end nothing opened
-          by (inr refuted) = absurd (refuted.refutes.never controls)
+          by : IsBegun stated (length used) (room_after most_input used) rest put end → IsOpened as_named net used rest before put end
+          by (inl (controllable, opened)) = subst (λ (n : Plan). IsOpened as_named n used rest before put end) (sym as_shown) (opened_after (shown_form stated) used rest before put end nothing opened)
+          by (inr refuted) = absurd (refuted.refutes.never (subst IsControllable as_shown controls))
 
       -- how the run ended: by the first refusal of the input, by a certificate, or after an execution was opened
       data Ending : Type 0 where
@@ -138,10 +148,11 @@ module _ (form : PlanForm) where
       how_ended : Ending
       how_ended = by (outcome_of (input_lines input)) refl follows (outcome_is input_reader (input_begun form) (plan_in form) (input_by form 0) (input_lines input))
         where
-          opens : (net : Plan) (number room : ℕ) (rest : List InputLine) → IsGivenAt input_reader (input_begun form) (plan_in form) (input_by form 0) (input_lines input) net number room rest → Opened net number room rest put end ⊎ RefutedSo net put end → Ending
-          opens net number room rest given (inl opening) =
-              let opened = subst (λ (n : ℕ). Opened net n (room_after most_input given.used) rest put end) given.counted (subst (λ (r : ℕ). Opened net number r rest put end) given.left opening) in
-              lasted (lasts laws (plan_opens form) (input_lines input) given.used rest net [] put end given.divided (given.declares, refl) (opened_after net given.used rest [] put end refl opened))
+          opens : (net : Plan) (number room : ℕ) (rest : List InputLine) → IsGivenAt input_reader (input_begun form) (plan_in form) (input_by form 0) (input_lines input) net number room rest → IsBegun net number room rest put end → Ending
+          opens net number room rest given (inl (controllable, opening)) =
+              let shown : Plan = shown_form net in
+              let opened = subst (λ (n : ℕ). Opened shown n (room_after most_input given.used) rest put end) given.counted (subst (λ (r : ℕ). Opened shown number r rest put end) given.left opening) in
+              lasted (lasts laws (plan_opens form) (input_lines input) given.used rest shown [] put end given.divided (net, given.declares, refl, refl) (opened_after shown given.used rest [] put end refl opened))
           opens net number room rest given (inr refuted) = refuted_network refuted.puts.1
 
           by : (outcome : Outcome Plan Fault) → outcome_of (input_lines input) ≡ outcome → Follows outcome put end

@@ -1,5 +1,6 @@
 -- `run` gives at most one answer to a network: the execution begins in one way, or one refutation is put.
 use Rattle.std.proofs.Common.{◌≡◌, ℕ, List, ap, sym, ◌∙◌}
+use Rattle.net_model.specs.ShownForm.{shown_form}
 use Rattle.cert_format.specs.declared.certificate.Certificate.{Certificate}
 use Rattle.command_engine.specs.Single.{IsSingleAnswer}
 use Rattle.command_engine.specs.declared.endings.End.{End}
@@ -18,5 +19,5 @@ refuted_one cert a b x y (end, puts, is) (other, also, so) =
 
 pub run_begins_once : IsSingleAnswer run_begins
 run_begins_once start net a b x y =
-    decided_once {A = List ℕ × Onward Course} net (λ one. BeginsExecution net one.0 one.1) (λ one cert. EndsRefuted cert one.0 one.1) (λ one other. (one.0 ≡ other.0) × (one.1 ≡ other.1))
-    (λ one other begins also. begun_one net one.0 other.0 one.1 other.1 begins also) (λ one other cert ends also. refuted_one cert one.0 other.0 one.1 other.1 ends also) (a, x) (b, y)
+    decided_once {A = List ℕ × Onward Course} net (λ one. BeginsExecution (shown_form net) one.0 one.1) (λ one cert. EndsRefuted cert one.0 one.1) (λ one other. (one.0 ≡ other.0) × (one.1 ≡ other.1))
+    (λ one other begins also. begun_one (shown_form net) one.0 other.0 one.1 other.1 begins also) (λ one other cert ends also. refuted_one cert one.0 other.0 one.1 other.1 ends also) (a, x) (b, y)

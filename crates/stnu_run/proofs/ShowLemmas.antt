@@ -18,13 +18,15 @@ use Rattle.stnu_run.specs.Showing.{PutsPlan, show_answers, shown_plan}
 use Rattle.plan_inputs.specs.declared.plan_input.Notation.TheVariants.{Text, Json}
 use Rattle.stnu_run.specs.declared.showing.Show.{Show}
 use Rattle.plan_inputs.proofs.DocumentLemmas.{document_declares as declares_so}
+use Rattle.plan_inputs.proofs.PlanInputLemmas.{declared_own}
 use Rattle.plan_inputs.proofs.PlanLemmas.{declares_network}
 
 -- the printed plan declares its network
 pub text_put : (net : Plan) (put : List ℕ) → IsPlan net → HasPlanNumbers net → put ≡ printed_plan net → PutsPlan Text net put ends.Done
 text_put net put plan numbers is = record {
   is = is;
-  again = subst (λ (text : List ℕ). (plan_in (in_notation Text)).declares (lines text) (record net { delay = 0 }) []) (sym is) ((declares_network 0 (lines (printed_plan net)) (record net { delay = 0 }) []).1 (declares_back net plan numbers));
+  again = subst (λ (text : List ℕ). (plan_in (in_notation Text)).declares (lines text) net []) (sym is)
+      (declared_own Text (lines (printed_plan net)) net [] ((declares_network 0 (lines (printed_plan net)) net []).1 (declares_back net plan numbers)));
   done = refl;
 }
 
@@ -36,12 +38,12 @@ end_ends : words (codes "end") ≡ end_words
 end_ends = sym (words_is (codes "end"))
 
 document_declares : DocumentsStandInInputs → (net : Plan) → IsPlan net → HasPlanNumbers net → ReadsBack (document_text (document_of net)) net
-    → (plan_in (in_notation Json)).declares (lines (document_text (document_of net) ++ 10 ∷ printed_line end_words)) (record net { delay = 0 }) []
+    → (plan_in (in_notation Json)).declares (lines (document_text (document_of net) ++ 10 ∷ printed_line end_words)) net []
 document_declares law net plan numbers back =
     let stands = law net plan numbers in
     let whole = stands.lines_are (printed_line end_words) ∙ ap (λ (ls : List (List ℕ)). stands.pieces ++ ls) end_line in
-    subst (λ (ls : List (List ℕ)). (plan_in (in_notation Json)).declares ls (record net { delay = 0 }) []) (sym whole)
-    (declares_so 0 stands.pieces (codes "end") [] back.parts (record net { delay = 0 }) stands.inside end_ends (ap declared (sym stands.text_is) ∙ back.said) back.same)
+    subst (λ (ls : List (List ℕ)). (plan_in (in_notation Json)).declares ls net []) (sym whole)
+    (declared_own Json (stands.pieces ++ codes "end" ∷ []) net [] (declares_so 0 stands.pieces (codes "end") [] back.plan net stands.inside end_ends (ap declared (sym stands.text_is) ∙ back.said) back.same))
 
 -- the document and the line after it declare the network
 pub document_put : DocumentsStandInInputs → (net : Plan) (text put : List ℕ) → IsPlan net → HasPlanNumbers net → text ≡ document_text (document_of net) → ReadsBack text net
@@ -51,7 +53,7 @@ document_put law net text put plan numbers is back puts =
     let read : ReadsBack (document_text (document_of net)) net = subst (λ (t : List ℕ). ReadsBack t net) is back in
     record {
       is = all;
-      again = subst (λ (t : List ℕ). (plan_in (in_notation Json)).declares (lines t) (record net { delay = 0 }) []) (sym all) (document_declares law net plan numbers read);
+      again = subst (λ (t : List ℕ). (plan_in (in_notation Json)).declares (lines t) net []) (sym all) (document_declares law net plan numbers read);
       done = refl;
     }
 

@@ -1,5 +1,5 @@
 -- The commands of the program by their words, and the defined run: what the program puts for words and an input.
-use Rattle.std.specs.Prelude.{ℕ, List, ◌∷◌, codes, Bool, true, false, Option, Some, None}
+use Rattle.std.specs.Prelude.{◌≡◌, ℕ, List, ◌∷◌, codes, Option, Some, None, false}
 use Rattle.std.specs.Str.{bytes_eq}
 use Rattle.stnu_run.specs.CheckPromise.{check_program}
 use Rattle.stnu_run.specs.Checking.{check_asked, check_syntax}
@@ -11,17 +11,16 @@ use Rattle.stnu_run.specs.Playing.{play_asked, play_syntax}
 use Rattle.stnu_run.specs.RunPromise.{run_program}
 use Rattle.stnu_run.specs.Running.{run_asked, run_syntax}
 use Rattle.stnu_run.specs.Showing.{show_asked, show_program, show_syntax}
-use Rattle.stnu_run.specs.Programs.{Program, Defines}
-use Rattle.stnu_run.specs.Requests.{program_by, refuses_words}
-use Rattle.stnu_run.specs.SessionPromise.{session_program}
-use Rattle.stnu_run.specs.Sessions.{session_asked, session_syntax}
-use Rattle.stnu_run.specs.declared.status.Status.{Status}
+use Rattle.command_frame.specs.Programs.{Program, Defines, when◌run◌else◌}
+use Rattle.command_frame.specs.Requests.{program_by, refuses_words}
+use Rattle.session_command.specs.SessionPromise.{session_program}
+use Rattle.session_command.specs.Sessions.{session_asked, session_syntax}
+use Rattle.command_frame.specs.declared.status.Status.{Status}
+use Rattle.strong_command.specs.Asking.{strong_asked, strong_program, strong_syntax}
 
--- one program where this is so, else another
-infixr 5 when◌run◌else◌
-abbrev pub when◌run◌else◌ : Bool → Program → Program → Program
-when true run one else other = one
-when false run one else other = other
+-- the word of the command whose certificate of a refusal is left open
+abbrev pub strong_word : List ℕ
+strong_word = codes "strong"
 
 -- the program of the word of a command and the words after it
 abbrev pub program_named : List ℕ → List (List ℕ) → Program
@@ -32,6 +31,7 @@ program_named command words =
     else when bytes_eq command (codes "session") run program_by session_syntax session_asked session_program words
     else when bytes_eq command (codes "show") run program_by show_syntax show_asked show_program words
     else when bytes_eq command (codes "play") run program_by play_syntax play_asked play_program words
+    else when bytes_eq command strong_word run program_by strong_syntax strong_asked strong_program words
     else when bytes_eq command (codes "forge") run program_by forge_syntax forge_asked forge_program words
     else refuses_words
 
@@ -43,6 +43,11 @@ command_of others = None
 abbrev pub program_for : Option (List ℕ × List (List ℕ)) → Program
 program_for (Some (command, words)) = program_named command words
 program_for None = refuses_words
+
+-- the words are not those of `strong`
+abbrev pub AreOfOneAnswer : List (List ℕ) → Type 0
+AreOfOneAnswer (program ∷ command ∷ words) = bytes_eq command strong_word ≡ false
+AreOfOneAnswer others = Unit {0}
 
 -- the program of the words
 abbrev pub program_of : List (List ℕ) → Program

@@ -17,14 +17,14 @@ use Rattle.table_proofs.specs.Certified.{Proves}
 use Rattle.situation_player.specs.ForgedParts.{forged_parts, most_tasks}
 use Rattle.command_words.specs.Arguments.{Arguments, operand_at, option_at}
 use Rattle.command_words.specs.Syntax.{Syntax, Text}
-use Rattle.stnu_run.specs.Counts.{count_within, number_within}
-use Rattle.stnu_run.specs.Programs.{Program, tells}
+use Rattle.command_frame.specs.Counts.{count_within, number_within}
+use Rattle.command_frame.specs.Programs.{Program, tells}
 use Rattle.common_answers.specs.VerdictLines.{controllable_line, refuted_line}
 use Rattle.stnu_run.specs.Which.{situation_of}
-use Rattle.stnu_run.specs.Workers.{workers_of, workers_name}
+use Rattle.command_frame.specs.Workers.{workers_of, workers_name}
 use Rattle.stnu_run.specs.declared.forging.ForgeWords.{ForgeWords}
-use Rattle.stnu_run.specs.declared.telling.TellingEnd.{TellingEnd}
-use Rattle.stnu_run.specs.declared.telling.TellingEnd.TheVariants as ends
+use Rattle.command_frame.specs.declared.telling.TellingEnd.{TellingEnd}
+use Rattle.command_frame.specs.declared.telling.TellingEnd.TheVariants as ends
 use Rattle.stnu_run.specs.declared.which.Which.TheVariants.{Longest}
 
 -- ---- the words

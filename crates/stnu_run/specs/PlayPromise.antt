@@ -7,10 +7,10 @@ use Rattle.strategy_model.specs.Situations.{Satisfies}
 use Rattle.command_engine.specs.Inputs.{AnswersText}
 use Rattle.command_engine.specs.declared.endings.End.{End}
 use Rattle.common_answers.specs.Faults.{refusing}
-use Rattle.stnu_run.specs.PlanAsking.{plan_program}
+use Rattle.command_frame.specs.PlanAsking.{plan_program}
 use Rattle.plan_inputs.specs.PlanInput.{plan_in}
 use Rattle.stnu_run.specs.Playing.{PutsTimes, play_answers, times_text}
-use Rattle.stnu_run.specs.Programs.{Program}
+use Rattle.command_frame.specs.Programs.{Program}
 use Rattle.common_answers.specs.VerdictLines.{controllable_line, refuted_line}
 use Rattle.verdicts.specs.Verdict.{PutsDecided}
 use Rattle.stnu_run.specs.Which.{situation_of}

@@ -2,6 +2,7 @@
 use Rattle.std.specs.Prelude.{◌≡◌, ◌⊎◌, ℕ, List, [], ◌++◌, Option}
 use Rattle.texts.specs.Lines.{input_lines}
 use Rattle.net_model.specs.Network.{Plan}
+use Rattle.net_model.specs.ShownForm.{shown_form}
 use Rattle.strategy_model.specs.Control.{IsControllable}
 use Rattle.cert_format.specs.declared.certificate.Certificate.{Certificate}
 use Rattle.cert_checker.specs.Judgement.{judgement_of}
@@ -11,7 +12,7 @@ use Rattle.execution_model.specs.Streams.{Listing}
 use Rattle.command_engine.specs.Inputs.{AnswersText, DeclaresBy, DeclaresWithinLimits, IsFirstRefusal}
 use Rattle.command_engine.specs.declared.endings.End.{End}
 use Rattle.command_engine.specs.declared.endings.End.TheVariants as ends
-use Rattle.stnu_run.specs.Causes.{Causes, IsTextRefused, IsDayRefused}
+use Rattle.command_frame.specs.Causes.{Causes, IsTextRefused, IsDayRefused}
 use Rattle.event_execution.specs.Day.{Opening, IsWholeDay, IsRefusedDay}
 use Rattle.event_execution.specs.Due.{AnswersDue}
 use Rattle.event_execution.specs.EventAnswers.{due_line}
@@ -20,26 +21,30 @@ use Rattle.event_execution.specs.ExecutionPromise.{ExecutionPromise}
 use Rattle.event_execution.specs.Handing.{as_named}
 use Rattle.common_answers.specs.Faults.{refusing}
 use Rattle.plan_inputs.specs.PlanInput.{plan_in}
-use Rattle.stnu_run.specs.Programs.{Program, or_nothing, serves}
+use Rattle.command_frame.specs.Programs.{Program, or_nothing, serves}
 use Rattle.stnu_run.specs.Running.{run_machine, run_start}
 use Rattle.common_answers.specs.VerdictLines.{controllable_line, PutsRefuted}
 use Rattle.common_answers.specs.declared.faults.Fault.{Fault}
 use Rattle.plan_inputs.specs.declared.plan_input.PlanForm.{PlanForm}
 
--- An execution is opened: it is put that the network is controllable, and it is, with the first due moment, before all else; or that it is
--- not, and it is not, and a certificate that the judge accepts.
+-- An execution is opened: it is put that the network is controllable, and it is, with the first due moment of its shown form, before all else;
+-- or that it is not, and it is not, and a certificate that the judge accepts.
 abbrev pub OpensExecution : Plan → List ℕ → End → Type 0
 OpensExecution net put end =
-    (IsControllable net × ((due : Option ℕ) × (more : List ℕ) × AnswersDue net [] due × put ≡ controllable_line ++ (due_line due ++ more)))
-    ⊎ ((¬ IsControllable net) × ((cert : Certificate) × (judgement_of net cert ≡ Accepted NotControllable) × PutsRefuted cert put end))
+    (IsControllable net × ((due : Option ℕ) × (more : List ℕ) × AnswersDue (shown_form net) [] due × put ≡ controllable_line ++ (due_line due ++ more)))
+    ⊎ ((¬ IsControllable net) × ((cert : Certificate) × (judgement_of (shown_form net) cert ≡ Accepted NotControllable) × PutsRefuted cert put end))
 
--- what opens an execution of `run`: the lines of a plan of this form, which all come within the limits; nothing is put before. The points
--- of a line are handed to it as the line names them.
+-- what opens an execution of `run`: the lines of a plan of this form, which all come within the limits; nothing is put before. What is executed
+-- is the shown form of the network that they declare: moments of contingent points are those at which they are shown. The points of a line are
+-- handed to it as the line names them.
 abbrev pub plan_opens : PlanForm → Opening
-plan_opens form = record { handing = as_named; opens = λ used rest net before. DeclaresBy (plan_in form) used rest net × (before ≡ []) }
+plan_opens form = record {
+  handing = as_named;
+  opens = λ used rest net before. (stated : Plan) × DeclaresBy (plan_in form) used rest stated × (net ≡ shown_form stated) × (before ≡ []);
+}
 
 -- What `run` promises, of a plan of this form. `opens`: it opens the execution of the network that the input declares, or puts the first
--- refusal of the input. `execution`: what is promised of an execution that is opened so. `completes`: only for a controllable network and a
+-- refusal of the input. `execution`: what is promised of an execution that is opened so, of its shown form and of the network as stated. `completes`: only for a controllable network and a
 -- faithful stream that is done does it end as whole. `refused`: only where a line tells what no faithful stream does does it end by a
 -- refused event. `faults`: only where the input has a first refusal, or its lines of events a fault, does it end by one.
 pub record RunPromise (form : PlanForm) (input put : List ℕ) (end : End) : Type 0 where
@@ -56,7 +61,7 @@ abbrev pub run_causes : PlanForm → Causes
 run_causes form = record {
   refused = λ input end line. IsTextRefused (plan_in form) input end line ⊎ IsDayRefused (plan_opens form) input end line;
   whole = λ input. (net : Plan) × DeclaresWithinLimits (plan_in form) (input_lines input) net
-      × (IsControllable net → (listings : List Listing) × IsWholeDay (plan_opens form) (input_lines input) net listings);
+      × (IsControllable net → (listings : List Listing) × IsWholeDay (plan_opens form) (input_lines input) (shown_form net) listings);
 }
 
 -- the program of `run`

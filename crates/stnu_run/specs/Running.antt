@@ -1,6 +1,7 @@
 -- The command `run`: a plan, and after it lines of events, over which its network is executed.
 use Rattle.std.specs.Prelude.{◌≡◌, ℕ, List, Option}
 use Rattle.net_model.specs.Network.{Plan}
+use Rattle.net_model.specs.ShownForm.{shown_form}
 use Rattle.cert_format.specs.declared.certificate.Certificate.{Certificate}
 use Rattle.command_words.specs.Arguments.{Arguments}
 use Rattle.command_words.specs.Syntax.{Syntax}
@@ -16,7 +17,7 @@ use Rattle.event_execution.specs.Course.{Course}
 use Rattle.event_execution.specs.Executing.{executing_machine}
 use Rattle.common_answers.specs.Faults.{refusing}
 use Rattle.plan_inputs.specs.PlanInput.{PlanInput, input_begun, input_reader}
-use Rattle.stnu_run.specs.PlanWords.{asked_form, plan_words}
+use Rattle.command_frame.specs.PlanWords.{asked_form, plan_words}
 use Rattle.common_answers.specs.VerdictLines.{PutsRefuted}
 use Rattle.verdicts.specs.Verdict.{Decides}
 use Rattle.plan_inputs.specs.declared.plan_input.PlanForm.{PlanForm}
@@ -25,10 +26,10 @@ use Rattle.plan_inputs.specs.declared.plan_input.PlanForm.{PlanForm}
 abbrev pub EndsRefuted : Certificate → List ℕ → Onward Course → Type 0
 EndsRefuted cert put onward = (end : End) × PutsRefuted cert put end × (onward ≡ Ends end)
 
--- By the verdict of the network its execution begins, or the certificate of its refutation is put. The form in which the plan is given
+-- By the verdict of the network the execution of its shown form begins, or the certificate of its refutation is put. The form in which the plan is given
 -- decides nothing of it.
 abbrev pub run_begins : PlanForm → Plan → List ℕ → Onward Course → Type 0
-run_begins form net answer onward = Decides net (BeginsExecution net answer onward) (λ cert. EndsRefuted cert answer onward)
+run_begins form net answer onward = Decides net (BeginsExecution (shown_form net) answer onward) (λ cert. EndsRefuted cert answer onward)
 
 -- `run` takes the form of the plan, and a number of workers, which decides nothing of what is asked
 abbrev pub run_syntax : Syntax

@@ -6,7 +6,7 @@ use Rattle.std.specs.Str.{bytes_eq}
 use Rattle.net_model.specs.Network.{Plan}
 use Rattle.command_words.specs.Syntax.{Text}
 use Rattle.situation_player.specs.Numbered.{numbered, longest_of, shortest_of}
-use Rattle.stnu_run.specs.Counts.{number_within}
+use Rattle.command_frame.specs.Counts.{number_within}
 use Rattle.stnu_run.specs.declared.which.Which.{Which}
 use Rattle.stnu_run.specs.declared.which.Which.TheVariants.{Longest, Shortest, Numbered}
 

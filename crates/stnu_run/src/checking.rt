@@ -3,28 +3,26 @@
 ghost use Rattle.std.specs.Prelude.{◌≡◌, [], IfOk};
 ghost use Rattle.stnu_run.specs.CheckPromise.{CheckPromise, PutsVerdict};
 ghost use Rattle.stnu_run.specs.Checking.{check_answers, check_asked, check_syntax, PutsYes};
-ghost use Rattle.verdicts.specs.Verdict.{IsVerdict};
-ghost use Rattle.verdicts.specs.declared.verdict.Verdict.TheVariants.{Controllable};
+ghost use Rattle.verdicts.specs.Verdict.{IsControllableBy};
 
-use crate::plan_asking::{OneAnswer, PlanQuestion};
-use crate::requests::Request;
-use crate::workers::Workers;
 use closure_model::order_laws::ordered_tables_are_placed;
-use command_engine::{Answer, Asked, End, Question};
+use command_engine::{Answer, End, Question};
+use command_frame::{OneAnswer, PlanQuestion, Request, Workers, form_given};
 use command_words::{Arguments, Syntax};
 use common_answers::{put_controllable, put_proved, put_refuted};
 use net_model::Network;
-use plan_inputs::{PlanForm, PlanInput, PlanNetwork};
+use plan_inputs::{PlanForm, PlanNetwork};
 use std::alloc::{AllocError, Global};
 use std::marker::Model;
 use std::thread::Threads;
+use strategy_model::laws::shown::controllable_is_shown;
 use table_closing::Closed;
 use table_proofs::table_proof;
 use verdicts::Verdict;
 
 /// Whether a network is controllable: the command `check` reads a plan, and puts `controllable` where a strategy controls its network, else
 /// `not controllable` and a certificate which `judge` accepts. Where a proof is wanted, a certificate which `judge` accepts stands after
-/// `controllable` too. It ends with 0 in the first case, and with 1 in the second.
+/// `controllable` too. Certificates speak of the shown form. It ends with 0 in the first case, and with 1 in the second.
 #[derive(Drop)]
 pub struct Check {
     flags: CheckFlags,
@@ -70,14 +68,14 @@ impl Request for Check {
     fn words() -> Syntax<'static> {
         Syntax {
             flags: &["json", "proof"],
-            options: &["workers"],
+            options: &["workers", "delay"],
             operands: &[],
         }
     }
 
     fn of(arguments: &Arguments<'_>) -> Option<Check> {
         let workers = Workers::of(arguments.option(0))?;
-        let form = PlanForm::of(arguments.flag(0));
+        let form = form_given(arguments.flag(0), arguments.option(1))?;
         let proof = arguments.flag(1);
         let flags = CheckFlags { form, proof };
         Some(Check { flags, workers })
@@ -85,9 +83,6 @@ impl Request for Check {
 
     fn workers_decide_nothing() {}
 }
-
-/// The command: how far its input was read.
-pub type Checking = Asked<Check, PlanInput>;
 
 impl PlanQuestion for Check {
     ghost form = { λ flags. flags.form };
@@ -123,29 +118,36 @@ fn put_verdict<R: Threads + Sync>(
     ensures { IfOk result (check_answers check.now net answer.new.text) }
 {
     match check.workers.decide(rt, alloc, net)? {
-        Verdict::Controllable(net, closed) => {
-            put_yes(alloc, answer, &net, &closed, check.flags.proof)
-        }
+        Verdict::Controllable {
+            stated,
+            shown,
+            closed,
+        } => put_yes(alloc, answer, &stated, &shown, &closed, check.flags.proof),
         Verdict::Refuted(certificate) => put_refuted(alloc, answer, &certificate),
     }
 }
 
-/// Puts that a network is controllable into the buffer, which is empty, and the certificate that proves it where that is wanted.
+/// Puts that a network is controllable into the buffer, which is empty, and where that is wanted the certificate that proves it by its shown
+/// form.
 fn put_yes(
     alloc: Global,
     answer: &mut Answer,
     net: &Network,
+    shown: &Network,
     closed: &Closed,
     proof: bool,
 ) -> Result<End, AllocError>
     requires empty { answer.old.text ≡ [] }
-    requires verdict { IsVerdict net.now (Controllable net.now closed.now) }
+    requires verdict { IsControllableBy net.now shown.now closed.now }
     ensures { IfOk result (PutsYes proof net.now answer.new.text) }
 {
     if !proof {
         return put_controllable(answer);
     }
     ordered_tables_are_placed();
-    let certificate = table_proof(alloc, net, &closed.table, closed.order.as_slice())?;
+    controllable_is_shown();
+    // The proof reads here that the network is sound.
+    let _ = net.points();
+    let certificate = table_proof(alloc, shown, &closed.table, closed.order.as_slice())?;
     put_proved(alloc, answer, &certificate)
 }

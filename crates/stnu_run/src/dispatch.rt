@@ -2,33 +2,33 @@
 
 ghost use Rattle.std.specs.Prelude.{◌≡◌, map, None, Some, string_bytes, MatchOption};
 ghost use Rattle.stnu_run.specs.DefinedRuns.{command_of, program_of, program_named};
-ghost use Rattle.stnu_run.specs.ExactBytes.{BytesAreExact};
-ghost use Rattle.stnu_run.specs.Programs.{ServesProgram, KeepsPromise, HasCauses, KeepsWithoutMemory, RunsAs};
-ghost use Rattle.stnu_run.specs.Statuses.{StatusHasCause};
+ghost use Rattle.command_frame.specs.ExactBytes.{BytesAreExact};
+ghost use Rattle.command_frame.specs.Programs.{ServesProgram, KeepsPromise, HasCauses, KeepsWithoutMemory, RunsAs};
+ghost use Rattle.command_frame.specs.Statuses.{StatusHasCause};
 
-use crate::checking::Checking;
+use crate::checking::Check;
 use crate::forging::Forge;
-use crate::judging::Judging;
+use crate::judging::Judge;
 use crate::laws::words_are_lawful;
-use crate::playing::Playing;
-use crate::promising::serve_asked;
-use crate::running::Running;
-use crate::session::SessionCommand;
-use crate::showing::Showing;
-use crate::status::Status;
-use crate::telling::{RefusedWords, tell, tell_asked};
+use crate::playing::Play;
+use crate::running::Run;
+use crate::showing::Show;
+use command_frame::{RefusedWords, Status, serve_asked, tell, tell_asked};
 use plan_port::Port;
+use session_command::OpenSession;
 use std::alloc::Global;
 use std::thread::Threads;
+use strong_command::AskStrong;
 
 /// Does all that the program does: reads the input of the command that the words name over a port, and puts its answers. The first word is
 /// the program's name; the second is the word of a command. The words that it takes stand after it, in any order and each at most once: all
 /// but `forge` take `--json`, by which the plan is a JSON document, ended by a line `end`; `check` takes `--proof`, by which it puts a
 /// certificate also where the plan can be kept; `show` takes `--print-json`, by which it puts a document; `play` takes which situation it
-/// plays, `forge` a number and a count of tasks; `check`, `play`, `run`, `session` and `forge` take `--workers N`, or `--workers=N`, with N
-/// from 1 to 64. So many workers, by default 1, make the rows of each round; how many decides nothing of what is put. Each line is answered
-/// before more of the input is taken, and nothing after the line that ends the command's input is looked at. What a command reads and puts
-/// is told beside it.
+/// plays, `forge` a number and a count of tasks; `judge` takes `--strong`, by which the certificate is one about strong schedules; `check`, `play`, `run`, `session` and `forge` take `--workers N`, or `--workers=N`, with N
+/// from 1 to 64. So many workers, by default 1, make the rows of each round; how many decides nothing of what is put. `judge`, `check`, `run`,
+/// `session` and `play` take `--delay N`, with N from 0 to 1,000,000: a completion is shown so many moments after it happened. Each line is
+/// answered before more of the input is taken, and nothing after the line that ends the command's input is looked at. What a command reads
+/// and puts is told beside it.
 ///
 /// The run ends at its first refusal, with one line and a status that say which: `error words` (2), `error format`, `error json` and `error
 /// plan` (3), `error limit` (4). It ends with 5 where a read failed, after the line `error read`, with 6 where a write failed, and with 8
@@ -95,12 +95,13 @@ fn run_command<R: Threads + Sync, P: Port>(
     ensures { RunsAs (program_named command.now (map string_bytes words.now)) result (P.seen port.old) (P.seen port.new) }
 {
     match command {
-        "judge" => serve_asked::<R, Judging, P>(rt, alloc, words, port),
-        "check" => serve_asked::<R, Checking, P>(rt, alloc, words, port),
-        "run" => serve_asked::<R, Running, P>(rt, alloc, words, port),
-        "session" => serve_asked::<R, SessionCommand, P>(rt, alloc, words, port),
-        "show" => serve_asked::<R, Showing, P>(rt, alloc, words, port),
-        "play" => serve_asked::<R, Playing, P>(rt, alloc, words, port),
+        "judge" => serve_asked::<R, Judge, P>(rt, alloc, words, port),
+        "check" => serve_asked::<R, Check, P>(rt, alloc, words, port),
+        "run" => serve_asked::<R, Run, P>(rt, alloc, words, port),
+        "session" => serve_asked::<R, OpenSession, P>(rt, alloc, words, port),
+        "show" => serve_asked::<R, Show, P>(rt, alloc, words, port),
+        "play" => serve_asked::<R, Play, P>(rt, alloc, words, port),
+        "strong" => serve_asked::<R, AskStrong, P>(rt, alloc, words, port),
         "forge" => tell_asked::<R, Forge, P>(rt, alloc, words, port),
         _ => tell(rt, alloc, RefusedWords, port),
     }

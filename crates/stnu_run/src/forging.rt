@@ -1,6 +1,7 @@
 //! The command `forge`: a network that is forged out of a number, its verdict, and what the judge says of the certificate of it.
 
 ghost use Rattle.std.specs.Prelude.{◌≡◌, ◌≤◌, ◌++◌, option_map, IfOk, IfSome, OnOk};
+ghost use Rattle.net_model.specs.ShownForm.{shown_form};
 ghost use Rattle.cert_checker.specs.Judgement.{judgement_of};
 ghost use Rattle.strategy_model.specs.Control.{IsControllable};
 ghost use Rattle.refutations.specs.Refuting.{Refutes};
@@ -9,15 +10,12 @@ ghost use Rattle.plan_session.specs.Sessions.{IsOpen};
 ghost use Rattle.situation_player.specs.ForgedParts.{most_tasks};
 ghost use Rattle.stnu_run.specs.Forging.{Adds, IsLastMoment, TellsControllable, TellsForged, TellsRefuted, TellsVerdict, controllable_text, count_line, counts_text, forge_asked, forge_syntax, greatest_of, judged_line, number_given, refuted_text, size_of, tasks_given};
 
-use crate::counts::{count_within, number_within};
 use crate::playing::played;
-use crate::requests::Request;
-use crate::telling::{Telling, TellingEnd};
 use crate::which::Which;
-use crate::workers::Workers;
 use cert_checker::{Judgement, judge};
 use cert_format::Certificate;
 use command_engine::{Answer, Word};
+use command_frame::{Request, Telling, TellingEnd, Workers, count_within, number_within};
 use command_words::{Arguments, Syntax};
 use net_model::Network;
 use plan_session::{AskFault, Session, Verdict};
@@ -26,6 +24,7 @@ use std::alloc::{AllocError, Global};
 use std::marker::Model;
 use std::thread::Threads;
 use strategy_model::laws::at_most_one_earliest;
+use strategy_model::laws::shown::controllable_is_shown;
 
 /// The greatest number out of which a network is forged.
 const MOST_NUMBER: u32 = 2_147_483_647;
@@ -147,8 +146,11 @@ fn tell_verdict<R: Threads + Sync>(
     session: &Session,
 ) -> Result<TellingEnd, AllocError>
     requires { IsOpen session.now.state }
-    ensures { IfOk result (λ end. Adds (λ more. TellsVerdict session.now.state.net more end) answer.old.text answer.new.text) }
+    ensures { IfOk result (λ end. Adds (λ more. TellsVerdict (shown_form session.now.state.net) more end) answer.old.text answer.new.text) }
 {
+    controllable_is_shown();
+    // The proof reads here that the network is sound.
+    let _ = session.network().points();
     let certificate = certificate_of(rt, alloc, session)?;
     match session.verdict() {
         Verdict::Controllable => tell_controllable(rt, alloc, answer, session, &certificate),
@@ -159,14 +161,14 @@ fn tell_verdict<R: Threads + Sync>(
     }
 }
 
-/// The certificate of the network of a session.
+/// The certificate of the shown form of the network of a session.
 fn certificate_of<R: Threads + Sync>(
     rt: &R,
     alloc: Global,
     session: &Session,
 ) -> Result<Certificate, AllocError>
     requires { IsOpen session.now.state }
-    ensures { IfOk result (Certifies session.now.state.net) }
+    ensures { IfOk result (Certifies (shown_form session.now.state.net)) }
 {
     match session.certificate(rt, alloc) {
         Ok(certificate) => Ok(certificate),
@@ -185,8 +187,9 @@ fn tell_controllable<R: Threads + Sync>(
     certificate: &Certificate,
 ) -> Result<TellingEnd, AllocError>
     requires open { IsOpen session.now.state }
-    requires proves { Proves session.now.state.net certificate.now }
-    ensures { IfOk result (λ end. Adds (λ more. TellsControllable session.now.state.net more end) answer.old.text answer.new.text) }
+    requires controllable { IsControllable session.now.state.net }
+    requires proves { Proves (shown_form session.now.state.net) certificate.now }
+    ensures { IfOk result (λ end. Adds (λ more. TellsControllable (shown_form session.now.state.net) more end) answer.old.text answer.new.text) }
 {
     let last = last_moment(alloc, session)?;
     push_controllable(answer, certificate, last)?;
@@ -202,8 +205,8 @@ fn tell_refuted<R: Threads + Sync>(
     net: &Network,
     certificate: &Certificate,
 ) -> Result<TellingEnd, AllocError>
-    requires { Refutes net.now certificate.now }
-    ensures { IfOk result (λ end. Adds (λ more. TellsRefuted net.now more end) answer.old.text answer.new.text) }
+    requires refutes { Refutes (shown_form net.now) certificate.now }
+    ensures { IfOk result (λ end. Adds (λ more. TellsRefuted (shown_form net.now) more end) answer.old.text answer.new.text) }
 {
     push_refuted(answer, certificate)?;
     push_judged(rt, alloc, answer, net, certificate)?;
@@ -233,10 +236,11 @@ fn push_refuted(answer: &mut Answer, certificate: &Certificate) -> Result<(), Al
 fn last_moment(alloc: Global, session: &Session) -> Result<u64, AllocError>
     requires open { IsOpen session.now.state }
     requires controllable { IsControllable session.now.state.net }
-    ensures { IfOk result (IsLastMoment session.now.state.net) }
+    ensures { IfOk result (IsLastMoment (shown_form session.now.state.net)) }
 {
     let dispatch = session.dispatch(alloc)?;
-    let schedule = played(alloc, session.network(), dispatch, Which::Longest)?;
+    let longest = Which::Longest.situation(alloc, session.shown())?;
+    let schedule = played(alloc, session.shown(), dispatch, &longest)?;
     Ok(greatest_of(schedule.as_slice()))
 }
 
@@ -259,7 +263,7 @@ fn size_of(certificate: &Certificate) -> usize
     }
 }
 
-/// Judges a certificate of a network, and puts what the judge says of it.
+/// Judges a certificate of a network, by its shown form, and puts what the judge says of it.
 fn push_judged<R: Threads + Sync>(
     rt: &R,
     alloc: Global,
@@ -267,7 +271,7 @@ fn push_judged<R: Threads + Sync>(
     net: &Network,
     certificate: &Certificate,
 ) -> Result<(), AllocError>
-    ensures { OnOk result (answer.new.text ≡ answer.old.text ++ judged_line (judgement_of net.now certificate.now)) }
+    ensures { OnOk result (answer.new.text ≡ answer.old.text ++ judged_line (judgement_of (shown_form net.now) certificate.now)) }
 {
     match judge(rt, alloc, net, certificate)? {
         Judgement::Accepted(_) => answer.push_line(&[Word::Text("accepted")]),

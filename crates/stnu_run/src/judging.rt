@@ -1,33 +1,37 @@
-//! The command `judge`: a plan, and after it a certificate, which is judged.
+//! The command `judge`: a plan, and after it a certificate of one of two kinds, which is judged.
 
-ghost use Rattle.std.specs.Prelude.{◌≡◌, OnOk, ◌++◌};
-ghost use Rattle.cert_checker.specs.Judgement.{judgement_of};
+ghost use Rattle.std.specs.Prelude.{◌≡◌, [], IfOk, OnOk, ◌++◌};
+ghost use Rattle.std.specs.Option.{option_map};
 ghost use Rattle.stnu_run.specs.JudgePromise.{JudgePromise};
-ghost use Rattle.stnu_run.specs.Judging.{judge_answers, judge_asked, judge_start, judge_syntax, judgement_line, judgement_end};
-ghost use Rattle.stnu_run.specs.Causes.{text_causes};
-ghost use Rattle.stnu_run.specs.Programs.{or_nothing};
+ghost use Rattle.stnu_run.specs.Judging.{judge_answers, judge_asked, judge_given, judge_start, judge_syntax, judgement_line, judgement_end, strong_judgement_line, strong_judgement_end, PutsProof};
+ghost use Rattle.command_frame.specs.Causes.{text_causes};
+ghost use Rattle.command_frame.specs.Programs.{or_nothing};
 ghost use Rattle.stnu_run.specs.ToJudge.{judge_grammar};
 
-use crate::certificate_text::CertificateText;
-use crate::promising::{OneRun, Promising};
-use crate::requests::Request;
 use cert_checker::laws::{accepted_controls, accepted_excludes};
 use cert_checker::{Judgement, judge};
-use cert_format::Certificate;
+use cert_format::{Certificate, StrongCert};
+use certificate_inputs::{Proof, ProofInput, ProofKind};
 use command_engine::{Answer, Asked, End, Question, Then, Word};
+use command_frame::{OneRun, Promising, Request, form_given};
 use command_words::{Arguments, Syntax};
+use net_model::Network;
 use plan_inputs::{PlanForm, PlanInput, PlanNetwork};
 use std::alloc::{AllocError, Global};
 use std::thread::Threads;
+use strong_plan::laws::accepted_excludes as accepted_excludes_strong;
+use strong_plan::{StrongJudgement, judge_strong};
 
 /// What the judgement of a certificate of a network is: the command `judge` reads a plan and a certificate, and puts the judgement of
-/// the certificate. It ends with 0 where that is accepted, and with 1 where it is refused.
+/// the certificate. With `--strong` that is one that the network, as it is stated, has no strong schedule. It ends with 0 where it is accepted,
+/// and with 1 where it is refused.
 #[derive(Clone, Copy)]
 pub struct Judge {
     form: PlanForm,
+    kind: ProofKind,
 }
 
-impl Question<(PlanNetwork, Certificate)> for Judge {
+impl Question<(PlanNetwork, Proof)> for Judge {
     ghost answers = { λ judge value number. judge_answers judge value };
 
     fn answer<R: Threads + Sync>(
@@ -35,12 +39,13 @@ impl Question<(PlanNetwork, Certificate)> for Judge {
         rt: &R,
         alloc: Global,
         answer: &mut Answer,
-        value: (PlanNetwork, Certificate),
+        value: (PlanNetwork, Proof),
         _number: u32,
     ) -> Result<End, AllocError> {
-        let judgement = judge(rt, alloc, value.0.network(), &value.1)?;
-        put_judgement(alloc, answer, &judgement)?;
-        Ok(judgement_end(&judgement))
+        match &value.1 {
+            Proof::Control(cert) => put_control(rt, alloc, answer, value.0.network(), cert),
+            Proof::Strong(cert) => put_strong(alloc, answer, value.0.network(), cert),
+        }
     }
 }
 
@@ -51,25 +56,26 @@ impl Request for Judge {
 
     fn words() -> Syntax<'static> {
         Syntax {
-            flags: &["json"],
-            options: &[],
+            flags: &["json", "strong"],
+            options: &["delay"],
             operands: &[],
         }
     }
 
     fn of(arguments: &Arguments<'_>) -> Option<Judge> {
-        let form = PlanForm::of(arguments.flag(0));
-        Some(Judge { form })
+        judge_given(arguments.flag(1), arguments.flag(0), arguments.option(0))
     }
 
     fn workers_decide_nothing() {}
 }
 
 /// The command: how far its input was read.
-pub type Judging = Asked<Judge, Then<PlanInput, PlanNetwork, CertificateText>>;
+pub type Judging = Asked<Judge, Then<PlanInput, PlanNetwork, ProofInput>>;
 
-impl Promising for Judging {
+impl Promising for Judge {
     type Request = Judge;
+
+    type Served = Judging;
 
     ghost start = { judge_start };
 
@@ -78,13 +84,14 @@ impl Promising for Judging {
     fn begun(alloc: Global, request: Judge) -> Judging {
         Asked {
             question: request,
-            text: Then::First(request.form.begun(alloc), CertificateText::new(alloc)),
+            text: Then::First(request.form.begun(alloc), request.kind.begun(alloc)),
         }
     }
 
     fn keeps_its_promise() {
         accepted_excludes();
         accepted_controls();
+        accepted_excludes_strong();
     }
 
     fn ends_by_its_causes() {}
@@ -92,8 +99,73 @@ impl Promising for Judging {
     fn keeps_it_without_memory() {}
 }
 
-impl OneRun for Judging {
+impl OneRun for Judge {
     fn defines_one() {}
+}
+
+/// What is asked by whether `--strong` and `--json` are given, and the value of `--delay`, where it is; `None` where the delay is given with
+/// `--strong`, or is no number from 0 to 1,000,000.
+fn judge_given(strong: bool, json: bool, delay: Option<&str>) -> Option<Judge>
+    ensures { result ≡ judge_given strong json (option_map (λ text. text.now) delay.entry) }
+{
+    if strong && delay.is_some() {
+        return None;
+    }
+    let form = form_given(json, delay)?;
+    let kind = ProofKind::of(strong);
+    Some(Judge { form, kind })
+}
+
+/// Puts the judgement of a certificate of a network into the buffer, which is empty.
+fn put_control<R: Threads + Sync>(
+    rt: &R,
+    alloc: Global,
+    answer: &mut Answer,
+    net: &Network,
+    cert: &Certificate,
+) -> Result<End, AllocError>
+    requires { answer.old.text ≡ [] }
+    ensures { IfOk result (PutsProof net.now (Proof.Control cert.now) answer.new.text) }
+{
+    let judgement = judge(rt, alloc, net, cert)?;
+    put_judgement(alloc, answer, &judgement)?;
+    Ok(judgement_end(&judgement))
+}
+
+/// Puts the judgement of a strong certificate of a network into the buffer, which is empty.
+fn put_strong(
+    alloc: Global,
+    answer: &mut Answer,
+    net: &Network,
+    cert: &StrongCert,
+) -> Result<End, AllocError>
+    requires { answer.old.text ≡ [] }
+    ensures { IfOk result (PutsProof net.now (Proof.Strong cert.now) answer.new.text) }
+{
+    let judgement = judge_strong(net, cert);
+    put_strong_judgement(alloc, answer, &judgement)?;
+    Ok(strong_judgement_end(&judgement))
+}
+
+/// Puts the line of a judgement of a strong certificate into the buffer.
+fn put_strong_judgement(
+    alloc: Global,
+    answer: &mut Answer,
+    judgement: &StrongJudgement,
+) -> Result<(), AllocError>
+    ensures { OnOk result (answer.new.text ≡ answer.old.text ++ strong_judgement_line judgement.now) }
+{
+    let text = judgement.to_string(alloc)?;
+    answer.push_line(&[Word::Text(text.as_str())])
+}
+
+fn strong_judgement_end(judgement: &StrongJudgement) -> End
+    ensures { result ≡ strong_judgement_end judgement.now }
+{
+    match judgement {
+        StrongJudgement::Accepted => End::Done,
+        StrongJudgement::Refused { .. } => End::Refused,
+    }
 }
 
 /// Puts the line of a judgement into the buffer.

@@ -1,33 +1,35 @@
 //! The command `play`: a plan, and then a day of it, as it is played in one situation.
 
-ghost use Rattle.std.specs.Prelude.{◌≡◌, ◌++◌, [], length, IfOk, OnOk};
-ghost use Rattle.strategy_model.specs.Control.{IsControllable, IsEarliest};
-ghost use Rattle.strategy_model.specs.Situations.{moment_in};
+ghost use Rattle.std.specs.Prelude.{◌≡◌, ◌++◌, [], IfOk, OnOk};
+ghost use Rattle.std.specs.List.{flat_map};
+ghost use Rattle.net_model.specs.Network.{IsPoint};
+ghost use Rattle.net_model.specs.NetworkParts.{point_name};
+ghost use Rattle.net_model.specs.ShownForm.{shown_situation};
+ghost use Rattle.strategy_model.specs.Control.{IsEarliest};
+ghost use Rattle.strategy_model.specs.Plays.{points_of};
+ghost use Rattle.strategy_model.specs.Situations.{IsSituation, moment_in};
 ghost use Rattle.dispatch_net.specs.OfClosure.{IsDispatchOfClosure};
 ghost use Rattle.stnu_run.specs.PlayPromise.{PlayPromise, PutsPlay};
-ghost use Rattle.stnu_run.specs.Playing.{PutsTimes, play_answers, play_asked, play_syntax, time_line, times_text};
-ghost use Rattle.verdicts.specs.Verdict.{IsVerdict};
+ghost use Rattle.stnu_run.specs.Playing.{PutsTimes, happened_in, play_answers, play_asked, play_syntax, time_line};
+ghost use Rattle.verdicts.specs.Verdict.{IsControllableBy};
 ghost use Rattle.stnu_run.specs.Which.{situation_of};
-ghost use Rattle.verdicts.specs.declared.verdict.Verdict.TheVariants.{Controllable};
 
-use crate::plan_asking::{OneAnswer, PlanQuestion};
-use crate::requests::Request;
-use crate::session_answers::point_name;
 use crate::which::Which;
-use crate::workers::Workers;
-use command_engine::{Answer, Asked, End, Question, Word};
+use command_engine::{Answer, End, Question, Word};
+use command_frame::{OneAnswer, PlanQuestion, Request, Workers, form_given};
 use command_words::{Arguments, Syntax};
 use common_answers::put_refuted;
 use dispatch_net::Dispatch;
 use live_executor::Executor;
 use net_model::{Network, PointId};
-use plan_inputs::{PlanForm, PlanInput, PlanNetwork};
+use plan_inputs::{PlanForm, PlanNetwork};
 use situation_player::play_out;
 use std::alloc::{AllocError, Global};
 use std::marker::Model;
 use std::thread::Threads;
-use strategy_model::Schedule;
 use strategy_model::laws::at_most_one_earliest;
+use strategy_model::laws::shown::earliest_is_shown;
+use strategy_model::{Schedule, Situation};
 use table_closing::Closed;
 use verdicts::{Verdict, dispatch_by};
 
@@ -78,24 +80,21 @@ impl Request for Play {
     fn words() -> Syntax<'static> {
         Syntax {
             flags: &["json"],
-            options: &["workers"],
+            options: &["workers", "delay"],
             operands: &["WHICH"],
         }
     }
 
     fn of(arguments: &Arguments<'_>) -> Option<Play> {
         let workers = Workers::of(arguments.option(0))?;
+        let form = form_given(arguments.flag(0), arguments.option(1))?;
         let which = Which::given(arguments.operand(0))?;
-        let form = PlanForm::of(arguments.flag(0));
         let words = PlayWords { form, which };
         Some(Play { words, workers })
     }
 
     fn workers_decide_nothing() {}
 }
-
-/// The command: how far its input was read.
-pub type Playing = Asked<Play, PlanInput>;
 
 impl PlanQuestion for Play {
     ghost form = { λ words. words.form };
@@ -133,55 +132,76 @@ fn put_day<R: Threads + Sync>(
     ensures { IfOk result (play_answers play.now net answer.new.text) }
 {
     match play.workers.decide(rt, alloc, net)? {
-        Verdict::Controllable(net, closed) => {
-            put_times(alloc, answer, &net, &closed, play.words.which)
-        }
+        Verdict::Controllable {
+            stated,
+            shown,
+            closed,
+        } => put_times(alloc, answer, &stated, &shown, &closed, play.words.which),
         Verdict::Refuted(certificate) => put_refuted(alloc, answer, &certificate),
     }
 }
 
-/// Puts that a network is controllable into the buffer, which is empty, and the moments of its points in a situation.
+/// Puts that a network is controllable into the buffer, which is empty, and the moments of its points in a situation, by the closure of its
+/// shown form.
 fn put_times(
     alloc: Global,
     answer: &mut Answer,
     net: &Network,
+    shown: &Network,
     closed: &Closed,
     which: Which,
 ) -> Result<End, AllocError>
     requires empty { answer.old.text ≡ [] }
-    requires verdict { IsVerdict net.now (Controllable net.now closed.now) }
+    requires verdict { IsControllableBy net.now shown.now closed.now }
     ensures { IfOk result (PutsTimes which net.now answer.new.text) }
 {
-    let dispatch = dispatch_by(alloc, net, closed)?;
-    let schedule = played(alloc, net, dispatch, which)?;
+    earliest_is_shown();
+    // The proof reads here that the network is sound.
+    let _ = net.points();
+    let dispatch = dispatch_by(alloc, shown, closed)?;
+    let situation = situation_as_shown(alloc, net, which)?;
+    let schedule = played(alloc, shown, dispatch, &situation)?;
     answer.push_line(&[Word::Text("controllable")])?;
     push_times(answer, net, schedule.as_slice())?;
     Ok(End::Done)
 }
 
-/// The earliest schedule of a situation of a network, by a dispatchable network of its closure. `AllocError` comes only for want of memory.
+/// A situation of a network, as it is in the shown form. `AllocError` comes only for want of memory.
+fn situation_as_shown(alloc: Global, net: &Network, which: Which) -> Result<Situation, AllocError>
+    ensures is { IfOk result (λ shown. shown.items ≡ shown_situation net.now (situation_of which net.now)) }
+    ensures situation { IfOk result (λ shown. IsSituation net.now (situation_of which net.now)) }
+{
+    // The proof reads here that the network is sound.
+    let _ = net.points();
+    let situation = which.situation(alloc, net)?;
+    net.shown_situation(alloc, situation.as_slice())
+}
+
+/// The earliest schedule of a situation of a network without a delay, by a dispatchable network of its closure. `AllocError` comes only for
+/// want of memory.
 pub(crate) fn played(
     alloc: Global,
     net: &Network,
     dispatch: Dispatch,
-    which: Which,
+    situation: &Situation,
 ) -> Result<Schedule, AllocError>
-    requires { IsDispatchOfClosure net.now dispatch }
-    ensures { IfOk result (λ schedule. IsEarliest net.now (situation_of which net.now) schedule.items) }
+    requires dispatch { IsDispatchOfClosure net.now dispatch }
+    requires no_delay { net.now.delay ≡ 0 }
+    requires situation { IsSituation net.now situation.now.items }
+    ensures { IfOk result (λ schedule. IsEarliest net.now situation.now.items schedule.items) }
 {
     // The proof reads here that the network is sound.
     let _ = net.points();
     let mut executor = Executor::start(alloc, net, dispatch.slim())?;
-    let situation = which.situation(alloc, net)?;
-    play_out(alloc, &mut executor, net, &situation)
+    play_out(alloc, &mut executor, net, situation)
 }
 
-/// Puts a line for each point of a network, with its moment in a schedule.
-fn push_times(answer: &mut Answer, net: &Network, schedule: &[u64]) -> Result<(), AllocError>
-    ensures { OnOk result (answer.new.text ≡ answer.old.text ++ times_text net.now schedule.now) }
+/// Puts a line for each point of a network, with its moment by a schedule as it is shown.
+fn push_times(answer: &mut Answer, net: &Network, shown: &[u64]) -> Result<(), AllocError>
+    ensures { OnOk result (answer.new.text ≡ answer.old.text ++ flat_map (λ point. time_line net.now point (happened_in net.now shown.now point)) (points_of net.now)) }
 {
     for point in 0..net.points().len() as u32 {
-        push_time(answer, net, schedule, PointId(point))?;
+        push_time(answer, net, shown, PointId(point))?;
     }
     Ok(())
 }
@@ -189,16 +209,30 @@ fn push_times(answer: &mut Answer, net: &Network, schedule: &[u64]) -> Result<()
 fn push_time(
     answer: &mut Answer,
     net: &Network,
-    schedule: &[u64],
+    shown: &[u64],
     point: PointId,
 ) -> Result<(), AllocError>
-    ensures { OnOk result (answer.new.text ≡ answer.old.text ++ time_line net.now schedule.now point) }
+    requires { IsPoint net.now point }
+    ensures { OnOk result (answer.new.text ≡ answer.old.text ++ time_line net.now point (happened_in net.now shown.now point)) }
 {
     answer.push_line(&[
         Word::Text("time"),
         Word::Name(point_name(net, point)),
-        Word::Number(moment_in(schedule, point)),
+        Word::Number(happened_in(net, shown, point)),
     ])
+}
+
+/// When a point happened, by a schedule as it is shown: a contingent point was shown the delay after that.
+fn happened_in(net: &Network, shown: &[u64], point: PointId) -> u64
+    requires { IsPoint net.now point }
+    ensures { result ≡ happened_in net.now shown.now point }
+{
+    let moment = moment_in(shown, point);
+    if net.is_contingent(point) {
+        moment.saturating_sub(net.delay().unsigned_abs())
+    } else {
+        moment
+    }
 }
 
 /// The moment of a point in a schedule.
@@ -206,4 +240,14 @@ fn moment_in(schedule: &[u64], point: PointId) -> u64
     ensures { result ≡ moment_in schedule.now point }
 {
     schedule.get(point.0 as usize).copied().unwrap_or(0)
+}
+
+/// The name of a point.
+fn point_name(net: &Network, point: PointId) -> &[u8]
+    ensures { result.now ≡ point_name net.now.points point }
+{
+    match net.points().get(point.0 as usize) {
+        Some(name) => name.bytes(),
+        None => b"",
+    }
 }

@@ -4,14 +4,13 @@ ghost use Rattle.std.specs.Prelude.{◌≡◌, [], IfOk};
 ghost use Rattle.command_engine.specs.Machine.{HasRoom};
 ghost use Rattle.execution_model.specs.Laws.{IsDispatchedByClosure};
 ghost use Rattle.event_execution.specs.Executing.{executing_machine};
-ghost use Rattle.stnu_run.specs.Programs.{or_nothing};
+ghost use Rattle.command_frame.specs.Programs.{or_nothing};
 ghost use Rattle.stnu_run.specs.RunPromise.{RunPromise, run_causes};
 ghost use Rattle.stnu_run.specs.Running.{run_begins, run_start};
 ghost use Rattle.event_execution.specs.Begin.{BeginsExecution};
 
-use crate::form_and_workers::FormAndWorkers;
-use crate::promising::{OneRun, Promising};
 use command_engine::{Answer, Begin, Onward, TextThenPhase};
+use command_frame::{FormAndWorkers, OneRun, Promising};
 use common_answers::put_refuted;
 use event_execution::{Executing, begin_dispatched};
 use event_stream::laws::lines_have_one_reading;
@@ -25,7 +24,7 @@ use table_closing::Closed;
 use verdicts::{Verdict, dispatch_by};
 
 /// The execution of a network: the command `run` reads a plan, and puts `controllable` and the first due moment where a strategy controls
-/// its network, else `not controllable` and a certificate which `judge` accepts, and then it ends with 1. Over the lines of events that
+/// its network, whose completions are listed when they are shown, else `not controllable` and a certificate which `judge` accepts, and then it ends with 1. Over the lines of events that
 /// follow it puts the acts of each feed and the next due moment, and at the end the acts that remain, and `complete`, and it ends with 0.
 /// An event that no execution of the network shows ends it with 7, after the line `error event` and the cause.
 #[derive(Drop)]
@@ -57,7 +56,9 @@ impl Begin<PlanNetwork> for Run {
         value: PlanNetwork,
     ) -> Result<Onward<Executing>, AllocError> {
         match self.asked.workers.decide(rt, alloc, value.into_network())? {
-            Verdict::Controllable(net, closed) => begin_execution(alloc, answer, net, &closed),
+            Verdict::Controllable { shown, closed, .. } => {
+                begin_execution(alloc, answer, shown, &closed)
+            }
             Verdict::Refuted(certificate) => {
                 Ok(Onward::Ends(put_refuted(alloc, answer, &certificate)?))
             }
@@ -65,8 +66,10 @@ impl Begin<PlanNetwork> for Run {
     }
 }
 
-impl Promising for Running {
+impl Promising for Run {
     type Request = FormAndWorkers;
+
+    type Served = Running;
 
     ghost start = { run_start };
 
@@ -91,13 +94,14 @@ impl Promising for Running {
     fn keeps_it_without_memory() {}
 }
 
-impl OneRun for Running {
+impl OneRun for Run {
     fn defines_one() {
         lines_have_one_reading();
     }
 }
 
-/// Begins the execution of a controllable network by its closure, and puts that the network is controllable, and the first due moment.
+/// Begins the execution of a network without a delay, which is controllable, by its closure, and puts that it is controllable, and the first
+/// due moment.
 fn begin_execution(
     alloc: Global,
     answer: &mut Answer,

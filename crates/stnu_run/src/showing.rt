@@ -6,13 +6,12 @@ ghost use Rattle.net_model.specs.Network.{HasPlanNumbers};
 ghost use Rattle.plan_format.specs.PlanParts.{end_words};
 ghost use Rattle.stnu_run.specs.Showing.{PutsPlan, ShowPromise, show_answers, show_asked, show_syntax};
 
-use crate::plan_asking::{OneAnswer, PlanQuestion};
-use crate::requests::Request;
-use command_engine::{Answer, Asked, End, Question, Word};
+use command_engine::{Answer, End, Question, Word};
+use command_frame::{OneAnswer, PlanQuestion, Request};
 use command_words::{Arguments, Syntax};
 use net_model::Network;
 use plan_format::print_plan;
-use plan_inputs::{Notation, PlanForm, PlanInput, PlanNetwork};
+use plan_inputs::{Delay, Notation, PlanForm, PlanNetwork};
 use plan_json::laws::documents_stand_in_inputs;
 use plan_json::to_json;
 use std::alloc::{AllocError, Global};
@@ -57,16 +56,13 @@ impl Request for Show {
     }
 
     fn of(arguments: &Arguments<'_>) -> Option<Show> {
-        let form = PlanForm::of(arguments.flag(0));
+        let form = PlanForm::of(arguments.flag(0), Delay::Own);
         let print = Notation::of(arguments.flag(1));
         Some(Show { form, print })
     }
 
     fn workers_decide_nothing() {}
 }
-
-/// The command: how far its input was read.
-pub type Showing = Asked<Show, PlanInput>;
 
 impl PlanQuestion for Show {
     ghost form = { λ show. show.form };

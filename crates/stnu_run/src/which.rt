@@ -4,7 +4,7 @@ ghost use Rattle.std.specs.Prelude.{◌≡◌, option_map, IfOk};
 ghost use Rattle.strategy_model.specs.Situations.{IsSituation};
 ghost use Rattle.stnu_run.specs.Which.{situation_of, which_given, which_of};
 
-use crate::counts::number_within;
+use command_frame::number_within;
 use net_model::Network;
 use situation_player::{longest, shortest, situation};
 use std::alloc::{AllocError, Global};

@@ -1,6 +1,7 @@
 -- A network is answered in one way by its verdict: the certificate of its refutation is one.
 use Rattle.std.proofs.Common.{◌≡◌, ℕ, List, inl, inr, sym, ◌∙◌, subst}
 use Rattle.net_model.specs.Network.{Plan}
+use Rattle.net_model.specs.ShownForm.{shown_form}
 use Rattle.cert_format.specs.declared.certificate.Certificate.{Certificate}
 use Rattle.refutations.proofs.OneCertificate.{certificate_one}
 use Rattle.command_engine.specs.declared.endings.End.{End}
@@ -12,10 +13,10 @@ pub decided_once : {A : Type 0} (net : Plan) (Yes : A → Type 0) (No : A → Ce
     → ((one other : A) → Yes one → Yes other → Same one other) → ((one other : A) (cert : Certificate) → No one cert → No other cert → Same one other)
     → (one other : A) → Decides net (Yes one) (No one) → Decides net (Yes other) (No other) → Same one other
 decided_once net Yes No Same same_yes same_no one other (inl (controls, first)) (inl (also, second)) = same_yes one other first second
-decided_once net Yes No Same same_yes same_no one other (inl (controls, first)) (inr (cert, refutes, second)) = absurd (refutes.never controls)
-decided_once net Yes No Same same_yes same_no one other (inr (cert, refutes, first)) (inl (controls, second)) = absurd (refutes.never controls)
-decided_once net Yes No Same same_yes same_no one other (inr (cert, refutes, first)) (inr (same, also, second)) =
-    same_no one other cert first (subst (No other) (certificate_one net same cert also.of refutes.of) second)
+decided_once net Yes No Same same_yes same_no one other (inl (controls, first)) (inr (never, second)) = absurd (never controls)
+decided_once net Yes No Same same_yes same_no one other (inr (never, first)) (inl (controls, second)) = absurd (never controls)
+decided_once net Yes No Same same_yes same_no one other (inr (never, (cert, refutes, first))) (inr (also_never, (same, also, second))) =
+    same_no one other cert first (subst (No other) (certificate_one (shown_form net) same cert also.of refutes.of) second)
 
 -- where a refutation is put of another, the answer is one where that to a controllable network is
 pub answers_once : (net : Plan) (Yes : List ℕ → End → Type 0) → ((a b : List ℕ) (x y : End) → Yes a x → Yes b y → (a ≡ b) × (x ≡ y))

@@ -1,9 +1,11 @@
 -- What decides the verdict of a network, and what a certificate of it says.
-use Rattle.std.proofs.Common.{◌≡◌, ℕ, List, Option, Some, None, refl, ap, ◌∙◌, inl, inr}
-use Rattle.net_model.specs.Network.{Plan}
+use Rattle.std.proofs.Common.{◌≡◌, ℕ, List, Option, Some, None, sym, ap, ◌∙◌, subst, inl, inr}
+use Rattle.net_model.specs.Network.{Plan, IsPlan}
+use Rattle.net_model.specs.ShownForm.{shown_form}
 use Rattle.controllability.specs.Laws.{CyclesOfTablesExclude, OrderedClosuresAreControllable}
 use Rattle.strategy_model.specs.Plays.{IsInstant}
 use Rattle.strategy_model.specs.Control.{IsControllable}
+use Rattle.strategy_model.specs.ShownLaws.{ControllableIsShown}
 use Rattle.table_closing.specs.Closing.{ClosesTo}
 use Rattle.table_closing.specs.declared.closing.Closed.{Closed}
 use Rattle.closure_model.specs.OrderLaws.{OrderedTablesArePlaced}
@@ -16,9 +18,8 @@ use Rattle.refutations.specs.Refuting.{Refutes}
 use Rattle.table_proofs.specs.Certified.{Certifies, Proves}
 use Rattle.table_proofs.specs.Proving.{table_proof_of}
 use Rattle.command_engine.specs.declared.endings.End.{End}
-use Rattle.verdicts.specs.Verdict.{Decides, IsDecidedByClosure, IsVerdict, PutsDecided}
+use Rattle.verdicts.specs.Verdict.{Decides, IsControllableBy, IsDecidedByClosure, PutsDecided}
 use Rattle.common_answers.specs.VerdictLines.{PutsRefuted}
-use Rattle.verdicts.specs.declared.verdict.Verdict.TheVariants.{Controllable}
 
 -- a closure with an order decides it, and so does a derivable cycle
 pub closes_decides : OrderedClosuresAreControllable → CyclesOfTablesExclude → (net : Plan) → IsInstant net → (found : Option Closed) → ClosesTo net found → IsDecidedByClosure net found
@@ -26,24 +27,32 @@ closes_decides decide exclude net instant (Some closed) is =
     (decide net closed.table closed.order instant is.closure is.order, record { instant = instant; closure = is.closure; ordered = is.order }, is.placed)
 closes_decides decide exclude net instant None found = λ controls. exclude net found.table found.cycle instant found.derivable found.is controls
 
--- the verdict of a network that is handed back is its own
-pub own_verdict : (net same : Plan) (closed : Closed) → IsVerdict net (Controllable same closed) → IsVerdict same (Controllable same closed)
-own_verdict net same closed verdict = (refl, verdict.1, verdict.2, verdict.3)
+-- what is decided of the shown form decides the network
+pub shown_decides : ControllableIsShown → (net shown : Plan) (closed : Closed) → IsPlan net → shown ≡ shown_form net → IsDecidedByClosure shown (Some closed) → IsControllableBy net shown closed
+shown_decides law net shown closed plan is decided = record {
+  as_shown = is;
+  controllable = (law net plan).1 (subst IsControllable is decided.0);
+  by_closure = decided.1;
+  placed = decided.2;
+}
 
--- what is made by a closure and the order of its placed points proves the network controllable
-pub table_proof_proves : OrderedTablesArePlaced → (net : Plan) (closed : Closed) (cert : Certificate) → IsVerdict net (Controllable net closed) → cert ≡ table_proof_of net closed.table closed.order
-    → judgement_of net cert ≡ Accepted ControllableClaim → HasWeights cert → Proves net cert
-table_proof_proves placed net closed cert verdict is accepted weights = record {
-  some = verdict.1;
+pub shown_excludes : ControllableIsShown → (net shown : Plan) → IsPlan net → shown ≡ shown_form net → IsDecidedByClosure shown None → ¬ IsControllable net
+shown_excludes law net shown plan is never = λ controls. never (subst IsControllable (sym is) ((law net plan).0 controls))
+
+-- what is made by a closure of the shown form and the order of its placed points proves that controllable
+pub table_proof_proves : ControllableIsShown → OrderedTablesArePlaced → (net shown : Plan) (closed : Closed) (cert : Certificate) → IsPlan net → IsControllableBy net shown closed
+    → cert ≡ table_proof_of shown closed.table closed.order → judgement_of shown cert ≡ Accepted ControllableClaim → HasWeights cert → Proves (shown_form net) cert
+table_proof_proves law placed net shown closed cert plan decided is accepted weights = subst (λ (n : Plan). Proves n cert) decided.as_shown (record {
+  some = subst IsControllable (sym decided.as_shown) ((law net plan).0 decided.controllable);
   of = record {
     table = closed.table;
-    closure = verdict.2.closure;
-    all_placed = placed closed.table closed.order verdict.2.ordered;
-    is = is ∙ ap (table_proof_of net closed.table) verdict.3;
+    closure = decided.by_closure.closure;
+    all_placed = placed closed.table closed.order decided.by_closure.ordered;
+    is = is ∙ ap (table_proof_of shown closed.table) decided.placed;
   };
   accepted = accepted;
   weights = weights;
-}
+})
 
 -- a certificate that decides a network can be printed
 pub decides_in_print : (net : Plan) (cert : Certificate) → Certifies net cert → HasWeights cert
@@ -63,4 +72,4 @@ decides_no net cert never (inr refutes) = refutes
 -- the answer to a network is its verdict
 pub verdict_put : (net : Plan) (Yes : Type 0) (put : List ℕ) (end : End) → Decides net Yes (λ cert. PutsRefuted cert put end) → PutsDecided net Yes put end
 verdict_put net Yes put end (inl controllable) = inl controllable
-verdict_put net Yes put end (inr (cert, refutes, puts)) = inr (refutes.never, (cert, refutes.accepted, puts))
+verdict_put net Yes put end (inr (never, (cert, refutes, puts))) = inr (never, (cert, refutes.accepted, puts))

@@ -1,6 +1,7 @@
 //! The verdict of a network: every command that has one decides it here.
 
-ghost use Rattle.std.specs.Prelude.{◌≤◌, IfOk};
+ghost use Rattle.std.specs.Prelude.{◌≡◌, ◌≤◌, IfOk};
+ghost use Rattle.net_model.specs.ShownForm.{shown_form};
 ghost use Rattle.strategy_model.specs.Control.{IsControllable};
 ghost use Rattle.work_board.specs.Limits.{most_seats};
 ghost use Rattle.dispatch_net.specs.OfClosure.{IsDispatchOfClosure};
@@ -16,18 +17,23 @@ use parallel_rounds::Gate;
 use plan_session::{AskFault, Session};
 use std::alloc::{AllocError, Global};
 use std::thread::Threads;
+use strategy_model::laws::shown::controllable_is_shown;
 use table_closing::{Closed, close};
 
 /// The verdict of a network, and by what it is decided.
 #[derive(Drop)]
 pub enum Verdict {
-    /// Some strategy controls the network, which is handed back.
-    Controllable(Network, Closed),
-    /// None does, and this refutes it.
+    /// Some strategy controls the network, which is handed back with its shown form and the closure of that.
+    Controllable {
+        stated: Network,
+        shown: Network,
+        closed: Closed,
+    },
+    /// None does, and this refutes its shown form.
     Refuted(Certificate),
 }
 
-/// Decides whether a network is controllable, by closing its table; a session is opened only where it is not, since the nodes of the
+/// Decides whether a network is controllable, by closing the table of its shown form; a session is opened only where it is not, since the nodes of the
 /// certificate are those of its rounds. So many workers, 1 to 64, test the table and make the rows of a round; the gate is called before
 /// each row. `AllocError` comes only for want of memory.
 pub fn decide<R: Threads + Sync, G: Gate>(
@@ -40,8 +46,16 @@ pub fn decide<R: Threads + Sync, G: Gate>(
     requires { (1 ≤ workers) × (workers ≤ most_seats) }
     ensures { IfOk result (IsVerdict net) }
 {
-    match decide_by_closure(rt, alloc, &net, workers)? {
-        Some(closed) => Ok(Verdict::Controllable(net, closed)),
+    controllable_is_shown();
+    // The proof reads here that the network is sound.
+    let _ = net.points();
+    let shown = net.shown(alloc)?;
+    match decide_by_closure(rt, alloc, &shown, workers)? {
+        Some(closed) => Ok(Verdict::Controllable {
+            stated: net,
+            shown,
+            closed,
+        }),
         None => {
             let certificate = refute(rt, alloc, net, workers, gate)?;
             Ok(Verdict::Refuted(certificate))
@@ -49,7 +63,7 @@ pub fn decide<R: Threads + Sync, G: Gate>(
     }
 }
 
-/// Decides whether a network is controllable, and makes no certificate: the closure with the order of its points where it is, and `None`
+/// Decides whether a network without a delay is controllable, and makes no certificate: the closure with the order of its points where it is, and `None`
 /// exactly where it is not. So many workers test the table. `AllocError` comes only for want of memory.
 pub fn decide_by_closure<R: Threads + Sync>(
     rt: &R,
@@ -57,7 +71,8 @@ pub fn decide_by_closure<R: Threads + Sync>(
     net: &Network,
     workers: u32,
 ) -> Result<Option<Closed>, AllocError>
-    requires { 1 ≤ workers }
+    requires some { 1 ≤ workers }
+    requires no_delay { net.now.delay ≡ 0 }
     ensures { IfOk result (IsDecidedByClosure net.now) }
 {
     ordered_closures_are_controllable();
@@ -67,7 +82,7 @@ pub fn decide_by_closure<R: Threads + Sync>(
     close(rt, alloc, net, workers)
 }
 
-/// The certificate that refutes a network, which is not controllable, by the rounds of so many workers, 1 to 64; the gate is called before
+/// The certificate that refutes the shown form of a network, which is not controllable, by the rounds of so many workers, 1 to 64; the gate is called before
 /// each row. `AllocError` comes only for want of memory.
 pub fn refute<R: Threads + Sync, G: Gate>(
     rt: &R,
@@ -78,8 +93,11 @@ pub fn refute<R: Threads + Sync, G: Gate>(
 ) -> Result<Certificate, AllocError>
     requires never { ¬ IsControllable net }
     requires workers { (1 ≤ workers) × (workers ≤ most_seats) }
-    ensures { IfOk result (Refutes net) }
+    ensures { IfOk result (Refutes (shown_form net)) }
 {
+    controllable_is_shown();
+    // The proof reads here that the network is sound.
+    let _ = net.points();
     let session = Session::open(rt, alloc, net, workers, gate)?;
     match session.certificate(rt, alloc) {
         Ok(certificate) => Ok(certificate),

@@ -8,9 +8,9 @@ use Rattle.example_days.proofs.days.start.Goals as goal
 
 pub start-requires : goal.start-requires
 start-requires c =
-    let is = c.requires in
+    let is = c.requires.of in
     record {
-      instant = record { sound = c.points-points.ensures.sound };
+      instant = record { sound = c.points-points.ensures.sound; no_delay = c.requires.no_delay };
       table = is.table;
       order = is.order;
       graph = closures_are_graphs c.args.net.now is.table c.points-points.ensures.sound is.closure;
@@ -21,11 +21,11 @@ start-requires c =
 
 pub returns : goal.returns
 returns c =
-    let is = c.requires in
+    let is = c.requires.of in
     record {
       table = is.table;
       order = is.order;
-      by_closure = record { instant = record { sound = c.points-points.ensures.sound }; closure = is.closure; ordered = is.ordered };
+      by_closure = record { instant = record { sound = c.points-points.ensures.sound; no_delay = c.requires.no_delay }; closure = is.closure; ordered = is.ordered };
       fresh =
           c.in_ok-start.ensures
           ∙ ap (λ (made : List Conditions). started (record { links = c.args.net.now.links; dispatch = made })) (c.slim.ensures.made ∙ is.by.made);

@@ -9,8 +9,8 @@ use Rattle.parallel_rounds.specs.declared.outcome.Outcome.TheVariants.{Closed}
 use Rattle.example_rounds.proofs.dispatches.dispatch.Goals as goal
 
 -- a closed end of the rounds is a closure with an order, by which its network may be dispatched
-pub of-requires-2 : goal.of-requires-2
-of-requires-2 g c =
+pub of-requires-2-clause-may : goal.of-requires-2-clause-may
+of-requires-2-clause-may g c =
     let net = c.args.net.now in
     let after = c.propagate.new.store in
     let order = c.in-Closed.order in

@@ -1,7 +1,7 @@
 use Rattle.std.proofs.Common.{map, string_bytes}
 use Rattle.stnu_run.specs.DefinedRuns.{program_of}
-use Rattle.stnu_run.proofs.ExactLemmas.{program_exact}
-use Rattle.stnu_run.proofs.StatusLemmas.{status_caused}
+use Rattle.command_frame.proofs.ExactLemmas.{program_exact}
+use Rattle.command_frame.proofs.StatusLemmas.{status_caused}
 use Rattle.stnu_run.proofs.dispatch.run.Goals as goal
 
 pub returns-clause-served : goal.returns-clause-served

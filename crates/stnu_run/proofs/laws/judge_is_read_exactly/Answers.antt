@@ -1,4 +1,4 @@
-use Rattle.stnu_run.proofs.WorkersLemmas.{judge_exactly}
+use Rattle.stnu_run.proofs.JudgeWordLemmas.{judge_exactly}
 use Rattle.stnu_run.proofs.laws.judge_is_read_exactly.Goals as goal
 
 pub returns : goal.returns

@@ -1,4 +1,4 @@
-use Rattle.stnu_run.proofs.WorkersLemmas.{form_exactly}
+use Rattle.command_frame.proofs.FormWordLemmas.{form_exactly}
 use Rattle.stnu_run.proofs.laws.run_is_read_exactly.Goals as goal
 
 pub returns : goal.returns

@@ -1,4 +1,4 @@
-use Rattle.stnu_run.proofs.WorkersLemmas.{show_exactly}
+use Rattle.stnu_run.proofs.ShowWordLemmas.{show_exactly}
 use Rattle.stnu_run.proofs.laws.show_is_read_exactly.Goals as goal
 
 pub returns : goal.returns

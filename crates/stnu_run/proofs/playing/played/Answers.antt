@@ -7,9 +7,9 @@ use Rattle.stnu_run.proofs.playing.played.Goals as goal
 pub start-requires : goal.start-requires
 start-requires c =
     let net = c.args.net.now in
-    let is = c.requires in
-    dispatch_of net is.table is.order (by_closure net c.args.dispatch c.points.ensures.sound is) c.slim.result (c.slim.ensures.links ∙ is.by.links) (c.slim.ensures.made ∙ is.by.made)
+    let is = c.requires.dispatch in
+    dispatch_of net is.table is.order (by_closure net c.args.dispatch (record { sound = c.points.ensures.sound; no_delay = c.requires.no_delay }) is) c.slim.result (c.slim.ensures.links ∙ is.by.links) (c.slim.ensures.made ∙ is.by.made)
 
 pub play_out-requires-clause-started : goal.play_out-requires-clause-started
 play_out-requires-clause-started c =
-    started_by c.args.net.now c.args.dispatch c.slim.result.made c.in_ok-executor.executor c.points.ensures.sound c.requires c.slim.ensures.made c.in_ok-executor.ensures
+    started_by c.args.net.now c.args.dispatch c.slim.result.made c.in_ok-executor.executor (record { sound = c.points.ensures.sound; no_delay = c.requires.no_delay }) c.requires.dispatch c.slim.ensures.made c.in_ok-executor.ensures

@@ -1,4 +1,4 @@
-use Rattle.stnu_run.proofs.WorkersLemmas.{workers_decide_no_flag}
+use Rattle.stnu_run.proofs.CheckWordLemmas.{workers_decide_no_flag}
 use Rattle.stnu_run.proofs.checking.CheckRequest.workers_decide_nothing.Goals as goal
 
 pub returns : goal.returns

@@ -1,0 +1,3 @@
+pub mod CertificateLemmas
+pub mod StrongLemmas
+pub mod ProofLemmas

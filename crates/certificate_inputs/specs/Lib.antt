@@ -1,0 +1,5 @@
+pub mod CertificateTexts
+pub mod CertificateInputs
+pub mod StrongTexts
+pub mod StrongInputs
+pub mod ProofInputs

@@ -1,0 +1,20 @@
+use Rattle.std.proofs.Common.{ℕ, ap, rules}
+use Rattle.command_frame.specs.Programs.{Promise, serves, ServesProgram}
+use Rattle.command_frame.specs.declared.status.Status.{Status}
+use Rattle.command_frame.proofs.KeptLemmas.{kept, served_from, kept_without_memory}
+use Rattle.command_frame.proofs.promising.serve_command.Goals as goal
+
+pub returns : goal.returns
+returns g c =
+    let number : ℕ → Status = λ n. record { 0 = n } in
+    let promise : Promise = g.C.Promising.promise c.args.request in
+    let before = g.P.Port.seen c.args.port.now in
+    let after = g.P.Port.seen c.serve.new.port in
+    let served : ServesProgram (serves g.C.Served.Command.machine (g.C.Promising.start c.args.request) promise) (number c.number.result) before after =
+    served_from g.C.Served.Command.machine (g.C.Promising.start c.args.request) c.begun.result promise c.serve.result (number c.number.result) before after (ap number c.number.ensures) c.begun.ensures.start c.serve.ensures in
+    record {
+      served = served;
+      kept = kept (serves g.C.Served.Command.machine (g.C.Promising.start c.args.request) promise) (number c.number.result) before after (c.keeps_its_promise.ensures c.args.request) served;
+      causes = search rules;
+      memory = kept_without_memory g.C.Served.Command.machine (g.C.Promising.start c.args.request) c.begun.result promise c.serve.result (number c.number.result) before after (ap number c.number.ensures) c.begun.ensures.start (c.keeps_it_without_memory.ensures c.args.request) c.serve.ensures;
+    }

@@ -1,0 +1,6 @@
+pub mod SessionEndLemmas
+pub mod SessionOnceLemmas
+pub mod SessionLines
+pub mod SessionLemmas
+pub mod EditingLemmas
+pub mod SessionTextLemmas

@@ -1,0 +1,202 @@
+-- Each line of a session has one answer, and after each it stands in one way.
+use Rattle.std.proofs.Common.{◌≡◌, ◌⊎◌, inl, inr, ℕ, List, [], ◌∷◌, ◌++◌, Some, Result, Ok, Err, ap, sym, ◌∙◌, subst}
+use Rattle.texts.specs.Words.{words}
+use Rattle.net_model.specs.Editing.{edited}
+use Rattle.net_model.specs.Network.{Plan}
+use Rattle.net_model.specs.ShownForm.{shown_form}
+use Rattle.net_model.specs.declared.edit.Edit.{Edit}
+use Rattle.net_model.specs.declared.edit.EditFault.{EditFault}
+use Rattle.net_model.specs.declared.format.FormatKind.{FormatKind}
+use Rattle.closure_model.specs.Tables.{Graph}
+use Rattle.closure_model.proofs.LawProofs.{closure_is_one}
+use Rattle.cert_format.specs.CertificateWords.{printed_certificate}
+use Rattle.dispatch_net.specs.Dispatchable.{dispatchable}
+use Rattle.edit_script.specs.EditText.{IsLine, IsFaultOfWords}
+use Rattle.edit_script.specs.Laws.{OneReading as OneStep}
+use Rattle.edit_script.specs.declared.step.Step.{Step}
+use Rattle.edit_script.specs.declared.step.Step.TheVariants as step
+use Rattle.event_stream.specs.Laws.{OneReading}
+use Rattle.plan_session.specs.Laws.{SessionsOpenInOneWay, EditsAreFollowedInOneWay}
+use Rattle.plan_session.specs.Sessions.{State, Opened, FollowsEdit, Accepts}
+use Rattle.plan_session.specs.declared.answers.Report.{Report}
+use Rattle.command_engine.specs.Single.{IsSingle, IsSingleAnswer}
+use Rattle.command_engine.specs.declared.endings.End.{End}
+use Rattle.command_engine.specs.declared.machines.Onward.{Onward}
+use Rattle.command_engine.specs.declared.machines.Onward.TheVariants.{Goes, Ends}
+use Rattle.command_engine.specs.declared.machines.Stop.{Stop}
+use Rattle.command_engine.proofs.PhaseLemmas.{within_same}
+use Rattle.event_execution.specs.Executing.{executing_machine}
+use Rattle.common_answers.specs.Faults.{fault_line, fault_end}
+use Rattle.event_execution.specs.Begin.{BeginsExecution}
+use Rattle.session_command.specs.SessionAnswers.{ready_line, table_text}
+use Rattle.session_command.specs.SessionPromise.{SaysSteps, SaysAll}
+use Rattle.session_command.specs.Sessions.{net_of, SaysEdit, SaysVerdict, SaysProof, SaysTable, SaysStep, StandsEdited, StandsAfterEdit, StandsAfter, EditsOn, BeginsByGo, AnswersStep, TakesStep, session_machine, OpensOn, session_begins}
+use Rattle.session_command.specs.Standing.{Standing}
+use Rattle.common_answers.specs.declared.faults.Fault.TheVariants.{Format}
+use Rattle.session_command.specs.declared.session.InSession.{InSession}
+use Rattle.session_command.specs.declared.session.InSession.TheVariants.{Editing, Executing}
+use Rattle.table_proofs.proofs.LawProofs.{certificates_are_one}
+use Rattle.event_execution.proofs.OnceLemmas.{begun_one, executing_single}
+
+-- ---- the answer to a line
+edit_said_once : (net : Plan) (made : Result Plan EditFault) (a b : List ℕ) → SaysEdit net made a → SaysEdit net made b → a ≡ b
+edit_said_once net (Ok more) a b one other = one ∙ sym other
+edit_said_once net (Err cause) a b one other = one ∙ sym other
+
+verdict_said_once : (net : Plan) (a b : List ℕ) → SaysVerdict net a → SaysVerdict net b → a ≡ b
+verdict_said_once net a b (inl (controls, one)) (inl (also, other)) = one ∙ sym other
+verdict_said_once net a b (inl (controls, one)) (inr (never, other)) = absurd (never controls)
+verdict_said_once net a b (inr (never, one)) (inl (controls, other)) = absurd (never controls)
+verdict_said_once net a b (inr (never, one)) (inr (also, other)) = one ∙ sym other
+
+proof_said_once : (net : Plan) (a b : List ℕ) → SaysProof net a → SaysProof net b → a ≡ b
+proof_said_once net a b (cert, decides, is) (other, also, same) = is ∙ (ap printed_certificate (certificates_are_one (shown_form net) cert other decides also) ∙ sym same)
+
+table_said_once : (net : Plan) (a b : List ℕ) → SaysTable net a → SaysTable net b → a ≡ b
+table_said_once net a b (inl (controls, (table, closure, one))) (inl (also, (same, is, other))) = one ∙ (ap (λ (t : Graph). table_text (shown_form net) (dispatchable (shown_form net) t)) (closure_is_one (shown_form net) table same closure is) ∙ sym other)
+table_said_once net a b (inl (controls, one)) (inr (never, other)) = absurd (never controls)
+table_said_once net a b (inr (never, one)) (inl (controls, other)) = absurd (never controls)
+table_said_once net a b (inr (never, one)) (inr (also, other)) = one ∙ sym other
+
+said_once : (standing : Standing) (told : Step) (a b : List ℕ) → SaysStep standing told a → SaysStep standing told b → a ≡ b
+said_once standing step.Blank a b one other = one ∙ sym other
+said_once standing (step.Edit edit) a b one other = edit_said_once (net_of standing) (edited (net_of standing) edit) a b one other
+said_once standing step.Verdict a b one other = verdict_said_once (net_of standing) a b one other
+said_once standing step.Proof a b one other = proof_said_once (net_of standing) a b one other
+said_once standing step.Table a b one other = table_said_once (net_of standing) a b one other
+said_once standing step.Plan a b one other = one ∙ sym other
+said_once standing step.Report a b one other = one ∙ sym other
+said_once standing step.Go a b one other = one.1 ∙ sym other.1
+said_once standing step.End a b one other = absurd one
+
+-- ---- the reply to a line
+module _ (steps : (line : List (List ℕ)) → OneStep line) where
+  -- what a line tells decides the answer
+  pub told_step : (standing : Standing) (number : ℕ) (told : Step) (line answer : List ℕ) (onward : Onward InSession) → IsLine told line → TakesStep standing number line answer onward → AnswersStep standing told answer onward
+  told_step standing number told line answer onward is (inl (other, also, answers)) =
+      subst (λ (t : Step). AnswersStep standing t answer onward) ((steps (words line)).one_telling other told also is) answers
+  told_step standing number told line answer onward is (inr (kind, fault, puts, so)) = absurd ((steps (words line)).not_both told kind is fault)
+
+  pub fault_step : (standing : Standing) (number : ℕ) (kind : FormatKind) (line answer : List ℕ) (onward : Onward InSession) → IsFaultOfWords (words line) kind → TakesStep standing number line answer onward
+      → (answer ≡ fault_line (Format number kind)) × (onward ≡ Ends (fault_end (Format number kind)))
+  fault_step standing number kind line answer onward is (inl (told, also, answers)) = absurd ((steps (words line)).not_both told kind also is)
+  fault_step standing number kind line answer onward is (inr (other, fault, puts, so)) =
+      let same = (steps (words line)).one_fault other kind fault is in
+      (puts ∙ ap (λ (k : FormatKind). fault_line (Format number k)) same, so ∙ ap (λ (k : FormatKind). let onward : Onward InSession = Ends (fault_end (Format number k)) in onward) same)
+
+-- ---- how the session stands
+abbrev open_state : Plan → Opened → State
+open_state net opened = record { net = net; opened = Some opened }
+
+-- a session is opened in one way, and follows an edit in one way
+pub record OneWay : Type 0 where
+  pub opens : SessionsOpenInOneWay
+  pub follows : EditsAreFollowedInOneWay
+
+module _ (way : OneWay) where
+  accepts_once : (before : State) (edit : Edit) (one other : Report) (a b : State) → Accepts before edit one a → Accepts before edit other b → (one ≡ other) × (a ≡ b)
+  accepts_once before edit one other a b first second =
+      let nets : first.net ≡ second.net = cc (sym first.made ∙ second.made) in
+      let held : first.held ≡ second.held = cc (sym first.was ∙ second.was) in
+      let moved : FollowsEdit (shown_form before.net) edit (shown_form second.net) second.held first.opened one =
+      subst (λ (n : Plan). FollowsEdit (shown_form before.net) edit (shown_form n) second.held first.opened one) nets
+      (subst (λ (o : Opened). FollowsEdit (shown_form before.net) edit (shown_form first.net) o first.opened one) held first.follows) in
+      let same = way.follows (shown_form before.net) edit (shown_form second.net) second.held first.opened second.opened one other moved second.follows in
+      (same.1, first.is ∙ (ap (λ (n : Plan). open_state n first.opened) nets ∙ (ap (open_state second.net) same.0 ∙ sym second.is)))
+
+  edited_once : (before : Standing) (edit : Edit) (a b : Standing) → StandsEdited before edit a → StandsEdited before edit b → a ≡ b
+  edited_once before edit a b one other =
+      let same = accepts_once before.session edit one.report other.report a.session b.session one.accepts other.accepts in
+      let sessions : a.session ≡ b.session = same.1 in
+      let reports : a.report ≡ b.report = one.reports ∙ (ap (λ (r : Report). Some r) same.0 ∙ sym other.reports) in
+      λ i. record { session = sessions i; report = reports i }
+
+  after_edit_once : (before : Standing) (edit : Edit) (made : Result Plan EditFault) (a b : Standing) → StandsAfterEdit before edit made a → StandsAfterEdit before edit made b → a ≡ b
+  after_edit_once before edit (Ok net) a b one other = edited_once before edit a b one other
+  after_edit_once before edit (Err cause) a b one other = one ∙ sym other
+
+  stands_once : (before : Standing) (told : Step) (a b : Standing) → StandsAfter before told a → StandsAfter before told b → a ≡ b
+  stands_once before (step.Edit edit) a b one other = after_edit_once before edit (edited (net_of before) edit) a b one other
+  stands_once before step.Blank a b one other = one ∙ sym other
+  stands_once before step.Verdict a b one other = one ∙ sym other
+  stands_once before step.Proof a b one other = one ∙ sym other
+  stands_once before step.Table a b one other = one ∙ sym other
+  stands_once before step.Plan a b one other = one ∙ sym other
+  stands_once before step.Report a b one other = one ∙ sym other
+  stands_once before step.Go a b one other = one ∙ sym other
+  stands_once before step.End a b one other = one ∙ sym other
+
+  -- ---- how it goes on
+  edits_once : (standing : Standing) (told : Step) (a b : List ℕ) (x y : Onward InSession) → EditsOn standing told a x → EditsOn standing told b y → (a ≡ b) × (x ≡ y)
+  edits_once standing told a b x y (after, said, stands, goes) (other, says, also, going) =
+      let same : after ≡ other = stands_once standing told after other stands also in
+      let onward : Standing → Onward InSession = λ s. Goes (Editing s) in
+      (said_once standing told a b said says, goes ∙ (ap onward same ∙ sym going))
+
+  go_once : (standing : Standing) (a b : List ℕ) (x y : Onward InSession) → BeginsByGo standing a x ⊎ EditsOn standing step.Go a x → BeginsByGo standing b y ⊎ EditsOn standing step.Go b y → (a ≡ b) × (x ≡ y)
+  go_once standing a b x y (inl (controls, one)) (inl (also, other)) =
+      within_same Executing (BeginsExecution (shown_form (net_of standing))) (λ c d u v. begun_one (shown_form (net_of standing)) c d u v) a b x y one other
+  go_once standing a b x y (inl (controls, one)) (inr (after, never, stands, goes)) = absurd (never.0 controls)
+  go_once standing a b x y (inr (after, never, stands, goes)) (inl (controls, other)) = absurd (never.0 controls)
+  go_once standing a b x y (inr one) (inr other) = edits_once standing step.Go a b x y one other
+
+  step_once : (standing : Standing) (told : Step) (a b : List ℕ) (x y : Onward InSession) → AnswersStep standing told a x → AnswersStep standing told b y → (a ≡ b) × (x ≡ y)
+  step_once standing step.End a b x y one other = (one.0 ∙ sym other.0, one.1 ∙ sym other.1)
+  step_once standing step.Go a b x y one other = go_once standing a b x y one other
+  step_once standing step.Blank a b x y one other = edits_once standing step.Blank a b x y one other
+  step_once standing (step.Edit edit) a b x y one other = edits_once standing (step.Edit edit) a b x y one other
+  step_once standing step.Verdict a b x y one other = edits_once standing step.Verdict a b x y one other
+  step_once standing step.Proof a b x y one other = edits_once standing step.Proof a b x y one other
+  step_once standing step.Table a b x y one other = edits_once standing step.Table a b x y one other
+  step_once standing step.Plan a b x y one other = edits_once standing step.Plan a b x y one other
+  step_once standing step.Report a b x y one other = edits_once standing step.Report a b x y one other
+
+  -- ---- the phase
+  module _ (steps : (line : List (List ℕ)) → OneStep line) where
+    line_once : (standing : Standing) (number : ℕ) (line a b : List ℕ) (x y : Onward InSession) → TakesStep standing number line a x → TakesStep standing number line b y → (a ≡ b) × (x ≡ y)
+    line_once standing number line a b x y (inl (told, is, one)) other = step_once standing told a b x y one (told_step steps standing number told line b y is other)
+    line_once standing number line a b x y (inr (kind, is, put, ends)) other =
+        let same = fault_step steps standing number kind line b y is other in
+        (put ∙ sym same.0, ends ∙ sym same.1)
+
+    module _ (reading : (net : Plan) (line : List (List ℕ)) → OneReading net line) where
+      takes_once : (state : InSession) (number : ℕ) (line a b : List ℕ) (x y : Onward InSession) → session_machine.takes state number line a x → session_machine.takes state number line b y → (a ≡ b) × (x ≡ y)
+      takes_once (Editing standing) number line a b x y one other = line_once standing number line a b x y one other
+      takes_once (Executing course) number line a b x y one other = within_same Executing (executing_machine.takes course number line) (λ c d u v. (executing_single reading).takes course number line c d u v) a b x y one other
+
+      stops_once : (state : InSession) (number : ℕ) (stop : Stop) (a b : List ℕ) (x y : End) → session_machine.stops state number stop a x → session_machine.stops state number stop b y → (a ≡ b) × (x ≡ y)
+      stops_once (Editing standing) number stop a b x y one other = (one.0 ∙ sym other.0, one.1 ∙ sym other.1)
+      stops_once (Executing course) number stop a b x y one other = (executing_single reading).stops course number stop a b x y one other
+
+      pub session_single : IsSingle session_machine
+      session_single = record { takes = takes_once; stops = stops_once }
+
+  -- ---- the command
+  opens_once : (net : Plan) (a b : Standing) → OpensOn net a → OpensOn net b → a ≡ b
+  opens_once net a b one other =
+      let first = one.opened in
+      let second = other.opened in
+      let same : first.0 ≡ second.0 = way.opens (shown_form net) first.0 second.0 first.1 second.1 in
+      let sessions : a.session ≡ b.session = first.2 ∙ (ap (open_state net) same ∙ sym second.2) in
+      let reports : a.report ≡ b.report = one.unreported ∙ sym other.unreported in
+      λ i. record { session = sessions i; report = reports i }
+
+  pub session_begins_once : IsSingleAnswer session_begins
+  session_begins_once start net a b x y (standing, opens, put, goes) (other, also, puts, going) =
+      let onward : Standing → Onward InSession = λ s. Goes (Editing s) in
+      (put ∙ sym puts, goes ∙ (ap onward (opens_once net standing other opens also) ∙ sym going))
+
+  -- ---- over any number of lines
+  pub says_once : (steps : List Step) (first : Standing) (a b : List ℕ) (last other : Standing) → SaysSteps first steps a last → SaysSteps first steps b other → (a ≡ b) × (last ≡ other)
+  says_once [] first a b last other one two = (one.0 ∙ sym two.0, sym one.1 ∙ two.1)
+  says_once (told ∷ steps) first a b last other (answer, more, next, says, stands, all, on) (answered, others, after, also, so, whole, later) =
+      let same : next ≡ after = stands_once first told next after stands so in
+      let answers : answer ≡ answered = said_once first told answer answered says also in
+      let rest = says_once steps after more others last other (subst (λ (s : Standing). SaysSteps s steps more last) same on) later in
+      (all ∙ (ap (λ (s : List ℕ). s ++ more) answers ∙ (ap (λ (s : List ℕ). answered ++ s) rest.0 ∙ sym whole)), rest.1)
+
+  pub all_once : (first : Plan) (steps : List Step) (a b : List ℕ) → SaysAll first steps a → SaysAll first steps b → a ≡ b
+  all_once first steps a b one other =
+      let same = opens_once first one.opened other.opened one.opens other.opens in
+      let said = says_once steps other.opened one.said other.said one.last other.last (subst (λ (s : Standing). SaysSteps s steps one.said one.last) same one.says) other.says in
+      one.all ∙ (ap (λ (s : List ℕ). ready_line ++ s) said.0 ∙ sym other.all)

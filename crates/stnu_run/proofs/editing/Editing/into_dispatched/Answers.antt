@@ -1,8 +1,0 @@
-use Rattle.std.proofs.Common.{sym, subst}
-use Rattle.strategy_model.specs.Control.{IsControllable}
-use Rattle.stnu_run.specs.Sessions.{net_of}
-use Rattle.stnu_run.specs.Standing.{Standing}
-use Rattle.stnu_run.proofs.editing.Editing.into_dispatched.Goals as goal
-
-pub dispatch-requires-clause-controllable : goal.dispatch-requires-clause-controllable
-dispatch-requires-clause-controllable c = subst (λ (s : Standing). IsControllable (net_of s)) (sym c.self.view_is) c.requires

@@ -1,5 +1,0 @@
-use Rattle.stnu_run.proofs.WorkersLemmas.{workers_decide_no_form}
-use Rattle.stnu_run.proofs.form_and_workers.FormAndWorkersRequest.workers_decide_nothing.Goals as goal
-
-pub returns : goal.returns
-returns c = workers_decide_no_form

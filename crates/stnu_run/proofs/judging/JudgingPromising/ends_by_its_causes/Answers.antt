@@ -1,7 +1,0 @@
-use Rattle.stnu_run.specs.JudgePromise.{PutsJudgement}
-use Rattle.stnu_run.specs.ToJudge.{judge_grammar}
-use Rattle.stnu_run.proofs.EndLemmas.{judged_answers, text_ends}
-use Rattle.stnu_run.proofs.judging.JudgingPromising.ends_by_its_causes.Goals as goal
-
-pub returns : goal.returns
-returns c = λ judge holds input put end runs. text_ends (judge_grammar judge) (λ value number. PutsJudgement value) judged_answers input put end (holds input put end runs).judges

@@ -1,7 +1,0 @@
-use Rattle.stnu_run.proofs.PlanAskingLemmas.{asked_keeps}
-use Rattle.stnu_run.proofs.plan_asking.AskedPlanInputPromising.keeps_its_promise.Goals as goal
-
-pub returns : goal.returns
-returns g c = λ question input put end runs.
-    c.answers_keep_it.ensures question input put end
-    (asked_keeps g.Q.PlanQuestion.form g.Q.Question.answers question (g.Q.PlanQuestion.puts question) (c.puts_the_answer.ensures question) input put end runs)

@@ -1,7 +1,0 @@
-use Rattle.std.proofs.Common.{◌≡◌, ◌++◌, take}
-use Rattle.std.specs.List.{flat_map}
-use Rattle.stnu_run.specs.SessionAnswers.{after_line}
-use Rattle.stnu_run.proofs.session_answers.push_bounds.Given as goal
-
-abbrev pub invariant-loop-bound : goal.invariant-loop-bound
-invariant-loop-bound l = l.answer.text ≡ l.initial.answer.text ++ flat_map (after_line l.net l.point) (take l.bound-index l.bounds)
