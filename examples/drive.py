@@ -50,18 +50,18 @@ class Day:
         self.schedule, self.coming = {}, {}
 
     def comes(self, moment, point):
-        """A point is executed, or completes. Each link that begins in it has begun."""
+        """A point is executed, or completes. Each link that begins in it has begun; that it has ended is shown by the plan's delay later."""
         print(f"{moment:6} {point}")
         self.schedule[point] = moment
         for start, low, high, end in self.plan.links:
             if start == point:
-                self.coming[end] = moment + self.draw.randint(low, high)
+                self.coming[end] = moment + self.draw.randint(low, high) + self.plan.delay
 
 
 def drive(dispatcher, day, text):
     _, due = dispatcher.send(text)
     while due is not None or day.coming:
-        # What is next: the moment at which the program executes a point if nothing completes before, or a completion before that. A
+        # What is next: the moment at which the program executes a point if nothing is shown before, or a completion that is. A
         # driver in the world sleeps until the moment that is due, and wakes up when something completes. It tells the moment in both
         # cases, since the acts of a moment come when it is told; and all completions of it in one line, since it is told once.
         moment = min([*day.coming.values(), *([] if due is None else [due])])
@@ -69,7 +69,7 @@ def drive(dispatcher, day, text):
         acts, due = dispatcher.send(" ".join(["at", str(moment), *completed]) + "\n")
         for point in completed:
             del day.coming[point]
-            day.comes(moment, point)
+            day.comes(moment - day.plan.delay, point)
         for when, point in acts:
             # Here a driver in the world starts what the point stands for.
             day.comes(when, point)

@@ -19,6 +19,16 @@ def check(program, text):
     return lines
 
 
+def bounds_of(words):
+    """The bounds that a line with these words declares: each its name, its ends and its number."""
+    match words:
+        case ["bound", name, start, end, most]:
+            return [(name, start, end, int(most))]
+        case ["between", name, start, low, high, end]:
+            return [(f"{name}.max", start, end, int(high)), (f"{name}.min", end, start, -int(low))]
+    return []
+
+
 class Plan:
     """A plan in which `check` found no fault. What stands after its `end` line is no part of it."""
 
@@ -30,7 +40,8 @@ class Plan:
                 break
         words = [line.split() for line in self.lines]
         self.points = [line[1] for line in words if line[:1] == ["point"]]
-        self.bounds = {line[1]: (line[2], line[3], int(line[4])) for line in words if line[:1] == ["bound"]}
+        self.delay = next((int(line[1]) for line in words if line[:1] == ["delay"]), 0)
+        self.bounds = {name: rest for line in words for name, *rest in bounds_of(line)}
         self.links = [(line[1], int(line[2]), int(line[3]), line[4]) for line in words if line[:1] == ["link"]]
 
     def text(self):
@@ -40,11 +51,12 @@ class Plan:
         """The plan with these bounds alone, each with this number in place of its own."""
         kept = []
         for line in self.lines:
-            words = line.split()
-            if words[:1] != ["bound"]:
+            bounds = bounds_of(line.split())
+            if not bounds:
                 kept.append(line)
-            elif words[1] in most:
-                kept.append(" ".join([*words[:4], str(most[words[1]])]))
+            for name, start, end, _ in bounds:
+                if name in most:
+                    kept.append(f"bound {name} {start} {end} {most[name]}")
         return "".join(line + "\n" for line in kept)
 
     def broken(self, schedule):

@@ -1,4 +1,4 @@
-"""Random plans, streams and inputs, what the slow programs answer to them, and what a program does: what compare-run and compare-session share."""
+"""Random plans, delays, streams and inputs, what the slow programs answer to them, and what a program does: what the tools share that compare."""
 
 import io
 import os
@@ -10,9 +10,30 @@ UNITS = [1, 1, 1, 100_000_000]
 PATIENCE = 20
 
 
+def random_delay(choose):
+    """A delay, and the words that give it, in one of their spellings; most often None and no words."""
+    delay = choose.choice([None, None, None, None, 0, 1, 1, 2, 3, 7, 20])
+    return delay, [] if delay is None else choose.choice([["--delay", str(delay)], [f"--delay={delay}"]])
+
+
+def random_header(choose):
+    """The lines with which a plan begins: version 1, or version 2, often with a delay."""
+    delay = choose.choice([0, 1, 1, 2, 5])
+    return choose.choice([["stnu 1"], ["stnu 1"], ["stnu 2"], ["stnu 2", f"delay {delay}"]])
+
+
+def between_line(choose, header, number, begin, end, unit=1):
+    """The line of two bounds, where the version has it, else of one."""
+    low, high = sorted([choose.randint(-4, 9) * unit, choose.randint(-2, 12) * unit])
+    if header[0] == "stnu 1":
+        return f"bound w{number} {begin} {end} {high}"
+    return f"between w{number} {begin} {low} {high} {end}"
+
+
 def random_plan(choose, unit):
     count = choose.randint(2, 9)
-    lines = ["stnu 1"] + [f"point p{i}" for i in range(count)]
+    header = random_header(choose)
+    lines = header + [f"point p{i}" for i in range(count)]
     for end in choose.sample(range(count), choose.choice([0, 1, 1, 1, 2, 3, 4][: 3 + count // 2])):
         begin = choose.choice([i for i in range(count) if i != end])
         low = choose.randint(1, 5)
@@ -20,6 +41,9 @@ def random_plan(choose, unit):
     for number in range(choose.randint(0, 2 * count)):
         begin, end = choose.sample(range(count), 2)
         lines.append(f"bound b{number} p{begin} p{end} {choose.randint(-4, 9) * unit}")
+    if choose.random() < 0.4:
+        begin, end = choose.sample(range(count), 2)
+        lines.append(between_line(choose, header, 0, f"p{begin}", f"p{end}", unit))
     return [*lines, "end"]
 
 
@@ -90,7 +114,7 @@ class Counted(io.BytesIO):
         return super().readline(most)
 
 
-def wanted_of(run, data):
+def wanted_of(run, data, delay):
     """The answers of a slow program to the lines of an input, each alone, the last one to its end, and the status."""
     stream = Counted(data)
     answers = [""] * (len(data.splitlines()) + 1)
@@ -98,7 +122,7 @@ def wanted_of(run, data):
     def put(lines):
         answers[stream.asked - 1] += "".join(f"{line}\n" for line in lines)
 
-    return answers, run(stream, put)
+    return answers, run(stream, put, delay)
 
 
 def given_at_once(command, data):

@@ -1,14 +1,14 @@
 """`check` once more, by the definitions of rows and rounds in docs/DEFINITIONS.md, without a line of the program.
 
 `check(text)` takes a plan without faults, and returns what `check` prints of it, with `proof` what `check --proof` does, how many rounds were made and how many nodes the
-derivation list has in the end; `rounds_of(text)` gives the rounds themselves, of which reference_run.py takes the closed table. It is
-slow: every row looks through all its keys for the least.
+derivation list has in the end; `rounds_of(text)` gives the rounds themselves, of which reference_run.py takes the closed table. Both take a
+delay too: they go by the plan as it is shown. It is slow: every row looks through all its keys for the least.
 """
 
 
 class Plan:
     def __init__(self, text):
-        self.points, self.bounds, self.links = [], [], []
+        self.points, self.bounds, self.links, self.delay = [], [], [], 0
         place = {}
         for line in text.splitlines():
             words = line.split()
@@ -21,8 +21,23 @@ class Plan:
                 self.points.append(words[1])
             elif words[0] == "bound":
                 self.bounds.append((words[1], place[words[2]], place[words[3]], int(words[4])))
+            elif words[0] == "between":
+                start, end = place[words[2]], place[words[5]]
+                self.bounds += [(f"{words[1]}.max", start, end, int(words[4])), (f"{words[1]}.min", end, start, -int(words[3]))]
+            elif words[0] == "delay":
+                self.delay = int(words[1])
             elif words[0] == "link":
                 self.links.append((place[words[1]], int(words[2]), int(words[3]), place[words[4]]))
+
+    def shown(self, delay=None):
+        """The plan as it is shown: the end of a link comes the delay later, the plan's own where none is given. The plan becomes that."""
+        delay = self.delay if delay is None else delay
+        ends = {end for _, _, _, end in self.links}
+        lag = lambda point: delay if point in ends else 0
+        gain = lambda point: delay - lag(point)
+        self.bounds = [(name, start, end, most + lag(end) - lag(start)) for name, start, end, most in self.bounds]
+        self.links = [(start, low + gain(start), high + gain(start), end) for start, low, high, end in self.links]
+        return self
 
 
 class Rounds:
@@ -172,15 +187,15 @@ class Rounds:
                 return None, made
 
 
-def rounds_of(text):
+def rounds_of(text, delay=None):
     """The rounds of a plan as they end, the cycle in which they end or None where the table is closed, and how many were made."""
-    rounds = Rounds(Plan(text)).add_base()
+    rounds = Rounds(Plan(text).shown(delay)).add_base()
     cycle, made = rounds.make_all()
     return rounds, cycle, made
 
 
-def check(text, proof=False):
-    rounds, cycle, made = rounds_of(text)
+def check(text, proof=False, delay=None):
+    rounds, cycle, made = rounds_of(text, delay)
     if cycle is not None:
         lines = rounds.refutation(cycle)
     else:

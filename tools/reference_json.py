@@ -10,12 +10,16 @@ import math
 import re
 
 NAME = re.compile(r"[A-Za-z][A-Za-z0-9_.-]{0,31}")
+SHORT_NAME = 28
 LISTS = {
     "bounds": {"name": str, "from": str, "to": str, "most": int},
+    "between": {"name": str, "from": str, "to": str, "low": int, "high": int},
     "links": {"from": str, "low": int, "high": int, "to": str},
 }
-MOST = {"points": 1000, "bounds": 20000, "links": 400}
+MEMBERS = {1: {"stnu", "points", "bounds", "links"}, 2: {"stnu", "points", "bounds", "links", "delay", "between"}}
+MOST = {"points": 2000, "bounds": 20000, "links": 800}
 MOST_NUMBER = 1_000_000_000
+MOST_DELAY = 1_000_000
 DEEPEST = 127
 
 
@@ -82,25 +86,39 @@ def is_whole(value):
 
 
 def item(member, number, value, form):
-    """An item of bounds or of links."""
+    """An item of bounds, of between or of links."""
     if type(value) is not dict or set(value) != set(form):
         raise Refused(f"json shape {member} {number}")
     if not all(is_whole(value[key]) if kind is int else type(value[key]) is str for key, kind in form.items()):
         raise Refused(f"json shape {member} {number}")
-    if not all(NAME.fullmatch(value[key]) for key, kind in form.items() if kind is str):
+    if not all(NAME.fullmatch(value[key]) for key, kind in form.items() if kind is str) or (member == "between" and len(value["name"]) > SHORT_NAME):
         raise Refused(f"json bad-name {member} {number}")
     if any(abs(value[key]) > MOST_NUMBER for key, kind in form.items() if kind is int):
         raise Refused(f"limit {member} {number} number")
     return value
 
 
+def bounds_of(pair):
+    """The two bounds of an item of `between`."""
+    name, start, end = pair["name"], pair["from"], pair["to"]
+    return [
+        {"name": f"{name}.max", "from": start, "to": end, "most": pair["high"]},
+        {"name": f"{name}.min", "from": end, "to": start, "most": -pair["low"]},
+    ]
+
+
 def lists_of(value):
-    """The three lists of a document, as they are declared."""
+    """The delay and the three lists of a document, as they are declared."""
     top = Refused("json shape top 0")
-    if type(value) is not dict or not set(value) <= {"stnu", "points", "bounds", "links"} or not {"stnu", "points"} <= set(value):
+    if type(value) is not dict or type(value.get("stnu")) is not int or value["stnu"] not in MEMBERS:
         raise top
-    if type(value["stnu"]) is not int or value["stnu"] != 1 or any(type(value.get(key, [])) is not list for key in ("points", "bounds", "links")):
+    if not set(value) <= MEMBERS[value["stnu"]] or "points" not in value or any(type(value.get(key, [])) is not list for key in ("points", *LISTS)):
         raise top
+    delay = value.get("delay", 0)
+    if not is_whole(delay) or delay < 0:
+        raise top
+    if delay > MOST_DELAY:
+        raise Refused("limit top 0 number")
     for number, name in enumerate(value["points"], 1):
         if type(name) is not str:
             raise Refused(f"json shape points {number}")
@@ -109,10 +127,11 @@ def lists_of(value):
     for member, form in LISTS.items():
         for number, one in enumerate(value.get(member, []), 1):
             item(member, number, one, form)
-    return value["points"], value.get("bounds", []), value.get("links", [])
+    between = [bound for pair in value.get("between", []) for bound in bounds_of(pair)]
+    return delay, value["points"], value.get("bounds", []) + between, value.get("links", [])
 
 
-def build(points, bounds, links):
+def build(delay, points, bounds, links):
     """Refuses the first part that cannot stand in the plan, by its number among the parts."""
     part, named, bound_names, ends = 0, set(), set(), set()
     for name in points:
@@ -146,8 +165,8 @@ def build(points, bounds, links):
         ends.add(link["to"])
 
 
-def printed(points, bounds, links):
-    lines = ["stnu 1", *(f"point {name}" for name in points)]
+def printed(delay, points, bounds, links):
+    lines = ["stnu 2", *([f"delay {delay}"] if delay else []), *(f"point {name}" for name in points)]
     lines += [f"bound {b['name']} {b['from']} {b['to']} {b['most']}" for b in bounds]
     lines += [f"link {k['from']} {k['low']} {k['high']} {k['to']}" for k in links]
     return "\n".join([*lines, "end"]) + "\n"
@@ -177,9 +196,13 @@ TYPES = {"object": dict, "array": list, "string": str, "integer": int}
 
 def fits(value, schema, root):
     """Whether a value fits a schema, by the keywords of examples/plan.schema.json."""
+    if schema is False:
+        return False
     if "$ref" in schema:
         return fits(value, root["$defs"][schema["$ref"].rpartition("/")[2]], root)
-    if type(value) is not TYPES[schema["type"]] or value != schema.get("const", value):
+    if "type" in schema and type(value) is not TYPES[schema["type"]]:
+        return False
+    if value != schema.get("const", value) or value not in schema.get("enum", [value]):
         return False
     if type(value) is str:
         return re.fullmatch(schema["pattern"].strip("^$"), value) is not None
@@ -187,5 +210,9 @@ def fits(value, schema, root):
         return schema.get("minimum", value) <= value <= schema.get("maximum", value)
     if type(value) is list:
         return all(fits(one, schema["items"], root) for one in value)
+    if "if" in schema and fits(value, schema["if"], root) and not fits(value, schema["then"], root):
+        return False
     known = schema["properties"]
-    return set(schema["required"]) <= set(value) <= set(known) and all(fits(one, known[key], root) for key, one in value.items())
+    if not set(schema.get("required", [])) <= set(value) or (schema.get("additionalProperties") is False and not set(value) <= set(known)):
+        return False
+    return all(fits(one, known[key], root) for key, one in value.items() if key in known)

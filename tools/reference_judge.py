@@ -17,12 +17,16 @@ NUMBER = re.compile(rb"(0|-?[1-9][0-9]*)\Z")
 LONGEST_LINE = 65_536
 MOST_INPUT = 1_073_741_824
 MOST_OF_A_PLAN = 1_000_000_000
+MOST_DELAY = 1_000_000
+SHORT_NAME = 28
 MOST_WEIGHT = 999_999_999_999_999_999
 MOST_JUDGED_WEIGHT = 1_000_000_000_000
 MOST_LINE_NUMBER = 18_446_744_073_709_551_615
 
-# What stands after the first word of a line: N a name, V a number of a plan, W a weight, I the number of a line.
+# What stands after the first word of a line: N a name, S a short one, V a number of a plan, D a delay, W a weight, I the number of a line.
 PLAN_WORDS = {b"point": "N", b"bound": "NNNV", b"link": "NVVN", b"end": ""}
+SECOND_WORDS = {**PLAN_WORDS, b"between": "SNVVN"}
+FIRST_WORDS = {**SECOND_WORDS, b"delay": "D"}
 RULE_WORDS = {
     b"bound": "NNNW", b"link": "NNNW", b"no": "IINNW", b"up": "IINNNW",
     b"low": "NINNW", b"cross": "NINNNW", b"drop": "INNW",
@@ -73,13 +77,13 @@ class Entry:
 
 
 def value_of(kind, word):
-    if kind == "N":
-        if not NAME.match(word):
+    if kind in "NS":
+        if not NAME.match(word) or (kind == "S" and len(word) > SHORT_NAME):
             raise Fault("bad-name")
         return word.decode()
-    if not NUMBER.match(word) or (kind == "I" and word.startswith(b"-")):
+    if not NUMBER.match(word) or (kind in "ID" and word.startswith(b"-")):
         raise Fault("bad-number")
-    limit = {"V": MOST_OF_A_PLAN, "W": MOST_WEIGHT, "I": MOST_LINE_NUMBER}[kind]
+    limit = {"V": MOST_OF_A_PLAN, "D": MOST_DELAY, "W": MOST_WEIGHT, "I": MOST_LINE_NUMBER}[kind]
     if abs(int(word)) > limit:
         raise Fault("number")
     return int(word)
@@ -128,6 +132,7 @@ class Plan:
     points: set
     bounds: dict
     links: dict
+    delay: int = 0
 
     def add(self, line, word, values):
         """Adds a part that a line declares."""
@@ -136,7 +141,7 @@ class Plan:
             (name,) = values
             if name in self.points:
                 raise refuse("duplicate-name")
-            within(line, self.points, 1_000, "points")
+            within(line, self.points, 2_000, "points")
             self.points.add(name)
         elif word == b"bound":
             name, start, end, most = values
@@ -146,6 +151,10 @@ class Plan:
                 raise refuse("unknown-name")
             within(line, self.bounds, 20_000, "bounds")
             self.bounds[name] = (start, end, most)
+        elif word == b"between":
+            name, start, low, high, end = values
+            self.add(line, b"bound", [f"{name}.max", start, end, high])
+            self.add(line, b"bound", [f"{name}.min", end, start, -low])
         else:
             start, low, high, end = values
             if not {start, end} <= self.points:
@@ -156,8 +165,16 @@ class Plan:
                 raise refuse("two-links-on-point")
             if not 1 <= low <= high:
                 raise refuse("bad-interval")
-            within(line, self.links, 400, "links")
+            within(line, self.links, 800, "links")
             self.links[end] = (start, low, high)
+
+    def shown(self, delay=None):
+        """The plan as it is shown: the end of a link comes the delay later, the plan's own where none is given. The plan becomes that."""
+        delay = self.delay if delay is None else delay
+        lag = lambda point: delay if point in self.links else 0
+        gain = lambda point: delay - lag(point)
+        self.bounds = {name: (start, end, most + lag(end) - lag(start)) for name, (start, end, most) in self.bounds.items()}
+        self.links = {end: (start, low + gain(start), high + gain(start)) for end, (start, low, high) in self.links.items()}
 
 
 def within(line, items, most, which):
@@ -169,23 +186,27 @@ def read_plan(lines):
     words = lines.next()
     if words is None:
         raise lines.missing("no-header")
-    if words != [b"stnu", b"1"]:
+    if words not in ([b"stnu", b"1"], [b"stnu", b"2"]):
         raise lines.fault("no-header")
-    parts = []
+    known, further = (PLAN_WORDS, PLAN_WORDS) if words[1] == b"1" else (FIRST_WORDS, SECOND_WORDS)
+    plan, parts = Plan(set(), {}, {}), []
     while True:
         words = lines.next()
         if words is None:
             raise lines.missing("no-end")
-        if words[0] not in PLAN_WORDS:
+        if words[0] not in known:
             raise lines.fault("unknown-word")
         try:
-            values = values_of(PLAN_WORDS[words[0]], words[1:])
+            values = values_of(known[words[0]], words[1:])
         except Fault as fault:
             raise lines.fault(str(fault)) from None
+        known = further
         if words[0] == b"end":
             break
-        parts.append((lines.number, words[0], values))
-    plan = Plan(set(), {}, {})
+        if words[0] == b"delay":
+            (plan.delay,) = values
+        else:
+            parts.append((lines.number, words[0], values))
     for part in parts:
         plan.add(*part)
     return plan
@@ -412,11 +433,12 @@ def judge_table(plan, order, entries):
     return "accepted controllable"
 
 
-def judge(data):
+def judge(data, delay=None):
     """The answer to an input, with its line end, and the status."""
     lines = Lines(data)
     try:
         plan = read_plan(lines)
+        plan.shown(delay)
         certificate = read_certificate(lines)
         return f"{certificate(plan)}\n", 0
     except Answer as answer:
@@ -424,7 +446,7 @@ def judge(data):
 
 
 def main():
-    answer, status = judge(sys.stdin.buffer.read())
+    answer, status = judge(sys.stdin.buffer.read(), int(sys.argv[1]) if len(sys.argv) > 1 else None)
     sys.stdout.write(answer)
     sys.exit(status)
 

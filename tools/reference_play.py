@@ -1,12 +1,12 @@
 """`play` and `forge` once more, by the definitions in docs/DEFINITIONS.md, without a line of the program.
 
-`play(text, which)` takes a plan without faults and the word that names a situation, and returns what `play` prints of it; `forge(number, tasks)` returns what
-`forge` prints. The moments are those that the negative edges of the closed table ask for, point by point; there is no execution.
+`play(text, which)` takes a plan without faults, the word that names a situation and a delay, and returns what `play` prints of it; `forge(number, tasks)` returns
+what `forge` prints. The moments are those that the negative edges of the closed table ask for, point by point; there is no execution.
 """
 
 from days import text
 from plans import forged
-from reference_check import check, rounds_of
+from reference_check import Plan, check, rounds_of
 
 
 def situation(which, links):
@@ -45,12 +45,16 @@ def earliest(rounds, durations):
     return [moment(point) for point in range(len(rounds.plan.points))]
 
 
-def play(plan, which):
-    rounds, cycle, _ = rounds_of(plan)
+def play(text, which, delay=None):
+    rounds, cycle, _ = rounds_of(text, delay)
     if cycle is not None:
-        return check(plan)[0]
-    schedule = earliest(rounds, situation(which, rounds.plan.links))
-    return "".join(["controllable\n", *(f"time {name} {moment}\n" for name, moment in zip(rounds.plan.points, schedule))])
+        return check(text, delay=delay)[0]
+    plan, ends = Plan(text), rounds.link_to
+    delay = plan.delay if delay is None else delay
+    durations = situation(which, plan.links)
+    shown = [duration if start in ends else duration + delay for duration, (start, _, _, _) in zip(durations, plan.links)]
+    schedule = [moment - delay if point in ends else moment for point, moment in enumerate(earliest(rounds, shown))]
+    return "".join(["controllable\n", *(f"time {name} {moment}\n" for name, moment in zip(plan.points, schedule))])
 
 
 def forge(number, tasks):

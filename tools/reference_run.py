@@ -1,7 +1,7 @@
 #!/usr/bin/env python3
 """`run` once more, by the rules of docs/FORMAT.md and docs/DEFINITIONS.md and without a line of the program.
 
-    cat PLAN EVENTS | tools/reference_run.py
+    cat PLAN EVENTS | tools/reference_run.py [DELAY]
 
 Answers each line before it reads the next, and ends with the status that docs/ANSWERS.md gives. It is slow and nothing of it is
 proved: it serves to compare the program with the pages that describe it, as compare-run does. Time runs as it is defined, moment by
@@ -215,13 +215,13 @@ def due(execution):
     return "due none" if moment is None else f"due {moment}"
 
 
-def run(stream, put):
+def run(stream, put, delay=None):
     """Puts the answer of each line of a stream before it takes the next, and returns the status."""
     lines = StreamLines(stream)
     try:
         read_plan(lines)
         text = b"\n".join(b" ".join(words) for words in lines.kept).decode()
-        rounds, cycle, _ = rounds_of(text)
+        rounds, cycle, _ = rounds_of(text, delay)
         if cycle is not None:
             put(rounds.refutation(cycle))
             return 1
@@ -245,7 +245,7 @@ def main():
         sys.stdout.write("".join(f"{line}\n" for line in lines))
         sys.stdout.flush()
 
-    sys.exit(run(sys.stdin.buffer, put))
+    sys.exit(run(sys.stdin.buffer, put, int(sys.argv[1]) if len(sys.argv) > 1 else None))
 
 
 if __name__ == "__main__":

@@ -1,7 +1,7 @@
 #!/usr/bin/env python3
 """`session` once more, by the rules of docs/FORMAT.md and docs/DEFINITIONS.md and without a line of the program.
 
-    cat PLAN EDITS | tools/reference_session.py
+    cat PLAN EDITS | tools/reference_session.py [DELAY]
 
 Answers each line before it reads the next, and ends with the status that docs/ANSWERS.md gives. It is slow and nothing of it is
 proved: it serves to compare the program with the pages that describe it, as compare-session does.
@@ -20,7 +20,7 @@ EDITS = {
     ("add", "link"): "NVVN", ("drop", "link"): "N", ("set", "link"): "NVV",
 }
 QUESTIONS = ["verdict", "proof", "table", "plan", "report", "go", "end"]
-MOST = {"points": 1_000, "bounds": 20_000, "links": 400}
+MOST = {"points": 2_000, "bounds": 20_000, "links": 800}
 
 
 class Refused(Exception):
@@ -40,11 +40,13 @@ class Network:
         links = {name[end]: (name[start], low, high) for start, low, high, end in plan.links}
         return Network(dict.fromkeys(name), bounds, links)
 
-    def lines(self):
-        lines = [f"point {name}" for name in self.points]
+    def lines(self, delay):
+        """The plan text of the network with a delay."""
+        lines = [f"delay {delay}"] if delay else []
+        lines += [f"point {name}" for name in self.points]
         lines += [f"bound {name} {start} {end} {most}" for name, (start, end, most) in self.bounds.items()]
         lines += [f"link {start} {low} {high} {end}" for end, (start, low, high) in self.links.items()]
-        return ["stnu 1", *lines, "end"]
+        return ["stnu 2", *lines, "end"]
 
     def user_of(self, point):
         """The first bound that names a point, else the first link, or None."""
@@ -104,10 +106,18 @@ def check_interval(low, high):
         raise Refused("bad-interval")
 
 
-def followed(rounds, network, taken):
+def numbers_of(plan):
+    """The numbers of the bounds and links, by word and name."""
+    numbers = {("bound", name): (most,) for name, _, _, most in plan.bounds}
+    return numbers | {("link", plan.points[end]): (low, high) for _, low, high, end in plan.links}
+
+
+def followed(rounds, network, taken, delay):
     """The rounds of an edited network before any is made: the nodes that rest on nothing taken away, and then the base nodes of what is new.
-    Also how many nodes were kept, and how many not."""
-    old, new = rounds.plan, Plan("\n".join(network.lines()))
+    A number that is shown otherwise than before is taken away too. Also how many nodes were kept, and how many not."""
+    old, new = rounds.plan, Plan("\n".join(network.lines(delay))).shown()
+    was, now = numbers_of(old), numbers_of(new)
+    taken = taken | {item for item in was if item in now and was[item] != now[item]}
     after = Rounds(new)
     number = {name: place for place, name in enumerate(new.points)}
     kept = {}
@@ -119,15 +129,16 @@ def followed(rounds, network, taken):
         ends = [number[old.points[point]] for point in (source, target)]
         label = -1 if label < 0 else after.link_to[number[old.points[old.links[label][3]]]]
         after.add(rule, tuple(kept[premise] for premise in premises), *ends, label, weight)
-    before = {("bound", bound[0]) for bound in old.bounds} | {("link", old.points[link[3]]) for link in old.links}
-    after.add_base(lambda word, name: (word, name) in taken or (word, name) not in before)
+    after.add_base(lambda word, name: (word, name) in taken or (word, name) not in was)
     return after, len(kept), len(rounds.nodes) - len(kept)
 
 
 class Session:
-    def __init__(self, text):
-        self.rounds, self.cycle, _ = rounds_of(text)
-        self.network, self.report = Network.of(self.rounds.plan), "none"
+    def __init__(self, text, delay=None):
+        plan = Plan(text)
+        self.delay = plan.delay if delay is None else delay
+        self.rounds, self.cycle, _ = rounds_of(text, self.delay)
+        self.network, self.report = Network.of(plan), "none"
 
     def edit(self, action, item, values):
         try:
@@ -135,7 +146,7 @@ class Session:
         except Refused as why:
             return [f"refused {why}"]
         taken = {(item, values[0])} if action in ("drop", "set") and item != "point" else set()
-        self.rounds, kept, withdrawn = followed(self.rounds, network, taken)
+        self.rounds, kept, withdrawn = followed(self.rounds, network, taken, self.delay)
         self.cycle, made = self.rounds.make_all()
         self.network, self.report = network, f"{kept} {withdrawn} {made}"
         return ["ok"]
@@ -147,7 +158,7 @@ class Session:
         """The table proof, or a refutation of the rounds of the network itself."""
         if self.cycle is None:
             return self.rounds.table_proof()[1:]
-        rounds, cycle, _ = rounds_of("\n".join(self.network.lines()))
+        rounds, cycle, _ = rounds_of("\n".join(self.network.lines(self.delay)))
         return rounds.refutation(cycle)[1:]
 
     def table(self):
@@ -161,7 +172,7 @@ class Session:
 
     def answer(self, question):
         if question == "plan":
-            return self.network.lines()
+            return self.network.lines(self.delay)
         if question == "report":
             return [f"report {self.report}"]
         return {"verdict": self.verdict, "proof": self.proof, "table": self.table}[question]()
@@ -197,12 +208,12 @@ def execute(session, lines, put):
             return 0
 
 
-def run(stream, put):
+def run(stream, put, delay=None):
     """Puts the answer of each line of a stream before it takes the next, and returns the status."""
     lines = StreamLines(stream)
     try:
         read_plan(lines)
-        session = Session(b"\n".join(b" ".join(words) for words in lines.kept).decode())
+        session = Session(b"\n".join(b" ".join(words) for words in lines.kept).decode(), delay)
         put(["ready"])
         while True:
             words = lines.next()
@@ -232,7 +243,7 @@ def main():
         sys.stdout.write("".join(f"{line}\n" for line in lines))
         sys.stdout.flush()
 
-    sys.exit(run(sys.stdin.buffer, put))
+    sys.exit(run(sys.stdin.buffer, put, int(sys.argv[1]) if len(sys.argv) > 1 else None))
 
 
 if __name__ == "__main__":
