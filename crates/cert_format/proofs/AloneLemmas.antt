@@ -1,16 +1,15 @@
 -- What is read of a line alone is what its words spell, and its fault is its first.
-use Rattle.std.proofs.Common.{◌≡◌, ◌≢◌, ℕ, true, List, [], ◌∷◌, Option, None, Some, Result, Ok, Err, refl, sym, ap, ◌∙◌, subst, inl, inr, codes}
-use Rattle.std.specs.Str.{bytes_eq}
+use Rattle.std.proofs.Common.{◌≡◌, ◌≢◌, ℕ, true, List, [], ◌∷◌, Option, None, Some, Result, Ok, Err, refl, sym, ap, ◌∙◌, subst, inl, inr}
 use Rattle.std.specs.Result.{IfOk, IfErr, result_map_both}
 use Rattle.texts.specs.Words.{is_remark, are_passed_over, words}
 use Rattle.net_model.specs.declared.format.FormatKind.{FormatKind}
-use Rattle.net_model.specs.declared.format.FormatKind.TheVariants.{UnknownWord}
 use Rattle.net_model.specs.declared.format.WordFault.{WordFault}
 use Rattle.net_model.specs.declared.format.WordFault.TheVariants as word
 use Rattle.net_model.proofs.ReadingLemmas.{choice}
 use Rattle.cert_format.specs.Keywords.{spelled, keyword_of}
-use Rattle.cert_format.specs.LineForms.{IsFaultAmong}
-use Rattle.cert_format.specs.CertificateLines.{header_line, line_of, begun_by, cert_text}
+use Rattle.cert_format.specs.FormFaults.{IsFaultAmong}
+use Rattle.cert_format.specs.LineForms.{form_of}
+use Rattle.cert_format.specs.CertificateLines.{line_by_word, begun_by, cert_text}
 use Rattle.cert_format.specs.CertificateWords.{header_words}
 use Rattle.cert_format.specs.CertificateGrammar.{AreWordsOf, IsLine, IsFaultAlone, comes_after_header}
 use Rattle.cert_format.specs.declared.keyword.Keyword.{Keyword}
@@ -19,7 +18,8 @@ use Rattle.cert_format.specs.declared.read.CertText.{CertText}
 use Rattle.cert_format.specs.declared.read.CertText.TheVariants as text
 use Rattle.cert_format.proofs.WordLemmas.{text_words, text_word, text_tail, tail_read, words_of_text, IsSpelledText, no_remark, keyword_spelled}
 use Rattle.cert_format.proofs.SaidLemmas.{line_of_is, keyword_is}
-use Rattle.cert_format.proofs.FormLemmas.{read_among, among_err}
+use Rattle.cert_format.proofs.FormFaultLemmas.{read_among, among_err}
+use Rattle.cert_format.proofs.FormLemmas.{header_err, cert_lines}
 
 -- the words of a text that can be spelled are its words
 pub words_said : (said : CertText) (line : List (List ℕ)) → line ≡ text_words said → IsSpelledText said → AreWordsOf said line
@@ -50,7 +50,7 @@ alone_ok (first ∷ others) said read =
     ]
 
 -- a line that begins with a first word
-begun_read : (k : Keyword) (others : List (List ℕ)) (said : CertText) → line_of k others ≡ Ok said → cert_text (spelled k ∷ others) ≡ Ok said
+begun_read : (k : Keyword) (others : List (List ℕ)) (said : CertText) → line_by_word k others ≡ Ok said → cert_text (spelled k ∷ others) ≡ Ok said
 unfolding cert_text
 begun_read k others said read = rw (no_remark k others, keyword_spelled k, read) refl
 
@@ -74,16 +74,7 @@ alone_read (text.Order point) line is = spelled_read (text.Order point) line is.
 alone_read (text.Entry entry) line is = spelled_read (text.Entry entry) line is.0 is.1
 alone_read text.End line is = spelled_read text.End line is tt
 
-header_err : (others : List (List ℕ)) (fault : FormatKind) → header_line others ≡ Err fault → fault ≡ UnknownWord
-header_err [] fault read = cc
-header_err (version ∷ []) fault read =
-    elim (choice (bytes_eq version (codes "1")) (Ok text.Header) (Err UnknownWord) (Err fault) read) [
-      | inl one ↦ absurd (let wrong : Ok text.Header ≡ Err fault = one.1 in cc)
-      | inr other ↦ cc
-    ]
-header_err (version ∷ next ∷ others) fault read = cc
-
-begun_among : (found : Option Keyword) (others : List (List ℕ)) (fault : FormatKind) → begun_by found others ≡ Err fault → read_among comes_after_header found others ≡ Err fault
+begun_among : (found : Option Keyword) (others : List (List ℕ)) (fault : FormatKind) → begun_by found others ≡ Err fault → read_among cert_lines comes_after_header found others ≡ Err fault
 begun_among None others fault read = read
 begun_among (Some keyword.Certificate) others fault read = ap (λ (k : FormatKind). Err k) (sym (header_err others fault read))
 begun_among (Some keyword.Refutation) others fault read = read
@@ -105,13 +96,13 @@ no_header : (line : List (List ℕ)) (fault : FormatKind) → cert_text line ≡
 no_header line fault read =
     λ same. let wrong : Err fault ≡ Ok text.Header = sym read ∙ alone_read text.Header line same in cc
 
-among : (line : List (List ℕ)) (fault : FormatKind) → cert_text line ≡ Err fault → IsFaultAmong comes_after_header line fault
+among : (line : List (List ℕ)) (fault : FormatKind) → cert_text line ≡ Err fault → IsFaultAmong spelled form_of comes_after_header line fault
 unfolding cert_text
 among [] fault read = absurd (cc)
 among (first ∷ others) fault read =
     elim (choice (is_remark first) (Ok text.Blank) (begun_by (keyword_of first) others) (Err fault) read) [
       | inl remark ↦ absurd (let wrong : Ok text.Blank ≡ Err fault = remark.1 in cc)
-      | inr other ↦ among_err comes_after_header first others fault refl other.0 (begun_among (keyword_of first) others fault other.1)
+      | inr other ↦ among_err cert_lines comes_after_header first others fault other.0 (begun_among (keyword_of first) others fault other.1)
     ]
 
 -- the answer to a line read alone

@@ -1,7 +1,7 @@
 pub mod EdgeLemmas
 pub mod PrintLemmas
 pub mod WordLemmas
-pub mod NumberLemmas
+pub mod FormFaultLemmas
 pub mod SaidLemmas
 pub mod FormLemmas
 pub mod AloneLemmas

@@ -1,94 +1,29 @@
 -- Lines declare one certificate, or have one first fault.
-use Rattle.std.proofs.Common.{◌≡◌, ◌⊎◌, ℕ, ◌+◌, Bool, true, false, List, [], ◌∷◌, ◌++◌, length, Some, Result, Ok, Err, refl, sym, ap, ◌∙◌, subst, arith, inl, inr, unsigned_abs}
+use Rattle.std.proofs.Common.{◌≡◌, ◌⊎◌, ℕ, ◌+◌, List, [], ◌∷◌, ◌++◌, length, Result, Ok, Err, refl, sym, ap, ◌∙◌, subst, arith, inl, inr}
 use Rattle.std.proofs.lemmas.List.{append-nil}
 use Rattle.texts.specs.Words.{words}
 use Rattle.net_model.specs.declared.format.FormatKind.{FormatKind}
 use Rattle.net_model.specs.declared.format.FormatFault.{FormatFault}
-use Rattle.cert_format.specs.Keywords.{spelled, keyword_of}
-use Rattle.cert_format.specs.LineForms.{Place, version, name, line_number, weight, places, Fits, Departs, DepartFirst, IsFaultAmong, unknown_word, word_count, wrong_word}
 use Rattle.cert_format.specs.CertificateGrammar.{Progress, DeclareCertificate, CanBecomeCertificate, IsFirstFault, IsFront, IsFaultIn, IsFaultOfRest, ExcludesCertificate, admits, begun, certificate_of, missing}
 use Rattle.cert_format.specs.CertificateText.{Declared, Brings, advanced, line_in, said_from, read_from}
 use Rattle.cert_format.specs.Laws.{OneReading}
-use Rattle.cert_format.specs.declared.keyword.Keyword.{Keyword}
 use Rattle.cert_format.specs.declared.certificate.Certificate.{Certificate}
 use Rattle.cert_format.specs.declared.read.CertText.{CertText}
 use Rattle.cert_format.specs.declared.read.CertText.TheVariants as text
 use Rattle.cert_format.specs.declared.section.Section.{Section}
 use Rattle.cert_format.specs.declared.section.Section.TheVariants as section
-use Rattle.cert_format.proofs.NumberLemmas.{one_natural, one_integer}
-use Rattle.cert_format.proofs.WordLemmas.{keyword_spelled}
-use Rattle.cert_format.proofs.FormLemmas.{line_err}
+use Rattle.cert_format.proofs.FormFaultLemmas.{one_cause}
+use Rattle.cert_format.proofs.FormLemmas.{cert_lines, line_err}
 use Rattle.cert_format.proofs.FrontLemmas.{front_read, declared_read}
 use Rattle.cert_format.proofs.ReadingLemmas.{ReadsSo, can_become, said_brings, lines_read}
 
--- a word has one fault in a place, and none where it is what the place asks for
-one_departure : (place : Place) (word : List ℕ) (k l : FormatKind) → Departs place word k → Departs place word l → k ≡ l
-one_departure version word k l a b = a.1 ∙ sym b.1
-one_departure name word k l a b = a.1 ∙ sym b.1
-one_departure line_number word k l (inl a) (inl b) = a.1 ∙ sym b.1
-one_departure line_number word k l (inl a) (inr b) = absurd (a.0 b.0 b.1)
-one_departure line_number word k l (inr a) (inl b) = absurd (b.0 a.0 a.1)
-one_departure line_number word k l (inr a) (inr b) = a.3 ∙ sym b.3
-one_departure weight word k l (inl a) (inl b) = a.1 ∙ sym b.1
-one_departure weight word k l (inl a) (inr b) = absurd (a.0 b.0 b.1)
-one_departure weight word k l (inr a) (inl b) = absurd (b.0 a.0 a.1)
-one_departure weight word k l (inr a) (inr b) = a.3 ∙ sym b.3
-
-not_both : (place : Place) (word : List ℕ) (k : FormatKind) → Departs place word k → Fits place word → ⊥
-not_both version word k a fits = a.0 fits
-not_both name word k a fits = let wrong : false ≡ true = sym a.0 ∙ fits in cc
-not_both line_number word k (inl a) fits = a.0 fits.0 fits.1
-not_both line_number word k (inr a) fits =
-    let same : a.0 ≡ fits.0 = one_natural word a.0 fits.0 a.1 fits.1 in
-    omega (arith, a.2, fits.2)
-not_both weight word k (inl a) fits = a.0 fits.0 fits.1
-not_both weight word k (inr a) fits =
-    let same : unsigned_abs a.0 ≡ unsigned_abs fits.0 = ap unsigned_abs (one_integer word a.0 fits.0 a.1 fits.1) in
-    omega (arith, a.2, fits.2)
-
-pub first_departure : (ps : List Place) (ws : List (List ℕ)) (k l : FormatKind) → DepartFirst ps ws k → DepartFirst ps ws l → k ≡ l
-first_departure [] ws k l a b = absurd a
-first_departure (place ∷ ps) [] k l a b = absurd a
-first_departure (place ∷ ps) (word ∷ ws) k l (inl a) (inl b) = one_departure place word k l a b
-first_departure (place ∷ ps) (word ∷ ws) k l (inl a) (inr b) = absurd (not_both place word k a b.0)
-first_departure (place ∷ ps) (word ∷ ws) k l (inr a) (inl b) = absurd (not_both place word l b a.0)
-first_departure (place ∷ ps) (word ∷ ws) k l (inr a) (inr b) = first_departure ps ws k l a.1 b.1
-
--- a line begins in one way
-one_beginning : (line : List (List ℕ)) (f g : Keyword) (xs ys : List (List ℕ)) → line ≡ spelled f ∷ xs → line ≡ spelled g ∷ ys → (f ≡ g) × (xs ≡ ys)
-one_beginning line f g xs ys p q =
-    let both : spelled f ∷ xs ≡ spelled g ∷ ys = sym p ∙ q in
-    let first : spelled f ≡ spelled g = cc in
-    let found : Some f ≡ Some g = sym (keyword_spelled f) ∙ ap keyword_of first ∙ keyword_spelled g in
-    (cc, cc)
-
-same_length : (f g : Keyword) (xs ys : List (List ℕ)) → f ≡ g → xs ≡ ys → length xs ≡ length (places f) → length ys ≡ length (places g)
-same_length f g xs ys p q count = sym (ap length q) ∙ count ∙ ap (λ (k : Keyword). length (places k)) p
-
-fault_among : (may : Keyword → Bool) (line : List (List ℕ)) (k l : FormatKind) → IsFaultAmong may line k → IsFaultAmong may line l → k ≡ l
-fault_among may line k l (unknown_word _ none is) (unknown_word _ none' is') = is ∙ sym is'
-fault_among may line k l (unknown_word _ none is) (word_count g ys comes begins count is') = absurd (none g ys comes begins)
-fault_among may line k l (unknown_word _ none is) (wrong_word g ys comes begins count departs) = absurd (none g ys comes begins)
-fault_among may line k l (word_count f xs comes begins count is) (unknown_word _ none is') = absurd (none f xs comes begins)
-fault_among may line k l (word_count f xs comes begins count is) (word_count g ys comes' begins' count' is') = is ∙ sym is'
-fault_among may line k l (word_count f xs comes begins count is) (wrong_word g ys comes' begins' count' departs) =
-    let (same, rest) = one_beginning line g f ys xs begins' begins in
-    absurd (count (same_length g f ys xs same rest count'))
-fault_among may line k l (wrong_word f xs comes begins count departs) (unknown_word _ none is') = absurd (none f xs comes begins)
-fault_among may line k l (wrong_word f xs comes begins count departs) (word_count g ys comes' begins' count' is') =
-    let (same, rest) = one_beginning line f g xs ys begins begins' in
-    absurd (count' (same_length f g xs ys same rest count))
-fault_among may line k l (wrong_word f xs comes begins count departs) (wrong_word g ys comes' begins' count' departs') =
-    let (same, rest) = one_beginning line g f ys xs begins' begins in
-    first_departure (places f) xs k l departs (subst (λ (ws : List (List ℕ)). DepartFirst (places f) ws l) rest (subst (λ (h : Keyword). DepartFirst (places h) ys l) same departs'))
-
 fault_in : (s : Section) (line : List (List ℕ)) (k l : FormatKind) → IsFaultIn s line k → IsFaultIn s line l → k ≡ l
 fault_in section.Header line k l a b = a.2 ∙ sym b.2
-fault_in section.Kind line k l a b = fault_among (admits section.Kind) line k l a b
-fault_in section.Rules line k l a b = fault_among (admits section.Rules) line k l a b
-fault_in section.Walk line k l a b = fault_among (admits section.Walk) line k l a b
-fault_in section.Order line k l a b = fault_among (admits section.Order) line k l a b
-fault_in section.Entries line k l a b = fault_among (admits section.Entries) line k l a b
+fault_in section.Kind line k l a b = one_cause cert_lines (admits section.Kind) line k l a b
+fault_in section.Rules line k l a b = one_cause cert_lines (admits section.Rules) line k l a b
+fault_in section.Walk line k l a b = one_cause cert_lines (admits section.Walk) line k l a b
+fault_in section.Order line k l a b = one_cause cert_lines (admits section.Order) line k l a b
+fault_in section.Entries line k l a b = one_cause cert_lines (admits section.Entries) line k l a b
 
 -- after a line that brings something a certificate can come
 brought : (front : List (List ℕ)) (line : List ℕ) (p : Progress) (t : CertText) → Brings front line (Ok t) (advanced p t) → CanBecomeCertificate (front ++ line ∷ [])

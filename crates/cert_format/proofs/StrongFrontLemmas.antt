@@ -1,5 +1,5 @@
 -- The front of a strong certificate: it is read, a line that may come makes it longer, and at `end` it is a certificate.
-use Rattle.std.proofs.Common.{◌≡◌, ◌≢◌, ◌⊎◌, ℕ, ◌+◌, Bool, true, false, cond, IsTrue, List, [], ◌∷◌, ◌++◌, map, length, Result, Ok, refl, sym, ap, ◌∙◌, subst, append_assoc, arith, inl, inr}
+use Rattle.std.proofs.Common.{◌≡◌, ◌⊎◌, ℕ, ◌+◌, Bool, true, false, cond, IsTrue, List, [], ◌∷◌, ◌++◌, map, length, Result, Ok, refl, sym, ap, ◌∙◌, subst, append_assoc, arith, inl, inr}
 use Rattle.std.specs.List.{All, AllByRecursion}
 use Rattle.std.proofs.lemmas.List.{append-nil, map-append, append_cancel_right}
 use Rattle.std.proofs.lemmas.List.Elements.{recursion_from_All, All-push, All-from_recursion}
@@ -9,7 +9,7 @@ use Rattle.net_model.specs.Names.{is_name}
 use Rattle.net_model.specs.declared.format.FormatFault.{FormatFault}
 use Rattle.cert_format.specs.CertificateWords.{end_words}
 use Rattle.cert_format.specs.CertificateGrammar.{filled_words}
-use Rattle.cert_format.specs.StrongWords.{header_words, by_words, ring_words, strong_words, OfOneKind, IsSpelledBy, IsSpelledStrong}
+use Rattle.cert_format.specs.StrongWords.{header_words, by_words, ring_words, OfOneKind, IsSpelledBy}
 use Rattle.cert_format.specs.StrongGrammar.{StrongProgress, DeclareStrong, IsStrongText, IsStrongFront, admits, begun, strong_of, front_words, IsReached, AreSpelled}
 use Rattle.cert_format.specs.StrongLines.{line_in}
 use Rattle.cert_format.specs.StrongReading.{DeclaredStrong, advanced, cert_part, strong_text, said_from, read_from}

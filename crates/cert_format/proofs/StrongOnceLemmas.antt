@@ -1,60 +1,29 @@
 -- Lines declare one strong certificate, or have one first fault.
-use Rattle.std.proofs.Common.{◌≡◌, ◌⊎◌, ℕ, ◌+◌, true, List, [], ◌∷◌, ◌++◌, length, Some, Result, Ok, Err, refl, sym, ap, ◌∙◌, subst, inl, inr}
+use Rattle.std.proofs.Common.{◌≡◌, ◌⊎◌, ℕ, ◌+◌, List, [], ◌∷◌, ◌++◌, length, Result, Ok, Err, refl, sym, ap, ◌∙◌, subst, inl, inr}
 use Rattle.std.proofs.lemmas.List.{append-nil}
 use Rattle.texts.specs.Words.{words}
 use Rattle.net_model.specs.declared.format.FormatKind.{FormatKind}
 use Rattle.net_model.specs.declared.format.FormatFault.{FormatFault}
-use Rattle.cert_format.specs.LineForms.{DepartFirst}
-use Rattle.cert_format.specs.StrongForms.{spelled, word_of, places, IsStrongFaultAmong, unknown_word, word_count, wrong_word}
 use Rattle.cert_format.specs.StrongGrammar.{StrongProgress, DeclareStrong, CanBecomeStrong, IsFirstStrongFault, IsStrongFront, IsFaultIn, IsFaultOfRest, ExcludesStrong, admits, begun, strong_of, missing}
 use Rattle.cert_format.specs.StrongLines.{line_in}
 use Rattle.cert_format.specs.StrongReading.{DeclaredStrong, StrongBrings, advanced, said_from, read_from}
 use Rattle.cert_format.specs.Laws.{OneStrongReading}
-use Rattle.cert_format.specs.declared.strong_word.StrongWord.{StrongWord}
 use Rattle.cert_format.specs.declared.strong_cert.StrongCert.{StrongCert}
 use Rattle.cert_format.specs.declared.strong_read.StrongText.{StrongText}
 use Rattle.cert_format.specs.declared.strong_read.StrongText.TheVariants as text
 use Rattle.cert_format.specs.declared.strong_section.StrongSection.{StrongSection}
 use Rattle.cert_format.specs.declared.strong_section.StrongSection.TheVariants as section
-use Rattle.cert_format.proofs.OnceLemmas.{first_departure, fault_is}
-use Rattle.cert_format.proofs.StrongWordLemmas.{word_spelled}
-use Rattle.cert_format.proofs.StrongFormLemmas.{line_err}
+use Rattle.cert_format.proofs.FormFaultLemmas.{one_cause}
+use Rattle.cert_format.proofs.OnceLemmas.{fault_is}
+use Rattle.cert_format.proofs.StrongFormLemmas.{strong_lines, line_err}
 use Rattle.cert_format.proofs.StrongFrontLemmas.{front_read, declared_read}
 use Rattle.cert_format.proofs.StrongReadingLemmas.{ReadsSo, can_become, said_brings, lines_read}
 
--- a line begins in one way
-one_beginning : (line : List (List ℕ)) (f g : StrongWord) (xs ys : List (List ℕ)) → line ≡ spelled f ∷ xs → line ≡ spelled g ∷ ys → (f ≡ g) × (xs ≡ ys)
-one_beginning line f g xs ys p q =
-    let both : spelled f ∷ xs ≡ spelled g ∷ ys = sym p ∙ q in
-    let first : spelled f ≡ spelled g = cc in
-    let found : Some f ≡ Some g = sym (word_spelled f) ∙ ap word_of first ∙ word_spelled g in
-    (cc, cc)
-
-same_length : (f g : StrongWord) (xs ys : List (List ℕ)) → f ≡ g → xs ≡ ys → length xs ≡ length (places f) → length ys ≡ length (places g)
-same_length f g xs ys p q count = sym (ap length q) ∙ count ∙ ap (λ (k : StrongWord). length (places k)) p
-
-fault_among : (s : StrongSection) (line : List (List ℕ)) (k l : FormatKind) → IsStrongFaultAmong (admits s) line k → IsStrongFaultAmong (admits s) line l → k ≡ l
-fault_among s line k l (unknown_word _ none is) (unknown_word _ none' is') = is ∙ sym is'
-fault_among s line k l (unknown_word _ none is) (word_count g ys comes begins count is') = absurd (none g ys comes begins)
-fault_among s line k l (unknown_word _ none is) (wrong_word g ys comes begins count departs) = absurd (none g ys comes begins)
-fault_among s line k l (word_count f xs comes begins count is) (unknown_word _ none is') = absurd (none f xs comes begins)
-fault_among s line k l (word_count f xs comes begins count is) (word_count g ys comes' begins' count' is') = is ∙ sym is'
-fault_among s line k l (word_count f xs comes begins count is) (wrong_word g ys comes' begins' count' departs) =
-    let (same, rest) = one_beginning line g f ys xs begins' begins in
-    absurd (count (same_length g f ys xs same rest count'))
-fault_among s line k l (wrong_word f xs comes begins count departs) (unknown_word _ none is') = absurd (none f xs comes begins)
-fault_among s line k l (wrong_word f xs comes begins count departs) (word_count g ys comes' begins' count' is') =
-    let (same, rest) = one_beginning line f g xs ys begins begins' in
-    absurd (count' (same_length f g xs ys same rest count))
-fault_among s line k l (wrong_word f xs comes begins count departs) (wrong_word g ys comes' begins' count' departs') =
-    let (same, rest) = one_beginning line g f ys xs begins' begins in
-    first_departure (places f) xs k l departs (subst (λ (ws : List (List ℕ)). DepartFirst (places f) ws l) rest (subst (λ (h : StrongWord). DepartFirst (places h) ys l) same departs'))
-
 fault_in : (s : StrongSection) (line : List (List ℕ)) (k l : FormatKind) → IsFaultIn s line k → IsFaultIn s line l → k ≡ l
 fault_in section.Header line k l a b = a.2 ∙ sym b.2
-fault_in section.Lines line k l a b = fault_among section.Lines line k l a b
-fault_in section.By line k l a b = fault_among section.By line k l a b
-fault_in section.Ring line k l a b = fault_among section.Ring line k l a b
+fault_in section.Lines line k l a b = one_cause strong_lines (admits section.Lines) line k l a b
+fault_in section.By line k l a b = one_cause strong_lines (admits section.By) line k l a b
+fault_in section.Ring line k l a b = one_cause strong_lines (admits section.Ring) line k l a b
 
 -- after a line that brings something a certificate can come
 brought : (front : List (List ℕ)) (line : List ℕ) (p : StrongProgress) (t : StrongText) → StrongBrings front line (Ok t) (advanced p t) → CanBecomeStrong (front ++ line ∷ [])

@@ -1,10 +1,10 @@
 -- A printed strong certificate is a text of the grammar.
-use Rattle.std.proofs.Common.{◌≡◌, ℕ, List, [], ◌∷◌, ◌++◌, map, Ok, refl, sym, ap, ◌∙◌, arith, codes, IsTrue, append_assoc}
-use Rattle.std.specs.List.{flat_map, AllByRecursion}
+use Rattle.std.proofs.Common.{◌≡◌, ℕ, List, [], ◌∷◌, ◌++◌, map, Ok, refl, sym, ap, ◌∙◌, arith, IsTrue, append_assoc}
+use Rattle.std.specs.List.{AllByRecursion}
 use Rattle.std.proofs.lemmas.List.{append-nil, map-append}
 use Rattle.std.proofs.lemmas.List.Elements.{recursion_from_All}
 use Rattle.net_model.specs.Names.{is_name}
-use Rattle.texts.specs.Printing.{joined, printed, printed_line}
+use Rattle.texts.specs.Printing.{joined, printed_line}
 use Rattle.texts.specs.Lines.{lines}
 use Rattle.texts.proofs.PrintingLemmas.{IsPrintable, IsPrintableLine, words-joined, lines-printed}
 use Rattle.net_model.proofs.SpellingLemmas.{printable_name}

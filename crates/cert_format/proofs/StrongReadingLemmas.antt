@@ -1,6 +1,6 @@
 -- Lines are read as the grammar of strong certificates says: they declare what is read of them, or have the first fault that is
 -- answered, and never both.
-use Rattle.std.proofs.Common.{◌≡◌, ◌⊎◌, ℕ, ◌+◌, true, List, [], ◌∷◌, ◌++◌, length, Some, Result, Ok, Err, refl, sym, ap, ◌∙◌, subst, append_assoc, arith, inl, inr, IsTrue}
+use Rattle.std.proofs.Common.{◌≡◌, ℕ, ◌+◌, true, List, [], ◌∷◌, ◌++◌, length, Result, Ok, Err, refl, sym, ap, ◌∙◌, subst, append_assoc, inl, inr, IsTrue}
 use Rattle.std.specs.Result.{IfOk, IfErr}
 use Rattle.std.proofs.lemmas.List.{append-nil, length_push}
 use Rattle.std.proofs.lemmas.List.Elements.{All-weaker, All-from_recursion}
@@ -25,7 +25,6 @@ use Rattle.cert_format.specs.declared.strong_word.StrongWord.TheVariants as firs
 use Rattle.cert_format.specs.declared.strong_section.StrongSection.{StrongSection}
 use Rattle.cert_format.specs.declared.strong_section.StrongSection.TheVariants as section
 use Rattle.cert_format.specs.declared.strong_cert.StrongCert.{StrongCert}
-use Rattle.cert_format.specs.declared.strong_cert.StrongLine.{StrongLine}
 use Rattle.cert_format.specs.declared.strong_read.StrongText.{StrongText}
 use Rattle.cert_format.specs.declared.strong_read.StrongText.TheVariants as text
 use Rattle.cert_format.proofs.RoundTripLemmas.{written_end}

@@ -1,28 +1,27 @@
 -- The line of a strong certificate that spells a text is read as that text, and what is read of a line is what it spells.
-use Rattle.std.proofs.Common.{◌≡◌, ◌⊎◌, ℕ, Bool, true, false, List, [], ◌∷◌, Option, None, Some, Result, Ok, Err, refl, sym, ap, ◌∙◌, subst, inl, inr, codes, IsTrue, find}
+use Rattle.std.proofs.Common.{◌≡◌, ◌⊎◌, ℕ, Bool, true, false, List, [], ◌∷◌, Option, None, Some, Result, Ok, Err, refl, sym, ap, ◌∙◌, subst, arith, inl, inr, codes, IsTrue, find}
 use Rattle.std.specs.Str.{bytes_eq}
 use Rattle.std.specs.Fmt.{signed_decimal}
 use Rattle.net_model.specs.Names.{is_name}
-use Rattle.net_model.specs.Numbers.{name_of}
+use Rattle.net_model.specs.LineReading.{read_by}
+use Rattle.net_model.specs.Places.{Form}
 use Rattle.texts.specs.Words.{is_remark, are_passed_over}
 use Rattle.net_model.specs.declared.format.FormatKind.{FormatKind}
 use Rattle.net_model.specs.declared.format.FormatKind.TheVariants.{UnknownWord}
-use Rattle.net_model.proofs.ReadingLemmas.{choice, bind_ok, name_ok, name_read, word_is}
-use Rattle.cert_format.specs.CertificateLines.{weight_of}
+use Rattle.net_model.proofs.LineLemmas.{HaveLimits, Values, spellings, AreSpelled, made_of, told_by}
+use Rattle.net_model.proofs.ReadingLemmas.{choice, name_read, word_is}
 use Rattle.cert_format.specs.CertificateWords.{end_words}
-use Rattle.cert_format.specs.StrongForms.{spelled, first_words, word_of}
+use Rattle.cert_format.specs.StrongForms.{spelled, first_words, word_of, by_form, ring_form, end_form}
 use Rattle.cert_format.specs.StrongWords.{header_words, by_words, ring_words, IsSpelledBy}
 use Rattle.cert_format.specs.StrongGrammar.{admits}
-use Rattle.cert_format.specs.StrongLines.{header_line, by_words_of, by_line, by_text, ring_line, end_line, line_of, admitted, refused_in, line_in}
+use Rattle.cert_format.specs.StrongLines.{header_line, line_by_word, admitted, refused_in, line_in}
 use Rattle.cert_format.specs.declared.strong_word.StrongWord.{StrongWord}
 use Rattle.cert_format.specs.declared.strong_word.StrongWord.TheVariants as word
 use Rattle.cert_format.specs.declared.strong_section.StrongSection.{StrongSection}
 use Rattle.cert_format.specs.declared.strong_section.StrongSection.TheVariants as section
-use Rattle.cert_format.specs.declared.strong_cert.StrongLine.{StrongLine}
 use Rattle.cert_format.specs.declared.strong_read.StrongText.{StrongText}
 use Rattle.cert_format.specs.declared.strong_read.StrongText.TheVariants as text
 use Rattle.cert_format.proofs.WordLemmas.{weight_read}
-use Rattle.cert_format.proofs.SaidLemmas.{weight_ok}
 
 -- the words of a line, by what it says
 abbrev pub text_words : StrongText → List (List ℕ)
@@ -75,7 +74,7 @@ words_of_text (text.By line) spelling = refl
 words_of_text (text.Ring point) spelling = refl
 words_of_text text.End spelling = refl
 
-tail_read : (said : StrongText) → IsSpelledText said → line_of (text_word said) (text_tail said) ≡ Ok said
+tail_read : (said : StrongText) → IsSpelledText said → line_by_word (text_word said) (text_tail said) ≡ Ok said
 tail_read text.Blank spelling = absurd spelling
 tail_read text.Header spelling = refl
 tail_read (text.By line) spelling =
@@ -84,7 +83,7 @@ tail_read (text.Ring point) spelling = rw (name_read point spelling) refl
 tail_read text.End spelling = refl
 
 -- a line that begins with a word that may come is read
-admitted_read : (s : StrongSection) (w : StrongWord) (others : List (List ℕ)) (said : StrongText) → admits s w ≡ true → line_of w others ≡ Ok said → line_in s (spelled w ∷ others) ≡ Ok said
+admitted_read : (s : StrongSection) (w : StrongWord) (others : List (List ℕ)) (said : StrongText) → admits s w ≡ true → line_by_word w others ≡ Ok said → line_in s (spelled w ∷ others) ≡ Ok said
 unfolding line_in
 admitted_read s w others said may read = rw (no_remark w others, word_spelled w, may, read) refl
 
@@ -115,60 +114,17 @@ header_is (version ∷ []) said read =
     ]
 header_is (version ∷ next ∷ others) said read = absurd cc
 
-four : (a b c d x y z w : List ℕ) → a ≡ x → b ≡ y → c ≡ z → d ≡ w → codes "by" ∷ a ∷ b ∷ c ∷ d ∷ [] ≡ codes "by" ∷ x ∷ y ∷ z ∷ w ∷ []
-four a b c d x y z w p q r s = cc
+-- what is read by a form is what its words spell
+said_by : (form : Form StrongText) (first : StrongWord) (others : List (List ℕ)) (said : StrongText) → HaveLimits form.places → ((values : Values form.places) → AreSpelled form.places values → IsSaid first (spellings form.places values) (made_of form.places form.make values)) → read_by form others ≡ Ok said → IsSaid first others said
+said_by form first others said limits spells read =
+    let told = told_by form others said limits read in
+    subst (λ (t : StrongText). IsSaid first others t) told.made (subst (λ (ws : List (List ℕ)). IsSaid first ws (made_of form.places form.make told.values)) (sym told.words) (spells told.values told.spelled))
 
--- a line of a bound is what its words spell
-by_words_are : (bound from to weight : List ℕ) (line : StrongLine) → by_words_of bound from to weight ≡ Ok line → (codes "by" ∷ bound ∷ from ∷ to ∷ weight ∷ [] ≡ by_words line) × IsSpelledBy line
-by_words_are bound from to weight line read =
-    let first = bind_ok (name_of bound) _ line read in
-    let second = bind_ok (name_of from) _ line first.2 in
-    let third = bind_ok (name_of to) _ line second.2 in
-    let last = bind_ok (weight_of weight) _ line third.2 in
-    let b = name_ok bound first.0 first.1 in
-    let x = name_ok from second.0 second.1 in
-    let y = name_ok to third.0 third.1 in
-    let w = weight_ok weight last.0 last.1 in
-    let made : StrongLine = record { bound = first.0; from = second.0; to = third.0; weight = last.0 } in
-    let same : made ≡ line = cc in
-    let its : (codes "by" ∷ bound ∷ from ∷ to ∷ weight ∷ [] ≡ by_words made) × IsSpelledBy made = (four bound from to weight _ _ _ _ b.0 x.0 y.0 w.0, record { bound = b.1; from = x.1; to = y.1; weight = w.1 }) in
-    subst (λ (l : StrongLine). (codes "by" ∷ bound ∷ from ∷ to ∷ weight ∷ [] ≡ by_words l) × IsSpelledBy l) same its
-
-by_is : (others : List (List ℕ)) (line : StrongLine) → by_line others ≡ Ok line → (codes "by" ∷ others ≡ by_words line) × IsSpelledBy line
-by_is [] line read = absurd cc
-by_is (a ∷ []) line read = absurd cc
-by_is (a ∷ b ∷ []) line read = absurd cc
-by_is (a ∷ b ∷ c ∷ []) line read = absurd cc
-by_is (a ∷ b ∷ c ∷ d ∷ []) line read = by_words_are a b c d line read
-by_is (a ∷ b ∷ c ∷ d ∷ e ∷ others) line read = absurd cc
-
-by_said : (others : List (List ℕ)) (read : Result StrongLine FormatKind) (said : StrongText) → ((line : StrongLine) → read ≡ Ok line → (codes "by" ∷ others ≡ by_words line) × IsSpelledBy line) → by_text read ≡ Ok said → IsSaid word.By others said
-by_said others (Ok line) said is read =
-    let same : text.By line ≡ said = cc in
-    let its = is line refl in
-    subst (λ (t : StrongText). IsSaid word.By others t) same (record { words = its.0; spelling = its.1; first_word = refl })
-by_said others (Err kind) said is read = absurd cc
-
-ring_is : (others : List (List ℕ)) (said : StrongText) → ring_line others ≡ Ok said → IsSaid word.Ring others said
-ring_is [] said read = absurd cc
-ring_is (a ∷ []) said read =
-    let first = bind_ok (name_of a) _ said read in
-    let is = name_ok a first.0 first.1 in
-    let same : text.Ring first.0 ≡ said = cc in
-    subst (λ (t : StrongText). IsSaid word.Ring (a ∷ []) t) same (record { words = ap (λ (w : List ℕ). codes "ring" ∷ w ∷ []) is.0; spelling = is.1; first_word = refl })
-ring_is (a ∷ b ∷ others) said read = absurd cc
-
-end_is : (others : List (List ℕ)) (said : StrongText) → end_line others ≡ Ok said → IsSaid word.End others said
-end_is [] said read =
-    let same : text.End ≡ said = cc in
-    subst (λ (t : StrongText). IsSaid word.End [] t) same (record { words = refl; spelling = tt; first_word = refl })
-end_is (a ∷ others) said read = absurd cc
-
-line_of_is : (first : StrongWord) (others : List (List ℕ)) (said : StrongText) → line_of first others ≡ Ok said → IsSaid first others said
+line_of_is : (first : StrongWord) (others : List (List ℕ)) (said : StrongText) → line_by_word first others ≡ Ok said → IsSaid first others said
 line_of_is word.Strong others said read = header_is others said read
-line_of_is word.By others said read = by_said others (by_line others) said (by_is others) read
-line_of_is word.Ring others said read = ring_is others said read
-line_of_is word.End others said read = end_is others said read
+line_of_is word.By others said read = said_by by_form word.By others said (tt, (tt, (tt, (omega arith, tt)))) (λ v s. record { words = refl; spelling = record { bound = s.0; from = s.1.0; to = s.1.1.0; weight = s.1.1.1.0 }; first_word = refl }) read
+line_of_is word.Ring others said read = said_by ring_form word.Ring others said (tt, tt) (λ v s. record { words = refl; spelling = s.0; first_word = refl }) read
+line_of_is word.End others said read = said_by end_form word.End others said tt (λ v s. record { words = refl; spelling = tt; first_word = refl }) read
 
 find_passes : (test : StrongWord → Bool) (ws : List StrongWord) (w : StrongWord) → find test ws ≡ Some w → test w ≡ true
 find_passes test [] w found = absurd cc
@@ -191,10 +147,10 @@ refused_ok section.Lines (Err kind) said read = absurd cc
 refused_ok section.By (Err kind) said read = absurd cc
 refused_ok section.Ring (Err kind) said read = absurd cc
 
-admitted_ok : (s : StrongSection) (first : Option StrongWord) (others : List (List ℕ)) (said : StrongText) → admitted s first others ≡ Ok said → (w : StrongWord) × (first ≡ Some w) × (admits s w ≡ true) × (line_of w others ≡ Ok said)
+admitted_ok : (s : StrongSection) (first : Option StrongWord) (others : List (List ℕ)) (said : StrongText) → admitted s first others ≡ Ok said → (w : StrongWord) × (first ≡ Some w) × (admits s w ≡ true) × (line_by_word w others ≡ Ok said)
 admitted_ok s None others said read = absurd cc
 admitted_ok s (Some w) others said read =
-    elim (choice (admits s w) (line_of w others) (Err UnknownWord) (Ok said) read) [
+    elim (choice (admits s w) (line_by_word w others) (Err UnknownWord) (Ok said) read) [
       | inl may ↦ (w, refl, may.0, may.1)
       | inr other ↦ absurd (let wrong : Err UnknownWord ≡ Ok said = other.1 in cc)
     ]

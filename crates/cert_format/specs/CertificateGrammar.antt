@@ -13,8 +13,9 @@ use Rattle.net_model.specs.declared.format.TextFault.TheVariants as whole
 use Rattle.net_model.specs.declared.format.WordFault.{WordFault}
 use Rattle.net_model.specs.declared.format.WordFault.TheVariants as word
 use Rattle.cert_format.specs.Limits.{most_line_number}
-use Rattle.cert_format.specs.LineForms.{IsFaultAmong}
-use Rattle.cert_format.specs.Keywords.{is_of_refutation, is_of_table}
+use Rattle.cert_format.specs.FormFaults.{IsFaultAmong}
+use Rattle.cert_format.specs.LineForms.{form_of}
+use Rattle.cert_format.specs.Keywords.{spelled, is_of_refutation, is_of_table}
 use Rattle.cert_format.specs.CertificateWords.{line_words, walk_words, order_words, entry_words, header_words, refutation_words, table_words, end_words, certificate_words, IsSpelledLine, IsSpelledEntry, IsSpelled}
 use Rattle.cert_format.specs.declared.keyword.Keyword.{Keyword}
 use Rattle.cert_format.specs.declared.keyword.Keyword.TheVariants as keyword
@@ -141,7 +142,7 @@ pub record IsFront (front : List (List ℕ)) (read : Progress) : Type 0 where
 -- the fault of a line in a section
 abbrev pub IsFaultIn : Section → List (List ℕ) → FormatKind → Type 0
 IsFaultIn section.Header line kind = (are_passed_over line ≡ false) × (line ≢ header_words) × (kind ≡ NoHeader)
-IsFaultIn others line kind = IsFaultAmong (admits others) line kind
+IsFaultIn others line kind = IsFaultAmong spelled form_of (admits others) line kind
 
 -- the fault of a text that ends in a section
 abbrev pub missing : Section → FormatKind
@@ -183,5 +184,5 @@ comes_after_header others = true
 
 -- the fault of a line that is read alone; it takes no memory
 abbrev pub IsFaultAlone : List ℕ → WordFault → Type 0
-IsFaultAlone line (word.Kind kind) = (words line ≢ header_words) × IsFaultAmong comes_after_header (words line) kind
+IsFaultAlone line (word.Kind kind) = (words line ≢ header_words) × IsFaultAmong spelled form_of comes_after_header (words line) kind
 IsFaultAlone line word.OutOfMemory = ⊥

@@ -10,7 +10,7 @@ use Rattle.net_model.specs.declared.format.WordFault.TheVariants as word
 use Rattle.net_model.specs.declared.format.TextFault.{TextFault}
 use Rattle.net_model.specs.declared.format.TextFault.TheVariants as whole
 use Rattle.cert_format.specs.Keywords.{keyword_of}
-use Rattle.cert_format.specs.CertificateLines.{line_of}
+use Rattle.cert_format.specs.CertificateLines.{line_by_word}
 use Rattle.cert_format.specs.CertificateGrammar.{Progress, DeclareCertificate, IsFirstFault, IsFront, IsLine, admits, begun, certificate_of, missing}
 use Rattle.cert_format.specs.declared.keyword.Keyword.{Keyword}
 use Rattle.cert_format.specs.declared.section.Section.{Section}
@@ -22,7 +22,7 @@ use Rattle.cert_format.specs.declared.certificate.Certificate.{Certificate}
 -- a line in a section, by the word with which it begins
 abbrev pub admitted : Section → Option Keyword → List (List ℕ) → Result CertText FormatKind
 admitted section None others = Err UnknownWord
-admitted section (Some first) others = if admits section first then line_of first others else Err UnknownWord
+admitted section (Some first) others = if admits section first then line_by_word first others else Err UnknownWord
 
 -- where the header must come, a line that is not the header is `NoHeader`
 abbrev pub refused_in : Section → Result CertText FormatKind → Result CertText FormatKind
@@ -76,9 +76,9 @@ unfoldable pub certificate_text : List ℕ → Result Certificate FormatFault
 certificate_text bytes = certificate_part (read_from begun 1 (lines bytes))
 
 -- the fault of a text whose line has a fault
-abbrev pub at_line : ℕ → WordFault → TextFault
-at_line number (word.Kind kind) = whole.Format (record { line = number; kind = kind })
-at_line number word.OutOfMemory = whole.OutOfMemory
+abbrev pub fault_at_line : ℕ → WordFault → TextFault
+fault_at_line number (word.Kind kind) = whole.Format (record { line = number; kind = kind })
+fault_at_line number word.OutOfMemory = whole.OutOfMemory
 
 -- the answer is what the line says, unless memory ran out
 abbrev pub SaysLine : Result CertText WordFault → Result CertText FormatKind → Type 0

@@ -1,6 +1,7 @@
 pub mod Limits
 pub mod Kind
 pub mod Keywords
+pub mod FormFaults
 pub mod LineForms
 pub mod CertificateWords
 pub mod CertificateGrammar

@@ -1,81 +1,88 @@
--- The forms of the lines of a certificate: what stands after the first word, and how a line departs from its form first.
-use Rattle.std.specs.Prelude.{◌≡◌, ◌≢◌, ◌⊎◌, ◌≤◌, ◌<◌, ℕ, ℤ, pos, neg_ℤ, unsigned_abs, Bool, true, false, List, [], ◌∷◌, ◌++◌, length, codes}
-use Rattle.texts.specs.Words.{are_passed_over}
-use Rattle.net_model.specs.Names.{is_name}
-use Rattle.net_model.specs.Numbers.{is_positive, value_of}
-use Rattle.net_model.specs.declared.format.FormatKind.{FormatKind}
-use Rattle.net_model.specs.declared.format.FormatKind.TheVariants.{UnknownWord, WordCount, BadName, BadNumber, NumberLimit}
+-- The forms of the lines of a certificate, after the first word of each.
+use Rattle.std.specs.Prelude.{◌≡◌, ℕ, ℤ, true, false, List, [], ◌∷◌, Option, None, Some, refl}
+use Rattle.net_model.specs.Places.{Place, of_name, of_natural, of_integer, Form}
+use Rattle.cert_format.specs.Kind.{has_label}
 use Rattle.cert_format.specs.Limits.{most_written_weight, most_line_number}
-use Rattle.cert_format.specs.Keywords.{spelled}
 use Rattle.cert_format.specs.declared.keyword.Keyword.{Keyword}
-use Rattle.cert_format.specs.declared.keyword.Keyword.TheVariants.{Certificate, Refutation, Table, Bound, Link, No, Up, Low, Cross, Drop, Walk, Order, Edge, Upper, End}
+use Rattle.cert_format.specs.declared.keyword.Keyword.TheVariants as keyword
+use Rattle.cert_format.specs.declared.kind.LineKind.{LineKind}
+use Rattle.cert_format.specs.declared.kind.LineKind.TheVariants as kind
+use Rattle.cert_format.specs.declared.read.CertText.{CertText}
+use Rattle.cert_format.specs.declared.read.CertText.TheVariants as text
 
--- what a line asks for in a place after its first word
-pub data Place : Type 0 where
-  version : Place
-  name : Place
-  line_number : Place
-  weight : Place
+-- the places of the number of a line, and of the weight of an edge
+abbrev pub of_line_number : Place
+of_line_number = of_natural most_line_number
 
--- the places after the first word of a line
-abbrev pub places : Keyword → List Place
-places Certificate = version ∷ []
-places Refutation = []
-places Table = []
-places Bound = name ∷ name ∷ name ∷ weight ∷ []
-places Link = name ∷ name ∷ name ∷ weight ∷ []
-places No = line_number ∷ line_number ∷ name ∷ name ∷ weight ∷ []
-places Up = line_number ∷ line_number ∷ name ∷ name ∷ name ∷ weight ∷ []
-places Low = name ∷ line_number ∷ name ∷ name ∷ weight ∷ []
-places Cross = name ∷ line_number ∷ name ∷ name ∷ name ∷ weight ∷ []
-places Drop = line_number ∷ name ∷ name ∷ weight ∷ []
-places Walk = line_number ∷ []
-places Order = name ∷ []
-places Edge = name ∷ name ∷ weight ∷ []
-places Upper = name ∷ name ∷ weight ∷ []
-places End = []
+abbrev pub of_weight : Place
+of_weight = of_integer most_written_weight
 
--- a word spells a whole number from 0: it is `0`, or digits of which the first is not 0
-abbrev pub SpellsNatural : List ℕ → ℕ → Type 0
-SpellsNatural word number =
-    ((word ≡ codes "0") × (number ≡ 0)) ⊎ ((is_positive word ≡ true) × (number ≡ value_of word))
+-- FROM TO W, of a rule whose edge has no label, or of an entry with two of its three parts
+abbrev pub edge_places : List Place
+edge_places = of_name ∷ of_name ∷ of_weight ∷ []
 
--- a word spells a whole number below 0: it is `-` and digits of which the first is not 0
-abbrev pub SpellsNegative : List ℕ → ℤ → Type 0
-SpellsNegative word number =
-    (digits : List ℕ) × (word ≡ codes "-" ++ digits) × (is_positive digits ≡ true) × (number ≡ neg_ℤ (pos (value_of digits)))
+abbrev pub unlabelled : (kind : LineKind) → false ≡ has_label kind → (from to : List ℕ) → ℤ → CertText
+unlabelled kind none from to weight = text.Line (record { kind = kind; from = from; to = to; label = None; weight = weight; labelled = none })
 
--- a word spells a whole number
-abbrev pub SpellsInteger : List ℕ → ℤ → Type 0
-SpellsInteger word number = ((size : ℕ) × SpellsNatural word size × (number ≡ pos size)) ⊎ SpellsNegative word number
+-- FROM TO LABEL W, of a rule whose edge has a label
+abbrev pub labelled_places : List Place
+labelled_places = of_name ∷ edge_places
 
--- a word is what its place asks for
-abbrev pub Fits : Place → List ℕ → Type 0
-Fits version word = word ≡ codes "1"
-Fits name word = is_name word ≡ true
-Fits line_number word = (number : ℕ) × SpellsNatural word number × (number ≤ most_line_number)
-Fits weight word = (number : ℤ) × SpellsInteger word number × (unsigned_abs number ≤ most_written_weight)
+abbrev pub labelled : (kind : LineKind) → true ≡ has_label kind → (from to label : List ℕ) → ℤ → CertText
+labelled kind one from to label weight = text.Line (record { kind = kind; from = from; to = to; label = Some label; weight = weight; labelled = one })
 
--- a word is not what its place asks for, and why
-abbrev pub Departs : Place → List ℕ → FormatKind → Type 0
-Departs version word kind = (word ≢ codes "1") × (kind ≡ UnknownWord)
-Departs name word kind = (is_name word ≡ false) × (kind ≡ BadName)
-Departs line_number word kind =
-    (((number : ℕ) → SpellsNatural word number → ⊥) × (kind ≡ BadNumber))
-    ⊎ ((number : ℕ) × SpellsNatural word number × (most_line_number < number) × (kind ≡ NumberLimit))
-Departs weight word kind =
-    (((number : ℤ) → SpellsInteger word number → ⊥) × (kind ≡ BadNumber))
-    ⊎ ((number : ℤ) × SpellsInteger word number × (most_written_weight < unsigned_abs number) × (kind ≡ NumberLimit))
+-- the rule lines
+abbrev pub bound_form : Form CertText
+bound_form = record { places = of_name ∷ edge_places; make = λ name. unlabelled (kind.Bound name) refl }
 
--- the first word from the left that is not what its place asks for, and why
-abbrev pub DepartFirst : List Place → List (List ℕ) → FormatKind → Type 0
-DepartFirst (place ∷ places) (word ∷ words) kind =
-    Departs place word kind ⊎ (Fits place word × DepartFirst places words kind)
-DepartFirst places words kind = ⊥
+abbrev pub link_form : Form CertText
+link_form = record { places = of_name ∷ edge_places; make = λ name. unlabelled (kind.Link name) refl }
 
--- Where lines of some first words may come, the line is none of them, for this cause: it begins with none of these words;
--- else its count of words is not that of its form; else a word is not what its place asks for.
-pub data IsFaultAmong (may : Keyword → Bool) (line : List (List ℕ)) (kind : FormatKind) : Type 0 where
-  unknown_word : are_passed_over line ≡ false → ((first : Keyword) (others : List (List ℕ)) → may first ≡ true → line ≢ spelled first ∷ others) → kind ≡ UnknownWord → IsFaultAmong may line kind
-  word_count : (first : Keyword) (others : List (List ℕ)) → may first ≡ true → line ≡ spelled first ∷ others → length others ≢ length (places first) → kind ≡ WordCount → IsFaultAmong may line kind
-  wrong_word : (first : Keyword) (others : List (List ℕ)) → may first ≡ true → line ≡ spelled first ∷ others → length others ≡ length (places first) → DepartFirst (places first) others kind → IsFaultAmong may line kind
+abbrev pub no_form : Form CertText
+no_form = record { places = of_line_number ∷ of_line_number ∷ edge_places; make = λ i j. unlabelled (kind.No i j) refl }
+
+abbrev pub up_form : Form CertText
+up_form = record { places = of_line_number ∷ of_line_number ∷ labelled_places; make = λ i j. labelled (kind.Up i j) refl }
+
+abbrev pub low_form : Form CertText
+low_form = record { places = of_name ∷ of_line_number ∷ edge_places; make = λ name j. unlabelled (kind.Low name j) refl }
+
+abbrev pub cross_form : Form CertText
+cross_form = record { places = of_name ∷ of_line_number ∷ labelled_places; make = λ name j. labelled (kind.Cross name j) refl }
+
+abbrev pub drop_form : Form CertText
+drop_form = record { places = of_line_number ∷ edge_places; make = λ j. unlabelled (kind.Drop j) refl }
+
+-- the other lines: of a walk, of an order, entries, and a word by itself
+abbrev pub walk_form : Form CertText
+walk_form = record { places = of_line_number ∷ []; make = text.Walk }
+
+abbrev pub order_form : Form CertText
+order_form = record { places = of_name ∷ []; make = text.Order }
+
+abbrev pub edge_form : Form CertText
+edge_form = record { places = edge_places; make = λ from to weight. text.Entry (record { from = from; to = Some to; label = None; weight = weight; one_end = refl }) }
+
+abbrev pub upper_form : Form CertText
+upper_form = record { places = edge_places; make = λ from label weight. text.Entry (record { from = from; to = None; label = Some label; weight = weight; one_end = refl }) }
+
+abbrev pub lone_form : CertText → Form CertText
+lone_form said = record { places = []; make = said }
+
+-- the form of a line by its first word; a line that begins with `certificate` is the header or none
+abbrev pub form_of : Keyword → Option (Form CertText)
+form_of keyword.Certificate = None
+form_of keyword.Refutation = Some (lone_form text.Refutation)
+form_of keyword.Table = Some (lone_form text.Table)
+form_of keyword.Bound = Some bound_form
+form_of keyword.Link = Some link_form
+form_of keyword.No = Some no_form
+form_of keyword.Up = Some up_form
+form_of keyword.Low = Some low_form
+form_of keyword.Cross = Some cross_form
+form_of keyword.Drop = Some drop_form
+form_of keyword.Walk = Some walk_form
+form_of keyword.Order = Some order_form
+form_of keyword.Edge = Some edge_form
+form_of keyword.Upper = Some upper_form
+form_of keyword.End = Some (lone_form text.End)

@@ -1,10 +1,10 @@
--- The forms of the lines of a strong certificate, and how a line departs from its form first.
-use Rattle.std.specs.Prelude.{◌≡◌, ◌≢◌, ℕ, Bool, true, false, List, [], ◌∷◌, length, Option, codes, find}
+-- The first words of the lines of a strong certificate, and the forms of these lines after them.
+use Rattle.std.specs.Prelude.{ℕ, List, [], ◌∷◌, Option, None, Some, codes, find}
 use Rattle.std.specs.Str.{bytes_eq}
-use Rattle.texts.specs.Words.{are_passed_over}
-use Rattle.net_model.specs.declared.format.FormatKind.{FormatKind}
-use Rattle.net_model.specs.declared.format.FormatKind.TheVariants.{UnknownWord, WordCount}
-use Rattle.cert_format.specs.LineForms.{Place, version, name, weight, DepartFirst}
+use Rattle.net_model.specs.Places.{of_name, Form}
+use Rattle.cert_format.specs.LineForms.{of_weight}
+use Rattle.cert_format.specs.declared.strong_read.StrongText.{StrongText}
+use Rattle.cert_format.specs.declared.strong_read.StrongText.TheVariants as text
 use Rattle.cert_format.specs.declared.strong_word.StrongWord.{StrongWord}
 use Rattle.cert_format.specs.declared.strong_word.StrongWord.TheVariants.{Strong, By, Ring, End}
 
@@ -23,16 +23,19 @@ first_words = Strong ∷ By ∷ Ring ∷ End ∷ []
 abbrev pub word_of : List ℕ → Option StrongWord
 word_of word = find (λ first. bytes_eq word (spelled first)) first_words
 
--- the places after the first word of a line
-abbrev pub places : StrongWord → List Place
-places Strong = version ∷ []
-places By = name ∷ name ∷ name ∷ weight ∷ []
-places Ring = name ∷ []
-places End = []
+-- BOUND FROM TO W, and POINT
+abbrev pub by_form : Form StrongText
+by_form = record { places = of_name ∷ of_name ∷ of_name ∷ of_weight ∷ []; make = λ bound from to weight. text.By (record { bound = bound; from = from; to = to; weight = weight }) }
 
--- Where lines of some first words may come, the line is none of them, for this cause: it begins with none of these words;
--- else its count of words is not that of its form; else a word is not what its place asks for.
-pub data IsStrongFaultAmong (may : StrongWord → Bool) (line : List (List ℕ)) (kind : FormatKind) : Type 0 where
-  unknown_word : are_passed_over line ≡ false → ((first : StrongWord) (others : List (List ℕ)) → may first ≡ true → line ≢ spelled first ∷ others) → kind ≡ UnknownWord → IsStrongFaultAmong may line kind
-  word_count : (first : StrongWord) (others : List (List ℕ)) → may first ≡ true → line ≡ spelled first ∷ others → length others ≢ length (places first) → kind ≡ WordCount → IsStrongFaultAmong may line kind
-  wrong_word : (first : StrongWord) (others : List (List ℕ)) → may first ≡ true → line ≡ spelled first ∷ others → length others ≡ length (places first) → DepartFirst (places first) others kind → IsStrongFaultAmong may line kind
+abbrev pub ring_form : Form StrongText
+ring_form = record { places = of_name ∷ []; make = text.Ring }
+
+abbrev pub end_form : Form StrongText
+end_form = record { places = []; make = text.End }
+
+-- the form of a line after its first word; a line that begins with `strong` is the header or none
+abbrev pub form_of : StrongWord → Option (Form StrongText)
+form_of Strong = None
+form_of By = Some by_form
+form_of Ring = Some ring_form
+form_of End = Some end_form

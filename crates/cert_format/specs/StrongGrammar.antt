@@ -12,7 +12,8 @@ use Rattle.net_model.specs.declared.format.TextFault.{TextFault}
 use Rattle.net_model.specs.declared.format.TextFault.TheVariants as whole
 use Rattle.cert_format.specs.CertificateWords.{end_words}
 use Rattle.cert_format.specs.CertificateGrammar.{filled_words}
-use Rattle.cert_format.specs.StrongForms.{IsStrongFaultAmong}
+use Rattle.cert_format.specs.FormFaults.{IsFaultAmong}
+use Rattle.cert_format.specs.StrongForms.{spelled, form_of}
 use Rattle.cert_format.specs.StrongWords.{header_words, by_words, ring_words, strong_words, IsSpelledBy, IsSpelledStrong}
 use Rattle.cert_format.specs.declared.strong_word.StrongWord.{StrongWord}
 use Rattle.cert_format.specs.declared.strong_word.StrongWord.TheVariants as word
@@ -106,7 +107,7 @@ pub record IsStrongFront (front : List (List ℕ)) (read : StrongProgress) : Typ
 -- the fault of a line in a section
 abbrev pub IsFaultIn : StrongSection → List (List ℕ) → FormatKind → Type 0
 IsFaultIn section.Header line kind = (are_passed_over line ≡ false) × (line ≢ header_words) × (kind ≡ NoHeader)
-IsFaultIn others line kind = IsStrongFaultAmong (admits others) line kind
+IsFaultIn others line kind = IsFaultAmong spelled form_of (admits others) line kind
 
 -- the fault of a text that ends in a section
 abbrev pub missing : StrongSection → FormatKind

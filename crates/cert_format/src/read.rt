@@ -1,12 +1,16 @@
 //! One line of a certificate.
 
-ghost use Rattle.std.specs.Prelude.{◌≡◌, true, false, IfErr, IfOk};
+ghost use Rattle.std.specs.Prelude.{◌≡◌, ◌∷◌, [], true, false, IfErr, IfOk};
 ghost use Rattle.std.specs.Result.{result_map_both};
+ghost use Rattle.net_model.specs.LineReading.{read_by, words_at};
+ghost use Rattle.net_model.specs.Numbers.{natural_of, integer_of};
 ghost use Rattle.texts.specs.Words.{words};
 ghost use Rattle.cert_format.specs.Kind.{has_label};
 ghost use Rattle.cert_format.specs.declared.read.CertText.{CertText};
 ghost use Rattle.cert_format.specs.CertificateGrammar.{IsFaultAlone, IsLine};
-ghost use Rattle.cert_format.specs.CertificateLines.{cert_text, line_of, header_line, lone_word, walk_line, order_line, edge_line, edge_entry, upper_line, upper_entry, bound_line, link_line, no_line, up_line, low_line, cross_line, drop_line, unlabelled, labelled, number_of, weight_of};
+ghost use Rattle.cert_format.specs.CertificateLines.{cert_text, line_by_word, header_line};
+ghost use Rattle.cert_format.specs.Limits.{most_written_weight, most_line_number};
+ghost use Rattle.cert_format.specs.LineForms.{edge_places, labelled_places, unlabelled, labelled, lone_form, walk_form, order_form, edge_form, upper_form, bound_form, link_form, no_form, up_form, low_form, cross_form, drop_form};
 
 use crate::entry::Entry;
 use crate::keyword::Keyword;
@@ -72,23 +76,23 @@ pub(crate) fn cert_text(line: &[u8]) -> Result<CertText, FormatKind>
 
 /// What stands after the first word of a line.
 pub(crate) fn line_of(keyword: Keyword, rest: &[u8]) -> Result<CertText, FormatKind>
-    ensures { result ≡ line_of keyword (words rest.now) }
+    ensures { result ≡ line_by_word keyword (words rest.now) }
 {
     match keyword {
         Keyword::Certificate => header_line(rest),
         Keyword::Refutation => lone_word(CertText::Refutation, rest),
         Keyword::Table => lone_word(CertText::Table, rest),
-        Keyword::Bound => Ok(CertText::Line(bound_line(rest)?)),
-        Keyword::Link => Ok(CertText::Line(link_line(rest)?)),
-        Keyword::No => Ok(CertText::Line(no_line(rest)?)),
-        Keyword::Up => Ok(CertText::Line(up_line(rest)?)),
-        Keyword::Low => Ok(CertText::Line(low_line(rest)?)),
-        Keyword::Cross => Ok(CertText::Line(cross_line(rest)?)),
-        Keyword::Drop => Ok(CertText::Line(drop_line(rest)?)),
+        Keyword::Bound => bound_line(rest),
+        Keyword::Link => link_line(rest),
+        Keyword::No => no_line(rest),
+        Keyword::Up => up_line(rest),
+        Keyword::Low => low_line(rest),
+        Keyword::Cross => cross_line(rest),
+        Keyword::Drop => drop_line(rest),
         Keyword::Walk => walk_line(rest),
         Keyword::Order => order_line(rest),
-        Keyword::Edge => Ok(CertText::Entry(edge_line(rest)?)),
-        Keyword::Upper => Ok(CertText::Entry(upper_line(rest)?)),
+        Keyword::Edge => edge_line(rest),
+        Keyword::Upper => upper_line(rest),
         Keyword::End => lone_word(CertText::End, rest),
     }
 }
@@ -111,7 +115,7 @@ fn header_line(rest: &[u8]) -> Result<CertText, FormatKind>
 
 /// What stands after a word that is a line by itself.
 fn lone_word(said: CertText, rest: &[u8]) -> Result<CertText, FormatKind>
-    ensures { result ≡ lone_word said (words rest.now) }
+    ensures { result ≡ read_by (lone_form said) (words rest.now) }
 {
     text::no_more(rest)?;
     Ok(said)
@@ -119,177 +123,135 @@ fn lone_word(said: CertText, rest: &[u8]) -> Result<CertText, FormatKind>
 
 /// What stands after `walk`.
 fn walk_line(rest: &[u8]) -> Result<CertText, FormatKind>
-    ensures { result ≡ walk_line (words rest.now) }
+    ensures { result ≡ read_by walk_form (words rest.now) }
 {
-    let (first, rest) = text::word(rest)?;
-    text::no_more(rest)?;
+    let first = text::one(rest)?;
     Ok(CertText::Walk(number(first)?))
 }
 
 /// What stands after `order`.
 fn order_line(rest: &[u8]) -> Result<CertText, FormatKind>
-    ensures { result ≡ order_line (words rest.now) }
+    ensures { result ≡ read_by order_form (words rest.now) }
 {
-    let (point, rest) = text::word(rest)?;
-    text::no_more(rest)?;
+    let point = text::one(rest)?;
     Ok(CertText::Order(text::name(point)?))
 }
 
 /// What stands after `edge`.
-fn edge_line(rest: &[u8]) -> Result<Entry, FormatKind>
-    ensures { result ≡ edge_line (words rest.now) }
+fn edge_line(rest: &[u8]) -> Result<CertText, FormatKind>
+    ensures { result ≡ read_by edge_form (words rest.now) }
 {
-    let (from, rest) = text::word(rest)?;
-    let (to, rest) = text::word(rest)?;
-    let (weight, rest) = text::word(rest)?;
-    text::no_more(rest)?;
+    let (from, to, weight) = text::three(rest)?;
     edge_entry(from, to, weight)
 }
 
 /// An entry without a label.
-fn edge_entry(from: &[u8], to: &[u8], weight: &[u8]) -> Result<Entry, FormatKind>
-    ensures { result ≡ edge_entry from.now to.now weight.now }
+fn edge_entry(from: &[u8], to: &[u8], weight: &[u8]) -> Result<CertText, FormatKind>
+    ensures { result ≡ words_at edge_places edge_form.make (from.now ∷ to.now ∷ weight.now ∷ []) }
 {
-    Ok(Entry {
+    Ok(CertText::Entry(Entry {
         from: text::name(from)?,
         to: Some(text::name(to)?),
         label: None,
         weight: weight_of(weight)?,
-    })
+    }))
 }
 
 /// What stands after `upper`.
-fn upper_line(rest: &[u8]) -> Result<Entry, FormatKind>
-    ensures { result ≡ upper_line (words rest.now) }
+fn upper_line(rest: &[u8]) -> Result<CertText, FormatKind>
+    ensures { result ≡ read_by upper_form (words rest.now) }
 {
-    let (from, rest) = text::word(rest)?;
-    let (label, rest) = text::word(rest)?;
-    let (weight, rest) = text::word(rest)?;
-    text::no_more(rest)?;
+    let (from, label, weight) = text::three(rest)?;
     upper_entry(from, label, weight)
 }
 
 /// An entry with a label.
-fn upper_entry(from: &[u8], label: &[u8], weight: &[u8]) -> Result<Entry, FormatKind>
-    ensures { result ≡ upper_entry from.now label.now weight.now }
+fn upper_entry(from: &[u8], label: &[u8], weight: &[u8]) -> Result<CertText, FormatKind>
+    ensures { result ≡ words_at edge_places upper_form.make (from.now ∷ label.now ∷ weight.now ∷ []) }
 {
-    Ok(Entry {
+    Ok(CertText::Entry(Entry {
         from: text::name(from)?,
         to: None,
         label: Some(text::name(label)?),
         weight: weight_of(weight)?,
-    })
+    }))
 }
 
 /// What stands after `bound`.
-fn bound_line(rest: &[u8]) -> Result<CertLine, FormatKind>
-    ensures { result ≡ bound_line (words rest.now) }
+fn bound_line(rest: &[u8]) -> Result<CertText, FormatKind>
+    ensures { result ≡ read_by bound_form (words rest.now) }
 {
-    let (name, rest) = text::word(rest)?;
-    let (from, rest) = text::word(rest)?;
-    let (to, rest) = text::word(rest)?;
-    let (weight, rest) = text::word(rest)?;
-    text::no_more(rest)?;
+    let (name, from, to, weight) = text::four(rest)?;
     let kind = LineKind::Bound(text::name(name)?);
     unlabelled(kind, from, to, weight)
 }
 
 /// What stands after `link`.
-fn link_line(rest: &[u8]) -> Result<CertLine, FormatKind>
-    ensures { result ≡ link_line (words rest.now) }
+fn link_line(rest: &[u8]) -> Result<CertText, FormatKind>
+    ensures { result ≡ read_by link_form (words rest.now) }
 {
-    let (name, rest) = text::word(rest)?;
-    let (from, rest) = text::word(rest)?;
-    let (to, rest) = text::word(rest)?;
-    let (weight, rest) = text::word(rest)?;
-    text::no_more(rest)?;
+    let (name, from, to, weight) = text::four(rest)?;
     let kind = LineKind::Link(text::name(name)?);
     unlabelled(kind, from, to, weight)
 }
 
 /// What stands after `no`.
-fn no_line(rest: &[u8]) -> Result<CertLine, FormatKind>
-    ensures { result ≡ no_line (words rest.now) }
+fn no_line(rest: &[u8]) -> Result<CertText, FormatKind>
+    ensures { result ≡ read_by no_form (words rest.now) }
 {
-    let (first, rest) = text::word(rest)?;
-    let (second, rest) = text::word(rest)?;
-    let (from, rest) = text::word(rest)?;
-    let (to, rest) = text::word(rest)?;
-    let (weight, rest) = text::word(rest)?;
-    text::no_more(rest)?;
+    let (first, second, from, to, weight) = text::five(rest)?;
     let kind = LineKind::No(number(first)?, number(second)?);
     unlabelled(kind, from, to, weight)
 }
 
 /// What stands after `up`.
-fn up_line(rest: &[u8]) -> Result<CertLine, FormatKind>
-    ensures { result ≡ up_line (words rest.now) }
+fn up_line(rest: &[u8]) -> Result<CertText, FormatKind>
+    ensures { result ≡ read_by up_form (words rest.now) }
 {
-    let (first, rest) = text::word(rest)?;
-    let (second, rest) = text::word(rest)?;
-    let (from, rest) = text::word(rest)?;
-    let (to, rest) = text::word(rest)?;
-    let (label, rest) = text::word(rest)?;
-    let (weight, rest) = text::word(rest)?;
-    text::no_more(rest)?;
+    let (first, second, from, to, label, weight) = text::six(rest)?;
     let kind = LineKind::Up(number(first)?, number(second)?);
     labelled(kind, from, to, label, weight)
 }
 
 /// What stands after `low`.
-fn low_line(rest: &[u8]) -> Result<CertLine, FormatKind>
-    ensures { result ≡ low_line (words rest.now) }
+fn low_line(rest: &[u8]) -> Result<CertText, FormatKind>
+    ensures { result ≡ read_by low_form (words rest.now) }
 {
-    let (name, rest) = text::word(rest)?;
-    let (second, rest) = text::word(rest)?;
-    let (from, rest) = text::word(rest)?;
-    let (to, rest) = text::word(rest)?;
-    let (weight, rest) = text::word(rest)?;
-    text::no_more(rest)?;
+    let (name, second, from, to, weight) = text::five(rest)?;
     let kind = LineKind::Low(text::name(name)?, number(second)?);
     unlabelled(kind, from, to, weight)
 }
 
 /// What stands after `cross`.
-fn cross_line(rest: &[u8]) -> Result<CertLine, FormatKind>
-    ensures { result ≡ cross_line (words rest.now) }
+fn cross_line(rest: &[u8]) -> Result<CertText, FormatKind>
+    ensures { result ≡ read_by cross_form (words rest.now) }
 {
-    let (name, rest) = text::word(rest)?;
-    let (second, rest) = text::word(rest)?;
-    let (from, rest) = text::word(rest)?;
-    let (to, rest) = text::word(rest)?;
-    let (label, rest) = text::word(rest)?;
-    let (weight, rest) = text::word(rest)?;
-    text::no_more(rest)?;
+    let (name, second, from, to, label, weight) = text::six(rest)?;
     let kind = LineKind::Cross(text::name(name)?, number(second)?);
     labelled(kind, from, to, label, weight)
 }
 
 /// What stands after `drop`.
-fn drop_line(rest: &[u8]) -> Result<CertLine, FormatKind>
-    ensures { result ≡ drop_line (words rest.now) }
+fn drop_line(rest: &[u8]) -> Result<CertText, FormatKind>
+    ensures { result ≡ read_by drop_form (words rest.now) }
 {
-    let (second, rest) = text::word(rest)?;
-    let (from, rest) = text::word(rest)?;
-    let (to, rest) = text::word(rest)?;
-    let (weight, rest) = text::word(rest)?;
-    text::no_more(rest)?;
+    let (second, from, to, weight) = text::four(rest)?;
     let kind = LineKind::Drop(number(second)?);
     unlabelled(kind, from, to, weight)
 }
 
 /// The end of a rule line whose edge has no label.
-fn unlabelled(kind: LineKind, from: &[u8], to: &[u8], weight: &[u8]) -> Result<CertLine, FormatKind>
+fn unlabelled(kind: LineKind, from: &[u8], to: &[u8], weight: &[u8]) -> Result<CertText, FormatKind>
     requires { false ≡ has_label kind }
-    ensures { (none : false ≡ has_label kind) → result ≡ unlabelled kind none from.now to.now weight.now }
+    ensures { (none : false ≡ has_label kind) → result ≡ words_at edge_places (unlabelled kind none) (from.now ∷ to.now ∷ weight.now ∷ []) }
 {
-    Ok(CertLine {
+    Ok(CertText::Line(CertLine {
         kind,
         from: text::name(from)?,
         to: text::name(to)?,
         label: None,
         weight: weight_of(weight)?,
-    })
+    }))
 }
 
 /// The end of a rule line whose edge has a label.
@@ -299,29 +261,29 @@ fn labelled(
     to: &[u8],
     label: &[u8],
     weight: &[u8],
-) -> Result<CertLine, FormatKind>
+) -> Result<CertText, FormatKind>
     requires { true ≡ has_label kind }
-    ensures { (one : true ≡ has_label kind) → result ≡ labelled kind one from.now to.now label.now weight.now }
+    ensures { (one : true ≡ has_label kind) → result ≡ words_at labelled_places (labelled kind one) (from.now ∷ to.now ∷ label.now ∷ weight.now ∷ []) }
 {
-    Ok(CertLine {
+    Ok(CertText::Line(CertLine {
         kind,
         from: text::name(from)?,
         to: text::name(to)?,
         label: Some(text::name(label)?),
         weight: weight_of(weight)?,
-    })
+    }))
 }
 
 /// The number of a line.
 fn number(word: &[u8]) -> Result<u64, FormatKind>
-    ensures { result ≡ number_of word.now }
+    ensures { result ≡ natural_of most_line_number word.now }
 {
     text::natural(word, MOST_LINE_NUMBER)
 }
 
 /// The weight of an edge.
 pub(crate) fn weight_of(word: &[u8]) -> Result<Weight, FormatKind>
-    ensures { result ≡ weight_of word.now }
+    ensures { result ≡ integer_of most_written_weight word.now }
 {
     text::integer(word, MOST_WRITTEN_WEIGHT)
 }

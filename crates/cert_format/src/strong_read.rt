@@ -1,8 +1,10 @@
 //! One line of a strong certificate.
 
 ghost use Rattle.std.specs.Prelude.{◌≡◌};
+ghost use Rattle.net_model.specs.LineReading.{read_by};
 ghost use Rattle.texts.specs.Words.{words};
-ghost use Rattle.cert_format.specs.StrongLines.{by_line, by_words_of, ring_line, header_line, end_line, line_of, admitted, refused_in, line_in};
+ghost use Rattle.cert_format.specs.StrongForms.{by_form, ring_form, end_form};
+ghost use Rattle.cert_format.specs.StrongLines.{header_line, line_by_word, admitted, refused_in, line_in};
 
 use crate::read::weight_of;
 use crate::strong_cert::StrongLine;
@@ -65,11 +67,11 @@ fn refused_in(
 
 /// What stands after the first word of a line.
 fn line_of(first: StrongWord, rest: &[u8]) -> Result<StrongText, FormatKind>
-    ensures { result ≡ line_of first (words rest.now) }
+    ensures { result ≡ line_by_word first (words rest.now) }
 {
     match first {
         StrongWord::Strong => header_line(rest),
-        StrongWord::By => Ok(StrongText::By(by_line(rest)?)),
+        StrongWord::By => by_line(rest),
         StrongWord::Ring => ring_line(rest),
         StrongWord::End => end_line(rest),
     }
@@ -91,42 +93,30 @@ fn header_line(rest: &[u8]) -> Result<StrongText, FormatKind>
     Err(FormatKind::UnknownWord)
 }
 
-/// What stands after `by`.
-fn by_line(rest: &[u8]) -> Result<StrongLine, FormatKind>
-    ensures { result ≡ by_line (words rest.now) }
+/// What stands after `by`: a bound, the ends of an edge and its weight.
+fn by_line(rest: &[u8]) -> Result<StrongText, FormatKind>
+    ensures { result ≡ read_by by_form (words rest.now) }
 {
-    let (bound, rest) = text::word(rest)?;
-    let (from, rest) = text::word(rest)?;
-    let (to, rest) = text::word(rest)?;
-    let (weight, rest) = text::word(rest)?;
-    text::no_more(rest)?;
-    by_words(bound, from, to, weight)
-}
-
-/// A bound, the ends of an edge and its weight.
-fn by_words(bound: &[u8], from: &[u8], to: &[u8], weight: &[u8]) -> Result<StrongLine, FormatKind>
-    ensures { result ≡ by_words_of bound.now from.now to.now weight.now }
-{
-    Ok(StrongLine {
+    let (bound, from, to, weight) = text::four(rest)?;
+    Ok(StrongText::By(StrongLine {
         bound: text::name(bound)?,
         from: text::name(from)?,
         to: text::name(to)?,
         weight: weight_of(weight)?,
-    })
+    }))
 }
 
 /// What stands after `ring`.
 fn ring_line(rest: &[u8]) -> Result<StrongText, FormatKind>
-    ensures { result ≡ ring_line (words rest.now) }
+    ensures { result ≡ read_by ring_form (words rest.now) }
 {
-    let (point, rest) = text::word(rest)?;
-    text::no_more(rest)?;
+    let point = text::one(rest)?;
     Ok(StrongText::Ring(text::name(point)?))
 }
 
 /// What stands after `end`.
 fn end_line(rest: &[u8]) -> Result<StrongText, FormatKind>
-    ensures { result ≡ end_line (words rest.now) }
+    ensures { result ≡ read_by end_form (words rest.now) }
 {
     text::no_more(rest)?;
     Ok(StrongText::End)

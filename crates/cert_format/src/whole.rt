@@ -1,7 +1,7 @@
 //! The whole text of a certificate.
 
 ghost use Rattle.std.specs.Prelude.{◌≡◌, ◌<◌, ◌^◌, length, IfErr, IfOk, Ok};
-ghost use Rattle.cert_format.specs.CertificateText.{certificate_text, SaysText, at_line};
+ghost use Rattle.cert_format.specs.CertificateText.{certificate_text, SaysText, fault_at_line};
 ghost use Rattle.cert_format.specs.CertificateWords.{HasWeights};
 ghost use Rattle.cert_format.specs.CertificateGrammar.{IsCertificateText, FaultIsFirst};
 ghost use Rattle.cert_format.specs.declared.certificate.Certificate.{Certificate};
@@ -53,7 +53,7 @@ fn read_lines(alloc: Global, bytes: &[u8]) -> Result<Certificate, TextFault>
 
 /// The fault of a text at a line.
 pub(crate) fn at_line(number: u32, fault: WordFault) -> TextFault
-    ensures { result ≡ at_line number fault }
+    ensures { result ≡ fault_at_line number fault }
 {
     match fault {
         WordFault::Kind(kind) => TextFault::Format(FormatFault { line: number, kind }),

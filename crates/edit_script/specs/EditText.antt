@@ -1,11 +1,11 @@
 -- The grammar of the lines of a session, and the first fault of a line.
-use Rattle.std.specs.Prelude.{◌≡◌, ℕ, ◌||◌, Bool, true, false, List, [], ◌∷◌, Option, Some, None, codes, if◌then◌else◌}
+use Rattle.std.specs.Prelude.{◌≡◌, ℕ, true, false, List, [], ◌∷◌, Option, Some, None, codes, if◌then◌else◌}
 use Rattle.std.specs.Fmt.{signed_decimal}
 use Rattle.std.specs.Str.{bytes_eq}
 use Rattle.texts.specs.Words.{words, are_passed_over}
 use Rattle.net_model.specs.EditLaws.{HasNames}
 use Rattle.net_model.specs.Limits.{within_limit}
-use Rattle.net_model.specs.Places.{Place, of_name, of_number, DepartsFrom}
+use Rattle.net_model.specs.Places.{of_name, of_number, Form, places_of, DepartsFrom}
 use Rattle.net_model.specs.declared.edit.Edit.{Edit}
 use Rattle.net_model.specs.declared.edit.Edit.TheVariants as edits
 use Rattle.net_model.specs.declared.format.FormatKind.{FormatKind}
@@ -59,52 +59,81 @@ AreWordsOf step.End words = words ≡ codes "end" ∷ []
 abbrev pub IsLine : Step → List ℕ → Type 0
 IsLine told line = AreWordsOf told (words line)
 
--- the places after the second word of each edit, by that word, or none where no edit goes on so
-abbrev pub after_add : List ℕ → Option (List Place)
-after_add second =
-    if bytes_eq second (codes "point") then Some (of_name ∷ [])
-    else (if bytes_eq second (codes "bound") then Some (of_name ∷ of_name ∷ of_name ∷ of_number ∷ [])
-    else (if bytes_eq second (codes "link") then Some (of_name ∷ of_number ∷ of_number ∷ of_name ∷ [])
+-- the forms of edits after their first two words
+abbrev pub bound_form : Form Edit
+bound_form = record { places = of_name ∷ of_name ∷ of_name ∷ of_number ∷ []; make = edits.AddBound }
+
+abbrev pub link_form : Form Edit
+link_form = record { places = of_name ∷ of_number ∷ of_number ∷ of_name ∷ []; make = edits.AddLink }
+
+abbrev pub number_form : Form Edit
+number_form = record { places = of_name ∷ of_number ∷ []; make = edits.SetBound }
+
+abbrev pub interval_form : Form Edit
+interval_form = record { places = of_name ∷ of_number ∷ of_number ∷ []; make = edits.SetLink }
+
+abbrev pub name_form : (List ℕ → Edit) → Form Edit
+name_form make = record { places = of_name ∷ []; make = make }
+
+-- the form of an edit by its second word, or none where no edit goes on so
+abbrev pub add_form : List ℕ → Option (Form Edit)
+add_form second =
+    if bytes_eq second (codes "point") then Some (name_form edits.AddPoint)
+    else (if bytes_eq second (codes "bound") then Some bound_form
+    else (if bytes_eq second (codes "link") then Some link_form
     else None))
 
-abbrev pub after_drop : List ℕ → Option (List Place)
-after_drop second =
-    if bytes_eq second (codes "point") || bytes_eq second (codes "bound") || bytes_eq second (codes "link") then Some (of_name ∷ []) else None
+abbrev pub drop_form : List ℕ → Option (Form Edit)
+drop_form second =
+    if bytes_eq second (codes "point") then Some (name_form edits.DropPoint)
+    else (if bytes_eq second (codes "bound") then Some (name_form edits.DropBound)
+    else (if bytes_eq second (codes "link") then Some (name_form edits.DropLink)
+    else None))
 
-abbrev pub after_set : List ℕ → Option (List Place)
-after_set second =
-    if bytes_eq second (codes "bound") then Some (of_name ∷ of_number ∷ [])
-    else (if bytes_eq second (codes "link") then Some (of_name ∷ of_number ∷ of_number ∷ [])
+abbrev pub set_form : List ℕ → Option (Form Edit)
+set_form second =
+    if bytes_eq second (codes "bound") then Some number_form
+    else (if bytes_eq second (codes "link") then Some interval_form
     else None)
 
--- the words that are lines of their own
-abbrev pub is_question : List ℕ → Bool
-is_question first =
-    bytes_eq first (codes "verdict") || bytes_eq first (codes "proof") || bytes_eq first (codes "table") || bytes_eq first (codes "plan")
-    || bytes_eq first (codes "report") || bytes_eq first (codes "go") || bytes_eq first (codes "end")
-
--- how the words after the first word of an edit depart first: there is no second word, else no edit goes on with it, else as
--- words depart from their places
-abbrev pub DepartsAfter : (List ℕ → Option (List Place)) → List (List ℕ) → FormatKind → Type 0
-DepartsAfter places [] kind = kind ≡ WordCount
-DepartsAfter places (second ∷ others) kind = DepartsFrom (places second) others kind
-
--- the places of the words after each first word of an edit, or none where no edit begins with it
-abbrev pub edit_places : List ℕ → Option (List ℕ → Option (List Place))
-edit_places first =
-    if bytes_eq first (codes "add") then Some after_add
-    else (if bytes_eq first (codes "drop") then Some after_drop
-    else (if bytes_eq first (codes "set") then Some after_set
+-- the same by its first word, or none where no edit begins so
+abbrev pub edit_form : List ℕ → Option (List ℕ → Option (Form Edit))
+edit_form first =
+    if bytes_eq first (codes "add") then Some add_form
+    else (if bytes_eq first (codes "drop") then Some drop_form
+    else (if bytes_eq first (codes "set") then Some set_form
     else None))
 
+-- what a line of one word tells, and its form after that word
+abbrev pub question_of : List ℕ → Option Step
+question_of first =
+    if bytes_eq first (codes "verdict") then Some step.Verdict
+    else (if bytes_eq first (codes "proof") then Some step.Proof
+    else (if bytes_eq first (codes "table") then Some step.Table
+    else (if bytes_eq first (codes "plan") then Some step.Plan
+    else (if bytes_eq first (codes "report") then Some step.Report
+    else (if bytes_eq first (codes "go") then Some step.Go
+    else (if bytes_eq first (codes "end") then Some step.End
+    else None))))))
+
+abbrev pub alone : Option Step → Option (Form Step)
+alone None = None
+alone (Some told) = Some (record { places = []; make = told })
+
+-- how the words after the first word of an edit depart first: there is no second word, else no edit goes on with it, else as
+-- words depart from their form
+abbrev pub DepartsAfter : (List ℕ → Option (Form Edit)) → List (List ℕ) → FormatKind → Type 0
+DepartsAfter form [] kind = kind ≡ WordCount
+DepartsAfter form (second ∷ others) kind = DepartsFrom (places_of (form second)) others kind
+
 -- how the words of a line depart first, by the first of them: it begins an edit, else it is a line of its own or none
-abbrev pub DepartsBy : Option (List ℕ → Option (List Place)) → List ℕ → List (List ℕ) → FormatKind → Type 0
-DepartsBy (Some places) first others kind = DepartsAfter places others kind
-DepartsBy None first others kind = DepartsFrom (if is_question first then Some [] else None) others kind
+abbrev pub DepartsBy : Option (List ℕ → Option (Form Edit)) → List ℕ → List (List ℕ) → FormatKind → Type 0
+DepartsBy (Some form) first others kind = DepartsAfter form others kind
+DepartsBy None first others kind = DepartsFrom (places_of (alone (question_of first))) others kind
 
 abbrev pub Departs : List (List ℕ) → FormatKind → Type 0
 Departs [] kind = ⊥
-Departs (first ∷ others) kind = DepartsBy (edit_places first) first others kind
+Departs (first ∷ others) kind = DepartsBy (edit_form first) first others kind
 
 -- the first fault of the words of a line: they are not passed over, and depart so from the forms of the lines of a session
 pub record IsFaultOfWords (words : List (List ℕ)) (kind : FormatKind) : Type 0 where

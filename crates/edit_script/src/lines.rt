@@ -3,13 +3,14 @@
 ghost use Rattle.std.specs.Prelude.{◌≡◌, IfErr, IfOk};
 ghost use Rattle.texts.specs.Words.{words};
 ghost use Rattle.net_model.specs.Limits.{most_number};
+ghost use Rattle.net_model.specs.LineReading.{read_as, read_by};
 ghost use Rattle.net_model.specs.Numbers.{integer_of};
 ghost use Rattle.edit_script.specs.declared.step.Step.{Step};
-ghost use Rattle.edit_script.specs.EditText.{IsLine, IsFaultOf};
-ghost use Rattle.edit_script.specs.EditLines.{Reads, step_line, step_of, step_by, question_of, question_line, add_line, drop_line, set_line, one_name, bound_line, link_line, number_line, interval_line};
+ghost use Rattle.edit_script.specs.EditText.{IsLine, IsFaultOf, edit_form, add_form, drop_form, set_form, bound_form, link_form, number_form, interval_form, question_of, alone};
+ghost use Rattle.edit_script.specs.EditLines.{Reads, step_line, step_of, step_by, edit_line};
 
 use crate::step::Step;
-use net_model::{Edit, FormatKind, MOST_NUMBER, Name, Weight, WordFault, text};
+use net_model::{Edit, FormatKind, MOST_NUMBER, Weight, WordFault, text};
 
 /// Reads one line of a session: a blank line, an edit, or a question, `go` or `end`. An edit is `add` and a line that declares a
 /// point, a bound or a link, as in a plan; `drop point NAME`, `drop bound NAME`, `drop link TO`; `set bound NAME MOST` or
@@ -41,7 +42,7 @@ fn step_of(line: &[u8]) -> Result<Step, FormatKind>
 
 /// A line by its first word.
 fn step_by(first: &[u8], rest: &[u8]) -> Result<Step, FormatKind>
-    ensures { result ≡ step_by first.now (words rest.now) }
+    ensures { result ≡ step_by (edit_form first.now) first.now (words rest.now) }
 {
     if first == b"add".as_slice() {
         return Ok(Step::Edit(add_line(rest)?));
@@ -57,7 +58,7 @@ fn step_by(first: &[u8], rest: &[u8]) -> Result<Step, FormatKind>
 
 /// A line of one word.
 fn question_line(first: &[u8], rest: &[u8]) -> Result<Step, FormatKind>
-    ensures { result ≡ question_line (question_of first.now) (words rest.now) }
+    ensures { result ≡ read_as (alone (question_of first.now)) (words rest.now) }
 {
     let step = question_of(first).ok_or(FormatKind::UnknownWord)?;
     text::no_more(rest)?;
@@ -93,11 +94,11 @@ fn question_of(first: &[u8]) -> Option<Step>
 
 /// What stands after `add`.
 fn add_line(rest: &[u8]) -> Result<Edit, FormatKind>
-    ensures { result ≡ add_line (words rest.now) }
+    ensures { result ≡ edit_line add_form (words rest.now) }
 {
     let (second, rest) = text::word(rest)?;
     if second == b"point".as_slice() {
-        return Ok(Edit::AddPoint(one_name(rest)?));
+        return Ok(Edit::AddPoint(text::name(text::one(rest)?)?));
     }
     if second == b"bound".as_slice() {
         return bound_line(rest);
@@ -110,24 +111,24 @@ fn add_line(rest: &[u8]) -> Result<Edit, FormatKind>
 
 /// What stands after `drop`.
 fn drop_line(rest: &[u8]) -> Result<Edit, FormatKind>
-    ensures { result ≡ drop_line (words rest.now) }
+    ensures { result ≡ edit_line drop_form (words rest.now) }
 {
     let (second, rest) = text::word(rest)?;
     if second == b"point".as_slice() {
-        return Ok(Edit::DropPoint(one_name(rest)?));
+        return Ok(Edit::DropPoint(text::name(text::one(rest)?)?));
     }
     if second == b"bound".as_slice() {
-        return Ok(Edit::DropBound(one_name(rest)?));
+        return Ok(Edit::DropBound(text::name(text::one(rest)?)?));
     }
     if second == b"link".as_slice() {
-        return Ok(Edit::DropLink(one_name(rest)?));
+        return Ok(Edit::DropLink(text::name(text::one(rest)?)?));
     }
     Err(FormatKind::UnknownWord)
 }
 
 /// What stands after `set`.
 fn set_line(rest: &[u8]) -> Result<Edit, FormatKind>
-    ensures { result ≡ set_line (words rest.now) }
+    ensures { result ≡ edit_line set_form (words rest.now) }
 {
     let (second, rest) = text::word(rest)?;
     if second == b"bound".as_slice() {
@@ -139,24 +140,11 @@ fn set_line(rest: &[u8]) -> Result<Edit, FormatKind>
     Err(FormatKind::UnknownWord)
 }
 
-/// NAME, the last word.
-fn one_name(rest: &[u8]) -> Result<Name, FormatKind>
-    ensures { result ≡ one_name (words rest.now) }
-{
-    let (name, rest) = text::word(rest)?;
-    text::no_more(rest)?;
-    text::name(name)
-}
-
 /// NAME FROM TO MOST of a new bound.
 fn bound_line(rest: &[u8]) -> Result<Edit, FormatKind>
-    ensures { result ≡ bound_line (words rest.now) }
+    ensures { result ≡ read_by bound_form (words rest.now) }
 {
-    let (name, rest) = text::word(rest)?;
-    let (from, rest) = text::word(rest)?;
-    let (to, rest) = text::word(rest)?;
-    let (most, rest) = text::word(rest)?;
-    text::no_more(rest)?;
+    let (name, from, to, most) = text::four(rest)?;
     Ok(Edit::AddBound(
         text::name(name)?,
         text::name(from)?,
@@ -167,13 +155,9 @@ fn bound_line(rest: &[u8]) -> Result<Edit, FormatKind>
 
 /// FROM LOW HIGH TO of a new link.
 fn link_line(rest: &[u8]) -> Result<Edit, FormatKind>
-    ensures { result ≡ link_line (words rest.now) }
+    ensures { result ≡ read_by link_form (words rest.now) }
 {
-    let (from, rest) = text::word(rest)?;
-    let (low, rest) = text::word(rest)?;
-    let (high, rest) = text::word(rest)?;
-    let (to, rest) = text::word(rest)?;
-    text::no_more(rest)?;
+    let (from, low, high, to) = text::four(rest)?;
     Ok(Edit::AddLink(
         text::name(from)?,
         number(low)?,
@@ -184,22 +168,17 @@ fn link_line(rest: &[u8]) -> Result<Edit, FormatKind>
 
 /// NAME MOST of a bound that gets another number.
 fn number_line(rest: &[u8]) -> Result<Edit, FormatKind>
-    ensures { result ≡ number_line (words rest.now) }
+    ensures { result ≡ read_by number_form (words rest.now) }
 {
-    let (name, rest) = text::word(rest)?;
-    let (most, rest) = text::word(rest)?;
-    text::no_more(rest)?;
+    let (name, most) = text::two(rest)?;
     Ok(Edit::SetBound(text::name(name)?, number(most)?))
 }
 
 /// TO LOW HIGH of a link that gets another interval.
 fn interval_line(rest: &[u8]) -> Result<Edit, FormatKind>
-    ensures { result ≡ interval_line (words rest.now) }
+    ensures { result ≡ read_by interval_form (words rest.now) }
 {
-    let (to, rest) = text::word(rest)?;
-    let (low, rest) = text::word(rest)?;
-    let (high, rest) = text::word(rest)?;
-    text::no_more(rest)?;
+    let (to, low, high) = text::three(rest)?;
     Ok(Edit::SetLink(text::name(to)?, number(low)?, number(high)?))
 }
 

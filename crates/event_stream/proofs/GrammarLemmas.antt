@@ -14,7 +14,7 @@ use Rattle.net_model.proofs.ReadingLemmas.{choice, bind_ok, bind_err, name_ok, n
 use Rattle.net_model.proofs.SpellingLemmas.{natural_spelled, spelled_natural}
 use Rattle.net_model.specs.Limits.{most_moment}
 use Rattle.event_stream.specs.EventText.{EventLine, blank, completed, done, NamesPoint, NamePoints, AreWordsOf, spells_moment, FitsMoment, MisfitsMoment, MisfitsPoint, FirstMisfits, IsFaultAfterAt, BeginsOtherwise, IsFaultOfWords, unknown_word, after_at, after_done}
-use Rattle.event_stream.specs.EventLines.{known, point_of, points_of, at_line, done_line, line_of, event_line}
+use Rattle.event_stream.specs.EventLines.{known, point_of, points_by_names, completions_line, done_line, line_by_word, event_line}
 
 -- a point that is known, or not
 known_ok : (found : Option PointId) (point : PointId) → known found ≡ Ok point → found ≡ Some point
@@ -49,33 +49,33 @@ misfit_read : (net : Plan) (word : List ℕ) (kind : FormatKind) → MisfitsPoin
 misfit_read net word kind (inl bad) = rw (bad.0, bad.1) refl
 misfit_read net word kind (inr unknown) = rw (name_read word unknown.0, unknown.1, unknown.2) refl
 
-pub points_ok : (net : Plan) (words : List (List ℕ)) (points : List PointId) → points_of net words ≡ Ok points → NamePoints net words points
+pub points_ok : (net : Plan) (words : List (List ℕ)) (points : List PointId) → points_by_names net words ≡ Ok points → NamePoints net words points
 points_ok net [] [] read = tt
 points_ok net [] (p ∷ ps) read = absurd (cc)
 points_ok net (word ∷ words) points read =
     let here = bind_ok (point_of net word) _ points read in
-    let later = bind_ok (points_of net words) _ points here.2 in
+    let later = bind_ok (points_by_names net words) _ points here.2 in
     let same : here.0 ∷ later.0 ≡ points = (let last : Ok (here.0 ∷ later.0) ≡ Ok points = later.2 in cc) in
     subst (λ (ps : List PointId). NamePoints net (word ∷ words) ps) same (named_ok net word here.0 here.1, points_ok net words later.0 later.1)
 
-points_read : (net : Plan) (words : List (List ℕ)) (points : List PointId) → NamePoints net words points → points_of net words ≡ Ok points
+points_read : (net : Plan) (words : List (List ℕ)) (points : List PointId) → NamePoints net words points → points_by_names net words ≡ Ok points
 points_read net [] [] is = refl
 points_read net [] (p ∷ ps) is = absurd is
 points_read net (word ∷ words) [] is = absurd is
 points_read net (word ∷ words) (p ∷ ps) is = rw (named_read net word p is.0, points_read net words ps is.1) refl
 
-misfits_err : (net : Plan) (words : List (List ℕ)) (kind : FormatKind) → points_of net words ≡ Err kind → FirstMisfits net words kind
+misfits_err : (net : Plan) (words : List (List ℕ)) (kind : FormatKind) → points_by_names net words ≡ Err kind → FirstMisfits net words kind
 misfits_err net [] kind read = absurd (cc)
 misfits_err net (word ∷ words) kind read =
     elim (bind_err (point_of net word) _ kind read) [
       | inl here ↦ inl (misfit_err net word kind here)
-      | inr further ↦ elim (bind_err (points_of net words) _ kind further.2) [
+      | inr further ↦ elim (bind_err (points_by_names net words) _ kind further.2) [
         | inl later ↦ inr (further.0, named_ok net word further.0 further.1, misfits_err net words kind later)
         | inr all ↦ absurd (let wrong : Ok (further.0 ∷ all.0) ≡ Err kind = all.2 in cc)
       ]
     ]
 
-misfits_read : (net : Plan) (words : List (List ℕ)) (kind : FormatKind) → FirstMisfits net words kind → points_of net words ≡ Err kind
+misfits_read : (net : Plan) (words : List (List ℕ)) (kind : FormatKind) → FirstMisfits net words kind → points_by_names net words ≡ Err kind
 misfits_read net [] kind is = absurd is
 misfits_read net (word ∷ words) kind (inl here) = rw (misfit_read net word kind here) refl
 misfits_read net (word ∷ words) kind (inr later) = rw (named_read net word later.0 later.1, misfits_read net words kind later.2) refl
@@ -128,11 +128,11 @@ misfits_by word kind (Ok moment) is misfits = absurd (fits_or_not word kind (mom
 misfits_by word kind (Err k) is misfits = is ∙ ap (λ (e : FormatKind). Err e) (misfit_one word k kind (moment_err word k is) misfits)
 
 -- what stands after `at`
-at_ok : (net : Plan) (others : List (List ℕ)) (told : EventLine) → at_line net others ≡ Ok told → AreWordsOf net told (codes "at" ∷ others)
+at_ok : (net : Plan) (others : List (List ℕ)) (told : EventLine) → completions_line net others ≡ Ok told → AreWordsOf net told (codes "at" ∷ others)
 at_ok net [] told read = absurd (cc)
 at_ok net (word ∷ names) told read =
     let here = bind_ok (natural_of most_moment word) _ told read in
-    let later = bind_ok (points_of net names) _ told here.2 in
+    let later = bind_ok (points_by_names net names) _ told here.2 in
     let same : completed here.0 later.0 ≡ told = (let last : Ok (completed here.0 later.0) ≡ Ok told = later.2 in cc) in
     let spelling = spelled_natural most_moment here.0 word here.1 (omega arith) in
     subst (λ (t : EventLine). AreWordsOf net t (codes "at" ∷ word ∷ names)) same (record {
@@ -142,18 +142,18 @@ at_ok net (word ∷ names) told read =
       named = points_ok net names later.0 later.1;
     })
 
-at_err : (net : Plan) (others : List (List ℕ)) (kind : FormatKind) → at_line net others ≡ Err kind → IsFaultAfterAt net others kind
+at_err : (net : Plan) (others : List (List ℕ)) (kind : FormatKind) → completions_line net others ≡ Err kind → IsFaultAfterAt net others kind
 at_err net [] kind read = cc
 at_err net (word ∷ names) kind read =
     elim (bind_err (natural_of most_moment word) _ kind read) [
       | inl here ↦ inl (moment_err word kind here)
-      | inr further ↦ elim (bind_err (points_of net names) _ kind further.2) [
+      | inr further ↦ elim (bind_err (points_by_names net names) _ kind further.2) [
         | inl later ↦ inr (moment_ok word further.0 further.1, misfits_err net names kind later)
         | inr all ↦ absurd (let wrong : Ok (completed further.0 all.0) ≡ Err kind = all.2 in cc)
       ]
     ]
 
-fault_at : (net : Plan) (others : List (List ℕ)) (kind : FormatKind) → IsFaultAfterAt net others kind → at_line net others ≡ Err kind
+fault_at : (net : Plan) (others : List (List ℕ)) (kind : FormatKind) → IsFaultAfterAt net others kind → completions_line net others ≡ Err kind
 fault_at net [] kind is = ap (λ (e : FormatKind). Err e) (sym is)
 fault_at net (word ∷ names) kind (inl here) = rw (misfits_by word kind (natural_of most_moment word) refl here) refl
 fault_at net (word ∷ names) kind (inr later) =
@@ -175,7 +175,7 @@ not_begun first spelling others differs itself rest same =
     let first_is : first ≡ spelling = cc in
     let wrong : false ≡ true = sym differs ∙ (ap (λ (w : List ℕ). bytes_eq w spelling) first_is ∙ itself) in cc
 
-line_ok : (net : Plan) (first : List ℕ) (others : List (List ℕ)) (told : EventLine) → line_of net first others ≡ Ok told → AreWordsOf net told (first ∷ others)
+line_ok : (net : Plan) (first : List ℕ) (others : List (List ℕ)) (told : EventLine) → line_by_word net first others ≡ Ok told → AreWordsOf net told (first ∷ others)
 line_ok net first others told read =
     elim (choice (bytes_eq first (codes "at")) _ _ (Ok told) read) [
       | inl at ↦ subst (λ (w : List ℕ). AreWordsOf net told (w ∷ others)) (sym (word_is first (codes "at") at.0)) (at_ok net others told at.1)
@@ -185,7 +185,7 @@ line_ok net first others told read =
       ]
     ]
 
-line_err : (net : Plan) (first : List ℕ) (others : List (List ℕ)) (kind : FormatKind) → is_remark first ≡ false → line_of net first others ≡ Err kind → IsFaultOfWords net (first ∷ others) kind
+line_err : (net : Plan) (first : List ℕ) (others : List (List ℕ)) (kind : FormatKind) → is_remark first ≡ false → line_by_word net first others ≡ Err kind → IsFaultOfWords net (first ∷ others) kind
 line_err net first others kind plain read =
     elim (choice (bytes_eq first (codes "at")) _ _ (Err kind) read) [
       | inl at ↦ after_at others (ap (λ (w : List ℕ). w ∷ others) (word_is first (codes "at") at.0)) (at_err net others kind at.1)
@@ -200,7 +200,7 @@ pub event_ok : (net : Plan) (words : List (List ℕ)) (told : EventLine) → eve
 unfolding event_line
 event_ok net [] told read = let same : blank ≡ told = cc in subst (λ (t : EventLine). AreWordsOf net t []) same refl
 event_ok net (first ∷ others) told read =
-    elim (choice (is_remark first) (Ok blank) (line_of net first others) (Ok told) read) [
+    elim (choice (is_remark first) (Ok blank) (line_by_word net first others) (Ok told) read) [
       | inl remark ↦ let same : blank ≡ told = (let last : Ok blank ≡ Ok told = remark.1 in cc) in subst (λ (t : EventLine). AreWordsOf net t (first ∷ others)) same remark.0
       | inr other ↦ line_ok net first others told other.1
     ]
@@ -210,7 +210,7 @@ pub event_err : (net : Plan) (words : List (List ℕ)) (kind : FormatKind) → e
 unfolding event_line
 event_err net [] kind read = absurd (cc)
 event_err net (first ∷ others) kind read =
-    elim (choice (is_remark first) (Ok blank) (line_of net first others) (Err kind) read) [
+    elim (choice (is_remark first) (Ok blank) (line_by_word net first others) (Err kind) read) [
       | inl remark ↦ absurd (let wrong : Ok blank ≡ Err kind = remark.1 in cc)
       | inr other ↦ line_err net first others kind other.0 other.1
     ]
@@ -236,12 +236,12 @@ told_read net done words is = ap (event_line net) is ∙ done_read net
 
 -- a line is refused for its first fault
 module _ (net : Plan) (first : List ℕ) (others : List (List ℕ)) (no_at : BeginsOtherwise (codes "at") (first ∷ others)) (no_done : BeginsOtherwise (codes "done") (first ∷ others)) where
-  other_by : (at end : Bool) → bytes_eq first (codes "at") ≡ at → bytes_eq first (codes "done") ≡ end → line_of net first others ≡ Err UnknownWord
+  other_by : (at end : Bool) → bytes_eq first (codes "at") ≡ at → bytes_eq first (codes "done") ≡ end → line_by_word net first others ≡ Err UnknownWord
   other_by true end is_at is_done = absurd (no_at others (ap (λ (w : List ℕ). w ∷ others) (word_is first (codes "at") is_at)))
   other_by false true is_at is_done = absurd (no_done others (ap (λ (w : List ℕ). w ∷ others) (word_is first (codes "done") is_done)))
   other_by false false is_at is_done = rw (is_at, is_done) refl
 
-  other_word : line_of net first others ≡ Err UnknownWord
+  other_word : line_by_word net first others ≡ Err UnknownWord
   other_word = other_by (bytes_eq first (codes "at")) (bytes_eq first (codes "done")) refl refl
 
 unknown_read : (net : Plan) (words : List (List ℕ)) → are_passed_over words ≡ false → BeginsOtherwise (codes "at") words → BeginsOtherwise (codes "done") words → event_line net words ≡ Err UnknownWord
@@ -249,7 +249,7 @@ unfolding event_line
 unknown_read net [] filled no_at no_done = absurd (cc)
 unknown_read net (first ∷ others) filled no_at no_done = rw (filled, other_word net first others no_at no_done) refl
 
-at_read : (net : Plan) (others : List (List ℕ)) (kind : FormatKind) → at_line net others ≡ Err kind → event_line net (codes "at" ∷ others) ≡ Err kind
+at_read : (net : Plan) (others : List (List ℕ)) (kind : FormatKind) → completions_line net others ≡ Err kind → event_line net (codes "at" ∷ others) ≡ Err kind
 unfolding event_line
 at_read net others kind read = read
 

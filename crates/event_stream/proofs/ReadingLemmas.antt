@@ -11,7 +11,7 @@ use Rattle.net_model.specs.Network.{Plan, IsPoint}
 use Rattle.net_model.specs.declared.ids.PointId.{PointId}
 use Rattle.net_model.specs.declared.format.FormatKind.{FormatKind}
 use Rattle.event_stream.specs.EventText.{EventLine, blank, completed, done, NamePoints, AreWordsOf, IsLine, IsFaultOf, IsFaultOfWords, event_of, said, kept, HasPoints}
-use Rattle.event_stream.specs.EventLines.{Answers, event_line}
+use Rattle.event_stream.specs.EventLines.{AnswersEventLine, event_line}
 use Rattle.event_stream.specs.Laws.{OneReading}
 use Rattle.event_stream.specs.declared.event.Event.{Event}
 use Rattle.event_stream.proofs.GrammarLemmas.{event_ok, event_err, told_read, fault_read}
@@ -46,7 +46,7 @@ told_points net done before line is = tt
 module _ (net : Plan) (line : List ℕ) (before : List PointId) (answer : Result Event FormatKind) (after : List PointId) where
   -- what the answer says where this is read of the line
   abbrev IsToldBy : Result EventLine FormatKind → Type 0
-  IsToldBy read = (event_line net (words line) ≡ read) × Answers read before answer after
+  IsToldBy read = (event_line net (words line) ≡ read) × AnswersEventLine read before answer after
 
   grammar_by : (read : Result EventLine FormatKind) → IsToldBy read → IfOk answer (λ event. IsLine net (said event after) line)
   grammar_by (Ok told) by = rw (by.1.0, by.1.1) (told_so net told before (words line) (event_ok net (words line) told by.0))
@@ -60,7 +60,7 @@ module _ (net : Plan) (line : List ℕ) (before : List PointId) (answer : Result
   fault_by (Ok told) by = rw by.1.0 tt
   fault_by (Err kind) by = rw by.1.0 (event_err net (words line) kind by.0)
 
-  module _ (answers : Answers (event_line net (words line)) before answer after) where
+  module _ (answers : AnswersEventLine (event_line net (words line)) before answer after) where
     pub grammar : IfOk answer (λ event. IsLine net (said event after) line)
     grammar = grammar_by (event_line net (words line)) (refl, answers)
 
@@ -71,7 +71,7 @@ module _ (net : Plan) (line : List ℕ) (before : List PointId) (answer : Result
     fault = fault_by (event_line net (words line)) (refl, answers)
 
     pub every : (told : EventLine) → IsLine net told line → (answer ≡ Ok (event_of told)) × (after ≡ kept told before)
-    every told is = subst (λ (read : Result EventLine FormatKind). Answers read before answer after) (told_read net told (words line) is) answers
+    every told is = subst (λ (read : Result EventLine FormatKind). AnswersEventLine read before answer after) (told_read net told (words line) is) answers
 
 -- a line has one reading
 either_by : (net : Plan) (line : List (List ℕ)) (read : Result EventLine FormatKind) → event_line net line ≡ read → ((told : EventLine) × AreWordsOf net told line) ⊎ ((kind : FormatKind) × IsFaultOfWords net line kind)

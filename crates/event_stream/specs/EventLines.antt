@@ -24,19 +24,19 @@ point_of net word = do
   known (point_named net name)
 
 -- words in the places of points
-abbrev pub points_of : Plan → List (List ℕ) → Result (List PointId) FormatKind
-points_of net [] = Ok []
-points_of net (word ∷ others) = do
+abbrev pub points_by_names : Plan → List (List ℕ) → Result (List PointId) FormatKind
+points_by_names net [] = Ok []
+points_by_names net (word ∷ others) = do
   point ← point_of net word
-  points ← points_of net others
+  points ← points_by_names net others
   Ok (point ∷ points)
 
 -- MOMENT NAME NAME .., after `at`
-abbrev pub at_line : Plan → List (List ℕ) → Result EventLine FormatKind
-at_line net [] = Err WordCount
-at_line net (word ∷ names) = do
+abbrev pub completions_line : Plan → List (List ℕ) → Result EventLine FormatKind
+completions_line net [] = Err WordCount
+completions_line net (word ∷ names) = do
   moment ← natural_of most_moment word
-  points ← points_of net names
+  points ← points_by_names net names
   Ok (completed moment points)
 
 -- nothing, after `done`
@@ -45,18 +45,18 @@ done_line [] = Ok done
 done_line (next ∷ others) = Err WordCount
 
 -- a line by its first word
-abbrev pub line_of : Plan → List ℕ → List (List ℕ) → Result EventLine FormatKind
-line_of net first others =
-    if bytes_eq first (codes "at") then at_line net others
+abbrev pub line_by_word : Plan → List ℕ → List (List ℕ) → Result EventLine FormatKind
+line_by_word net first others =
+    if bytes_eq first (codes "at") then completions_line net others
     else (if bytes_eq first (codes "done") then done_line others
     else Err UnknownWord)
 
 -- a line of events
 unfoldable pub event_line : Plan → List (List ℕ) → Result EventLine FormatKind
 event_line net [] = Ok blank
-event_line net (first ∷ others) = if is_remark first then Ok blank else line_of net first others
+event_line net (first ∷ others) = if is_remark first then Ok blank else line_by_word net first others
 
 -- the answer to a line, and the completions that are kept after it
-abbrev pub Answers : Result EventLine FormatKind → List PointId → Result Event FormatKind → List PointId → Type 0
-Answers (Ok told) before answer after = (answer ≡ Ok (event_of told)) × (after ≡ kept told before)
-Answers (Err kind) before answer after = (answer ≡ Err kind) × (after ≡ before)
+abbrev pub AnswersEventLine : Result EventLine FormatKind → List PointId → Result Event FormatKind → List PointId → Type 0
+AnswersEventLine (Ok told) before answer after = (answer ≡ Ok (event_of told)) × (after ≡ kept told before)
+AnswersEventLine (Err kind) before answer after = (answer ≡ Err kind) × (after ≡ before)

@@ -31,7 +31,7 @@ NamePoints net (word ∷ words) [] = ⊥
 NamePoints net (word ∷ words) (point ∷ points) = NamesPoint net word point × NamePoints net words points
 
 -- the words of a line that tells completions: `at`, the moment, and the names of the points
-pub record IsAt (net : Plan) (moment : ℕ) (points : List PointId) (words : List (List ℕ)) : Type 0 where
+pub record IsAtLine (net : Plan) (moment : ℕ) (points : List PointId) (words : List (List ℕ)) : Type 0 where
   pub names : List (List ℕ)
   pub spelled : words ≡ codes "at" ∷ decimal moment ∷ names
   pub within : moment ≤ most_moment
@@ -40,7 +40,7 @@ pub record IsAt (net : Plan) (moment : ℕ) (points : List PointId) (words : Lis
 -- what the words of a line are that tells this
 abbrev pub AreWordsOf : Plan → EventLine → List (List ℕ) → Type 0
 AreWordsOf net blank words = are_passed_over words ≡ true
-AreWordsOf net (completed moment points) words = IsAt net moment points words
+AreWordsOf net (completed moment points) words = IsAtLine net moment points words
 AreWordsOf net done words = words ≡ codes "done" ∷ []
 
 -- a line that tells this

@@ -2,7 +2,7 @@
 
 ghost use Rattle.std.specs.Prelude.{◌≡◌, MatchResult, IsOk};
 ghost use Rattle.texts.specs.Words.{words};
-ghost use Rattle.event_stream.specs.EventLines.{point_of, points_of};
+ghost use Rattle.event_stream.specs.EventLines.{point_of, points_by_names};
 
 use net_model::{FormatKind, Network, PointId, text};
 
@@ -16,7 +16,7 @@ pub(crate) fn point_of(net: &Network, word: &[u8]) -> Result<PointId, FormatKind
 
 /// Whether each word names a point, or why the first that does not does not.
 pub(crate) fn check_names(net: &Network, names: &[u8]) -> Result<(), FormatKind>
-    ensures { MatchResult result (λ _. IsOk (points_of net.now (words names.now))) (λ kind. points_of net.now (words names.now) ≡ Err kind) }
+    ensures { MatchResult result (λ _. IsOk (points_by_names net.now (words names.now))) (λ kind. points_by_names net.now (words names.now) ≡ Err kind) }
 {
     let mut rest = names;
     while let Some((word, others)) = texts::next_word(rest) {

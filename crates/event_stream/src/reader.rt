@@ -6,7 +6,7 @@ ghost use Rattle.net_model.specs.Network.{Plan};
 ghost use Rattle.texts.specs.Limits.{most_line};
 ghost use Rattle.event_stream.specs.Limits.{most_completions};
 ghost use Rattle.event_stream.specs.EventText.{EventLine, IsLine, IsFaultOf, said, event_of, kept, HasPoints};
-ghost use Rattle.event_stream.specs.EventLines.{Answers, event_line, at_line, done_line, points_of};
+ghost use Rattle.event_stream.specs.EventLines.{AnswersEventLine, event_line, completions_line, done_line, points_by_names};
 
 use crate::event::Event;
 use crate::limits::MOST_COMPLETIONS;
@@ -23,7 +23,7 @@ pub struct EventReader {
 }
 
 impl Model for EventReader {
-    ghost use Rattle.std.specs.Prelude.{◌≤◌, List};
+    ghost use Rattle.std.specs.Prelude.{◌≤◌, List, vec_len};
     ghost use Rattle.std.specs.Vec.{vec_capacity};
     ghost use Rattle.net_model.specs.declared.ids.PointId.{PointId};
     ghost use Rattle.event_stream.specs.Limits.{most_completions};
@@ -32,7 +32,7 @@ impl Model for EventReader {
 
     ghost view = { λ reader. reader.completions.items };
 
-    ghost invariant = { λ reader. most_completions ≤ vec_capacity reader.completions };
+    ghost invariant = { λ reader. (most_completions ≤ vec_capacity reader.completions) × (vec_len reader.completions ≤ most_completions) };
 }
 
 impl EventReader {
@@ -47,9 +47,10 @@ impl EventReader {
     }
 
     /// The completions of the last line for which `read` answered `At`, in the order in which that line names them, or none
-    /// before the first such line.
+    /// before the first such line: at most 32,768.
     pub fn completions(&self) -> &[PointId]
-        ensures { result.now ≡ self.now }
+        ensures points { result.now ≡ self.now }
+        ensures few { length result.now ≤ most_completions }
     {
         self.completions.as_slice()
     }
@@ -62,7 +63,7 @@ impl EventReader {
     /// `UnknownName` where no point of the network has it. It takes no memory.
     pub fn read(&mut self, line: &[u8], net: &Network) -> Result<Event, FormatKind>
         requires { length line.now ≤ most_line }
-        ensures reads { Answers (event_line net.now (words line.now)) self.old result self.new }
+        ensures reads { AnswersEventLine (event_line net.now (words line.now)) self.old result self.new }
         ensures grammar { IfOk result (λ event. IsLine net.now (said event self.new) line.now) }
         ensures every { (told : EventLine) → IsLine net.now told line.now → (result ≡ Ok (event_of told)) × (self.new ≡ kept told self.old) }
         ensures fault { IfErr result (IsFaultOf net.now line.now) }
@@ -76,7 +77,7 @@ impl EventReader {
     #[tactic(auto, unfolding(crate::specs::EventLines::event_line))]
     fn read_words(&mut self, line: &[u8], net: &Network) -> Result<Event, FormatKind>
         requires { length line.now ≤ most_line }
-        ensures { Answers (event_line net.now (words line.now)) self.old result self.new }
+        ensures { AnswersEventLine (event_line net.now (words line.now)) self.old result self.new }
     {
         let Some((first, rest)) = texts::first_word(line) else {
             return Ok(Event::Blank);
@@ -94,7 +95,7 @@ impl EventReader {
     /// Reads what stands after `at`.
     fn read_at(&mut self, rest: &[u8], net: &Network) -> Result<Event, FormatKind>
         requires { length (words rest.now) ≤ most_completions }
-        ensures { Answers (at_line net.now (words rest.now)) self.old result self.new }
+        ensures { AnswersEventLine (completions_line net.now (words rest.now)) self.old result self.new }
     {
         let (word, names) = text::word(rest)?;
         let moment = text::natural(word, MOST_MOMENT)?;
@@ -107,8 +108,8 @@ impl EventReader {
     /// all of them.
     fn keep(&mut self, net: &Network, names: &[u8])
         requires room { length (words names.now) ≤ most_completions }
-        requires named { IsOk (points_of net.now (words names.now)) }
-        ensures { points_of net.now (words names.now) ≡ Ok self.new }
+        requires named { IsOk (points_by_names net.now (words names.now)) }
+        ensures { points_by_names net.now (words names.now) ≡ Ok self.new }
     {
         self.completions.clear();
         let mut rest = names;

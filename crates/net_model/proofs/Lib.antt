@@ -7,6 +7,7 @@ pub mod SpellingLemmas
 pub mod ReadingLemmas
 pub mod DelayLemmas
 pub mod DepartureLemmas
+pub mod LineLemmas
 pub mod PlanNumbers
 pub mod RuleLemmas
 pub mod ApplyingLemmas

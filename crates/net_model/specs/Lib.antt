@@ -18,4 +18,5 @@ pub mod Stored
 pub mod Numbers
 pub mod Places
 pub mod Reading
+pub mod LineReading
 pub mod formers

@@ -1,35 +1,64 @@
--- What the places of a line ask for, and how the words of a line depart from it first.
-use Rattle.std.specs.Prelude.{◌≡◌, ◌≢◌, ◌⊎◌, ℕ, ◌<◌, ◌≤◌, false, List, [], ◌∷◌, length, Option, Some, None, IsTrue}
+-- The forms of lines: what their places ask for, and how the words of a line depart from them first.
+use Rattle.std.specs.Prelude.{◌≡◌, ◌≢◌, ◌⊎◌, ℕ, ℤ, ◌<◌, ◌≤◌, false, List, [], ◌∷◌, length, Option, Some, None, IsTrue}
 use Rattle.net_model.specs.Limits.{most_delay, most_number}
 use Rattle.net_model.specs.Names.{is_name, is_short_name}
 use Rattle.net_model.specs.Numbers.{spells_natural, spells_number, size_of_number, value_of}
 use Rattle.net_model.specs.declared.format.FormatKind.{FormatKind}
 use Rattle.net_model.specs.declared.format.FormatKind.TheVariants.{UnknownWord, WordCount, BadName, BadNumber, NumberLimit}
 
--- what a place of a line asks for
+-- what a place of a line asks for: a name, a short one, or a whole number up to a limit, from 0 or of either sign
 pub data Place : Type 0 where
   of_name : Place
   of_short_name : Place
-  of_number : Place
-  of_delay : Place
+  of_natural : ℕ → Place
+  of_integer : ℕ → Place
+
+-- the places of a number of a plan, and of a delay
+abbrev pub of_number : Place
+of_number = of_integer most_number
+
+abbrev pub of_delay : Place
+of_delay = of_natural most_delay
+
+-- what a word tells in its place
+abbrev pub Value : Place → Type 0
+Value of_name = List ℕ
+Value of_short_name = List ℕ
+Value (of_natural limit) = ℕ
+Value (of_integer limit) = ℤ
+
+-- what makes something of what words tell in their places
+abbrev pub Maker : List Place → Type 0 → Type 0
+Maker [] A = A
+Maker (place ∷ places) A = Value place → Maker places A
+
+-- the form of a line after the words with which it begins: its places, and what is made of it
+pub record Form (A : Type 0) : Type 0 where
+  pub places : List Place
+  pub make : Maker places A
+
+-- the places of a line, where one begins so
+abbrev pub places_of : {A : Type 0} → Option (Form A) → Option (List Place)
+places_of None = None
+places_of (Some form) = Some form.places
 
 -- a word that is what its place asks for
 abbrev pub Fits : Place → List ℕ → Type 0
 Fits of_name word = IsTrue (is_name word)
 Fits of_short_name word = IsTrue (is_short_name word)
-Fits of_number word = IsTrue (spells_number word) × (size_of_number word ≤ most_number)
-Fits of_delay word = IsTrue (spells_natural word) × (value_of word ≤ most_delay)
+Fits (of_natural limit) word = IsTrue (spells_natural word) × (value_of word ≤ limit)
+Fits (of_integer limit) word = IsTrue (spells_number word) × (size_of_number word ≤ limit)
 
 -- a word that is not what its place asks for, and why
 abbrev pub Misfits : Place → List ℕ → FormatKind → Type 0
 Misfits of_name word kind = (is_name word ≡ false) × (kind ≡ BadName)
 Misfits of_short_name word kind = (is_short_name word ≡ false) × (kind ≡ BadName)
-Misfits of_number word kind =
-    ((spells_number word ≡ false) × (kind ≡ BadNumber))
-    ⊎ (IsTrue (spells_number word) × (most_number < size_of_number word) × (kind ≡ NumberLimit))
-Misfits of_delay word kind =
+Misfits (of_natural limit) word kind =
     ((spells_natural word ≡ false) × (kind ≡ BadNumber))
-    ⊎ (IsTrue (spells_natural word) × (most_delay < value_of word) × (kind ≡ NumberLimit))
+    ⊎ (IsTrue (spells_natural word) × (limit < value_of word) × (kind ≡ NumberLimit))
+Misfits (of_integer limit) word kind =
+    ((spells_number word ≡ false) × (kind ≡ BadNumber))
+    ⊎ (IsTrue (spells_number word) × (limit < size_of_number word) × (kind ≡ NumberLimit))
 
 -- why the first word, from the left, that is not what its place asks for is not
 abbrev pub FirstMisfits : List Place → List (List ℕ) → FormatKind → Type 0

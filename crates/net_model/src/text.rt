@@ -1,10 +1,11 @@
 //! The words of all texts: numbers and names.
 
-ghost use Rattle.std.specs.Prelude.{◌≡◌, ℕ, ◌∷◌, [], ◌≤◌, ◌^◌, ◌<◌, true, length, List, MatchResult, IfOk, SomeIff};
+ghost use Rattle.std.specs.Prelude.{◌≡◌, ℕ, ◌∷◌, [], ◌≤◌, ◌^◌, ◌<◌, true, length, List, Ok, Err, MatchResult, IfOk, SomeIff};
 ghost use Rattle.std.specs.List.{list_all};
 ghost use Rattle.texts.specs.Words.{words};
 ghost use Rattle.net_model.specs.Names.{is_digit, most_short};
 ghost use Rattle.net_model.specs.Numbers.{is_positive, natural_of, integer_of, name_of, short_name_of, value_of, limited, negative_of};
+ghost use Rattle.net_model.specs.LineReading.{counted};
 
 use crate::between::MOST_SHORT;
 use crate::format::FormatKind;
@@ -26,6 +27,75 @@ pub fn no_more(rest: &[u8]) -> Result<(), FormatKind>
         None => Ok(()),
         Some(_) => Err(FormatKind::WordCount),
     }
+}
+
+/// The word of a line that must have one more and no other, or `WordCount`.
+pub fn one(rest: &[u8]) -> Result<&[u8], FormatKind>
+    ensures { MatchResult result (λ w. counted 1 (words rest.now) ≡ Ok (w.now ∷ [])) (λ kind. counted 1 (words rest.now) ≡ Err kind) }
+{
+    let (first, rest) = word(rest)?;
+    no_more(rest)?;
+    Ok(first)
+}
+
+/// The words of a line that must have two more and no other, or `WordCount`.
+pub fn two(rest: &[u8]) -> Result<(&[u8], &[u8]), FormatKind>
+    ensures { MatchResult result (λ w. counted 2 (words rest.now) ≡ Ok (w.0.now ∷ w.1.now ∷ [])) (λ kind. counted 2 (words rest.now) ≡ Err kind) }
+{
+    let (first, rest) = word(rest)?;
+    let (second, rest) = word(rest)?;
+    no_more(rest)?;
+    Ok((first, second))
+}
+
+/// The words of a line that must have three more and no other, or `WordCount`.
+pub fn three(rest: &[u8]) -> Result<(&[u8], &[u8], &[u8]), FormatKind>
+    ensures { MatchResult result (λ w. counted 3 (words rest.now) ≡ Ok (w.0.now ∷ w.1.now ∷ w.2.now ∷ [])) (λ kind. counted 3 (words rest.now) ≡ Err kind) }
+{
+    let (first, rest) = word(rest)?;
+    let (second, rest) = word(rest)?;
+    let (third, rest) = word(rest)?;
+    no_more(rest)?;
+    Ok((first, second, third))
+}
+
+/// The words of a line that must have four more and no other, or `WordCount`.
+pub fn four(rest: &[u8]) -> Result<(&[u8], &[u8], &[u8], &[u8]), FormatKind>
+    ensures { MatchResult result (λ w. counted 4 (words rest.now) ≡ Ok (w.0.now ∷ w.1.now ∷ w.2.now ∷ w.3.now ∷ [])) (λ kind. counted 4 (words rest.now) ≡ Err kind) }
+{
+    let (first, rest) = word(rest)?;
+    let (second, rest) = word(rest)?;
+    let (third, rest) = word(rest)?;
+    let (fourth, rest) = word(rest)?;
+    no_more(rest)?;
+    Ok((first, second, third, fourth))
+}
+
+/// The words of a line that must have five more and no other, or `WordCount`.
+pub fn five(rest: &[u8]) -> Result<(&[u8], &[u8], &[u8], &[u8], &[u8]), FormatKind>
+    ensures { MatchResult result (λ w. counted 5 (words rest.now) ≡ Ok (w.0.now ∷ w.1.now ∷ w.2.now ∷ w.3.now ∷ w.4.now ∷ [])) (λ kind. counted 5 (words rest.now) ≡ Err kind) }
+{
+    let (first, rest) = word(rest)?;
+    let (second, rest) = word(rest)?;
+    let (third, rest) = word(rest)?;
+    let (fourth, rest) = word(rest)?;
+    let (fifth, rest) = word(rest)?;
+    no_more(rest)?;
+    Ok((first, second, third, fourth, fifth))
+}
+
+/// The words of a line that must have six more and no other, or `WordCount`.
+pub fn six(rest: &[u8]) -> Result<(&[u8], &[u8], &[u8], &[u8], &[u8], &[u8]), FormatKind>
+    ensures { MatchResult result (λ w. counted 6 (words rest.now) ≡ Ok (w.0.now ∷ w.1.now ∷ w.2.now ∷ w.3.now ∷ w.4.now ∷ w.5.now ∷ [])) (λ kind. counted 6 (words rest.now) ≡ Err kind) }
+{
+    let (first, rest) = word(rest)?;
+    let (second, rest) = word(rest)?;
+    let (third, rest) = word(rest)?;
+    let (fourth, rest) = word(rest)?;
+    let (fifth, rest) = word(rest)?;
+    let (sixth, rest) = word(rest)?;
+    no_more(rest)?;
+    Ok((first, second, third, fourth, fifth, sixth))
 }
 
 /// Whether a word is digits of which the first is not 0.

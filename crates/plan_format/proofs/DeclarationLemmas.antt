@@ -9,7 +9,7 @@ use Rattle.net_model.proofs.PlaceLemmas.{refused_is}
 use Rattle.plan_format.specs.declared.declaration.DeclarationFault.{DeclarationFault}
 use Rattle.plan_format.specs.declared.declaration.DeclarationFault.TheVariants as declaration
 use Rattle.plan_format.specs.PlanGrammar.{IsPlanText}
-use Rattle.plan_format.specs.PlanNetwork.{IsRefusedPart, TellsLine, BuildsParts, Answers}
+use Rattle.plan_format.specs.PlanNetwork.{IsRefusedPart, TellsLine, BuildsParts, AnswersDeclaration}
 
 -- the line at the place of a part
 pub tells_line : (numbers : List ℕ) (fault : BuildFault) (place : ℕ) → place_of fault ≡ Some place → 0 < place → place ≤ length numbers → TellsLine (declaration.Refused (get_or numbers (place - 1) 0) fault) numbers fault
@@ -29,7 +29,7 @@ builds_told delay parts numbers fault (declaration.Refused line f) builds tells 
 builds_told delay parts numbers fault declaration.OutOfMemory builds tells = tt
 
 -- what the delay and the parts of a plan text build is what the lines declare
-pub declared_by : (answer : Result Plan DeclarationFault) (delay : ℕ) (parts : List Part) (numbers : List ℕ) (plan rest : List (List ℕ)) → BuildsParts answer delay parts numbers → IsPlanText plan delay parts numbers → Answers answer (plan ++ rest) rest
+pub declared_by : (answer : Result Plan DeclarationFault) (delay : ℕ) (parts : List Part) (numbers : List ℕ) (plan rest : List (List ℕ)) → BuildsParts answer delay parts numbers → IsPlanText plan delay parts numbers → AnswersDeclaration answer (plan ++ rest) rest
 declared_by (Ok net) delay parts numbers plan rest builds is =
     record { plan = plan; delay = delay; parts = parts; numbers = numbers; whole = refl; is_plan = is; builds = builds }
 declared_by (Err (declaration.Refused line fault)) delay parts numbers plan rest builds is =

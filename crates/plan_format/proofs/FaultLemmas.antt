@@ -17,10 +17,10 @@ use Rattle.plan_format.specs.declared.section.PlanSection.TheVariants as section
 use Rattle.plan_format.specs.declared.read.Parts.{Parts}
 use Rattle.plan_format.specs.PlanLines.{plan_line}
 use Rattle.plan_format.specs.declared.version.PlanStage.{PlanStage}
-use Rattle.plan_format.specs.declared.version.PlanStage.TheVariants.{Opened, Going}
+use Rattle.plan_format.specs.declared.version.PlanStage.TheVariants.{Opened}
 use Rattle.plan_format.specs.declared.version.PlanVersion.{PlanVersion}
-use Rattle.plan_format.specs.declared.version.PlanVersion.TheVariants.{One, Two}
-use Rattle.plan_format.specs.PlanGrammar.{Says}
+use Rattle.plan_format.specs.declared.version.PlanVersion.TheVariants.{One}
+use Rattle.plan_format.specs.PlanGrammar.{ReadsPlan}
 use Rattle.plan_format.specs.PlanFaults.{Departs, CanBecomePlan, ExcludesPlan, Stops, IsFirstFault}
 use Rattle.plan_format.specs.PlanReading.{Progress, begun, in_section, line_in, advanced, missing, IsReached, IsFront, Brings, fault_after}
 use Rattle.plan_format.proofs.PartLemmas.{read_is}
@@ -143,7 +143,7 @@ fault_one text fault other first also =
     cc
 
 -- a text with a fault is no plan text
-pub fault_is_none : (bytes : List ℕ) (fault : FormatFault) (read : Parts) → IsFirstFault (lines bytes) fault → Says bytes read → ⊥
+pub fault_is_none : (bytes : List ℕ) (fault : FormatFault) (read : Parts) → IsFirstFault (lines bytes) fault → ReadsPlan bytes read → ⊥
 fault_is_none bytes fault read first says =
     let good = says_read bytes read says in
     let bad = fault_is (lines bytes) fault first in

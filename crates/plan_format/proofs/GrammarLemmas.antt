@@ -12,11 +12,10 @@ use Rattle.plan_format.specs.declared.plan_line.PlanLine.TheVariants as line
 use Rattle.plan_format.specs.declared.section.PlanSection.{PlanSection}
 use Rattle.plan_format.specs.declared.section.PlanSection.TheVariants as section
 use Rattle.plan_format.specs.declared.read.Parts.{Parts}
-use Rattle.plan_format.specs.PlanGrammar.{IsBlank, IsLine, IsBegun, header, blank, delays, declares, IsPlanText, Says}
+use Rattle.plan_format.specs.PlanGrammar.{IsBlank, IsLine, IsBegun, header, blank, delays, declares, IsPlanText, ReadsPlan}
 use Rattle.plan_format.specs.declared.version.PlanStage.{PlanStage}
 use Rattle.plan_format.specs.declared.version.PlanStage.TheVariants.{Opened, Going}
 use Rattle.plan_format.specs.declared.version.PlanVersion.{PlanVersion}
-use Rattle.plan_format.specs.declared.version.PlanVersion.TheVariants.{One, Two}
 use Rattle.net_model.specs.Between.{between_parts}
 use Rattle.plan_format.specs.PlanParts.{number_of, version_numbered}
 use Rattle.plan_format.specs.PlanReading.{Progress, begun, in_section, line_in, version_in, stage_in, with_more, advanced, missing, IsFront}
@@ -115,12 +114,12 @@ plan_read all text after delay parts numbers whole plan =
 abbrev read_of : List ℕ → Declared → Parts
 read_of bytes declared = record { parts = declared.parts; lines = declared.lines; used = size_of_lines declared.end bytes; delay = pos declared.delay }
 
-pub says_read : (bytes : List ℕ) (read : Parts) → Says bytes read → (declared : Declared) × (read_from begun 1 (lines bytes) ≡ Ok declared) × (read_of bytes declared ≡ read)
+pub says_read : (bytes : List ℕ) (read : Parts) → ReadsPlan bytes read → (declared : Declared) × (read_from begun 1 (lines bytes) ≡ Ok declared) × (read_of bytes declared ≡ read)
 says_read bytes read says =
     (record { delay = says.delay; parts = read.parts; lines = read.lines; end = length says.text }, plan_read (lines bytes) says.text says.after says.delay read.parts read.lines says.split says.plan, rw (says.used, says.told) refl)
 
 -- bytes say one thing at most
-pub says_one : (bytes : List ℕ) (read other : Parts) → Says bytes read → Says bytes other → read ≡ other
+pub says_one : (bytes : List ℕ) (read other : Parts) → ReadsPlan bytes read → ReadsPlan bytes other → read ≡ other
 says_one bytes read other says also =
     let a = says_read bytes read says in
     let b = says_read bytes other also in

@@ -1,18 +1,18 @@
 -- The line of a part is read as that part, and no other line is.
-use Rattle.std.proofs.Common.{◌≡◌, ◌≤◌, ℕ, ℤ, pos, true, List, [], ◌∷◌, Result, Ok, Err, refl, sym, ap, ◌∙◌, subst, inl, inr, codes}
+use Rattle.std.proofs.Common.{◌≡◌, ◌≤◌, ℕ, ℤ, pos, true, List, [], ◌∷◌, Ok, Err, refl, sym, ap, ◌∙◌, subst, arith, inl, inr, codes}
 use Rattle.std.specs.Str.{bytes_eq}
-use Rattle.net_model.specs.Numbers.{name_of, short_name_of, natural_of, integer_of}
-use Rattle.net_model.specs.Limits.{most_delay, most_number}
+use Rattle.net_model.specs.LineReading.{read_by, read_as}
+use Rattle.net_model.specs.Limits.{most_delay}
 use Rattle.texts.specs.Words.{is_remark, are_passed_over}
-use Rattle.net_model.specs.declared.format.FormatKind.{FormatKind}
 use Rattle.net_model.specs.declared.format.FormatKind.TheVariants.{UnknownWord}
 use Rattle.net_model.specs.declared.part.Part.{Part}
 use Rattle.net_model.specs.declared.part.Part.TheVariants as part
-use Rattle.net_model.proofs.DepartureLemmas.{number_read, number_ok, delay_read, delay_ok}
-use Rattle.net_model.proofs.ReadingLemmas.{choice, bind_ok, name_ok, name_read, short_name_ok, short_name_read, word_is}
+use Rattle.net_model.proofs.LineLemmas.{told_by, form_choice, number_read, number_within, delay_read}
+use Rattle.net_model.proofs.ReadingLemmas.{choice, name_read, short_name_read, word_is}
 use Rattle.plan_format.specs.declared.plan_line.PlanLine.{PlanLine}
 use Rattle.plan_format.specs.declared.plan_line.PlanLine.TheVariants as line
-use Rattle.plan_format.specs.PlanLines.{plan_line, line_of, second_line, delay_in, header_line, end_line, declares, point_line, bound_line, link_line, between_line, delay_line}
+use Rattle.plan_format.specs.PlanForms.{form_of_delay, form_of_second, point_form, bound_form, link_form, end_form, between_form, delay_form}
+use Rattle.plan_format.specs.PlanLines.{plan_line, line_by_word, header_line}
 use Rattle.plan_format.specs.PlanGrammar.{AreWordsOf, AreDeclarable}
 use Rattle.net_model.specs.NetworkParts.{IsDeclarable}
 use Rattle.plan_format.specs.declared.version.PlanStage.{PlanStage}
@@ -54,98 +54,45 @@ unfolding plan_line
 blank_read version stage [] blank = refl
 blank_read version stage (first ∷ others) blank = rw blank refl
 
--- the words after the first one of the line of a part
-point_ok : (others : List (List ℕ)) (p : Part) → point_line others ≡ Ok p → (codes "point" ∷ others ≡ part_words p) × IsDeclarable p
-point_ok [] p read = absurd (cc)
-point_ok (word ∷ []) p read =
-    let name = bind_ok (name_of word) _ p read in
-    let named = name_ok word name.0 name.1 in
-    let same : part.Point name.0 ≡ p = cc in
-    let words : codes "point" ∷ word ∷ [] ≡ part_words (part.Point name.0) = ap (λ (w : List ℕ). codes "point" ∷ w ∷ []) named.0 in
-    subst (λ (q : Part). (codes "point" ∷ word ∷ [] ≡ part_words q) × IsDeclarable q) same (words, named.1)
-point_ok (word ∷ next ∷ others) p read = absurd (cc)
+-- what stands after the first word of a line of each form
+after : (first : List ℕ) {words others : List (List ℕ)} → words ≡ others → first ∷ words ≡ first ∷ others
+after first same = ap (λ (ws : List (List ℕ)). first ∷ ws) same
 
-same_words : (first a b c d e f g h : List ℕ) → a ≡ e → b ≡ f → c ≡ g → d ≡ h → first ∷ a ∷ b ∷ c ∷ d ∷ [] ≡ first ∷ e ∷ f ∷ g ∷ h ∷ []
-same_words first a b c d e f g h p q r s = cc
+point_ok : (version : PlanVersion) (others : List (List ℕ)) (l : PlanLine) → read_by point_form others ≡ Ok l → AreWordsOf version l (codes "point" ∷ others)
+point_ok version others l read =
+    let told = told_by point_form others l (tt, tt) read in
+    subst (λ (k : PlanLine). AreWordsOf version k (codes "point" ∷ others)) told.made (after (codes "point") told.words, told.spelled.0)
 
-bound_ok : (others : List (List ℕ)) (p : Part) → bound_line others ≡ Ok p → (codes "bound" ∷ others ≡ part_words p) × IsDeclarable p
-bound_ok [] p read = absurd (cc)
-bound_ok (a ∷ []) p read = absurd (cc)
-bound_ok (a ∷ b ∷ []) p read = absurd (cc)
-bound_ok (a ∷ b ∷ c ∷ []) p read = absurd (cc)
-bound_ok (a ∷ b ∷ c ∷ d ∷ []) p read =
-    let name = bind_ok (name_of a) _ p read in
-    let from = bind_ok (name_of b) _ p name.2 in
-    let to = bind_ok (name_of c) _ p from.2 in
-    let most = bind_ok (integer_of most_number d) _ p to.2 in
-    let x = name_ok a name.0 name.1 in
-    let y = name_ok b from.0 from.1 in
-    let z = name_ok c to.0 to.1 in
-    let w = number_ok d most.0 most.1 in
-    let same : part.Bound name.0 from.0 to.0 most.0 ≡ p = cc in
-    let words : codes "bound" ∷ a ∷ b ∷ c ∷ d ∷ [] ≡ part_words (part.Bound name.0 from.0 to.0 most.0) = same_words _ _ _ _ _ _ _ _ _ x.0 y.0 z.0 w.0 in
-    subst (λ (q : Part). (codes "bound" ∷ a ∷ b ∷ c ∷ d ∷ [] ≡ part_words q) × IsDeclarable q) same (words, (x.1, y.1, z.1, w.1))
-bound_ok (a ∷ b ∷ c ∷ d ∷ e ∷ others) p read = absurd (cc)
+bound_ok : (version : PlanVersion) (others : List (List ℕ)) (l : PlanLine) → read_by bound_form others ≡ Ok l → AreWordsOf version l (codes "bound" ∷ others)
+bound_ok version others l read =
+    let told = told_by bound_form others l (tt, (tt, (tt, (omega arith, tt)))) read in
+    let declarable : IsDeclarable (part.Bound told.values.0 told.values.1.0 told.values.1.1.0 told.values.1.1.1.0) =
+    (told.spelled.0, told.spelled.1.0, told.spelled.1.1.0, number_within told.values.1.1.1.0 told.spelled.1.1.1.0) in
+    subst (λ (k : PlanLine). AreWordsOf version k (codes "bound" ∷ others)) told.made (after (codes "bound") told.words, declarable)
 
-link_ok : (others : List (List ℕ)) (p : Part) → link_line others ≡ Ok p → (codes "link" ∷ others ≡ part_words p) × IsDeclarable p
-link_ok [] p read = absurd (cc)
-link_ok (a ∷ []) p read = absurd (cc)
-link_ok (a ∷ b ∷ []) p read = absurd (cc)
-link_ok (a ∷ b ∷ c ∷ []) p read = absurd (cc)
-link_ok (a ∷ b ∷ c ∷ d ∷ []) p read =
-    let from = bind_ok (name_of a) _ p read in
-    let low = bind_ok (integer_of most_number b) _ p from.2 in
-    let high = bind_ok (integer_of most_number c) _ p low.2 in
-    let to = bind_ok (name_of d) _ p high.2 in
-    let x = name_ok a from.0 from.1 in
-    let y = number_ok b low.0 low.1 in
-    let z = number_ok c high.0 high.1 in
-    let w = name_ok d to.0 to.1 in
-    let same : part.Link from.0 low.0 high.0 to.0 ≡ p = cc in
-    let words : codes "link" ∷ a ∷ b ∷ c ∷ d ∷ [] ≡ part_words (part.Link from.0 low.0 high.0 to.0) = same_words _ _ _ _ _ _ _ _ _ x.0 y.0 z.0 w.0 in
-    subst (λ (q : Part). (codes "link" ∷ a ∷ b ∷ c ∷ d ∷ [] ≡ part_words q) × IsDeclarable q) same (words, (x.1, y.1, z.1, w.1))
-link_ok (a ∷ b ∷ c ∷ d ∷ e ∷ others) p read = absurd (cc)
+link_ok : (version : PlanVersion) (others : List (List ℕ)) (l : PlanLine) → read_by link_form others ≡ Ok l → AreWordsOf version l (codes "link" ∷ others)
+link_ok version others l read =
+    let told = told_by link_form others l (tt, (omega arith, (omega arith, (tt, tt)))) read in
+    let declarable : IsDeclarable (part.Link told.values.0 told.values.1.0 told.values.1.1.0 told.values.1.1.1.0) =
+    (told.spelled.0, number_within told.values.1.0 told.spelled.1.0, number_within told.values.1.1.0 told.spelled.1.1.0, told.spelled.1.1.1.0) in
+    subst (λ (k : PlanLine). AreWordsOf version k (codes "link" ∷ others)) told.made (after (codes "link") told.words, declarable)
 
-same_five : (first a b c d e f g h i j : List ℕ) → a ≡ f → b ≡ g → c ≡ h → d ≡ i → e ≡ j → first ∷ a ∷ b ∷ c ∷ d ∷ e ∷ [] ≡ first ∷ f ∷ g ∷ h ∷ i ∷ j ∷ []
-same_five first a b c d e f g h i j p q r s t = cc
+between_ok : (others : List (List ℕ)) (l : PlanLine) → read_by between_form others ≡ Ok l → AreWordsOf Two l (codes "between" ∷ others)
+between_ok others l read =
+    let told = told_by between_form others l (tt, (tt, (omega arith, (omega arith, (tt, tt))))) read in
+    let declarable : AreDeclarable told.values.0 told.values.1.0 told.values.1.1.0 told.values.1.1.1.0 told.values.1.1.1.1.0 =
+    (told.spelled.0, told.spelled.1.0, number_within told.values.1.1.0 told.spelled.1.1.0, number_within told.values.1.1.1.0 told.spelled.1.1.1.0, told.spelled.1.1.1.1.0) in
+    subst (λ (k : PlanLine). AreWordsOf Two k (codes "between" ∷ others)) told.made (refl, after (codes "between") told.words, declarable)
 
-between_ok : (others : List (List ℕ)) (l : PlanLine) → between_line others ≡ Ok l → AreWordsOf Two l (codes "between" ∷ others)
-between_ok [] l read = absurd (cc)
-between_ok (a ∷ []) l read = absurd (cc)
-between_ok (a ∷ b ∷ []) l read = absurd (cc)
-between_ok (a ∷ b ∷ c ∷ []) l read = absurd (cc)
-between_ok (a ∷ b ∷ c ∷ d ∷ []) l read = absurd (cc)
-between_ok (a ∷ b ∷ c ∷ d ∷ e ∷ []) l read =
-    let name = bind_ok (short_name_of a) _ l read in
-    let from = bind_ok (name_of b) _ l name.2 in
-    let low = bind_ok (integer_of most_number c) _ l from.2 in
-    let high = bind_ok (integer_of most_number d) _ l low.2 in
-    let to = bind_ok (name_of e) _ l high.2 in
-    let v = short_name_ok a name.0 name.1 in
-    let w = name_ok b from.0 from.1 in
-    let x = number_ok c low.0 low.1 in
-    let y = number_ok d high.0 high.1 in
-    let z = name_ok e to.0 to.1 in
-    let same : line.Between name.0 from.0 low.0 high.0 to.0 ≡ l = cc in
-    let words : codes "between" ∷ a ∷ b ∷ c ∷ d ∷ e ∷ [] ≡ between_words name.0 from.0 low.0 high.0 to.0 = same_five _ _ _ _ _ _ _ _ _ _ _ v.0 w.0 x.0 y.0 z.0 in
-    subst (λ (k : PlanLine). AreWordsOf Two k (codes "between" ∷ a ∷ b ∷ c ∷ d ∷ e ∷ [])) same (refl, words, (v.1, w.1, x.1, y.1, z.1))
-between_ok (a ∷ b ∷ c ∷ d ∷ e ∷ f ∷ others) l read = absurd (cc)
+delay_line_ok : (others : List (List ℕ)) (l : PlanLine) → read_by delay_form others ≡ Ok l → AreWordsOf Two l (codes "delay" ∷ others)
+delay_line_ok others l read =
+    let told = told_by delay_form others l (omega arith, tt) read in
+    subst (λ (k : PlanLine). AreWordsOf Two k (codes "delay" ∷ others)) told.made (refl, told.values.0, refl, after (codes "delay") told.words, told.spelled.0)
 
-delay_line_ok : (others : List (List ℕ)) (l : PlanLine) → delay_line others ≡ Ok l → AreWordsOf Two l (codes "delay" ∷ others)
-delay_line_ok [] l read = absurd (cc)
-delay_line_ok (word ∷ []) l read =
-    let moments = bind_ok (natural_of most_delay word) _ l read in
-    let said = delay_ok word moments.0 moments.1 in
-    let same : line.Delay (pos moments.0) ≡ l = cc in
-    let words : codes "delay" ∷ word ∷ [] ≡ delay_words moments.0 = ap (λ (w : List ℕ). codes "delay" ∷ w ∷ []) said.0 in
-    subst (λ (k : PlanLine). AreWordsOf Two k (codes "delay" ∷ word ∷ [])) same (refl, moments.0, refl, words, said.1)
-delay_line_ok (word ∷ next ∷ others) l read = absurd (cc)
-
-declared_ok : (version : PlanVersion) (first : List ℕ) (others : List (List ℕ)) (read : Result Part FormatKind) (l : PlanLine) → ((p : Part) → read ≡ Ok p → (first ∷ others ≡ part_words p) × IsDeclarable p) → declares read ≡ Ok l → AreWordsOf version l (first ∷ others)
-declared_ok version first others (Ok p) l spelled said =
-    let same : line.Part p ≡ l = cc in
-    subst (λ (k : PlanLine). AreWordsOf version k (first ∷ others)) same (spelled p refl)
-declared_ok version first others (Err kind) l spelled said = absurd (cc)
+end_ok : (version : PlanVersion) (others : List (List ℕ)) (l : PlanLine) → read_by end_form others ≡ Ok l → AreWordsOf version l (codes "end" ∷ others)
+end_ok version others l read =
+    let told = told_by end_form others l tt read in
+    subst (λ (k : PlanLine). AreWordsOf version k (codes "end" ∷ others)) told.made (after (codes "end") told.words)
 
 header_is : (version said : PlanVersion) (word : List ℕ) (number : ℕ) (l : PlanLine) → number ≡ number_of said → bytes_eq word (version_word said) ≡ true → line.Header number ≡ l → AreWordsOf version l (codes "stnu" ∷ word ∷ [])
 header_is version said word number l numbered spelled same =
@@ -163,12 +110,6 @@ header_ok version (word ∷ []) l read =
     ]
 header_ok version (word ∷ next ∷ others) l read = absurd (cc)
 
-end_ok : (version : PlanVersion) (others : List (List ℕ)) (l : PlanLine) → end_line others ≡ Ok l → AreWordsOf version l (codes "end" ∷ others)
-end_ok version [] l read =
-    let same : line.End ≡ l = cc in
-    subst (λ (k : PlanLine). AreWordsOf version k (codes "end" ∷ [])) same refl
-end_ok version (next ∷ others) l read = absurd (cc)
-
 begins_so : (version : PlanVersion) (l : PlanLine) (first spelling : List ℕ) (others : List (List ℕ)) → bytes_eq first spelling ≡ true → AreWordsOf version l (spelling ∷ others) → AreWordsOf version l (first ∷ others)
 begins_so version l first spelling others same is =
     subst (λ (w : List ℕ). AreWordsOf version l (w ∷ others)) (sym (word_is first spelling same)) is
@@ -182,35 +123,35 @@ MayStand stage (line.Delay moments) = stage ≡ Opened
 MayStand stage (line.Between name from low high to) = Unit {0}
 MayStand stage line.End = Unit {0}
 
-delay_in_ok : (stage : PlanStage) (first : List ℕ) (others : List (List ℕ)) (l : PlanLine) → delay_in stage first others ≡ Ok l → AreWordsOf Two l (first ∷ others)
+delay_in_ok : (stage : PlanStage) (first : List ℕ) (others : List (List ℕ)) (l : PlanLine) → read_as (form_of_delay stage first) others ≡ Ok l → AreWordsOf Two l (first ∷ others)
 delay_in_ok Opened first others l read =
-    elim (choice (bytes_eq first (codes "delay")) _ _ (Ok l) read) [
+    elim (form_choice (bytes_eq first (codes "delay")) _ _ others l read) [
       | inl delay ↦ begins_so Two l first (codes "delay") others delay.0 (delay_line_ok others l delay.1)
-      | inr unknown ↦ absurd (let wrong : Err UnknownWord ≡ Ok l = unknown.1 in cc)
+      | inr unknown ↦ absurd (let none : Err UnknownWord ≡ Ok l = unknown.1 in cc)
     ]
-delay_in_ok Going first others l read = absurd (cc)
+delay_in_ok Going first others l read = absurd (let none : Err UnknownWord ≡ Ok l = read in cc)
 
-second_ok : (version : PlanVersion) (stage : PlanStage) (first : List ℕ) (others : List (List ℕ)) (l : PlanLine) → second_line version stage first others ≡ Ok l → AreWordsOf version l (first ∷ others)
-second_ok One stage first others l read = absurd (cc)
+second_ok : (version : PlanVersion) (stage : PlanStage) (first : List ℕ) (others : List (List ℕ)) (l : PlanLine) → read_as (form_of_second version stage first) others ≡ Ok l → AreWordsOf version l (first ∷ others)
+second_ok One stage first others l read = absurd (let none : Err UnknownWord ≡ Ok l = read in cc)
 second_ok Two stage first others l read =
-    elim (choice (bytes_eq first (codes "between")) _ _ (Ok l) read) [
+    elim (form_choice (bytes_eq first (codes "between")) _ _ others l read) [
       | inl between ↦ begins_so Two l first (codes "between") others between.0 (between_ok others l between.1)
       | inr other ↦ delay_in_ok stage first others l other.1
     ]
 
 -- a line that begins with a word of the grammar
-line_ok : (version : PlanVersion) (stage : PlanStage) (first : List ℕ) (others : List (List ℕ)) (l : PlanLine) → line_of version stage first others ≡ Ok l → AreWordsOf version l (first ∷ others)
+line_ok : (version : PlanVersion) (stage : PlanStage) (first : List ℕ) (others : List (List ℕ)) (l : PlanLine) → line_by_word version stage first others ≡ Ok l → AreWordsOf version l (first ∷ others)
 line_ok version stage first others l read =
     let begins : (spelling : List ℕ) → bytes_eq first spelling ≡ true → AreWordsOf version l (spelling ∷ others) → AreWordsOf version l (first ∷ others) = λ spelling same is. begins_so version l first spelling others same is in
     elim (choice (bytes_eq first (codes "stnu")) _ _ (Ok l) read) [
       | inl stnu ↦ begins (codes "stnu") stnu.0 (header_ok version others l stnu.1)
-      | inr not_stnu ↦ elim (choice (bytes_eq first (codes "point")) _ _ (Ok l) not_stnu.1) [
-        | inl point ↦ begins (codes "point") point.0 (declared_ok version (codes "point") others (point_line others) l (point_ok others) point.1)
-        | inr not_point ↦ elim (choice (bytes_eq first (codes "bound")) _ _ (Ok l) not_point.1) [
-          | inl bound ↦ begins (codes "bound") bound.0 (declared_ok version (codes "bound") others (bound_line others) l (bound_ok others) bound.1)
-          | inr not_bound ↦ elim (choice (bytes_eq first (codes "link")) _ _ (Ok l) not_bound.1) [
-            | inl link ↦ begins (codes "link") link.0 (declared_ok version (codes "link") others (link_line others) l (link_ok others) link.1)
-            | inr not_link ↦ elim (choice (bytes_eq first (codes "end")) _ _ (Ok l) not_link.1) [
+      | inr not_stnu ↦ elim (form_choice (bytes_eq first (codes "point")) _ _ others l not_stnu.1) [
+        | inl point ↦ begins (codes "point") point.0 (point_ok version others l point.1)
+        | inr not_point ↦ elim (form_choice (bytes_eq first (codes "bound")) _ _ others l not_point.1) [
+          | inl bound ↦ begins (codes "bound") bound.0 (bound_ok version others l bound.1)
+          | inr not_bound ↦ elim (form_choice (bytes_eq first (codes "link")) _ _ others l not_bound.1) [
+            | inl link ↦ begins (codes "link") link.0 (link_ok version others l link.1)
+            | inr not_link ↦ elim (form_choice (bytes_eq first (codes "end")) _ _ others l not_link.1) [
               | inl end ↦ begins (codes "end") end.0 (end_ok version others l end.1)
               | inr second ↦ second_ok version stage first others l second.1
             ]
@@ -226,7 +167,7 @@ read_is version stage [] l read =
     let same : line.Blank ≡ l = cc in
     subst (λ (k : PlanLine). AreWordsOf version k []) same refl
 read_is version stage (first ∷ others) l read =
-    elim (choice (is_remark first) (Ok line.Blank) (line_of version stage first others) (Ok l) read) [
+    elim (choice (is_remark first) (Ok line.Blank) (line_by_word version stage first others) (Ok l) read) [
       | inl remark ↦
           let same : line.Blank ≡ l = cc in
           subst (λ (k : PlanLine). AreWordsOf version k (first ∷ others)) same remark.0

@@ -12,12 +12,12 @@ use Rattle.net_model.specs.declared.format.WordFault.{WordFault}
 use Rattle.net_model.specs.declared.format.WordFault.TheVariants as word
 use Rattle.net_model.specs.declared.part.Part.{Part}
 use Rattle.plan_format.specs.declared.read.Parts.{Parts}
-use Rattle.plan_format.specs.PlanGrammar.{IsBegun, header, blank, delays, declares, Declares, IsPlanText, Says}
+use Rattle.plan_format.specs.PlanGrammar.{IsBegun, header, blank, delays, declares, Declares, IsPlanText, ReadsPlan}
 use Rattle.plan_format.specs.declared.version.PlanStage.{PlanStage}
 use Rattle.plan_format.specs.declared.version.PlanStage.TheVariants.{Opened}
 use Rattle.plan_format.specs.declared.version.PlanVersion.{PlanVersion}
 use Rattle.plan_format.specs.PlanFaults.{IsFirstFault, IsFaultOf}
-use Rattle.plan_format.specs.PlanReading.{Progress, begun, at_line, IsFront, Brings, Reads, Refuses, ReadsLines, HasSizes, fault_after}
+use Rattle.plan_format.specs.PlanReading.{Progress, begun, fault_at_line, IsFront, Brings, Reads, Refuses, ReadsLines, HasSizes, fault_after}
 use Rattle.plan_format.proofs.StepLemmas.{one_more}
 use Rattle.plan_format.proofs.GrammarLemmas.{says_one}
 use Rattle.plan_format.proofs.FaultLemmas.{fault_is_none, fault_one}
@@ -101,7 +101,7 @@ at_end_line bytes rest text others number read more at next plan =
     }
 
 -- a line was refused
-pub at_refused : (bytes rest text others : List ℕ) (read more : Progress) (fault : WordFault) (number : ℕ) (at : AtLine bytes rest number read) → IsNextLine rest text others → Brings at.before text (Err fault) more → ReadsLines bytes more (Err (at_line number fault))
+pub at_refused : (bytes rest text others : List ℕ) (read more : Progress) (fault : WordFault) (number : ℕ) (at : AtLine bytes rest number read) → IsNextLine rest text others → Brings at.before text (Err fault) more → ReadsLines bytes more (Err (fault_at_line number fault))
 at_refused bytes rest text others read more (word.Kind kind) number at next brings =
     let whole : lines bytes ≡ at.before ++ text ∷ lines others = at.split ∙ ap (λ (ls : List (List ℕ)). at.before ++ ls) next.here in
     subst (λ (n : ℕ). IsFirstFault (lines bytes) (record { line = n; kind = kind })) (sym at.counted) (subst (λ (ls : List (List ℕ)). IsFirstFault ls (fault_after at.before kind)) (sym whole) (brings (lines others)))
@@ -114,13 +114,13 @@ at_last bytes rest number kind read at none first =
     subst (λ (n : ℕ). IsFirstFault (lines bytes) (record { line = n; kind = kind })) (sym at.counted) (subst (λ (ls : List (List ℕ)). IsFirstFault ls (fault_after at.before kind)) (sym whole) first)
 
 -- the answer to a text that says something
-pub answer_every : (bytes : List ℕ) (answer : Result Parts TextFault) (read : Parts) → IfOk answer (Says bytes) → IfErr answer (IsFaultOf bytes) → Says bytes read → Reads answer read
+pub answer_every : (bytes : List ℕ) (answer : Result Parts TextFault) (read : Parts) → IfOk answer (ReadsPlan bytes) → IfErr answer (IsFaultOf bytes) → ReadsPlan bytes read → Reads answer read
 answer_every bytes (Ok one) read says faults also = says_one bytes one read says also
 answer_every bytes (Err (text.Format fault)) read says faults also = fault_is_none bytes fault read faults also
 answer_every bytes (Err text.OutOfMemory) read says faults also = tt
 
 -- the answer to a text that has a fault
-pub answer_fault : (bytes : List ℕ) (answer : Result Parts TextFault) (fault : FormatFault) → IfOk answer (Says bytes) → IfErr answer (IsFaultOf bytes) → IsFirstFault (lines bytes) fault → Refuses answer fault
+pub answer_fault : (bytes : List ℕ) (answer : Result Parts TextFault) (fault : FormatFault) → IfOk answer (ReadsPlan bytes) → IfErr answer (IsFaultOf bytes) → IsFirstFault (lines bytes) fault → Refuses answer fault
 answer_fault bytes (Ok read) fault says faults first = fault_is_none bytes fault read first says
 answer_fault bytes (Err (text.Format told)) fault says faults first = fault_one (lines bytes) told fault faults first
 answer_fault bytes (Err text.OutOfMemory) fault says faults first = tt
@@ -149,7 +149,7 @@ begun_sizes version stage text delay parts numbers (declares was before next d p
     let b = length-append ns (map (λ (part : Part). length before + 1) more) in
     record { numbered = omega (arith, sizes.numbered, marks, a, b); few = omega (arith, one_more before next, sizes.few, a, two) }
 
-pub says_sizes : (bytes : List ℕ) (read : Parts) → Says bytes read → HasSizes bytes read
+pub says_sizes : (bytes : List ℕ) (read : Parts) → ReadsPlan bytes read → HasSizes bytes read
 says_sizes bytes read says =
     let sizes = begun_sizes says.plan.version says.plan.stage says.plan.begun says.delay read.parts read.lines says.plan.begins in
     let whole : length says.text ≡ length (says.plan.begun ++ says.plan.last ∷ []) = ap length says.plan.whole in
@@ -163,6 +163,6 @@ says_sizes bytes read says =
       within = omega (arith, says.used, size);
     }
 
-pub answer_sizes : (bytes : List ℕ) (answer : Result Parts TextFault) → IfOk answer (Says bytes) → IfOk answer (HasSizes bytes)
+pub answer_sizes : (bytes : List ℕ) (answer : Result Parts TextFault) → IfOk answer (ReadsPlan bytes) → IfOk answer (HasSizes bytes)
 answer_sizes bytes (Ok read) says = says_sizes bytes read says
 answer_sizes bytes (Err fault) says = tt

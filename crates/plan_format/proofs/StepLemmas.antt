@@ -13,7 +13,7 @@ use Rattle.plan_format.specs.declared.section.PlanSection.{PlanSection}
 use Rattle.plan_format.specs.declared.section.PlanSection.TheVariants as section
 use Rattle.plan_format.specs.PlanLines.{plan_line}
 use Rattle.plan_format.specs.declared.version.PlanStage.{PlanStage}
-use Rattle.plan_format.specs.declared.version.PlanStage.TheVariants.{Opened, Going}
+use Rattle.plan_format.specs.declared.version.PlanStage.TheVariants.{Opened}
 use Rattle.plan_format.specs.declared.version.PlanVersion.{PlanVersion}
 use Rattle.plan_format.specs.declared.version.PlanVersion.TheVariants.{One, Two}
 use Rattle.net_model.specs.Between.{between_parts}

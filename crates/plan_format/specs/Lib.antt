@@ -1,4 +1,5 @@
 pub mod PlanParts
+pub mod PlanForms
 pub mod PlanLines
 pub mod PlanGrammar
 pub mod PlanFaults

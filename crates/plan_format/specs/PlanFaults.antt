@@ -1,10 +1,9 @@
 -- The first fault of a text that is no plan text.
-use Rattle.std.specs.Prelude.{◌≡◌, ◌≢◌, ◌⊎◌, ℕ, ◌+◌, false, List, [], ◌∷◌, ◌++◌, length, Option, Some, None, codes, if◌then◌else◌}
+use Rattle.std.specs.Prelude.{◌≡◌, ◌≢◌, ◌⊎◌, ℕ, ◌+◌, false, List, [], ◌∷◌, ◌++◌, length}
 use Rattle.std.specs.List.{All}
-use Rattle.std.specs.Str.{bytes_eq}
 use Rattle.texts.specs.Words.{words, are_passed_over}
 use Rattle.texts.specs.Lines.{lines}
-use Rattle.net_model.specs.Places.{Place, of_name, of_short_name, of_number, of_delay, DepartsFrom}
+use Rattle.net_model.specs.Places.{places_of, DepartsFrom}
 use Rattle.net_model.specs.declared.format.FormatFault.{FormatFault}
 use Rattle.net_model.specs.declared.format.TextFault.{TextFault}
 use Rattle.net_model.specs.declared.format.TextFault.TheVariants as text
@@ -14,36 +13,16 @@ use Rattle.net_model.specs.declared.format.FormatKind.{FormatKind}
 use Rattle.net_model.specs.declared.format.FormatKind.TheVariants.{NoHeader, NoEnd}
 use Rattle.net_model.specs.declared.part.Part.{Part}
 use Rattle.plan_format.specs.declared.version.PlanStage.{PlanStage}
-use Rattle.plan_format.specs.declared.version.PlanStage.TheVariants.{Opened, Going}
+use Rattle.plan_format.specs.declared.version.PlanStage.TheVariants.{Opened}
 use Rattle.plan_format.specs.declared.version.PlanVersion.{PlanVersion}
-use Rattle.plan_format.specs.declared.version.PlanVersion.TheVariants.{One, Two}
+use Rattle.plan_format.specs.PlanForms.{form_after}
 use Rattle.plan_format.specs.PlanParts.{header_words}
 use Rattle.plan_format.specs.PlanGrammar.{IsBlank, IsBegun, IsPlanText}
-
--- the places after the first word of the line of the delay, which begins so where nothing but blank lines stands after the header
-abbrev pub places_of_delay : PlanStage → List ℕ → Option (List Place)
-places_of_delay Opened first = if bytes_eq first (codes "delay") then Some (of_delay ∷ []) else None
-places_of_delay Going first = None
-
--- the places after the first word of a line that version 2 has more
-abbrev pub places_of_second : PlanVersion → PlanStage → List ℕ → Option (List Place)
-places_of_second One stage first = None
-places_of_second Two stage first =
-    if bytes_eq first (codes "between") then Some (of_short_name ∷ of_name ∷ of_number ∷ of_number ∷ of_name ∷ []) else places_of_delay stage first
-
--- the places after the first word of each line that may come after the header of a version, or none where no such line begins so
-abbrev pub places_after : PlanVersion → PlanStage → List ℕ → Option (List Place)
-places_after version stage first =
-    if bytes_eq first (codes "point") then Some (of_name ∷ [])
-    else (if bytes_eq first (codes "bound") then Some (of_name ∷ of_name ∷ of_name ∷ of_number ∷ [])
-    else (if bytes_eq first (codes "link") then Some (of_name ∷ of_number ∷ of_number ∷ of_name ∷ [])
-    else (if bytes_eq first (codes "end") then Some []
-    else places_of_second version stage first)))
 
 -- the first departure of the words of a line from the forms of the lines after the header of a version
 abbrev pub Departs : PlanVersion → PlanStage → List (List ℕ) → FormatKind → Type 0
 Departs version stage [] kind = ⊥
-Departs version stage (first ∷ others) kind = DepartsFrom (places_after version stage first) others kind
+Departs version stage (first ∷ others) kind = DepartsFrom (places_of (form_after version stage first)) others kind
 
 -- the fault of a line that is read alone: it is no blank line and no header, and departs from the forms of the other lines
 pub record IsFaultAlone (version : PlanVersion) (words : List (List ℕ)) (kind : FormatKind) : Type 0 where

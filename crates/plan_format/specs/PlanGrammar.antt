@@ -65,7 +65,7 @@ pub record IsPlanText (text : List (List ℕ)) (delay : ℕ) (parts : List Part)
   pub ends : IsLine version line.End last
 
 -- the first lines of the bytes are a plan text, and this is read of it
-pub record Says (bytes : List ℕ) (read : Parts) : Type 0 where
+pub record ReadsPlan (bytes : List ℕ) (read : Parts) : Type 0 where
   pub text : List (List ℕ)
   pub after : List (List ℕ)
   pub delay : ℕ

@@ -56,10 +56,10 @@ BuildsParts (Err (declaration.Refused line fault)) delay parts numbers = IsRefus
 BuildsParts (Err declaration.OutOfMemory) delay parts numbers = Unit {0}
 
 -- the answer is what the lines declare, unless memory ran out
-abbrev pub Answers : Result Plan DeclarationFault → List (List ℕ) → List (List ℕ) → Type 0
-Answers (Ok net) lines rest = DeclaresNetwork lines net rest
-Answers (Err (declaration.Refused line fault)) lines rest = RefusesPart lines line fault
-Answers (Err declaration.OutOfMemory) lines rest = Unit {0}
+abbrev pub AnswersDeclaration : Result Plan DeclarationFault → List (List ℕ) → List (List ℕ) → Type 0
+AnswersDeclaration (Ok net) lines rest = DeclaresNetwork lines net rest
+AnswersDeclaration (Err (declaration.Refused line fault)) lines rest = RefusesPart lines line fault
+AnswersDeclaration (Err declaration.OutOfMemory) lines rest = Unit {0}
 
 -- what the lines of a text give: a network and the lines after it, or the first fault of a line, or the first part that is
 -- refused, with its line

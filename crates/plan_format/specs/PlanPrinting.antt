@@ -1,5 +1,5 @@
 -- The plan text of a network.
-use Rattle.std.specs.Prelude.{◌≡◌, ℕ, pos, ◌==◌, List, [], ◌∷◌, ◌++◌, map, length, unsigned_abs, Ok, if◌then◌else◌}
+use Rattle.std.specs.Prelude.{◌≡◌, ℕ, pos, ◌==◌, List, [], ◌∷◌, ◌++◌, map, length, Ok, if◌then◌else◌}
 use Rattle.net_model.specs.Network.{Plan}
 use Rattle.texts.specs.Printing.{printed}
 use Rattle.net_model.specs.declared.part.Part.{Part}
@@ -7,7 +7,7 @@ use Rattle.net_model.specs.NetworkParts.{parts_of}
 use Rattle.net_model.specs.Building.{declared_net}
 use Rattle.plan_format.specs.declared.read.Parts.{Parts}
 use Rattle.plan_format.specs.declared.version.PlanVersion.TheVariants.{Two}
-use Rattle.plan_format.specs.PlanGrammar.{Says}
+use Rattle.plan_format.specs.PlanGrammar.{ReadsPlan}
 use Rattle.plan_format.specs.PlanParts.{part_words, delay_words, header_words, end_words}
 
 -- the line of a delay, where it is not 0
@@ -25,7 +25,7 @@ printed_plan net = printed (plan_words net.delay (parts_of net))
 -- a text that reads back, whole, as the delay and the parts of the network
 pub record ReadsBack (text : List ℕ) (net : Plan) : Type 0 where
   pub read : Parts
-  pub said : Says text read
+  pub said : ReadsPlan text read
   pub whole : read.used ≡ length text
   pub told : read.delay ≡ pos net.delay
   pub same : declared_net net.delay read.parts ≡ Ok net

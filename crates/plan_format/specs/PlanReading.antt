@@ -23,7 +23,7 @@ use Rattle.plan_format.specs.declared.version.PlanStage.TheVariants.{Opened, Goi
 use Rattle.plan_format.specs.declared.version.PlanVersion.{PlanVersion}
 use Rattle.plan_format.specs.declared.version.PlanVersion.TheVariants.{One}
 use Rattle.plan_format.specs.PlanParts.{version_numbered}
-use Rattle.plan_format.specs.PlanGrammar.{IsBlank, IsBegun, IsPlanText, Says}
+use Rattle.plan_format.specs.PlanGrammar.{IsBlank, IsBegun, IsPlanText, ReadsPlan}
 use Rattle.plan_format.specs.PlanFaults.{IsFirstFault, IsFaultOf}
 
 -- what was read: the section that is reached, the delay, the parts, and the number of the line of each
@@ -128,13 +128,13 @@ Brings before next (Err (word.Kind kind)) read = (more : List (List ℕ)) → Is
 Brings before next (Err word.OutOfMemory) read = Unit {0}
 
 -- the fault of a text whose line has a fault
-abbrev pub at_line : ℕ → WordFault → TextFault
-at_line number (word.Kind kind) = text.Format (record { line = number; kind = kind })
-at_line number word.OutOfMemory = text.OutOfMemory
+abbrev pub fault_at_line : ℕ → WordFault → TextFault
+fault_at_line number (word.Kind kind) = text.Format (record { line = number; kind = kind })
+fault_at_line number word.OutOfMemory = text.OutOfMemory
 
 -- lines of the bytes were read up to the `end` line, or to the first fault
 abbrev pub ReadsLines : List ℕ → Progress → Result ℕ TextFault → Type 0
-ReadsLines bytes read (Ok used) = Says bytes (record { parts = read.parts; lines = read.lines; used = used; delay = pos read.delay })
+ReadsLines bytes read (Ok used) = ReadsPlan bytes (record { parts = read.parts; lines = read.lines; used = used; delay = pos read.delay })
 ReadsLines bytes read (Err fault) = IsFaultOf bytes fault
 
 -- the answer is this one, unless memory ran out

@@ -1,6 +1,7 @@
 //! One line of a plan text.
 
 ghost use Rattle.std.specs.Prelude.{◌≡◌, ◌⊎◌, IfErr, IfOk};
+ghost use Rattle.net_model.specs.LineReading.{read_as, read_by};
 ghost use Rattle.net_model.specs.Numbers.{integer_of};
 ghost use Rattle.texts.specs.Words.{words};
 ghost use Rattle.plan_format.specs.declared.plan_line.PlanLine.{PlanLine};
@@ -8,7 +9,8 @@ ghost use Rattle.net_model.specs.Limits.{most_number};
 ghost use Rattle.plan_format.specs.PlanFaults.{IsFaultOfLine};
 ghost use Rattle.plan_format.specs.PlanGrammar.{IsLine};
 ghost use Rattle.plan_format.specs.PlanParts.{version_numbered};
-ghost use Rattle.plan_format.specs.PlanLines.{plan_line, line_of, second_line, delay_in, between_line, delay_line, header_line, point_line, bound_line, link_line, end_line};
+ghost use Rattle.plan_format.specs.PlanForms.{form_of_second, form_of_delay, point_form, bound_form, link_form, end_form, between_form, delay_form};
+ghost use Rattle.plan_format.specs.PlanLines.{plan_line, line_by_word, header_line};
 
 use crate::version::{PlanStage, PlanVersion};
 use net_model::{FormatKind, MOST_DELAY, MOST_NUMBER, Name, Part, Weight, WordFault, text};
@@ -63,19 +65,19 @@ fn line_of(
     first: &[u8],
     rest: &[u8],
 ) -> Result<PlanLine, FormatKind>
-    ensures { result ≡ line_of version stage first.now (words rest.now) }
+    ensures { result ≡ line_by_word version stage first.now (words rest.now) }
 {
     if first == b"stnu".as_slice() {
         return header_line(rest);
     }
     if first == b"point".as_slice() {
-        return Ok(PlanLine::Part(point_line(rest)?));
+        return point_line(rest);
     }
     if first == b"bound".as_slice() {
-        return Ok(PlanLine::Part(bound_line(rest)?));
+        return bound_line(rest);
     }
     if first == b"link".as_slice() {
-        return Ok(PlanLine::Part(link_line(rest)?));
+        return link_line(rest);
     }
     if first == b"end".as_slice() {
         return end_line(rest);
@@ -90,7 +92,7 @@ fn second_line(
     first: &[u8],
     rest: &[u8],
 ) -> Result<PlanLine, FormatKind>
-    ensures { result ≡ second_line version stage first.now (words rest.now) }
+    ensures { result ≡ read_as (form_of_second version stage first.now) (words rest.now) }
 {
     match version {
         PlanVersion::One => Err(FormatKind::UnknownWord),
@@ -105,7 +107,7 @@ fn second_line(
 
 /// The line of the delay, where it may come.
 fn delay_in(stage: PlanStage, first: &[u8], rest: &[u8]) -> Result<PlanLine, FormatKind>
-    ensures { result ≡ delay_in stage first.now (words rest.now) }
+    ensures { result ≡ read_as (form_of_delay stage first.now) (words rest.now) }
 {
     match stage {
         PlanStage::Opened => {
@@ -138,58 +140,44 @@ fn header_line(rest: &[u8]) -> Result<PlanLine, FormatKind>
 }
 
 /// What stands after `point`.
-fn point_line(rest: &[u8]) -> Result<Part, FormatKind>
-    ensures { result ≡ point_line (words rest.now) }
+fn point_line(rest: &[u8]) -> Result<PlanLine, FormatKind>
+    ensures { result ≡ read_by point_form (words rest.now) }
 {
-    let (name, rest) = text::word(rest)?;
-    text::no_more(rest)?;
-    Ok(Part::Point(text::name(name)?))
+    let name = text::one(rest)?;
+    Ok(PlanLine::Part(Part::Point(text::name(name)?)))
 }
 
 /// What stands after `bound`.
-fn bound_line(rest: &[u8]) -> Result<Part, FormatKind>
-    ensures { result ≡ bound_line (words rest.now) }
+fn bound_line(rest: &[u8]) -> Result<PlanLine, FormatKind>
+    ensures { result ≡ read_by bound_form (words rest.now) }
 {
-    let (name, rest) = text::word(rest)?;
-    let (from, rest) = text::word(rest)?;
-    let (to, rest) = text::word(rest)?;
-    let (most, rest) = text::word(rest)?;
-    text::no_more(rest)?;
-    Ok(Part::Bound(
+    let (name, from, to, most) = text::four(rest)?;
+    Ok(PlanLine::Part(Part::Bound(
         text::name(name)?,
         text::name(from)?,
         text::name(to)?,
         number(most)?,
-    ))
+    )))
 }
 
 /// What stands after `link`.
-fn link_line(rest: &[u8]) -> Result<Part, FormatKind>
-    ensures { result ≡ link_line (words rest.now) }
+fn link_line(rest: &[u8]) -> Result<PlanLine, FormatKind>
+    ensures { result ≡ read_by link_form (words rest.now) }
 {
-    let (from, rest) = text::word(rest)?;
-    let (low, rest) = text::word(rest)?;
-    let (high, rest) = text::word(rest)?;
-    let (to, rest) = text::word(rest)?;
-    text::no_more(rest)?;
-    Ok(Part::Link(
+    let (from, low, high, to) = text::four(rest)?;
+    Ok(PlanLine::Part(Part::Link(
         text::name(from)?,
         number(low)?,
         number(high)?,
         text::name(to)?,
-    ))
+    )))
 }
 
 /// What stands after `between`.
 fn between_line(rest: &[u8]) -> Result<PlanLine, FormatKind>
-    ensures { result ≡ between_line (words rest.now) }
+    ensures { result ≡ read_by between_form (words rest.now) }
 {
-    let (name, rest) = text::word(rest)?;
-    let (from, rest) = text::word(rest)?;
-    let (low, rest) = text::word(rest)?;
-    let (high, rest) = text::word(rest)?;
-    let (to, rest) = text::word(rest)?;
-    text::no_more(rest)?;
+    let (name, from, low, high, to) = text::five(rest)?;
     Ok(PlanLine::Between(
         text::short_name(name)?,
         text::name(from)?,
@@ -201,17 +189,16 @@ fn between_line(rest: &[u8]) -> Result<PlanLine, FormatKind>
 
 /// What stands after `delay`.
 fn delay_line(rest: &[u8]) -> Result<PlanLine, FormatKind>
-    ensures { result ≡ delay_line (words rest.now) }
+    ensures { result ≡ read_by delay_form (words rest.now) }
 {
-    let (moments, rest) = text::word(rest)?;
-    text::no_more(rest)?;
+    let moments = text::one(rest)?;
     let moments = text::natural(moments, u64::from(MOST_DELAY))?;
     Ok(PlanLine::Delay(moments as Weight))
 }
 
 /// What stands after `end`.
 fn end_line(rest: &[u8]) -> Result<PlanLine, FormatKind>
-    ensures { result ≡ end_line (words rest.now) }
+    ensures { result ≡ read_by end_form (words rest.now) }
 {
     text::no_more(rest)?;
     Ok(PlanLine::End)

@@ -5,8 +5,8 @@ ghost use Rattle.texts.specs.Lines.{lines};
 ghost use Rattle.net_model.specs.declared.format.FormatFault.{FormatFault};
 ghost use Rattle.plan_format.specs.declared.read.Parts.{Parts};
 ghost use Rattle.plan_format.specs.PlanFaults.{IsFaultOf, IsFirstFault};
-ghost use Rattle.plan_format.specs.PlanGrammar.{Says};
-ghost use Rattle.plan_format.specs.PlanReading.{HasSizes, Reads, ReadsLines, Refuses, at_line, begun};
+ghost use Rattle.plan_format.specs.PlanGrammar.{ReadsPlan};
+ghost use Rattle.plan_format.specs.PlanReading.{HasSizes, Reads, ReadsLines, Refuses, fault_at_line, begun};
 
 use crate::plan_line::PlanLine;
 use crate::reader::PlanReader;
@@ -33,8 +33,8 @@ pub struct Parts {
 /// for want of memory. There are fewer than 2^31 bytes.
 pub fn read_plan(alloc: Global, bytes: &[u8]) -> Result<Parts, TextFault>
     requires { length bytes.now < 2 ^ 31 }
-    ensures grammar { IfOk result (Says bytes.now) }
-    ensures every { (read : Parts) → Says bytes.now read → Reads result read }
+    ensures grammar { IfOk result (ReadsPlan bytes.now) }
+    ensures every { (read : Parts) → ReadsPlan bytes.now read → Reads result read }
     ensures fault { IfErr result (IsFaultOf bytes.now) }
     ensures every_fault { (fault : FormatFault) → IsFirstFault (lines bytes.now) fault → Refuses result fault }
     ensures sizes { IfOk result (HasSizes bytes.now) }
@@ -45,7 +45,7 @@ pub fn read_plan(alloc: Global, bytes: &[u8]) -> Result<Parts, TextFault>
 /// Reads the lines of a plan text, one after another.
 fn read_text(alloc: Global, bytes: &[u8]) -> Result<Parts, TextFault>
     requires { length bytes.now < 2 ^ 31 }
-    ensures grammar { IfOk result (Says bytes.now) }
+    ensures grammar { IfOk result (ReadsPlan bytes.now) }
     ensures fault { IfErr result (IsFaultOf bytes.now) }
 {
     let mut reader = PlanReader::new(alloc);
@@ -83,7 +83,7 @@ fn read_lines(reader: &mut PlanReader, bytes: &[u8]) -> Result<usize, TextFault>
 
 /// The fault of a text whose line has a fault.
 fn at_line(line: u32, fault: WordFault) -> TextFault
-    ensures { result ≡ at_line line fault }
+    ensures { result ≡ fault_at_line line fault }
 {
     match fault {
         WordFault::Kind(kind) => TextFault::Format(FormatFault { line, kind }),

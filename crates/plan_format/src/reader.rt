@@ -44,7 +44,7 @@ impl PlanReader {
     ghost use Rattle.plan_format.specs.PlanGrammar.{IsPlanText};
     ghost use Rattle.plan_format.specs.PlanFaults.{IsFirstFault};
     ghost use Rattle.plan_format.specs.PlanReading.{Brings, IsFront, IsWithin, SaysLine, advanced, begun, fault_after, line_in, missing};
-    ghost use Rattle.plan_format.specs.PlanNetwork.{Answers, BuildsParts};
+    ghost use Rattle.plan_format.specs.PlanNetwork.{AnswersDeclaration, BuildsParts};
 
     /// Before the first line.
     pub fn new(alloc: Global) -> PlanReader
@@ -142,7 +142,7 @@ impl PlanReader {
     /// `OutOfMemory` comes only for want of memory.
     pub fn build(&self, alloc: Global) -> Result<Network, DeclarationFault>
         ensures builds { BuildsParts result self.now.delay self.now.parts self.now.lines }
-        ensures declares { (plan rest : List (List ℕ)) → IsPlanText plan self.now.delay self.now.parts self.now.lines → Answers result (plan ++ rest) rest }
+        ensures declares { (plan rest : List (List ℕ)) → IsPlanText plan self.now.delay self.now.parts self.now.lines → AnswersDeclaration result (plan ++ rest) rest }
         ensures sound { IfOk result IsPlan }
         ensures numbers { IfOk result HasPlanNumbers }
     {

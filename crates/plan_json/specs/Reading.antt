@@ -40,10 +40,10 @@ abbrev pub with_front : {X : Type 0} → List X → Result (List X) Fault → Re
 with_front front read = read >>= λ rest. Ok (front ++ rest)
 
 -- the answer is what the bytes say, unless memory ran out
-abbrev pub Answers : {X : Type 0} → (X → PlanParts) → Result X JsonFault → Option (Result PlanParts Fault) → Type 0
-Answers seen (Ok x) said = said ≡ Some (Ok (seen x))
-Answers seen (Err NotJson) said = said ≡ None
-Answers seen (Err (Shape member place)) said = said ≡ Some (Err (shape member place))
-Answers seen (Err (BadName member place)) said = said ≡ Some (Err (bad_name member place))
-Answers seen (Err (NumberLimit member place)) said = said ≡ Some (Err (number_limit member place))
-Answers seen (Err OutOfMemory) said = Unit {0}
+abbrev pub AnswersReading : {X : Type 0} → (X → PlanParts) → Result X JsonFault → Option (Result PlanParts Fault) → Type 0
+AnswersReading seen (Ok x) said = said ≡ Some (Ok (seen x))
+AnswersReading seen (Err NotJson) said = said ≡ None
+AnswersReading seen (Err (Shape member place)) said = said ≡ Some (Err (shape member place))
+AnswersReading seen (Err (BadName member place)) said = said ≡ Some (Err (bad_name member place))
+AnswersReading seen (Err (NumberLimit member place)) said = said ≡ Some (Err (number_limit member place))
+AnswersReading seen (Err OutOfMemory) said = Unit {0}

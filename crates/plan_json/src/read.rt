@@ -3,7 +3,7 @@
 ghost use Rattle.std.specs.Prelude.{◌≡◌, ◌≤◌, ◌≤ℤ◌, ◌⊎◌, pos, unsigned_abs, length, IfOk, MatchResult, None, Some};
 ghost use Rattle.net_model.specs.Limits.{most_delay, most_lines};
 ghost use Rattle.serde_json.specs.View.{view};
-ghost use Rattle.plan_json.specs.Reading.{Answers, declared, json_value};
+ghost use Rattle.plan_json.specs.Reading.{AnswersReading, declared, json_value};
 
 use crate::document::document_plan;
 use crate::fault::JsonFault;
@@ -31,7 +31,7 @@ pub struct JsonPlan {
 /// answered: in the order top, points, bounds, between, links, within a list item by item, and at the top and within an item in this order.
 /// Of members of one name the last one counts. `OutOfMemory` comes only for want of memory, as which a part more than 2,147,483,648 counts.
 pub fn from_json(alloc: Global, bytes: &[u8]) -> Result<JsonPlan, JsonFault>
-    ensures says { Answers (λ plan. record { delay = unsigned_abs plan.delay; parts = plan.parts.items }) result (declared bytes.now) }
+    ensures says { AnswersReading (λ plan. record { delay = unsigned_abs plan.delay; parts = plan.parts.items }) result (declared bytes.now) }
     ensures from_nought { IfOk result (λ plan. pos 0 ≤ℤ plan.delay) }
     ensures short { IfOk result (λ plan. plan.delay ≤ℤ pos most_delay) }
     ensures few { IfOk result (λ plan. length plan.parts.items ≤ most_lines) }

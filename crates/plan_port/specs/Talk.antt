@@ -14,7 +14,7 @@ pub record Piece : Type 0 where
   pub put_before : ℕ
 
 -- how far a talk has come: how many pieces were taken, and how many bytes were put
-pub record Place : Type 0 where
+pub record TalkPlace : Type 0 where
   pub taken : ℕ
   pub put : ℕ
 
@@ -22,8 +22,8 @@ pub record Place : Type 0 where
 pub record Talk : Type 0 where
   pub taken : List Piece
   pub put : List ℕ
-  pub failed_take : Option Place
-  pub failed_put : Option Place
+  pub failed_take : Option TalkPlace
+  pub failed_put : Option TalkPlace
 
 -- what contracts see of a port: the talk and the bytes still to come, each where the port tells it, and how often a take
 -- and how often a put has failed
@@ -46,8 +46,8 @@ abbrev pub raised : ℕ → ℕ
 raised count = min (count + 1) last_count
 
 -- how far a talk has come
-abbrev pub place_of : Talk → Place
-place_of talk = record { taken = length talk.taken; put = length talk.put }
+abbrev pub place_in_talk : Talk → TalkPlace
+place_in_talk talk = record { taken = length talk.taken; put = length talk.put }
 
 -- a talk in which pieces of these bytes were then taken
 abbrev pub with_pieces : Talk → List (List ℕ) → Talk
@@ -60,11 +60,11 @@ with_put talk bytes = record talk { put = talk.put ++ bytes }
 
 -- a talk in which a take then failed
 abbrev pub with_failed_take : Talk → Talk
-with_failed_take talk = record talk { failed_take = Some (place_of talk) }
+with_failed_take talk = record talk { failed_take = Some (place_in_talk talk) }
 
 -- a talk in which a put then failed
 abbrev pub with_failed_put : Talk → Talk
-with_failed_put talk = record talk { failed_put = Some (place_of talk) }
+with_failed_put talk = record talk { failed_put = Some (place_in_talk talk) }
 
 -- what is told after a call was told before it, and the two are so related
 abbrev pub WhereTold : {A : Type 0} → (old new : Option A) → (A → A → Type 0) → Type 0

@@ -1,11 +1,9 @@
-use Rattle.std.proofs.Common.{◌≡◌, Ok, Err, refl, sym, ◌∙◌}
+use Rattle.std.proofs.Common.{◌≡◌, Ok, Err, sym, ◌∙◌}
 use Rattle.texts.specs.Words.{words}
 use Rattle.plan_format.specs.declared.version.PlanStage.TheVariants.{Opened}
-use Rattle.plan_format.specs.declared.version.PlanVersion.{PlanVersion}
-use Rattle.plan_format.specs.PlanGrammar.{AreWordsOf}
 use Rattle.plan_format.specs.PlanLines.{plan_line}
 use Rattle.plan_format.specs.PlanParts.{version_numbered}
-use Rattle.plan_format.proofs.PartLemmas.{read_is, is_read, alone_read}
+use Rattle.plan_format.proofs.PartLemmas.{read_is, alone_read}
 use Rattle.plan_format.proofs.DepartureLemmas.{told_alone}
 use Rattle.plan_format.proofs.plan_line.read_plan_line.Goals as goal
 
