@@ -15,7 +15,7 @@ use Rattle.std.proofs.lemmas.List.Edits.{length-insert, get_or-insert_at, get_or
 use Rattle.std.proofs.lemmas.List.FromFn.{get_or-map-range_with_len, length-map-range_with_len}
 use Rattle.cert_checker.specs.declared.few.Start.{Start}
 use Rattle.cert_checker.specs.Least.{absent, lowered_row}
-use Rattle.cert_checker.specs.Few.{word_of, words_of, AreStarts, IsAt, IsGapFor, IsPlaceOf}
+use Rattle.cert_checker.specs.Few.{word_of, words_of, AreStarts, IsStartAt, IsGapFor, IsPlaceOf}
 
 -- ---- what they have for a point
 abbrev Rise : List Start → Type 0
@@ -36,7 +36,7 @@ same_point m n is = grind (arith, nat_tests)
 other_point : (m n : ℕ) → m ≢ n → m == n ≡ false
 other_point m n apart = grind (arith, nat_tests)
 
-pub word_at : (starts : List Start) (place from : ℕ) (d : Start) → Rise starts → IsAt starts from place → word_of starts from ≡ (get_or starts place d).word
+pub word_at : (starts : List Start) (place from : ℕ) (d : Start) → Rise starts → IsStartAt starts from place → word_of starts from ≡ (get_or starts place d).word
 word_at [] place from d rise at = absurd (let inside = at.inside in omega arith)
 word_at (start ∷ starts) zero from d rise at = chosen (start.from == from) start.word (word_of starts from) (same_point start.from from (at.same d))
 word_at (start ∷ starts) (suc place) from d rise at =
@@ -82,7 +82,7 @@ over : (b : Bool) (x y z : ℤ) → cond b x z ≡ cond b x (cond b y z)
 over true x y z = refl
 over false x y z = refl
 
-pub word_set : (starts : List Start) (place : ℕ) (one : Start) → Rise starts → IsAt starts one.from place → (j : ℕ) → word_of (set starts place one) j ≡ cond (one.from == j) one.word (word_of starts j)
+pub word_set : (starts : List Start) (place : ℕ) (one : Start) → Rise starts → IsStartAt starts one.from place → (j : ℕ) → word_of (set starts place one) j ≡ cond (one.from == j) one.word (word_of starts j)
 word_set [] place one rise at j = absurd (let inside = at.inside in omega arith)
 word_set (start ∷ starts) zero one rise at j =
     over (one.from == j) one.word start.word (word_of starts j)
@@ -109,7 +109,7 @@ word_put (start ∷ starts) (suc place) one gap j =
     ∙ twice (start.from == j) (one.from == j) start.word one.word (word_of starts j) (λ here there. (let first = eqb-true start.from j here in let second = eqb-true one.from j there in omega arith))
 
 -- ---- they go on rising
-set_from : (starts : List Start) (place : ℕ) (one : Start) → IsAt starts one.from place → (k : ℕ) (d : Start) → (get_or (set starts place one) k d).from ≡ (get_or starts k d).from
+set_from : (starts : List Start) (place : ℕ) (one : Start) → IsStartAt starts one.from place → (k : ℕ) (d : Start) → (get_or (set starts place one) k d).from ≡ (get_or starts k d).from
 set_from starts place one at k d = by (k == place) refl
   where
     by : (b : Bool) → k == place ≡ b → (get_or (set starts place one) k d).from ≡ (get_or starts k d).from
@@ -118,7 +118,7 @@ set_from starts place one at k d = by (k == place) refl
         ap (λ (n : ℕ). (get_or (set starts place one) n d).from) same ∙ ap (λ (s : Start). s.from) (get_or-set_same starts place one d at.inside) ∙ sym (at.same d) ∙ ap (λ (n : ℕ). (get_or starts n d).from) (sym same)
     by false is = ap (λ (s : Start). s.from) (get_or-set_other starts place k one d (grind (arith, nat_tests)))
 
-pub starts_set : (points : ℕ) (starts : List Start) (place : ℕ) (one : Start) → AreStarts points starts → IsAt starts one.from place → AreStarts points (set starts place one)
+pub starts_set : (points : ℕ) (starts : List Start) (place : ℕ) (one : Start) → AreStarts points starts → IsStartAt starts one.from place → AreStarts points (set starts place one)
 starts_set points starts place one are at =
     let long = length-set starts place one in
     record {
@@ -184,7 +184,7 @@ word_in points starts from d inside = get_or-map-range_with_len (word_of starts)
 pub words_long : (points : ℕ) (starts : List Start) → length (words_of points starts) ≡ points
 words_long points starts = length-map-range_with_len (word_of starts) 0 points
 
-pub found_word : (points : ℕ) (starts : List Start) (from place : ℕ) (d : Start) → AreStarts points starts → from < points → IsAt starts from place → get_or (words_of points starts) from absent ≡ (get_or starts place d).word
+pub found_word : (points : ℕ) (starts : List Start) (from place : ℕ) (d : Start) → AreStarts points starts → from < points → IsStartAt starts from place → get_or (words_of points starts) from absent ≡ (get_or starts place d).word
 found_word points starts from place d are inside at = word_in points starts from absent inside ∙ word_at starts place from d are.rise at
 
 pub missed_word : (points : ℕ) (starts : List Start) (from place : ℕ) → from < points → IsGapFor starts from place → get_or (words_of points starts) from absent ≡ absent
@@ -283,7 +283,7 @@ module _ (points : ℕ) (starts : List Start) (row : List ℤ) (view : words_of 
           → AreStarts points (set starts place one) × (words_of points (set starts place one) ≡ lowered_row row one.from weight)
       row_set place at word =
           let long = row_long in
-          let there : IsAt starts one.from place = subst (λ (xs : List Start). IsAt xs one.from place) is (at points here_are) in
+          let there : IsStartAt starts one.from place = subst (λ (xs : List Start). IsStartAt xs one.from place) is (at points here_are) in
           let least : one.word ≡ int_min (get_or (words_of points starts) one.from absent) weight = word ∙ ap (λ (r : List ℤ). int_min (get_or r one.from absent) weight) (sym view) in (
             starts_set points starts place one are there,
             words_lowered points starts (set starts place one) one.from one.word weight (omega arith) least (word_set starts place one are.rise there) ∙ ap (λ (r : List ℤ). lowered_row r one.from weight) view,

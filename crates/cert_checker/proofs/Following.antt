@@ -20,7 +20,8 @@ use Rattle.cert_format.specs.declared.line.CertLine.{CertLine}
 use Rattle.cert_format.specs.declared.kind.LineKind.{LineKind}
 use Rattle.cert_format.specs.declared.kind.LineKind.TheVariants as kind
 use Rattle.cert_format.specs.JudgementForms.{unless, there}
-use Rattle.cert_checker.specs.Lines.{line_at, link_named, bound_of, names_point, label_of, label_by, same_label, label_known, item_known, names_known, has_label_of, has_ends_of, are_ordinary, takes_label, is_negative, may_cross, goes, joins, reaches_back, bound_passes, link_passes, sum_passes, back_passes, no_passes, up_passes, low_passes, cross_passes, drop_passes, rule_passes, line_passes, in_range}
+use Rattle.cert_checker.specs.Lines.{line_at, link_named, bound_of, names_point, label_of, label_by, same_label, label_known, item_known, names_known, has_label_of, has_ends_of, are_ordinary, takes_label, is_negative}
+use Rattle.cert_checker.specs.Lines.{may_cross, goes, joins, reaches_back, bound_passes, link_passes, sum_passes, back_passes, no_passes, up_passes, low_passes, cross_passes, drop_passes, rule_passes, line_passes, in_range}
 use Rattle.cert_checker.specs.declared.judgement.CertFault.TheVariants.{UnknownItem, Premise, RuleCondition, Ends, Label, WeightRange}
 use Rattle.cert_format.proofs.PassingLemmas.{bind_ok, there_ok, unless_ok}
 use Rattle.cert_checker.proofs.Inversion.{at_least_ok, negative_ok, contains_line}

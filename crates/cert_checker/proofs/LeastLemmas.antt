@@ -11,7 +11,7 @@ use Rattle.net_model.specs.Edges.{IsEdge, IsLabelled}
 use Rattle.net_model.specs.declared.ids.PointId.{PointId}
 use Rattle.net_model.specs.declared.ids.LinkId.{LinkId}
 use Rattle.net_model.specs.declared.part.Edge.{Edge}
-use Rattle.cert_checker.specs.Least.{absent, Weights, row_in, row_by, IsPlacedIn, IsPlaced, IsPlacedBefore, IsFor, no_weights, lowered_row, lowered_rows, with_entry_by, with_entry}
+use Rattle.cert_checker.specs.Least.{absent, Weights, row_in, row_by, IsPlacedIn, HasPlaceInTable, IsPlacedBefore, IsFor, no_weights, lowered_row, lowered_rows, with_entry_by, with_entry}
 
 -- ---- rows
 pub row_length : (points : ℕ) (rows : List (List ℤ)) (place : ℕ) → All (λ (row : List ℤ). length row ≡ points) rows → place < length rows → length (row_in rows place) ≡ points
@@ -44,7 +44,7 @@ for_entry_by points links table to (Some name) from weight is placed = record {
   labelled_rows = lowered_lengths points table.labelled name.0 from weight is.labelled_rows placed.0;
 }
 
-pub for_entry : (points links : ℕ) (table : Weights) (edge : Edge) → IsFor points links table → IsPlaced table edge → IsFor points links (with_entry table edge)
+pub for_entry : (points links : ℕ) (table : Weights) (edge : Edge) → IsFor points links table → HasPlaceInTable table edge → IsFor points links (with_entry table edge)
 for_entry points links table edge is placed =
     for_entry_by points links table edge.to edge.label edge.from.0 edge.weight is placed
 
@@ -58,7 +58,7 @@ placed_by net table edge (Some name) is from to labelled =
     let within : name.0 < length table.labelled = omega (arith, is.labels, few) in
     (within, subst (λ n. edge.from.0 < n) (sym (row_length (length net.points) table.labelled name.0 is.labelled_rows within)) from)
 
-pub placed : (net : Plan) (table : Weights) (edge : Edge) → IsFor (length net.points) (length net.links) table → IsEdge net edge → IsPlaced table edge
+pub placed : (net : Plan) (table : Weights) (edge : Edge) → IsFor (length net.points) (length net.links) table → IsEdge net edge → HasPlaceInTable table edge
 placed net table edge is sound = placed_by net table edge edge.label is sound.from_point sound.to_point sound.labelled
 
 row_by_length : (net : Plan) (table : Weights) (to : PointId) (label : Option LinkId) (from : ℕ) → IsFor (length net.points) (length net.links) table → IsPlacedIn table to label from → length (row_by table to label) ≡ length net.points

@@ -10,6 +10,7 @@ pub mod Closing
 pub mod Refusing
 pub mod RefusalLemmas
 pub mod TableRefusalLemmas
+pub mod EndingLemmas
 pub mod ListLemmas
 pub mod TableLaw
 pub mod RowLemmas
@@ -20,3 +21,4 @@ pub mod OrderLemmas
 pub mod OpenLemmas
 pub mod OpensLemmas
 pub mod ScanLemmas
+pub mod JudgedLemmas

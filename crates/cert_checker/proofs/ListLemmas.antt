@@ -1,8 +1,8 @@
 -- What tests say of the items of a list: that one passes, that none does, and the first that does.
 use Rattle.std.proofs.Common.{◌≡◌, ℕ, ◌+◌, ◌<◌, Bool, true, false, not, ◌||◌, List, [], ◌∷◌, length, Option, Some, None, cond, suc, refl, sym, ap, ◌∙◌, subst, arith, map}
 use Rattle.std.specs.Prelude.{find, nat_lt, slice_get}
-use Rattle.std.specs.List.{All, AllByRecursion, Contains, list_any, filter_map, cons_option, position, position_or_len}
-use Rattle.std.specs.Option.{IfSome, option_map_or, option_and_then}
+use Rattle.std.specs.List.{All, Contains, list_any, filter_map, cons_option, position, position_or_len}
+use Rattle.std.specs.Option.{option_map_or}
 use Rattle.std.proofs.lemmas.Option.{same_Some}
 use Rattle.std.proofs.lemmas.List.Quantifiers.{position-Some}
 use Rattle.std.proofs.lemmas.Bool.{both_ways}
@@ -66,17 +66,6 @@ any_from_find test (x ∷ xs) none = by (test x) (any_from_find test xs) none
 pub nothing_found : {A : Type 0} (test : A → Bool) (xs : List A) (x : A) → find test xs ≡ None → Contains xs x → test x ≡ false
 nothing_found test xs x none among = none_passes test xs x (any_from_find test xs none) among
 
--- where two tests agree on the items of a list, they find the same place
-pub same_position : {A : Type 0} (test other : A → Bool) (xs : List A) → AllByRecursion (λ x. test x ≡ other x) xs → position test xs ≡ position other xs
-same_position test other xs same =
-    let first = same_first xs same in
-    ap (λ (k : ℕ). cond (nat_lt k (length xs)) (Some k) None) first
-  where
-    same_first : (ys : List _) → AllByRecursion (λ x. test x ≡ other x) ys → position_or_len test ys ≡ position_or_len other ys
-    same_first [] same = refl
-    same_first (y ∷ ys) same =
-        ap (λ (b : Bool). cond (not b) (1 + position_or_len test ys) 0) same.0 ∙ ap (λ (n : ℕ). cond (not (other y)) (1 + n) 0) (same_first ys same.1)
-
 -- the place of the first that passes, and what is there
 pub place_within : {A : Type 0} (test : A → Bool) (xs : List A) (k : ℕ) → position test xs ≡ Some k → k < length xs
 place_within test [] k found = absurd (cc)
@@ -124,17 +113,3 @@ found_nowhere test xs none = nothing (list_any_from_None test xs none) refl
 
     nothing : list_any test xs ≡ false → xs ≡ xs → find test xs ≡ None
     nothing no_one same = nothing_in xs no_one
-
--- the line of a place that is found
-pub within_line : {A : Type 0} (test : A → Bool) (xs : List A) (first most : ℕ) (found : Option ℕ) → found ≡ position test xs → first + length xs < most → IfSome found (λ place. first + place < most)
-within_line test xs first most None is few = tt
-within_line test xs first most (Some k) is few =
-    let within = place_within test xs k (sym is) in
-    omega arith
-
-pub found_by : {A : Type 0} (test : A → Bool) (xs : List A) → find test xs ≡ option_and_then (slice_get xs) (position test xs)
-found_by test xs = by (position test xs) refl
-  where
-    by : (o : Option ℕ) → position test xs ≡ o → find test xs ≡ option_and_then (slice_get xs) o
-    by None is = found_nowhere test xs is
-    by (Some k) is = found_at test xs k is

@@ -18,7 +18,7 @@ use Rattle.net_model.specs.declared.part.Edge.{Edge}
 use Rattle.net_model.specs.declared.part.Link.{Link}
 use Rattle.cert_checker.specs.Tables.{same_label_id, same_key, stands_among}
 use Rattle.cert_checker.specs.Sound.{IsSoundEdge}
-use Rattle.cert_checker.specs.Least.{absent, Weights, row_by, weight_in, IsPlacedIn, IsPlaced, IsFor, no_weights, with_entry_by, with_entry, least_of, has_at_most}
+use Rattle.cert_checker.specs.Least.{absent, Weights, row_by, weight_in, IsPlacedIn, HasPlaceInTable, IsFor, no_weights, with_entry_by, with_entry, least_of, has_at_most}
 use Rattle.cert_checker.proofs.LeastLemmas.{for_none, for_entry, placed, word_after}
 
 -- ---- the words of a table with one entry more
@@ -108,7 +108,7 @@ least_none net edge sound small =
     above : (w : ℤ) → w <ℤ absent → int_le absent w ≡ false
     above w small = grind (arith, ints)
 
-least_more : (net : Plan) (front : List Edge) (table : Weights) (x : Edge) → IsPlaced table x → IsEdge net x → IsLeast net front table → IsLeast net (front ++ x ∷ []) (with_entry table x)
+least_more : (net : Plan) (front : List Edge) (table : Weights) (x : Edge) → HasPlaceInTable table x → IsEdge net x → IsLeast net front table → IsLeast net (front ++ x ∷ []) (with_entry table x)
 least_more net front table x is_placed sound least edge is small =
     ap (λ (w : ℤ). int_le w edge.weight) (lowers_by net table x edge x.label edge.label is_placed sound.labelled is.labelled)
     ∙ by (same_key x edge) refl

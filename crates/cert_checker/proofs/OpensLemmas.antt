@@ -25,13 +25,14 @@ use Rattle.net_model.proofs.RuleLemmas.{no_case_gives, upper_case_gives, lower_c
 use Rattle.cert_checker.specs.Lines.{in_range}
 use Rattle.cert_checker.specs.Tables.{same_label_id, same_key, stands_among, link_ids, is_open}
 use Rattle.cert_checker.specs.Sound.{IsSoundEdge}
-use Rattle.cert_checker.specs.Least.{absent, Weights, row_in, row_by, row_of, weight_in, IsFor, falls, opens_before, opens_at_link, opens_after, unlabelled, opens_without_label, opens, has_at_most}
+use Rattle.cert_checker.specs.Least.{absent, Weights, row_in, row_by, row_of, weight_in, IsFor, IsSmallEdge, falls, falls_in, has_at_most}
+use Rattle.cert_checker.specs.Opening.{is_unmet, is_open_before, is_open_after}
 use Rattle.cert_checker.proofs.Inversion.{contains_at}
 use Rattle.cert_checker.proofs.ListLemmas.{some_passes, passes_some, holds_of, any_given, place_within}
 use Rattle.cert_checker.proofs.LeastLemmas.{placed_before, row_length}
 use Rattle.cert_checker.proofs.RowLemmas.{falls_somewhere, falls_at}
 use Rattle.cert_checker.proofs.OpenLemmas.{IsLeast}
-use Rattle.cert_checker.proofs.TableLaw.{key_same, link_among, self_among}
+use Rattle.cert_checker.proofs.TableLaw.{key_same, link_among}
 
 -- ---- tests
 or_cases : (a b : Bool) → (a || b) ≡ true → (a ≡ true) ⊎ (b ≡ true)
@@ -45,18 +46,6 @@ or_left false b is = absurd (cc)
 or_right : (a b : Bool) → b ≡ true → (a || b) ≡ true
 or_right true b is = refl
 or_right false b is = is
-
-second_of : (a b c : Bool) → b ≡ true → (a || (b || c)) ≡ true
-second_of a b c is = or_right a (b || c) (or_left b c is)
-
-third_of : (a b c d : Bool) → c ≡ true → (a || (b || (c || d))) ≡ true
-third_of a b c d is = or_right a (b || (c || d)) (second_of b c d is)
-
-fourth_of : (a b c d e : Bool) → d ≡ true → (a || (b || (c || (d || e)))) ≡ true
-fourth_of a b c d e is = or_right a (b || (c || (d || e))) (third_of b c d e is)
-
-fifth_of : (a b c d e : Bool) → e ≡ true → (a || (b || (c || (d || e)))) ≡ true
-fifth_of a b c d e is = or_right a (b || (c || (d || e))) (or_right b (c || (d || e)) (or_right c (d || e) (or_right d e is)))
 
 both_true : (a b : Bool) → a ≡ true → b ≡ true → (a && b) ≡ true
 both_true true b one two = two
@@ -84,20 +73,6 @@ in_range_is w is = grind (arith, nat_tests)
 
 le_is : (a b : ℤ) → int_le a b ≡ true → a ≤ℤ b
 le_is a b e = grind (arith, ints)
-
--- what some item of a list gives, and passes
-given_passes : {A : Type 0} (test : Edge → Bool) (give : A → Option Edge) (xs : List A) → list_any test (filter_map give xs) ≡ true → (x : A) × Contains xs x × ((edge : Edge) × (give x ≡ Some edge) × (test edge ≡ true))
-given_passes test give xs is =
-    let (x, among, passes) = some_passes (λ y. option_map_or test (give y) false) xs (sym (any_given test give xs) ∙ is) in
-    (x, among, by x (give x) refl passes)
-  where
-    by : (x : _) (o : Option Edge) → give x ≡ o → option_map_or test o false ≡ true → (edge : Edge) × (give x ≡ Some edge) × (test edge ≡ true)
-    by x None gives passes = absurd (cc)
-    by x (Some edge) gives passes = (edge, gives, passes)
-
-passes_given : {A : Type 0} (test : Edge → Bool) (give : A → Option Edge) (xs : List A) (x : A) (edge : Edge) → Contains xs x → give x ≡ Some edge → test edge ≡ true → list_any test (filter_map give xs) ≡ true
-passes_given test give xs x edge among gives is =
-    any_given test give xs ∙ passes_some (λ y. option_map_or test (give y) false) xs x among (ap (λ o. option_map_or test o false) gives ∙ is)
 
 -- ---- what the rules give
 abbrev joined : Edge → Edge → Edge
@@ -144,10 +119,6 @@ cross_case_applies net name link second label declared two other begins below =
     let second_is : is_labelled second ≡ true = labelled_test second label two in
     let goes : goes_on_from link second ≡ true = goes_test link second begins below in
     rw (declared, second_is, other, goes) refl
-
-removal_applies : (net : Plan) (premise : Edge) (name : LinkId) (link : Link) → IsLinkOf net name link → premise.label ≡ Some name → removal net premise ≡ Some (unlabelled premise link)
-unfolding removal
-removal_applies net premise name link declared labelled = rw (labelled, declared) refl
 
 -- a label is another link than the one with which the edge goes on
 other_label : (name label : LinkId) (second : Edge) → second.label ≡ Some label → label ≢ name → is_labelled_by name second ≡ false
@@ -257,12 +228,24 @@ link_short net link is =
     within_is : (w : ℤ) → within_size w ≡ true → unsigned_abs w ≤ most_size
     within_is w is = grind (arith, nat_tests)
 
--- ---- the look-ups
-module _ (net : Plan) (plan : IsPlan net) (edges : List Edge) (sound : All (IsSoundEdge net) edges) (table : Weights) (shape : IsFor (length net.points) (length net.links) table) (least : IsLeast net edges table) where
-  abbrev unmet : Edge → Bool
-  unmet edge = not (stands_among edges edge)
+-- ---- what does not stand
+abbrev unmet : List Edge → Edge → Bool
+unmet edges edge = not (stands_among edges edge)
 
-  unmet_is : (edge : Edge) → IsEdge net edge → edge.weight <ℤ absent → unmet edge ≡ not (has_at_most table edge)
+unmet_given : (edges : List Edge) (given : Option Edge) → is_unmet edges given ≡ true → (edge : Edge) × (given ≡ Some edge) × (unmet edges edge ≡ true)
+unmet_given edges None is = absurd (cc)
+unmet_given edges (Some edge) is = (edge, refl, is)
+
+given_unmet : (edges : List Edge) (given : Option Edge) (edge : Edge) → given ≡ Some edge → unmet edges edge ≡ true → is_unmet edges given ≡ true
+given_unmet edges given edge is lacking = ap (is_unmet edges) is ∙ lacking
+
+none_given : (edges : List Edge) (given : Option Edge) → ((edge : Edge) → given ≡ Some edge → ⊥) → is_unmet edges given ≡ false
+none_given edges None none = refl
+none_given edges (Some edge) none = absurd (none edge refl)
+
+-- ---- the look-ups
+module _ (net : Plan) (edges : List Edge) (sound : All (IsSoundEdge net) edges) (table : Weights) (shape : IsFor (length net.points) (length net.links) table) (least : IsLeast net edges table) where
+  unmet_is : (edge : Edge) → IsEdge net edge → edge.weight <ℤ absent → unmet edges edge ≡ not (has_at_most table edge)
   unmet_is edge is small = ap not (sym (least edge is small))
 
   sound_at : (first : Edge) → Contains edges first → IsSoundEdge net first
@@ -301,8 +284,12 @@ module _ (net : Plan) (plan : IsPlan net) (edges : List Edge) (sound : All (IsSo
     others_count : length (row_of table second) ≡ length net.points
     others_count = sym (placed_before net table second shape is_second.is_edge).1 ∙ firsts_count
 
+    -- the word of a first premise falls
+    abbrev pub words_fall : Bool
+    words_fall = falls_in (row_in table.ordinary second.from.0) (row_of table second) second.weight
+
     -- a first premise after which something does not stand, and its word
-    before_opens : (first : Edge) → Contains edges first → first.label ≡ None → first.to ≡ second.from → unmet (joined first second) ≡ true → opens_before table second ≡ true
+    before_opens : (first : Edge) → Contains edges first → first.label ≡ None → first.to ≡ second.from → unmet edges (joined first second) ≡ true → words_fall ≡ true
     before_opens first among ordinary meeting lacking =
         let is = sound_at first among in
         let from = is.is_edge.from_point in
@@ -319,9 +306,9 @@ module _ (net : Plan) (plan : IsPlan net) (edges : List Edge) (sound : All (IsSo
       among : Contains edges first
       ordinary : first.label ≡ None
       meeting : first.to ≡ second.from
-      lacking : unmet (joined first second) ≡ true
+      lacking : unmet edges (joined first second) ≡ true
 
-    opening : opens_before table second ≡ true → (first : Edge) × OpensWith first
+    opening : words_fall ≡ true → (first : Edge) × OpensWith first
     opening is =
         let (k, within, falls) = falls_somewhere (row_in table.ordinary second.from.0) (row_of table second) second.weight is in
         let v : ℤ = get_or (row_in table.ordinary second.from.0) k absent in
@@ -347,202 +334,249 @@ module _ (net : Plan) (plan : IsPlan net) (edges : List Edge) (sound : All (IsSo
           },
         )
 
-    -- ---- with the link that ends where the edge begins
-    link_sound : (name : LinkId) (link : Link) → IsLinkOf net name link → IsLink net link
-    link_sound name link declared = holds_of (IsLink net) net.links link plan.links_sound (contains_at net.links name.0 link declared)
+    abbrev by_no : Edge → Bool
+    by_no first = is_unmet edges (no_case first second)
 
-    short : (name : LinkId) (link : Link) → IsLinkOf net name link → unsigned_abs link.low ≤ most_size
-    short name link declared = link_short net link (link_sound name link declared)
+    abbrev by_upper : Edge → Bool
+    by_upper first = is_unmet edges (upper_case first second)
 
-    moved_edge : (name : LinkId) (link : Link) → IsLinkOf net name link → IsEdge net (moved_to_activation link second)
-    moved_edge name link declared =
-        record { from_point = (link_sound name link declared).from_point; to_point = is_second.is_edge.to_point; labelled = is_second.is_edge.labelled }
-
-    moved_unmet : (name : LinkId) (link : Link) → IsLinkOf net name link → unmet (moved_to_activation link second) ≡ not (has_at_most table (moved_to_activation link second))
-    moved_unmet name link declared =
-        unmet_is (moved_to_activation link second) (moved_edge name link declared) (small_moved link.low second.weight (short name link declared) second_few)
-
-    after_opens : (name : LinkId) (link : Link) → IsLinkOf net name link → second.from ≡ link.to → is_labelled_by name second ≡ false → unmet (moved_to_activation link second) ≡ true → opens_after net table second ≡ true
-    after_opens name link declared begins other lacking =
-        let found : activation net second.from ≡ Some name = link_ends net plan name link second.from declared begins in
-        ap (λ o. option_map_or (λ n. option_map_or (opens_at_link table second n) (slice_get net.links n.0) false) o false) found
-        ∙ ap (λ o. option_map_or (opens_at_link table second name) o false) declared
-        ∙ both_true (not (is_labelled_by name second)) (not (has_at_most table (moved_to_activation link second))) (not_false_is (is_labelled_by name second) other) (sym (moved_unmet name link declared) ∙ lacking)
-
-    record OpensAfter (name : LinkId) (link : Link) : Type 0 where
-      declared : IsLinkOf net name link
-      begins : second.from ≡ link.to
-      other : is_labelled_by name second ≡ false
-      lacking : unmet (moved_to_activation link second) ≡ true
-
-    after_gives : opens_after net table second ≡ true → (name : LinkId) × (link : Link) × OpensAfter name link
-    after_gives is = by (activation net second.from) refl is
+    -- with an ordinary edge before a negative one something does not stand just where the word of one falls
+    pub before_is : second.weight <ℤ pos 0 → words_fall ≡ is_open_before edges second
+    before_is below = both_ways words_fall (is_open_before edges second) there back
       where
-        at_link : (name : LinkId) (link : Link) → IsLinkOf net name link → second.from ≡ link.to → option_map_or (opens_at_link table second name) (slice_get net.links name.0) false ≡ true → OpensAfter name link
-        at_link name link declared begins is =
-            let here : opens_at_link table second name link ≡ true = sym (ap (λ o. option_map_or (opens_at_link table second name) o false) declared) ∙ is in
-            let (other, over) = and_parts (not (is_labelled_by name second)) (not (has_at_most table (moved_to_activation link second))) here in
-            record { declared = declared; begins = begins; other = not_true_is (is_labelled_by name second) other; lacking = moved_unmet name link declared ∙ over }
+        gives : (first : Edge) → OpensWith first → (o : Option LinkId) → second.label ≡ o → (by_no first || by_upper first) ≡ true
+        gives first with_first None label =
+            or_left (by_no first) (by_upper first) (given_unmet edges (no_case first second) (joined first second) (no_case_applies first second with_first.ordinary label with_first.meeting below) with_first.lacking)
+        gives first with_first (Some name) label =
+            or_right (by_no first) (by_upper first) (given_unmet edges (upper_case first second) (joined first second) (upper_case_applies first second name with_first.ordinary label with_first.meeting below) with_first.lacking)
 
-        by : (o : Option LinkId) → activation net second.from ≡ o → option_map_or (λ n. option_map_or (opens_at_link table second n) (slice_get net.links n.0) false) o false ≡ true → (name : LinkId) × (link : Link) × OpensAfter name link
-        by None found is = absurd (cc)
-        by (Some name) found is =
-            let (link, declared, begins) = link_there net second.from name found in
-            (name, link, at_link name link declared begins is)
+        there : words_fall ≡ true → is_open_before edges second ≡ true
+        there is = let (first, with_first) = opening is in passes_some (λ f. by_no f || by_upper f) edges first with_first.among (gives first with_first second.label refl)
 
-    -- ---- without the label
-    unlabelled_edge : (link : Link) → IsEdge net (unlabelled second link)
-    unlabelled_edge link = record { from_point = is_second.is_edge.from_point; to_point = is_second.is_edge.to_point; labelled = tt }
+        falls_no : (first : Edge) → Contains edges first → by_no first ≡ true → words_fall ≡ true
+        falls_no first among is =
+            let (edge, gave, lacking) = unmet_given edges (no_case first second) is in
+            let given = no_case_gives first second edge gave in
+            let same : joined first second ≡ edge = ap (λ (l : Option LinkId). let e : Edge = record { from = first.from; to = second.to; label = l; weight = joined_weight first second } in e) given.second_ordinary ∙ given.is in
+            before_opens first among given.first_ordinary given.meeting (ap (unmet edges) same ∙ lacking)
 
-    unlabelled_unmet : (name : LinkId) (link : Link) → IsLinkOf net name link → unmet (unlabelled second link) ≡ not (has_at_most table (unlabelled second link))
-    unlabelled_unmet name link declared =
-        unmet_is (unlabelled second link) (unlabelled_edge link) (small_max link.low second.weight (short name link declared) second_few)
+        falls_upper : (first : Edge) → Contains edges first → by_upper first ≡ true → words_fall ≡ true
+        falls_upper first among is =
+            let (edge, gave, lacking) = unmet_given edges (upper_case first second) is in
+            let given = upper_case_gives first second edge gave in
+            before_opens first among given.first_ordinary given.meeting (ap (unmet edges) given.is ∙ lacking)
 
-    label_opens : (name : LinkId) (link : Link) → IsLinkOf net name link → second.label ≡ Some name → unmet (unlabelled second link) ≡ true → opens_without_label net table second ≡ true
-    label_opens name link declared labelled lacking =
-        ap (λ o. option_map_or (λ n. option_map_or (λ l. not (has_at_most table (unlabelled second l))) (slice_get net.links n.0) false) o false) labelled
-        ∙ ap (λ o. option_map_or (λ l. not (has_at_most table (unlabelled second l))) o false) declared
-        ∙ sym (unlabelled_unmet name link declared)
-        ∙ lacking
+        back : is_open_before edges second ≡ true → words_fall ≡ true
+        back is =
+            let (first, among, passes) = some_passes (λ f. by_no f || by_upper f) edges is in
+            elim (or_cases (by_no first) (by_upper first) passes) [ inl plain ↦ falls_no first among plain | inr upper ↦ falls_upper first among upper ]
 
-    label_gives : opens_without_label net table second ≡ true → list_any unmet (filter_map (removal net) (second ∷ [])) ≡ true
-    label_gives is = by second.label refl is
-      where
-        at_link : (name : LinkId) (o : Option Link) → slice_get net.links name.0 ≡ o → second.label ≡ Some name → option_map_or (λ l. not (has_at_most table (unlabelled second l))) o false ≡ true → list_any unmet (filter_map (removal net) (second ∷ [])) ≡ true
-        at_link name None declared labelled is = absurd (cc)
-        at_link name (Some link) declared labelled is =
-            passes_given unmet (removal net) (second ∷ []) second (unlabelled second link) (self_among second) (removal_applies net second name link declared labelled) (unlabelled_unmet name link declared ∙ is)
+-- ---- with the link that ends where the edge begins
+pub moved_small : (net : Plan) (second : Edge) → IsSoundEdge net second → (link : Link) → IsLink net link → IsSmallEdge net (moved_to_activation link second)
+moved_small net second is_second link is = record {
+  is_edge = record { from_point = is.from_point; to_point = is_second.is_edge.to_point; labelled = is_second.is_edge.labelled };
+  small = small_moved link.low second.weight (link_short net link is) (in_range_is second.weight is_second.within);
+}
 
-        by : (o : Option LinkId) → second.label ≡ o → option_map_or (λ n. option_map_or (λ l. not (has_at_most table (unlabelled second l))) (slice_get net.links n.0) false) o false ≡ true → list_any unmet (filter_map (removal net) (second ∷ [])) ≡ true
-        by None labelled is = absurd (cc)
-        by (Some name) labelled is = at_link name (slice_get net.links name.0) refl labelled is
+module _ (net : Plan) (plan : IsPlan net) (edges : List Edge) (second : Edge) (is_second : IsSoundEdge net second) where
+  link_sound : (name : LinkId) (link : Link) → IsLinkOf net name link → IsLink net link
+  link_sound name link declared = holds_of (IsLink net) net.links link plan.links_sound (contains_at net.links name.0 link declared)
 
-    -- ---- all together
-    no_cases : Bool
-    no_cases = list_any unmet (filter_map (λ first. no_case first second) edges)
+  short : (name : LinkId) (link : Link) → IsLinkOf net name link → unsigned_abs link.low ≤ most_size
+  short name link declared = link_short net link (link_sound name link declared)
 
-    upper_cases : Bool
-    upper_cases = list_any unmet (filter_map (λ first. upper_case first second) edges)
+  pub removal_small : (given : Edge) → removal net second ≡ Some given → IsSmallEdge net given
+  removal_small given gave =
+      let gives = removal_gives net second given gave in
+      subst (IsSmallEdge net) gives.is (record {
+        is_edge = record { from_point = is_second.is_edge.from_point; to_point = is_second.is_edge.to_point; labelled = tt };
+        small = small_max gives.link.low second.weight (short gives.name gives.link gives.declared) (in_range_is second.weight is_second.within);
+      })
 
-    lower_cases : Bool
-    lower_cases = list_any unmet (filter_map (λ name. lower_case net name second) (link_ids net))
+  abbrev at_link : LinkId → Link → Bool
+  at_link name link = not (is_labelled_by name second) && unmet edges (moved_to_activation link second)
 
-    cross_cases : Bool
-    cross_cases = list_any unmet (filter_map (λ name. cross_case net name second) (link_ids net))
+  abbrev after_by : Option LinkId → Bool
+  after_by o = option_map_or (λ n. option_map_or (at_link n) (slice_get net.links n.0) false) o false
 
-    removals : Bool
-    removals = list_any unmet (filter_map (removal net) (second ∷ []))
+  abbrev by_lower : LinkId → Bool
+  by_lower name = is_unmet edges (lower_case net name second)
 
-    by_parts : is_open net edges second ≡ (no_cases || (upper_cases || (lower_cases || (cross_cases || removals))))
-    unfolding no_cases upper_cases lower_cases cross_cases removals
-    by_parts =
-        let a : List Edge = filter_map (λ first. no_case first second) edges in
-        let b : List Edge = filter_map (λ first. upper_case first second) edges in
-        let c : List Edge = filter_map (λ name. lower_case net name second) (link_ids net) in
-        let d : List Edge = filter_map (λ name. cross_case net name second) (link_ids net) in
-        let e : List Edge = filter_map (removal net) (second ∷ []) in
-        list_any-append unmet a (b ++ (c ++ (d ++ e)))
-        ∙ ap (λ x. list_any unmet a || x) (list_any-append unmet b (c ++ (d ++ e)) ∙ ap (λ x. list_any unmet b || x) (list_any-append unmet c (d ++ e) ∙ ap (λ x. list_any unmet c || x) (list_any-append unmet d e)))
+  abbrev by_cross : LinkId → Bool
+  by_cross name = is_unmet edges (cross_case net name second)
 
-    negative_opens : second.weight <ℤ pos 0 → (opens_before table second || opens_after net table second) ≡ true → opens net table second ≡ true
-    negative_opens below is =
-        or_right (opens_without_label net table second) (is_negative second && (opens_before table second || opens_after net table second)) (both_true (is_negative second) (opens_before table second || opens_after net table second) (negative_test second below) is)
+  -- with a link before a negative edge something does not stand just where it does not with the link that ends where the edge begins
+  pub after_is : second.weight <ℤ pos 0 → after_by (activation net second.from) ≡ is_open_after net edges second
+  after_is below = both_ways (after_by (activation net second.from)) (is_open_after net edges second) there back
+    where
+      gives : (name : LinkId) (link : Link) → IsLinkOf net name link → second.from ≡ link.to → is_labelled_by name second ≡ false → unmet edges (moved_to_activation link second) ≡ true → (o : Option LinkId) → second.label ≡ o → (by_lower name || by_cross name) ≡ true
+      gives name link declared begins another lacking None label =
+          or_left (by_lower name) (by_cross name) (given_unmet edges (lower_case net name second) (moved_to_activation link second) (lower_case_applies net name link second declared label begins below) lacking)
+      gives name link declared begins another lacking (Some own) label =
+          or_right (by_lower name) (by_cross name) (given_unmet edges (cross_case net name second) (moved_to_activation link second) (cross_case_applies net name link second own declared label another begins below) lacking)
 
-    open_no : no_cases ≡ true → opens net table second ≡ true
-    unfolding no_cases
-    open_no is =
-        let (first, among, (edge, gave, lacking)) = given_passes unmet (λ f. no_case f second) edges is in
-        let gives = no_case_gives first second edge gave in
-        let same : joined first second ≡ edge = ap (λ (l : Option LinkId). let e : Edge = record { from = first.from; to = second.to; label = l; weight = joined_weight first second } in e) gives.second_ordinary ∙ gives.is in
-        negative_opens gives.negative (or_left (opens_before table second) (opens_after net table second) (before_opens first among gives.first_ordinary gives.meeting (ap unmet same ∙ lacking)))
+      there : after_by (activation net second.from) ≡ true → is_open_after net edges second ≡ true
+      there is = by (activation net second.from) refl is
+        where
+          by : (o : Option LinkId) → activation net second.from ≡ o → after_by o ≡ true → is_open_after net edges second ≡ true
+          by None found is = absurd (cc)
+          by (Some name) found is =
+              let (link, declared, begins) = link_there net second.from name found in
+              let here : at_link name link ≡ true = sym (ap (λ o. option_map_or (at_link name) o false) declared) ∙ is in
+              let (other, lacking) = and_parts (not (is_labelled_by name second)) (unmet edges (moved_to_activation link second)) here in
+              passes_some (λ n. by_lower n || by_cross n) (link_ids net) name (link_among net name link declared) (gives name link declared begins (not_true_is (is_labelled_by name second) other) lacking second.label refl)
 
-    open_upper : upper_cases ≡ true → opens net table second ≡ true
-    unfolding upper_cases
-    open_upper is =
-        let (first, among, (edge, gave, lacking)) = given_passes unmet (λ f. upper_case f second) edges is in
-        let gives = upper_case_gives first second edge gave in
-        negative_opens gives.negative (or_left (opens_before table second) (opens_after net table second) (before_opens first among gives.first_ordinary gives.meeting (ap unmet gives.is ∙ lacking)))
+      opens_at : (name : LinkId) (link : Link) → IsLinkOf net name link → second.from ≡ link.to → is_labelled_by name second ≡ false → unmet edges (moved_to_activation link second) ≡ true → after_by (activation net second.from) ≡ true
+      opens_at name link declared begins another lacking =
+          let found : activation net second.from ≡ Some name = link_ends net plan name link second.from declared begins in
+          ap after_by found
+          ∙ ap (λ o. option_map_or (at_link name) o false) declared
+          ∙ both_true (not (is_labelled_by name second)) (unmet edges (moved_to_activation link second)) (not_false_is (is_labelled_by name second) another) lacking
 
-    open_lower : lower_cases ≡ true → opens net table second ≡ true
-    unfolding lower_cases
-    open_lower is =
-        let (name, among, (edge, gave, lacking)) = given_passes unmet (λ n. lower_case net n second) (link_ids net) is in
-        let gives = lower_case_gives net name second edge gave in
-        negative_opens gives.negative (or_right (opens_before table second) (opens_after net table second) (after_opens name gives.link gives.declared gives.begins (no_label name second gives.second_ordinary) (ap unmet gives.is ∙ lacking)))
+      opens_lower : (name : LinkId) → by_lower name ≡ true → after_by (activation net second.from) ≡ true
+      opens_lower name is =
+          let (edge, gave, lacking) = unmet_given edges (lower_case net name second) is in
+          let given = lower_case_gives net name second edge gave in
+          opens_at name given.link given.declared given.begins (no_label name second given.second_ordinary) (ap (unmet edges) given.is ∙ lacking)
 
-    open_cross : cross_cases ≡ true → opens net table second ≡ true
-    unfolding cross_cases
-    open_cross is =
-        let (name, among, (edge, gave, lacking)) = given_passes unmet (λ n. cross_case net n second) (link_ids net) is in
-        let gives = cross_case_gives net name second edge gave in
-        negative_opens gives.negative (or_right (opens_before table second) (opens_after net table second) (after_opens name gives.link gives.declared gives.begins (other_label name gives.label second gives.second_labelled gives.another) (ap unmet gives.is ∙ lacking)))
+      opens_cross : (name : LinkId) → by_cross name ≡ true → after_by (activation net second.from) ≡ true
+      opens_cross name is =
+          let (edge, gave, lacking) = unmet_given edges (cross_case net name second) is in
+          let given = cross_case_gives net name second edge gave in
+          opens_at name given.link given.declared given.begins (other_label name given.label second given.second_labelled given.another) (ap (unmet edges) given.is ∙ lacking)
 
-    open_removal : removals ≡ true → opens net table second ≡ true
-    unfolding removals
-    open_removal is =
-        let (premise, among, (edge, gave, lacking)) = given_passes unmet (removal net) (second ∷ []) is in
-        let own : premise ≡ second = only_one premise second among in
-        let gave_own : removal net second ≡ Some edge = ap (removal net) (sym own) ∙ gave in
-        let gives = removal_gives net second edge gave_own in
-        or_left (opens_without_label net table second) (is_negative second && (opens_before table second || opens_after net table second)) (label_opens gives.name gives.link gives.declared gives.labelled (ap unmet gives.is ∙ lacking))
-      where
-        only_one : (x y : Edge) → Contains (y ∷ []) x → x ≡ y
-        only_one x y (zero, within, here) = sym here
-        only_one x y (suc k, within, here) = absurd (omega arith)
+      back : is_open_after net edges second ≡ true → after_by (activation net second.from) ≡ true
+      back is =
+          let (name, among, passes) = some_passes (λ n. by_lower n || by_cross n) (link_ids net) is in
+          elim (or_cases (by_lower name) (by_cross name) passes) [ inl lower ↦ opens_lower name lower | inr cross ↦ opens_cross name cross ]
 
-    opens_where_open : is_open net edges second ≡ true → opens net table second ≡ true
-    opens_where_open is =
-        elim (or_cases no_cases (upper_cases || (lower_cases || (cross_cases || removals))) (sym by_parts ∙ is)) [
-          | inl first ↦ open_no first
-          | inr rest ↦
-              elim (or_cases upper_cases (lower_cases || (cross_cases || removals)) rest) [
-                | inl next ↦ open_upper next
-                | inr others ↦
-                    elim (or_cases lower_cases (cross_cases || removals) others) [
-                      | inl third ↦ open_lower third
-                      | inr last ↦ elim (or_cases cross_cases removals last) [ inl fourth ↦ open_cross fourth | inr fifth ↦ open_removal fifth ]
-                    ]
-              ]
-        ]
+  pub after_none : second.weight <ℤ pos 0 → activation net second.from ≡ None → false ≡ is_open_after net edges second
+  after_none below found = sym (ap after_by found) ∙ after_is below
 
-    -- where the look-ups find something, it is what some rule gives
-    first_gives : (first : Edge) → OpensWith first → second.weight <ℤ pos 0 → (no_cases || (upper_cases || (lower_cases || (cross_cases || removals)))) ≡ true
-    unfolding no_cases upper_cases
-    first_gives first opening below = by second.label refl
-      where
-        by : (o : Option LinkId) → second.label ≡ o → (no_cases || (upper_cases || (lower_cases || (cross_cases || removals)))) ≡ true
-        by None label =
-            or_left no_cases (upper_cases || (lower_cases || (cross_cases || removals))) (passes_given unmet (λ f. no_case f second) edges first (joined first second) opening.among (no_case_applies first second opening.ordinary label opening.meeting below) opening.lacking)
-        by (Some name) label =
-            second_of no_cases upper_cases (lower_cases || (cross_cases || removals)) (passes_given unmet (λ f. upper_case f second) edges first (joined first second) opening.among (upper_case_applies first second name opening.ordinary label opening.meeting below) opening.lacking)
+  pub after_no_link : second.weight <ℤ pos 0 → (name : LinkId) → activation net second.from ≡ Some name → slice_get net.links name.0 ≡ None → false ≡ is_open_after net edges second
+  after_no_link below name found gone = sym (ap after_by found ∙ ap (λ o. option_map_or (at_link name) o false) gone) ∙ after_is below
 
-    after_is : (name : LinkId) (link : Link) → OpensAfter name link → second.weight <ℤ pos 0 → (no_cases || (upper_cases || (lower_cases || (cross_cases || removals)))) ≡ true
-    unfolding lower_cases cross_cases
-    after_is name link after below = by second.label refl
-      where
-        by : (o : Option LinkId) → second.label ≡ o → (no_cases || (upper_cases || (lower_cases || (cross_cases || removals)))) ≡ true
-        by None label =
-            let gives : lower_case net name second ≡ Some (moved_to_activation link second) = lower_case_applies net name link second after.declared label after.begins below in
-            third_of no_cases upper_cases lower_cases (cross_cases || removals) (passes_given unmet (λ n. lower_case net n second) (link_ids net) name (moved_to_activation link second) (link_among net name link after.declared) gives after.lacking)
-        by (Some other) label =
-            let gives : cross_case net name second ≡ Some (moved_to_activation link second) = cross_case_applies net name link second other after.declared label after.other after.begins below in
-            fourth_of no_cases upper_cases lower_cases cross_cases removals (passes_given unmet (λ n. cross_case net n second) (link_ids net) name (moved_to_activation link second) (link_among net name link after.declared) gives after.lacking)
+  pub after_link : second.weight <ℤ pos 0 → (name : LinkId) (link : Link) → activation net second.from ≡ Some name → slice_get net.links name.0 ≡ Some link → at_link name link ≡ is_open_after net edges second
+  after_link below name link found declared = sym (ap after_by found ∙ ap (λ o. option_map_or (at_link name) o false) declared) ∙ after_is below
 
-    open_where_opens : opens net table second ≡ true → is_open net edges second ≡ true
-    unfolding removals
-    open_where_opens is =
-        by_parts
-        ∙ elim (or_cases (opens_without_label net table second) (is_negative second && (opens_before table second || opens_after net table second)) is) [
-          | inl label ↦ fifth_of no_cases upper_cases lower_cases cross_cases removals (label_gives label)
-          | inr rest ↦
-              let (negative, some) = and_parts (is_negative second) (opens_before table second || opens_after net table second) rest in
-              let below : second.weight <ℤ pos 0 = negative_is second negative in
-              elim (or_cases (opens_before table second) (opens_after net table second) some) [
-                | inl before ↦ (let (first, with_first) = opening before in first_gives first with_first below)
-                | inr after ↦ (let (name, link, with_link) = after_gives after in after_is name link with_link below)
-              ]
-        ]
+-- ---- all rules together
+any_or : {A : Type 0} (f g : A → Bool) (xs : List A) → list_any (λ x. f x || g x) xs ≡ (list_any f xs || list_any g xs)
+any_or f g [] = refl
+any_or f g (x ∷ xs) = ap (λ (b : Bool). (f x || g x) || b) (any_or f g xs) ∙ turned (f x) (g x) (list_any f xs) (list_any g xs)
+  where
+    turned : (a b c d : Bool) → ((a || b) || (c || d)) ≡ ((a || c) || (b || d))
+    turned true b c d = refl
+    turned false true true d = refl
+    turned false true false d = refl
+    turned false false c d = refl
 
-    -- the look-ups say what the definition says
-    pub open_is : opens net table second ≡ is_open net edges second
-    open_is = both_ways (opens net table second) (is_open net edges second) open_where_opens opens_where_open
+any_none : {A : Type 0} (f : A → Bool) (xs : List A) → ((x : A) → f x ≡ false) → list_any f xs ≡ false
+any_none f [] none = refl
+any_none f (x ∷ xs) none = ap (λ (b : Bool). b || list_any f xs) (none x) ∙ any_none f xs none
+
+module _ (net : Plan) (edges : List Edge) (second : Edge) where
+  abbrev of_rule : {A : Type 0} → (A → Option Edge) → List A → Bool
+  of_rule give xs = list_any (unmet edges) (filter_map give xs)
+
+  by_parts : is_open net edges second ≡ (of_rule (λ first. no_case first second) edges || (of_rule (λ first. upper_case first second) edges || (of_rule (λ name. lower_case net name second) (link_ids net) || (of_rule (λ name. cross_case net name second) (link_ids net) || of_rule (removal net) (second ∷ [])))))
+  by_parts =
+      let a : List Edge = filter_map (λ first. no_case first second) edges in
+      let b : List Edge = filter_map (λ first. upper_case first second) edges in
+      let c : List Edge = filter_map (λ name. lower_case net name second) (link_ids net) in
+      let d : List Edge = filter_map (λ name. cross_case net name second) (link_ids net) in
+      let e : List Edge = filter_map (removal net) (second ∷ []) in
+      list_any-append (unmet edges) a (b ++ (c ++ (d ++ e)))
+      ∙ ap (λ x. list_any (unmet edges) a || x) (list_any-append (unmet edges) b (c ++ (d ++ e)) ∙ ap (λ x. list_any (unmet edges) b || x) (list_any-append (unmet edges) c (d ++ e) ∙ ap (λ x. list_any (unmet edges) c || x) (list_any-append (unmet edges) d e)))
+
+  before_parts : is_open_before edges second ≡ (of_rule (λ first. no_case first second) edges || of_rule (λ first. upper_case first second) edges)
+  before_parts =
+      any_or (λ first. is_unmet edges (no_case first second)) (λ first. is_unmet edges (upper_case first second)) edges
+      ∙ (ap (λ (b : Bool). b || list_any (λ first. is_unmet edges (upper_case first second)) edges) (sym (any_given (unmet edges) (λ first. no_case first second) edges))
+      ∙ ap (λ (b : Bool). of_rule (λ first. no_case first second) edges || b) (sym (any_given (unmet edges) (λ first. upper_case first second) edges)))
+
+  after_parts : is_open_after net edges second ≡ (of_rule (λ name. lower_case net name second) (link_ids net) || of_rule (λ name. cross_case net name second) (link_ids net))
+  after_parts =
+      any_or (λ name. is_unmet edges (lower_case net name second)) (λ name. is_unmet edges (cross_case net name second)) (link_ids net)
+      ∙ (ap (λ (b : Bool). b || list_any (λ name. is_unmet edges (cross_case net name second)) (link_ids net)) (sym (any_given (unmet edges) (λ name. lower_case net name second) (link_ids net)))
+      ∙ ap (λ (b : Bool). of_rule (λ name. lower_case net name second) (link_ids net) || b) (sym (any_given (unmet edges) (λ name. cross_case net name second) (link_ids net))))
+
+  removal_part : of_rule (removal net) (second ∷ []) ≡ is_unmet edges (removal net second)
+  removal_part = any_given (unmet edges) (removal net) (second ∷ []) ∙ or_none (is_unmet edges (removal net second))
+    where
+      or_none : (a : Bool) → (a || false) ≡ a
+      or_none true = refl
+      or_none false = refl
+
+  -- an edge that is not negative gives nothing but by removal
+  nothing_before : is_negative second ≡ false → is_open_before edges second ≡ false
+  nothing_before not_negative =
+      any_none (λ first. is_unmet edges (no_case first second) || is_unmet edges (upper_case first second)) edges (λ first.
+      ap (λ (b : Bool). b || is_unmet edges (upper_case first second)) (none_given edges (no_case first second) (λ edge gave. over ((no_case_gives first second edge gave).negative)))
+      ∙ none_given edges (upper_case first second) (λ edge gave. over ((upper_case_gives first second edge gave).negative)))
+    where
+      over : second.weight <ℤ pos 0 → ⊥
+      over below = let is : is_negative second ≡ true = negative_test second below in absurd (cc)
+
+  nothing_after : is_negative second ≡ false → is_open_after net edges second ≡ false
+  nothing_after not_negative =
+      any_none (λ name. is_unmet edges (lower_case net name second) || is_unmet edges (cross_case net name second)) (link_ids net) (λ name.
+      ap (λ (b : Bool). b || is_unmet edges (cross_case net name second)) (none_given edges (lower_case net name second) (λ edge gave. over ((lower_case_gives net name second edge gave).negative)))
+      ∙ none_given edges (cross_case net name second) (λ edge gave. over ((cross_case_gives net name second edge gave).negative)))
+    where
+      over : second.weight <ℤ pos 0 → ⊥
+      over below = let is : is_negative second ≡ true = negative_test second below in absurd (cc)
+
+  abbrev plain : Bool
+  plain = of_rule (λ first. no_case first second) edges
+
+  abbrev upper : Bool
+  upper = of_rule (λ first. upper_case first second) edges
+
+  abbrev lower : Bool
+  lower = of_rule (λ name. lower_case net name second) (link_ids net)
+
+  abbrev cross : Bool
+  cross = of_rule (λ name. cross_case net name second) (link_ids net)
+
+  -- something does not stand just where something by removal does not, or, with a negative edge, something by another rule
+  pub open_is : (is_unmet edges (removal net second) || (is_negative second && (is_open_before edges second || is_open_after net edges second))) ≡ is_open net edges second
+  open_is = by (is_negative second) refl ∙ sym by_parts
+    where
+      turned : (a b c d e : Bool) → (e || ((a || b) || (c || d))) ≡ (a || (b || (c || (d || e))))
+      turned true b c d true = refl
+      turned true b c d false = refl
+      turned false true c d true = refl
+      turned false true c d false = refl
+      turned false false true d true = refl
+      turned false false true d false = refl
+      turned false false false true true = refl
+      turned false false false true false = refl
+      turned false false false false true = refl
+      turned false false false false false = refl
+
+      all : (is_unmet edges (removal net second) || (is_open_before edges second || is_open_after net edges second)) ≡ (plain || (upper || (lower || (cross || of_rule (removal net) (second ∷ [])))))
+      all =
+          ap (λ (b : Bool). b || (is_open_before edges second || is_open_after net edges second)) (sym removal_part)
+          ∙ (ap (λ (b : Bool). of_rule (removal net) (second ∷ []) || (b || is_open_after net edges second)) before_parts
+          ∙ (ap (λ (b : Bool). of_rule (removal net) (second ∷ []) || ((plain || upper) || b)) after_parts
+          ∙ turned plain upper lower cross (of_rule (removal net) (second ∷ []))))
+
+      by : (b : Bool) → is_negative second ≡ b → (is_unmet edges (removal net second) || (is_negative second && (is_open_before edges second || is_open_after net edges second))) ≡ (plain || (upper || (lower || (cross || of_rule (removal net) (second ∷ [])))))
+      by true is = ap (λ (b : Bool). is_unmet edges (removal net second) || (b && (is_open_before edges second || is_open_after net edges second))) is ∙ all
+      by false is =
+          ap (λ (b : Bool). is_unmet edges (removal net second) || (b && (is_open_before edges second || is_open_after net edges second))) is
+          ∙ (ap (λ (b : Bool). is_unmet edges (removal net second) || b) (sym (ap (λ (b : Bool). b || is_open_after net edges second) (nothing_before is) ∙ nothing_after is))
+          ∙ all)
+
+  pub opens_by_removal : is_unmet edges (removal net second) ≡ true → true ≡ is_open net edges second
+  opens_by_removal is = sym (ap (λ (b : Bool). b || (is_negative second && (is_open_before edges second || is_open_after net edges second))) is) ∙ open_is
+
+  pub opens_negative : is_unmet edges (removal net second) ≡ false → is_negative second ≡ true → (is_open_before edges second || is_open_after net edges second) ≡ is_open net edges second
+  opens_negative none negative =
+      sym (ap (λ (b : Bool). b || (is_negative second && (is_open_before edges second || is_open_after net edges second))) none ∙ ap (λ (b : Bool). b && (is_open_before edges second || is_open_after net edges second)) negative)
+      ∙ open_is
+
+  pub opens_nothing : is_unmet edges (removal net second) ≡ false → is_negative second ≡ false → false ≡ is_open net edges second
+  opens_nothing none not_negative =
+      sym (ap (λ (b : Bool). b || (is_negative second && (is_open_before edges second || is_open_after net edges second))) none ∙ ap (λ (b : Bool). b && (is_open_before edges second || is_open_after net edges second)) not_negative)
+      ∙ open_is

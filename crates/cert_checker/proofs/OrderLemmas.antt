@@ -1,16 +1,19 @@
 -- The places of points, as they are filled in along an order.
-use Rattle.std.proofs.Common.{◌≡◌, ◌≢◌, ℕ, ◌+◌, ◌<◌, ◌==◌, Bool, true, false, not, ◌&&◌, List, [], ◌∷◌, ◌++◌, length, get_or, set, get_or-set_same, get_or-set_other, length-set, take, drop, Option, Some, None, is_some, Err, zero, suc, refl, sym, ap, ◌∙◌, subst, arith}
+use Rattle.std.proofs.Common.{◌≡◌, ◌≢◌, ℕ, ◌+◌, ◌<◌, ◌≤◌, ◌==◌, Bool, true, false, ◌&&◌, List, [], ◌∷◌, ◌++◌, length, get_or, set, get_or-set_same, get_or-set_other, take, Option, Some, None, is_some, zero, suc, refl, sym, ap, ◌∙◌, subst, arith}
+use Rattle.std.specs.Prelude.{nat_lt, slice_get}
 use Rattle.std.specs.List.{list_any, list_all, enumerate_from}
 use Rattle.std.proofs.lemmas.Bool.Decides.{nat_tests}
-use Rattle.std.proofs.lemmas.List.{drop_more, take_more, length-take-le}
+use Rattle.std.proofs.lemmas.List.{take_more, length-take-le}
+use Rattle.std.proofs.lemmas.Option.{same_Some, slice_get-get_or, slice_get_within}
 use Rattle.std.proofs.lemmas.List.Quantifiers.{position-Some}
 use Rattle.net_model.specs.Network.{Plan}
 use Rattle.net_model.specs.declared.ids.PointId.{PointId}
 use Rattle.net_model.proofs.Positions.{position-push_fails, position-push_passes, list_any_from_None}
 use Rattle.strategy_model.specs.Plays.{same_point}
-use Rattle.cert_format.specs.JudgementForms.{◌>>=◌, unless}
 use Rattle.cert_checker.specs.Walk.{refusal}
-use Rattle.cert_checker.specs.Tables.{place_in, stand_once, is_complete}
+use Rattle.cert_checker.specs.Ending.{RefusesItem}
+use Rattle.cert_checker.specs.TableRefusals.{IsNone, stands_before}
+use Rattle.cert_checker.specs.Tables.{place_in, is_complete}
 use Rattle.cert_checker.specs.Orders.{ArePlaces}
 use Rattle.cert_checker.specs.declared.judgement.CertFault.TheVariants.{OrderBroken}
 use Rattle.cert_checker.proofs.ListLemmas.{passes_some}
@@ -32,36 +35,50 @@ placed_is order point = by (place_in order point) refl
         let here : get_or order k there ≡ there = get_or_again order k point in
         sym (passes_some (same_point point) order there (k, within, here) passes)
 
--- the order from a point on, by whether it stood before
-module _ (order : List PointId) (i : ℕ) (point : PointId) (within : i < length order) (is_point : get_or order i point ≡ point) where
-  rest_is : drop i order ≡ point ∷ drop (i + 1) order
-  rest_is = drop_more order i point within ∙ ap (λ (p : PointId). p ∷ drop (i + 1) order) is_point
+-- no point before a place stands before its own
+abbrev pub NoneTwice : List PointId → ℕ → Type 0
+NoneTwice order i = (other : ℕ) (one : PointId) → other < i → slice_get order other ≡ Some one → stands_before order other one ≡ false
 
+-- a point that has a place, or none, among those before it
+module _ (order : List PointId) (i : ℕ) (point : PointId) (within : i < length order) (is_point : get_or order i point ≡ point) where
   front_is : take (i + 1) order ≡ take i order ++ point ∷ []
   front_is = take_more order i point within ∙ ap (λ (p : PointId). take i order ++ p ∷ []) is_point
 
-  pub twice : is_some (place_in (take i order) point) ≡ true → stand_once (take i order) (drop i order) ≡ Err (refusal (i + 1) OrderBroken)
-  twice placed =
-      let stood : list_any (same_point point) (take i order) ≡ true = sym (placed_is (take i order) point) ∙ placed in
-      let count : length (take i order) ≡ i = length-take-le i order (omega arith) in
-      ap (stand_once (take i order)) rest_is
-      ∙ ap (λ (b : Bool). unless (not b) (refusal (length (take i order) + 1) OrderBroken) >>= (λ _. stand_once (take i order ++ point ∷ []) (drop (i + 1) order))) stood
-      ∙ ap (λ (n : ℕ). Err (refusal (n + 1) OrderBroken)) count
+  point_here : slice_get order i ≡ Some point
+  point_here = slice_get-get_or order i point within ∙ ap (λ (p : PointId). Some p) is_point
 
-  pub new_point : is_some (place_in (take i order) point) ≡ false → stand_once (take (i + 1) order) (drop (i + 1) order) ≡ stand_once (take i order) (drop i order)
-  new_point placed =
-      let stood : list_any (same_point point) (take i order) ≡ false = sym (placed_is (take i order) point) ∙ placed in
-      ap (λ (front : List PointId). stand_once front (drop (i + 1) order)) front_is
-      ∙ sym (ap (stand_once (take i order)) rest_is
-      ∙ ap (λ (b : Bool). unless (not b) (refusal (length (take i order) + 1) OrderBroken) >>= (λ _. stand_once (take i order ++ point ∷ []) (drop (i + 1) order))) stood)
+  pub twice : is_some (place_in (take i order) point) ≡ true → NoneTwice order i → (line : ℕ) → line ≡ i + 1 → RefusesItem (stands_before order) 1 OrderBroken order (refusal line OrderBroken)
+  twice placed none line is =
+      let number : line ≡ 1 + i = omega (arith, is) in
+      record {
+        place = i;
+        item = point;
+        is = ap (λ (n : ℕ). refusal n OrderBroken) number;
+        at = record { here = point_here; holds = sym (placed_is (take i order) point) ∙ placed; before = none };
+      }
+
+  pub new_point : is_some (place_in (take i order) point) ≡ false → NoneTwice order i → NoneTwice order (i + 1)
+  new_point placed none other one below at = by (nat_lt other i) refl
+    where
+      by : (b : Bool) → nat_lt other i ≡ b → stands_before order other one ≡ false
+      by true under = none other one (grind (arith, nat_tests)) at
+      by false under =
+          let here : other ≡ i = grind (arith, nat_tests) in
+          let same : point ≡ one = same_Some point one (sym point_here ∙ (ap (slice_get order) (sym here) ∙ at)) in
+          ap (λ (n : ℕ). list_any (same_point one) (take n order)) here ∙ (ap (λ (p : PointId). list_any (same_point p) (take i order)) (sym same) ∙ (sym (placed_is (take i order) point) ∙ placed))
+
+pub none_twice : (order : List PointId) (i : ℕ) → length order ≤ i → NoneTwice order i → IsNone (stands_before order) order
+none_twice order i over none place item at =
+    let within = slice_get_within order place item at in
+    none place item (omega (arith, within, over)) at
 
 none_is : (o : Option ℕ) → is_some o ≡ false → o ≡ None
 none_is None is = refl
 none_is (Some k) is = absurd (cc)
 
 -- one point more has its place
-place_next : (front : List PointId) (places : List (Option ℕ)) (point q : PointId) → q.0 < length places → point.0 < length places → get_or places q.0 None ≡ place_in front q → place_in front point ≡ None → get_or (set places point.0 (Some (length front))) q.0 None ≡ place_in (front ++ point ∷ []) q
-place_next front places point q within inside is new = by (q.0 == point.0) refl
+place_next : (front : List PointId) (places : List (Option ℕ)) (point q : PointId) → point.0 < length places → get_or places q.0 None ≡ place_in front q → place_in front point ≡ None → get_or (set places point.0 (Some (length front))) q.0 None ≡ place_in (front ++ point ∷ []) q
+place_next front places point q inside is new = by (q.0 == point.0) refl
   where
     by : (b : Bool) → q.0 == point.0 ≡ b → get_or (set places point.0 (Some (length front))) q.0 None ≡ place_in (front ++ point ∷ []) q
     by true same =
@@ -75,19 +92,14 @@ place_next front places point q within inside is new = by (q.0 == point.0) refl
         let apart : q.0 ≢ point.0 = grind (arith, nat_tests) in
         get_or-set_other places point.0 q.0 (Some (length front)) None apart ∙ is ∙ sym (position-push_fails (same_point q) front point same)
 
-pub places_next : (net : Plan) (order : List PointId) (places : List (Option ℕ)) (i : ℕ) (point : PointId) → i < length order → get_or order i point ≡ point → point.0 < length places → is_some (place_in (take i order) point) ≡ false → ArePlaces net (take i order) places → ArePlaces net (take (i + 1) order) (set places point.0 (Some i))
-places_next net order places i point within is_point inside new are =
+pub places_next : (order : List PointId) (places : List (Option ℕ)) (i : ℕ) (point : PointId) → i < length order → get_or order i point ≡ point → point.0 < length places → is_some (place_in (take i order) point) ≡ false → ArePlaces (take i order) places → ArePlaces (take (i + 1) order) (set places point.0 (Some i))
+places_next order places i point within is_point inside new are =
     let count : length (take i order) ≡ i = length-take-le i order (omega arith) in
     let none : place_in (take i order) point ≡ None = none_is (place_in (take i order) point) new in
     let front : take (i + 1) order ≡ take i order ++ point ∷ [] = front_is order i point within is_point in
-    subst (λ (all : List PointId). ArePlaces net all (set places point.0 (Some i))) (sym front)
-    (subst (λ (n : ℕ). ArePlaces net (take i order ++ point ∷ []) (set places point.0 (Some n))) count
-    (record {
-      count = length-set places point.0 (Some (length (take i order))) ∙ are.count;
-      each = λ q inside_q.
-          let less : q.0 < length places = subst (λ (n : ℕ). q.0 < n) (length-set places point.0 (Some (length (take i order)))) inside_q in
-          place_next (take i order) places point q less inside (are.each q less) none;
-    }))
+    subst (λ (all : List PointId). ArePlaces all (set places point.0 (Some i))) (sym front)
+    (subst (λ (n : ℕ). ArePlaces (take i order ++ point ∷ []) (set places point.0 (Some n))) count
+    (record { each = λ q. place_next (take i order) places point q inside (are.each q) none }))
 
 -- all have places where the order is complete
 all_placed : (order : List PointId) (start : ℕ) (names : List (List ℕ)) (places : List (Option ℕ)) → length places ≡ length names → ((k : ℕ) → k < length places → get_or places k None ≡ place_in order (record { 0 = start + k })) → list_all is_some places ≡ list_all (λ point. list_any (same_point (record { 0 = point.0 })) order) (enumerate_from start names)
@@ -106,9 +118,9 @@ all_placed order start (name ∷ names) (o ∷ places) same each =
     one_on : (n k : ℕ) → n + suc k ≡ n + 1 + k
     one_on n k = omega arith
 
-pub complete_by : (net : Plan) (order : List PointId) (places : List (Option ℕ)) → ArePlaces net order places → list_all is_some places ≡ is_complete net order
-complete_by net order places are =
-    all_placed order 0 net.points places are.count (λ k within. are.each (record { 0 = k }) within ∙ ap (λ (n : ℕ). place_in order (record { 0 = n })) (from_zero k))
+pub complete_by : (net : Plan) (order : List PointId) (places : List (Option ℕ)) → length places ≡ length net.points → ArePlaces order places → list_all is_some places ≡ is_complete net order
+complete_by net order places count are =
+    all_placed order 0 net.points places count (λ k within. are.each (record { 0 = k }) ∙ ap (λ (n : ℕ). place_in order (record { 0 = n })) (from_zero k))
   where
     from_zero : (n : ℕ) → n ≡ 0 + n
     from_zero n = omega arith

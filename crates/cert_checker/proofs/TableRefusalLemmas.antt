@@ -15,7 +15,8 @@ use Rattle.cert_format.specs.declared.entry.Entry.{Entry}
 use Rattle.cert_format.specs.JudgementForms.{◌>>=◌, unless}
 use Rattle.cert_checker.specs.Walk.{WalkPasses, refusal}
 use Rattle.cert_checker.specs.Tables.{at_line, base_of, edges_pass, entry_passes, is_complete, is_missing, is_open, none_missing, none_refused, ordered_passes, placed_passes, point_passes, read_each, refused_at, rises, stand_once, table_passes}
-use Rattle.cert_checker.specs.TableRefusals.{IsFirst, IsNone, IsFirstFault, Says, stands_before, IsRead, HasBase, IsOrdered, IsRefusedTable, line_of_order, line_of_entry, lacks_base, stands_twice, lacks_point, edge_rises, not_closed}
+use Rattle.cert_checker.specs.Ending.{RefusesLine}
+use Rattle.cert_checker.specs.TableRefusals.{IsFirst, IsNone, ReadsEach, stands_before, IsRead, HasBase, IsOrdered, IsRefusedTable, line_of_order, line_of_entry, lacks_base, stands_twice, lacks_point, edge_rises, not_closed}
 use Rattle.cert_checker.specs.Laws.{TablesAreRefusedAtTheFirstLine}
 use Rattle.cert_checker.specs.Judgement.{judged}
 use Rattle.cert_checker.specs.declared.base.Base.{Base}
@@ -27,34 +28,28 @@ use Rattle.cert_checker.specs.declared.judgement.Refusal.{Refusal}
 
 -- ---- what each line says
 module _ {A B : Type 0} (reading : A → Result B CertFault) where
-  abbrev said_then : ℕ → Result B CertFault → Result (List B) Refusal → Result (List B) Refusal
+  abbrev pub said_then : ℕ → Result B CertFault → Result (List B) Refusal → Result (List B) Refusal
   said_then line one rest = at_line line one >>= (λ first. rest >>= (λ others. Ok (first ∷ others)))
 
-  says_each : (line : ℕ) (lines : List A) (said : List B) → read_each reading line lines ≡ Ok said → Says reading lines said
+  says_each : (line : ℕ) (lines : List A) (said : List B) → read_each reading line lines ≡ Ok said → ReadsEach reading lines said
   says_each line [] said is = let same : [] ≡ said = cc in ap (map Ok) same
   says_each line (x ∷ xs) said is = by (says_each (line + 1) xs) (reading x) refl (read_each reading (line + 1) xs) refl is
     where
-      by : ((others : List B) → read_each reading (line + 1) xs ≡ Ok others → Says reading xs others) → (one : Result B CertFault) → reading x ≡ one → (rest : Result (List B) Refusal) → read_each reading (line + 1) xs ≡ rest → said_then line one rest ≡ Ok said
-          → Says reading (x ∷ xs) said
+      by : ((others : List B) → read_each reading (line + 1) xs ≡ Ok others → ReadsEach reading xs others) → (one : Result B CertFault) → reading x ≡ one → (rest : Result (List B) Refusal) → read_each reading (line + 1) xs ≡ rest → said_then line one rest ≡ Ok said
+          → ReadsEach reading (x ∷ xs) said
       by later (Ok first) here (Ok others) there is =
           let same : first ∷ others ≡ said = cc in
           let tail : map reading xs ≡ map Ok others = later others there in
-          subst (Says reading (x ∷ xs)) same cc
+          subst (ReadsEach reading (x ∷ xs)) same cc
       by later (Ok first) here (Err refused) there is = absurd cc
       by later (Err why) here rest there is = absurd cc
 
-  -- the line at which it stops
-  record StopsAt (line : ℕ) (lines : List A) (refused : Refusal) : Type 0 where
-    pub place : ℕ
-    pub number : refused.line ≡ line + place
-    pub first : IsFirstFault reading lines place refused.why
-
-  stops_each : (line : ℕ) (lines : List A) (refused : Refusal) → read_each reading line lines ≡ Err refused → StopsAt line lines refused
+  stops_each : (line : ℕ) (lines : List A) (refused : Refusal) → read_each reading line lines ≡ Err refused → RefusesLine reading line lines refused
   stops_each line [] refused is = absurd cc
   stops_each line (x ∷ xs) refused is = by (stops_each (line + 1) xs refused) (reading x) refl (read_each reading (line + 1) xs) refl is
     where
-      by : (read_each reading (line + 1) xs ≡ Err refused → StopsAt (line + 1) xs refused) → (one : Result B CertFault) → reading x ≡ one → (rest : Result (List B) Refusal) → read_each reading (line + 1) xs ≡ rest → said_then line one rest ≡ Err refused
-          → StopsAt line (x ∷ xs) refused
+      by : (read_each reading (line + 1) xs ≡ Err refused → RefusesLine reading (line + 1) xs refused) → (one : Result B CertFault) → reading x ≡ one → (rest : Result (List B) Refusal) → read_each reading (line + 1) xs ≡ rest → said_then line one rest ≡ Err refused
+          → RefusesLine reading line (x ∷ xs) refused
       by later (Ok first) here (Ok others) there is = absurd cc
       by later (Ok first) here (Err other) there is =
           let same : other ≡ refused = cc in
@@ -62,12 +57,12 @@ module _ {A B : Type 0} (reading : A → Result B CertFault) where
           record {
             place = suc stop.place;
             number = omega (arith, stop.number);
-            first = record { line = stop.first.line; here = stop.first.here; fault = stop.first.fault; before = before stop };
+            fault = record { line = stop.fault.line; here = stop.fault.here; fault = stop.fault.fault; before = before stop };
           }
         where
-          before : (stop : StopsAt (line + 1) xs refused) (other : ℕ) (one : A) → other < suc stop.place → slice_get (x ∷ xs) other ≡ Some one → IsOk (reading one)
+          before : (stop : RefusesLine reading (line + 1) xs refused) (other : ℕ) (one : A) → other < suc stop.place → slice_get (x ∷ xs) other ≡ Some one → IsOk (reading one)
           before stop zero one below at = let same : x ≡ one = cc in subst (λ (y : A). IsOk (reading y)) same (subst (λ (r : Result B CertFault). IsOk r) (sym here) refl)
-          before stop (suc other) one below at = stop.first.before other one (omega (arith, below)) at
+          before stop (suc other) one below at = stop.fault.before other one (omega (arith, below)) at
       by later (Err why) here rest there is =
           let same : refusal line why ≡ refused = refused_first rest is in
           let cause : why ≡ refused.why = ap (λ (r : Refusal). r.why) same in
@@ -75,7 +70,7 @@ module _ {A B : Type 0} (reading : A → Result B CertFault) where
           record {
             place = 0;
             number = omega (arith, number);
-            first = record { line = x; here = refl; fault = here ∙ ap (λ (w : CertFault). Err w) cause; before = λ other one below at. absurd (omega (arith, below)) };
+            fault = record { line = x; here = refl; fault = here ∙ ap (λ (w : CertFault). Err w) cause; before = λ other one below at. absurd (omega (arith, below)) };
           }
         where
           refused_first : (rest : Result (List B) Refusal) → said_then line (Err why) rest ≡ Err refused → refusal line why ≡ refused
@@ -83,7 +78,7 @@ module _ {A B : Type 0} (reading : A → Result B CertFault) where
 
 -- ---- the first of which a test holds
 module _ {A : Type 0} (test : A → Bool) where
-  first_holds : (items : List A) (place : ℕ) → position test items ≡ Some place → (item : A) × IsFirst (λ p. test) items place item
+  pub first_holds : (items : List A) (place : ℕ) → position test items ≡ Some place → (item : A) × IsFirst (λ p. test) items place item
   first_holds [] place is = absurd cc
   first_holds (x ∷ xs) place is =
       let (within, holds, before) = position-Some test (x ∷ xs) place x is in (
@@ -95,7 +90,7 @@ module _ {A : Type 0} (test : A → Bool) where
         },
       )
 
-  none_holds : (items : List A) → position test items ≡ None → IsNone (λ p. test) items
+  pub none_holds : (items : List A) → position test items ≡ None → IsNone (λ p. test) items
   none_holds items is place item at = by (nat_lt (position_or_len test items) (length items)) refl is
     where
       by : (b : Bool) → nat_lt (position_or_len test items) (length items) ≡ b → cond b (Some (position_or_len test items)) None ≡ None → test item ≡ false
@@ -141,7 +136,7 @@ module _ {A : Type 0} (test : A → Bool) where
       by later false here is (suc place) at = later is place item at
 
 -- ---- the order
-abbrev stands_in : List PointId → PointId → Bool
+abbrev pub stands_in : List PointId → PointId → Bool
 stands_in points point = list_any (same_point point) points
 
 -- the first point that stands before it, where these come before them all
@@ -249,14 +244,14 @@ module _ (net : Plan) (order : List (List ℕ)) (entries : List Entry) where
         let told : refusal 0 base.missing ≡ refused = cc in
         as_told 0 base.missing refused told (lacks_base points edges place base reads first)
 
-  entries_then : (refused : Refusal) (points : List PointId) → Says (point_passes net) order points → (said : Result (List Edge) Refusal) → read_each (entry_passes net) (length order + 1) entries ≡ said
+  entries_then : (refused : Refusal) (points : List PointId) → ReadsEach (point_passes net) order points → (said : Result (List Edge) Refusal) → read_each (entry_passes net) (length order + 1) entries ≡ said
       → (said >>= (λ edges. edges_pass net points edges)) ≡ Err refused → IsRefused refused
   entries_then refused points says (Ok edges) said is =
       base_then points edges refused (record { order_says = says; entries_say = says_each (entry_passes net) (length order + 1) entries edges said }) (find (is_missing edges) (base_of net)) refl is
   entries_then refused points says (Err r) said is =
       let told : r ≡ refused = cc in
       let stop = stops_each (entry_passes net) (length order + 1) entries r said in
-      subst IsRefused told (subst (λ (n : ℕ). IsRefusedTable net order entries n r.why) (sym stop.number) (line_of_entry points stop.place r.why says stop.first))
+      subst IsRefused told (subst (λ (n : ℕ). IsRefusedTable net order entries n r.why) (sym stop.number) (line_of_entry points stop.place r.why says stop.fault))
 
   order_then : (refused : Refusal) (said : Result (List PointId) Refusal) → read_each (point_passes net) 1 order ≡ said
       → (said >>= (λ points. read_each (entry_passes net) (length order + 1) entries >>= (λ edges. edges_pass net points edges))) ≡ Err refused → IsRefused refused
@@ -264,7 +259,7 @@ module _ (net : Plan) (order : List (List ℕ)) (entries : List Entry) where
   order_then refused (Err r) said is =
       let told : r ≡ refused = cc in
       let stop = stops_each (point_passes net) 1 order r said in
-      subst IsRefused told (subst (λ (n : ℕ). IsRefusedTable net order entries n r.why) (sym stop.number) (line_of_order stop.place r.why stop.first))
+      subst IsRefused told (subst (λ (n : ℕ). IsRefusedTable net order entries n r.why) (sym stop.number) (line_of_order stop.place r.why stop.fault))
 
   table_refused : (refused : Refusal) → table_passes net order entries ≡ Err refused → IsRefused refused
   unfolding table_passes

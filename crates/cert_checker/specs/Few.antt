@@ -19,7 +19,7 @@ pub record AreStarts (points : ℕ) (starts : List Start) : Type 0 where
   pub rise : (j k : ℕ) (d : Start) → j < k → k < length starts → (slice_index_or starts j d).from < (slice_index_or starts k d).from
 
 -- one of a point stands at a place
-pub record IsAt (starts : List Start) (from place : ℕ) : Type 0 where
+pub record IsStartAt (starts : List Start) (from place : ℕ) : Type 0 where
   pub inside : place < length starts
   pub same : (d : Start) → (slice_index_or starts place d).from ≡ from
 
@@ -31,7 +31,7 @@ pub record IsGapFor (starts : List Start) (from place : ℕ) : Type 0 where
 
 -- where the one of a point stands, or the place at which it would
 abbrev pub IsPlaceOf : List Start → ℕ → Result ℕ ℕ → Type 0
-IsPlaceOf starts from (Ok place) = IsAt starts from place
+IsPlaceOf starts from (Ok place) = IsStartAt starts from place
 IsPlaceOf starts from (Err place) = IsGapFor starts from place
 
 -- the words where there are some, else those that are held as few

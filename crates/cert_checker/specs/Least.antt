@@ -1,16 +1,13 @@
 -- The least weight of each key among entries, in rows of words, and what is looked up there.
-use Rattle.std.specs.Prelude.{◌≡◌, ◌<◌, ℕ, ℤ, pos, ◌+ℤ◌, ◌-ℤ◌, ◌&&◌, ◌||◌, not, Bool, false, List, [], ◌∷◌, length, fold, replicate, Option, None, Some, int_lt, int_le, slice_get}
+use Rattle.std.specs.Prelude.{◌≡◌, ◌<◌, ◌+◌, ◌^◌, ℕ, ℤ, pos, ◌<ℤ◌, ◌+ℤ◌, ◌&&◌, ◌||◌, Bool, false, List, [], ◌∷◌, length, fold, replicate, Option, None, Some, int_lt, int_le}
 use Rattle.std.specs.Int.{int_min, int_max}
 use Rattle.std.specs.List.{All, slice_index_or, slice_set}
-use Rattle.std.specs.Option.{option_map_or}
-use Rattle.net_model.specs.Network.{Plan, activation}
-use Rattle.net_model.specs.Rules.{is_ordinary, is_negative, is_labelled_by, moved_to_activation}
+use Rattle.net_model.specs.Network.{Plan, IsPlan}
+use Rattle.net_model.specs.Edges.{IsEdge}
 use Rattle.net_model.specs.declared.ids.PointId.{PointId}
 use Rattle.net_model.specs.declared.ids.LinkId.{LinkId}
 use Rattle.net_model.specs.declared.part.Edge.{Edge}
-use Rattle.net_model.specs.declared.part.Link.{Link}
-use Rattle.cert_checker.specs.Tables.{comes_before}
-use Rattle.cert_checker.specs.declared.base.Base.{Base}
+use Rattle.cert_checker.specs.Sound.{AreSound}
 
 -- the word of a key without an entry: the greatest of 64 bits with a sign
 abbrev pub absent : ℤ
@@ -41,8 +38,8 @@ abbrev pub IsPlacedIn : Weights → PointId → Option LinkId → ℕ → Type 0
 IsPlacedIn table to None from = (to.0 < length table.ordinary) × (from < length (row_in table.ordinary to.0))
 IsPlacedIn table to (Some name) from = (name.0 < length table.labelled) × (from < length (row_in table.labelled name.0))
 
-abbrev pub IsPlaced : Weights → Edge → Type 0
-IsPlaced table edge = IsPlacedIn table edge.to edge.label edge.from.0
+abbrev pub HasPlaceInTable : Weights → Edge → Type 0
+HasPlaceInTable table edge = IsPlacedIn table edge.to edge.label edge.from.0
 
 -- there is a row of the edges that end where an edge begins, as long as that of the edge
 abbrev pub IsPlacedBefore : Weights → Edge → Type 0
@@ -83,9 +80,6 @@ least_of net edges = fold with_entry (no_weights (length net.points) (length net
 abbrev pub has_at_most : Weights → Edge → Bool
 has_at_most table edge = int_le (weight_in table edge) edge.weight
 
-abbrev pub lacks : Weights → Base → Bool
-lacks table base = not (has_at_most table base.edge)
-
 -- with a negative weight after it a first premise goes below the word there
 abbrev pub falls : ℤ → ℤ → ℤ → Bool
 falls first there weight = int_lt first absent && int_lt (int_max first (pos 0) +ℤ weight) there
@@ -94,36 +88,15 @@ abbrev pub falls_in : List ℤ → List ℤ → ℤ → Bool
 falls_in (first ∷ firsts) (there ∷ others) weight = falls first there weight || falls_in firsts others weight
 falls_in firsts others weight = false
 
--- with an ordinary edge before this one, and with the link that ends where it begins
-abbrev pub opens_before : Weights → Edge → Bool
-opens_before table second = falls_in (row_in table.ordinary second.from.0) (row_of table second) second.weight
+-- an edge of the network whose weight is below that of a key without an entry
+pub record IsSmallEdge (net : Plan) (edge : Edge) : Type 0 where
+  pub is_edge : IsEdge net edge
+  pub small : edge.weight <ℤ absent
 
-abbrev pub opens_at_link : Weights → Edge → LinkId → Link → Bool
-opens_at_link table second name link = not (is_labelled_by name second) && not (has_at_most table (moved_to_activation link second))
-
-abbrev pub opens_after : Plan → Weights → Edge → Bool
-opens_after net table second =
-    option_map_or (λ name. option_map_or (opens_at_link table second name) (slice_get net.links name.0) false) (activation net second.from) false
-
--- without its label
-abbrev pub unlabelled : Edge → Link → Edge
-unlabelled edge link = record edge { label = None; weight = int_max edge.weight (pos 0 -ℤ link.low) }
-
-abbrev pub opens_without_label : Plan → Weights → Edge → Bool
-opens_without_label net table edge =
-    option_map_or (λ name. option_map_or (λ link. not (has_at_most table (unlabelled edge link))) (slice_get net.links name.0) false) edge.label false
-
--- by some rule it gives an edge whose key has no such weight
-abbrev pub opens : Plan → Weights → Edge → Bool
-opens net table second =
-    opens_without_label net table second || (is_negative second && (opens_before table second || opens_after net table second))
-
--- the places of points in an order, by their numbers
-abbrev pub rises_by : List (Option ℕ) → Edge → Bool
-rises_by places edge =
-    is_ordinary edge && is_negative edge && not (comes_before (slice_index_or places edge.to.0 None) (slice_index_or places edge.from.0 None))
-
--- the least weights of these edges
-pub record IsTableOf (net : Plan) (edges : List Edge) (table : Weights) : Type 0 where
+-- the least weights of these sound edges of a network, whose lines from this one on have numbers of 64 bits
+pub record IsTableOf (net : Plan) (first : ℕ) (edges : List Edge) (table : Weights) : Type 0 where
+  pub plan : IsPlan net
+  pub sound : AreSound net edges
+  pub lines : first + length edges < 2 ^ 64
   pub least : table ≡ least_of net edges
   pub shape : IsFor (length net.points) (length net.links) table

@@ -7,7 +7,8 @@ pub mod Sound
 pub mod Least
 pub mod Few
 pub mod Orders
-pub mod Reading
+pub mod Ending
+pub mod Opening
 pub mod JudgementText
 pub mod Refusals
 pub mod TableRefusals

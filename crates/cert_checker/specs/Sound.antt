@@ -1,5 +1,5 @@
 -- The edges that entries state.
-use Rattle.std.specs.Prelude.{◌≡◌, ◌≤◌, true, List, unsigned_abs}
+use Rattle.std.specs.Prelude.{◌≡◌, ◌≤◌, ℕ, true, List, unsigned_abs}
 use Rattle.std.specs.List.{All}
 use Rattle.net_model.specs.Limits.{most_size}
 use Rattle.net_model.specs.Network.{Plan}
@@ -19,3 +19,9 @@ AreSound net edges = All (IsSoundEdge net) edges
 -- a link whose shortest duration is that of a sound network
 abbrev pub IsShort : Link → Type 0
 IsShort link = unsigned_abs link.low ≤ most_size
+
+-- what the entries of a table proof state: edges of a network, of which the first has this line
+pub record Stated : Type 0 where
+  pub net : Plan
+  pub first : ℕ
+  pub edges : List Edge

@@ -29,8 +29,8 @@ pub record IsFirstFault {A B : Type 0} (reading : A → Result B CertFault) (lin
   pub before : (other : ℕ) (one : A) → other < place → slice_get lines other ≡ Some one → IsOk (reading one)
 
 -- what each of these lines says
-abbrev pub Says : {A B : Type 0} → (A → Result B CertFault) → List A → List B → Type 0
-Says reading lines said = map reading lines ≡ map Ok said
+abbrev pub ReadsEach : {A B : Type 0} → (A → Result B CertFault) → List A → List B → Type 0
+ReadsEach reading lines said = map reading lines ≡ map Ok said
 
 -- a point stands in an order before a place
 abbrev pub stands_before : List PointId → ℕ → PointId → Bool
@@ -39,8 +39,8 @@ stands_before points place point = list_any (same_point point) (take place point
 module _ (net : Plan) (order : List (List ℕ)) (entries : List Entry) where
   -- the points of the order and the edges of the entries, where each line names what the network has
   pub record IsRead (points : List PointId) (edges : List Edge) : Type 0 where
-    pub order_says : Says (point_passes net) order points
-    pub entries_say : Says (entry_passes net) entries edges
+    pub order_says : ReadsEach (point_passes net) order points
+    pub entries_say : ReadsEach (entry_passes net) entries edges
 
   -- and each bound and each link of the network stands among these edges
   pub record HasBase (points : List PointId) (edges : List Edge) : Type 0 where
@@ -61,7 +61,7 @@ module _ (net : Plan) (order : List (List ℕ)) (entries : List Entry) where
   -- tests come in this order.
   pub data IsRefusedTable : ℕ → CertFault → Type 0 where
     line_of_order : (place : ℕ) (why : CertFault) → IsFirstFault (point_passes net) order place why → IsRefusedTable (1 + place) why
-    line_of_entry : (points : List PointId) (place : ℕ) (why : CertFault) → Says (point_passes net) order points → IsFirstFault (entry_passes net) entries place why → IsRefusedTable (length order + 1 + place) why
+    line_of_entry : (points : List PointId) (place : ℕ) (why : CertFault) → ReadsEach (point_passes net) order points → IsFirstFault (entry_passes net) entries place why → IsRefusedTable (length order + 1 + place) why
     lacks_base : (points : List PointId) (edges : List Edge) (place : ℕ) (base : Base) → IsRead points edges → IsFirst (λ place. is_missing edges) (base_of net) place base → IsRefusedTable 0 base.missing
     stands_twice : (points : List PointId) (edges : List Edge) (place : ℕ) (point : PointId) → HasBase points edges → IsFirst (stands_before points) points place point → IsRefusedTable (1 + place) OrderBroken
     lacks_point : (points : List PointId) (edges : List Edge) → HasBase points edges → IsNone (stands_before points) points → is_complete net points ≡ false → IsRefusedTable 0 OrderBroken

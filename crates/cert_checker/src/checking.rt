@@ -1,7 +1,7 @@
 ghost use Rattle.std.specs.Prelude.{◌≡◌, IfOk, IsOk, Ok, []};
 ghost use Rattle.net_model.specs.ShownForm.{shown_form};
 ghost use Rattle.strategy_model.specs.Control.{IsControllable};
-ghost use Rattle.cert_checker.specs.Judgement.{IsRefutation, lines_pass, refutation_passes, judgement_of};
+ghost use Rattle.cert_checker.specs.Judgement.{IsRefutation, lines_pass, judgement_of};
 ghost use Rattle.cert_checker.specs.Truth.{AreTrueAsShown, passed_lines};
 
 use crate::judgement::{Claim, Judgement, Refusal};
@@ -45,22 +45,22 @@ pub fn judge<R: Threads + Sync>(
     laws::accepted_excludes();
     laws::accepted_controls();
     net.points();
-    judgement_of(rt, alloc, &Shown::of(net), cert)
+    judgement_of(rt, alloc, Shown::of(net), cert)
 }
 
 /// The judgement of a certificate, whatever it is of.
 fn judgement_of<R: Threads + Sync>(
     rt: &R,
     alloc: Global,
-    net: &Shown,
+    net: Shown,
     cert: &Certificate,
 ) -> Result<Judgement, AllocError>
     ensures ok { IsRefutation cert.now → IsOk result }
-    ensures judged { IfOk result (λ judgement. judgement ≡ judgement_of net.now cert.now) }
+    ensures judged { IfOk result (λ judgement. judgement ≡ judgement_of net.entry cert.now) }
 {
     match cert {
         Certificate::Refutation { lines, walk } => {
-            Ok(judge_refutation(net, lines.as_slice(), walk.as_slice()))
+            Ok(judge_refutation(&net, lines.as_slice(), walk.as_slice()))
         }
         Certificate::TableProof { order, entries } => {
             judge_table(rt, alloc, net, order.as_slice(), entries.as_slice())
@@ -68,26 +68,17 @@ fn judgement_of<R: Threads + Sync>(
     }
 }
 
+/// The judgement of a refutation: its lines, then its walk.
+#[tactic(auto, unfolding(crate::specs::Judgement::refutation_passes))]
 fn judge_refutation(net: &Shown, lines: &[CertLine], walk: &[u64]) -> Judgement
     ensures { result ≡ judgement_of net.now (Certificate.Refutation lines.now walk.now) }
 {
-    match refutation_passes(net, lines, walk) {
-        Ok(()) => Judgement::Accepted(Claim::NotControllable),
-        Err(refusal) => Judgement::Refused {
-            line: refusal.line,
-            why: refusal.why,
-        },
+    if let Err(Refusal { line, why }) = lines_pass(net, lines) {
+        return Judgement::Refused { line, why };
     }
-}
-
-#[tactic(auto, unfolding(crate::specs::Judgement::refutation_passes))]
-fn refutation_passes(net: &Shown, lines: &[CertLine], walk: &[u64]) -> Result<(), Refusal>
-    ensures { result ≡ refutation_passes net.now lines.now walk.now }
-{
-    // The refusal is taken apart, so that the types of its fields are named here.
-    match lines_pass(net, lines) {
-        Ok(()) => walk_passes(lines, walk),
-        Err(Refusal { line, why }) => Err(Refusal { line, why }),
+    match walk_passes(lines, walk) {
+        Ok(()) => Judgement::Accepted(Claim::NotControllable),
+        Err(Refusal { line, why }) => Judgement::Refused { line, why },
     }
 }
 

@@ -1,85 +1,83 @@
-//! Whether an entry gives an edge whose key has no such weight.
+//! Whether an entry gives, with the others, an edge that does not stand among them.
 
-ghost use Rattle.std.specs.Prelude.{◌≡◌, ◌≤◌, ◌<ℤ◌, ◌||◌, length, pos, unsigned_abs};
+ghost use Rattle.std.specs.Prelude.{◌≡◌, ◌≤◌, ◌<ℤ◌, ◌||◌, ◌&&◌, not, pos, unsigned_abs};
 ghost use Rattle.net_model.specs.Limits.{most_weight};
-ghost use Rattle.net_model.specs.Rules.{moved_to_activation};
+ghost use Rattle.net_model.specs.Network.{IsLink};
+ghost use Rattle.net_model.specs.Rules.{is_labelled_by, moved_to_activation, removal};
+ghost use Rattle.cert_checker.specs.Opening.{is_open_after, is_open_before, is_unmet};
 ghost use Rattle.cert_checker.specs.Sound.{IsShort, IsSoundEdge};
-ghost use Rattle.cert_checker.specs.Least.{IsFor, IsPlaced, opens, opens_after, opens_at_link, opens_before, opens_without_label, unlabelled};
+ghost use Rattle.cert_checker.specs.Tables.{is_open, stands_among};
 
-use crate::least::LeastWeights;
 use crate::shown::Shown;
+use crate::table::Table;
 use net_model::{Edge, Link, LinkId};
 
 /// Whether by some rule, with this edge as the second premise, as the edge after the lower-case edge, or as the premise of
-/// removal, the entries give an edge whose key has no such weight. Of the first premises of a key only the least matters.
-pub(crate) fn opens(net: &Shown, least: &LeastWeights, second: &Edge) -> bool
-    requires shape { IsFor (length net.now.points) (length net.now.links) least.now }
-    requires sound { IsSoundEdge net.now second.now }
-    ensures { result ≡ opens net.now least.now second.now }
+/// removal, the entries give an edge that does not stand among them. Of the first premises of a key only the least matters.
+pub(crate) fn opens(table: &Table, second: &Edge) -> bool
+    requires { IsSoundEdge table.now.net second.now }
+    ensures { result ≡ is_open table.now.net table.now.edges second.now }
 {
-    opens_without_label(net, least, second)
-        || (second.weight < 0 && opens_negative(net, least, second))
+    opens_without_label(table, second) || (second.weight < 0 && opens_negative(table, second))
 }
 
 /// The same of a negative edge, without removal.
-fn opens_negative(net: &Shown, least: &LeastWeights, second: &Edge) -> bool
-    requires shape { IsFor (length net.now.points) (length net.now.links) least.now }
-    requires sound { IsSoundEdge net.now second.now }
+fn opens_negative(table: &Table, second: &Edge) -> bool
+    requires sound { IsSoundEdge table.now.net second.now }
     requires negative { second.now.weight <ℤ pos 0 }
-    ensures { result ≡ (opens_before least.now second.now || opens_after net.now least.now second.now) }
+    ensures { result ≡ (is_open_before table.now.edges second.now || is_open_after table.now.net table.now.edges second.now) }
 {
-    least.opens_before(second) || opens_after(net, least, second)
+    table.opens_before(second) || opens_after(table, second)
 }
 
 /// By removal.
-fn opens_without_label(net: &Shown, least: &LeastWeights, edge: &Edge) -> bool
-    requires shape { IsFor (length net.now.points) (length net.now.links) least.now }
-    requires sound { IsSoundEdge net.now edge.now }
-    ensures { result ≡ opens_without_label net.now least.now edge.now }
+fn opens_without_label(table: &Table, edge: &Edge) -> bool
+    requires { IsSoundEdge table.now.net edge.now }
+    ensures { result ≡ is_unmet table.now.edges (removal table.now.net edge.now) }
 {
-    let Some(label) = edge.label else {
-        return false;
-    };
-    match net.link_at(label) {
-        Some(link) => !least.has_at_most(&unlabelled(edge, &link)),
+    match without_label(table.net(), edge) {
+        Some(given) => table.lacks(&given),
         None => false,
     }
 }
 
-fn unlabelled(edge: &Edge, link: &Link) -> Edge
-    requires { IsShort link.now }
-    ensures { result ≡ unlabelled edge.now link.now }
+/// The edge that removal gives.
+#[tactic(auto, unfolding(net_model::specs::Rules::removal))]
+fn without_label(net: &Shown, edge: &Edge) -> Option<Edge>
+    ensures { result ≡ removal net.now edge.now }
 {
-    Edge {
+    let link = net.link_at(edge.label?)?;
+    Some(Edge {
         from: edge.from,
         to: edge.to,
         label: None,
         weight: edge.weight.max(-link.low),
-    }
+    })
 }
 
 /// By the lower-case or the cross-case rule, with the link that ends where the edge begins.
-fn opens_after(net: &Shown, least: &LeastWeights, second: &Edge) -> bool
-    requires shape { IsFor (length net.now.points) (length net.now.links) least.now }
-    requires sound { IsSoundEdge net.now second.now }
-    ensures { result ≡ opens_after net.now least.now second.now }
+fn opens_after(table: &Table, second: &Edge) -> bool
+    requires sound { IsSoundEdge table.now.net second.now }
+    requires negative { second.now.weight <ℤ pos 0 }
+    ensures { result ≡ is_open_after table.now.net table.now.edges second.now }
 {
+    let net = table.net();
     let Some(name) = net.activation(second.from) else {
         return false;
     };
     match net.link_at(name) {
-        Some(link) => opens_at_link(least, second, name, &link),
+        Some(link) => opens_at_link(table, second, name, &link),
         None => false,
     }
 }
 
-fn opens_at_link(least: &LeastWeights, second: &Edge, name: LinkId, link: &Link) -> bool
-    requires placed { IsPlaced least.now (moved_to_activation link.now second.now) }
-    requires short { IsShort link.now }
-    requires weight { unsigned_abs second.now.weight ≤ most_weight }
-    ensures { result ≡ opens_at_link least.now second.now name link.now }
+/// The same with the link of a number.
+fn opens_at_link(table: &Table, second: &Edge, name: LinkId, link: &Link) -> bool
+    requires sound { IsSoundEdge table.now.net second.now }
+    requires link { IsLink table.now.net link.now }
+    ensures { result ≡ (not (is_labelled_by name second.now) && not (stands_among table.now.edges (moved_to_activation link.now second.now))) }
 {
-    second.label != Some(name) && !least.has_at_most(&moved(link, second))
+    second.label != Some(name) && table.lacks(&moved(link, second))
 }
 
 /// The edge from the link's activation point that follows from one that begins in its contingent point.

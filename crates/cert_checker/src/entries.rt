@@ -1,63 +1,56 @@
 //! The lines of a table proof, each for itself: its names become numbers.
 
-ghost use Rattle.std.specs.Prelude.{◌≡◌, ◌+◌, ◌<◌, ◌^◌, IfOk, OnOk, Ok, [], length};
+ghost use Rattle.std.specs.Prelude.{◌≡◌, ◌+◌, ◌<◌, ◌^◌, length};
 ghost use Rattle.net_model.specs.Network.{link_named as link_id};
-ghost use Rattle.cert_checker.specs.Tables.{edge_of_entry, entry_passes, labelled_of, ordinary_of, point_passes, read_each};
-ghost use Rattle.cert_checker.specs.Reading.{with_values};
+ghost use Rattle.cert_checker.specs.Tables.{edge_of_entry, entry_passes, labelled_of, ordinary_of, point_passes};
+ghost use Rattle.cert_checker.specs.TableRefusals.{ReadsEach};
+ghost use Rattle.cert_checker.specs.Ending.{Ends, RefusesLine};
 
-use crate::judgement::{CertFault, Refusal};
+use crate::judgement::{CertFault, Refusal, Stop};
 use crate::rules::{is_in_range, unless};
 use crate::shown::Shown;
 use cert_format::Entry;
 use net_model::{Edge, LinkId, Name, PointId, Weight};
-use std::alloc::AllocError;
+use std::alloc::Global;
 
-/// Reads the points of the order, whose first line is line 1, or refuses the first line whose point is not in the network.
-pub(crate) fn read_points(
-    net: &Shown,
-    order: &[Name],
-    points: &mut Vec<PointId>,
-) -> Result<Result<(), Refusal>, AllocError>
-    requires { points.old.items ≡ [] }
-    ensures { IfOk result (λ read. with_values read points.new.items ≡ read_each (point_passes net.now) 1 order.now) }
+/// The points of the order, whose first line is line 1, or the refusal of the first line whose point is not in the network.
+pub(crate) fn read_points(alloc: Global, net: &Shown, order: &[Name]) -> Result<Vec<PointId>, Stop>
+    ensures { Ends result (λ points. ReadsEach (point_passes net.now) order.now points.items) (RefusesLine (point_passes net.now) 1 order.now) }
 {
+    let mut points = Vec::new(alloc);
     for (index, name) in order.iter().enumerate() {
         match point_passes(net, name) {
             Ok(point) => points.push(point)?,
             Err(why) => {
-                return Ok(Err(Refusal {
-                    line: index as u64 + 1,
-                    why,
-                }));
+                let line = index as u64 + 1;
+                return Err(Stop::Refused(Refusal { line, why }));
             }
         }
     }
-    Ok(Ok(()))
+    Ok(points)
 }
 
-/// Reads the edges of entries, of which the first has this line, or refuses the first entry that does not pass for itself.
+/// The edges of entries, of which the first has this line, or the refusal of the first entry that does not pass for itself.
 pub(crate) fn read_edges(
+    alloc: Global,
     net: &Shown,
     first: u64,
     entries: &[Entry],
-    edges: &mut Vec<Edge>,
-) -> Result<Result<(), Refusal>, AllocError>
-    requires empty { edges.old.items ≡ [] }
-    requires lines { first + length entries.now < 2 ^ 64 }
-    ensures { IfOk result (λ read. with_values read edges.new.items ≡ read_each (entry_passes net.now) first entries.now) }
+) -> Result<Vec<Edge>, Stop>
+    requires { first + length entries.now < 2 ^ 64 }
+    ensures { Ends result (λ edges. ReadsEach (entry_passes net.now) entries.now edges.items) (RefusesLine (entry_passes net.now) first entries.now) }
 {
+    let mut edges = Vec::with_capacity(alloc, entries.len())?;
     for (index, entry) in entries.iter().enumerate() {
         match entry_passes(net, entry) {
             Ok(edge) => edges.push(edge)?,
             Err(why) => {
-                return Ok(Err(Refusal {
-                    line: first + index as u64,
-                    why,
-                }));
+                let line = first + index as u64;
+                return Err(Stop::Refused(Refusal { line, why }));
             }
         }
     }
-    Ok(Ok(()))
+    Ok(edges)
 }
 
 /// A line of the order: its point is in the network.

@@ -1,7 +1,7 @@
 ghost use Rattle.std.specs.Prelude.{◌≡◌, ◌<◌, ◌≤◌, ◌<ℤ◌, pos, length, IfOk, OnOk, replicate, unsigned_abs};
 ghost use Rattle.net_model.specs.Limits.{most_weight};
 ghost use Rattle.net_model.specs.Edges.{IsEdge};
-ghost use Rattle.cert_checker.specs.Least.{IsFor, IsPlaced, IsPlacedBefore, absent, has_at_most, least_of, no_weights, opens_before, row_of, with_entry};
+ghost use Rattle.cert_checker.specs.Least.{IsFor, HasPlaceInTable, IsPlacedBefore, absent, has_at_most, falls_in, least_of, no_weights, row_in, row_of, with_entry};
 ghost use Rattle.cert_checker.specs.Sound.{AreSound};
 
 use crate::row::Row;
@@ -51,7 +51,7 @@ impl LeastWeights {
 
     /// Lowers the key of an edge to its weight.
     fn lower(&mut self, alloc: Global, edge: &Edge) -> Result<(), AllocError>
-        requires { IsPlaced self.old edge.now }
+        requires { HasPlaceInTable self.old edge.now }
         ensures { OnOk result (self.new ≡ with_entry self.old edge.now) }
     {
         match edge.label {
@@ -68,7 +68,7 @@ impl LeastWeights {
 
     /// The row of the edges that end where an edge ends, or that have its label.
     fn row_of(&self, edge: &Edge) -> &Row
-        requires { IsPlaced self.now edge.now }
+        requires { HasPlaceInTable self.now edge.now }
         ensures { result.now ≡ row_of self.now edge.now }
     {
         match edge.label {
@@ -79,19 +79,20 @@ impl LeastWeights {
 
     /// Whether an entry of the key of an edge has at most its weight.
     pub(crate) fn has_at_most(&self, edge: &Edge) -> bool
-        requires { IsPlaced self.now edge.now }
+        requires { HasPlaceInTable self.now edge.now }
         ensures { result ≡ has_at_most self.now edge.now }
     {
         self.row_of(edge).get(edge.from) <= edge.weight
     }
 
-    /// Whether with some ordinary entry before it a negative edge gives one whose key has no such weight.
-    pub(crate) fn opens_before(&self, second: &Edge) -> bool
-        requires placed { IsPlaced self.now second.now }
+    /// Whether, at some point, the word of the row of the edges that end where a negative edge begins, counted as 0 where it is
+    /// below, and then that edge go below the word of its own row.
+    pub(crate) fn falls_before(&self, second: &Edge) -> bool
+        requires placed { HasPlaceInTable self.now second.now }
         requires before { IsPlacedBefore self.now second.now }
         requires negative { second.now.weight <ℤ pos 0 }
         requires weight { unsigned_abs second.now.weight ≤ most_weight }
-        ensures { result ≡ opens_before self.now second.now }
+        ensures { result ≡ falls_in (row_in self.now.ordinary second.now.from.0) (row_of self.now second.now) second.now.weight }
     {
         let firsts = &self.ordinary[second.from.0 as usize];
         firsts.falls_in(self.row_of(second), second)

@@ -1,70 +1,100 @@
 //! The order of a table proof.
 
-ghost use Rattle.std.specs.Prelude.{◌≡◌, ◌<◌, IfOk, OnOk, is_some, length, []};
+ghost use Rattle.std.specs.Prelude.{◌≡◌, IfOk, is_some, length, []};
 ghost use Rattle.std.specs.List.{All, list_all};
 ghost use Rattle.net_model.specs.Network.{IsPoint};
-ghost use Rattle.cert_checker.specs.Least.{rises_by};
-ghost use Rattle.cert_checker.specs.Orders.{ArePlaces};
-ghost use Rattle.cert_checker.specs.Tables.{comes_before, is_complete, stand_once};
+ghost use Rattle.cert_checker.specs.Ending.{Ends, IsWhole, RefusesItem, RefusesOrder};
+ghost use Rattle.cert_checker.specs.Orders.{ArePlaces, ArePlacesOf};
+ghost use Rattle.cert_checker.specs.TableRefusals.{stands_before};
+ghost use Rattle.cert_checker.specs.Tables.{comes_before, place_in, rises};
 
-use crate::judgement::{CertFault, Refusal};
+use crate::judgement::{CertFault, Refusal, Stop};
 use crate::shown::Shown;
 use net_model::{Edge, PointId};
 use std::alloc::{AllocError, Global};
+use std::marker::Model;
 
-/// No point yet has a place.
-pub(crate) fn no_places(alloc: Global, net: &Shown) -> Result<Vec<Option<usize>>, AllocError>
-    ensures { IfOk result (λ places. ArePlaces net.now [] places.items) }
-{
-    vec![in alloc; None; net.points().len()]
+/// The order of a table proof, in which each point of the network stands once. Contracts see it as the list of its points.
+#[derive(Drop)]
+pub(crate) struct Order {
+    points: Vec<PointId>,
+    places: Vec<Option<usize>>,
 }
 
-/// Fills in the place of each point of an order, up to the first that stands before in it.
-pub(crate) fn fill_places(
-    net: &Shown,
-    order: &[PointId],
-    places: &mut [Option<usize>],
-) -> Result<(), Refusal>
-    requires points { All (IsPoint net.now) order.now }
-    requires none { ArePlaces net.now [] places.old }
-    ensures once { result ≡ stand_once [] order.now }
-    ensures places { OnOk result (ArePlaces net.now order.now places.new) }
+impl Model for Order {
+    ghost use Rattle.std.specs.Prelude.{List};
+    ghost use Rattle.net_model.specs.declared.ids.PointId.{PointId};
+    ghost use Rattle.cert_checker.specs.Orders.{ArePlaces};
+
+    ghost Value = { List PointId };
+
+    ghost view = { λ order. order.points.items };
+
+    ghost invariant = { λ order. ArePlaces order.points.items order.places.items };
+}
+
+impl Order {
+    /// The order of these points, or the refusal of its first point that stands before in it, or, at no line, of a point that is missing.
+    pub(crate) fn of(alloc: Global, net: &Shown, points: Vec<PointId>) -> Result<Order, Stop>
+        requires { All (IsPoint net.now) points.items }
+        ensures { Ends result (λ order. (order ≡ points.items) × IsWhole net.now points.items) (RefusesOrder net.now points.items) }
+    {
+        let places = places_of(alloc, net, points.as_slice())?;
+        if !are_there(places.as_slice()) {
+            let why = CertFault::OrderBroken;
+            return Err(Stop::Refused(Refusal { line: 0, why }));
+        }
+        Ok(Order { points, places })
+    }
+
+    /// Whether an edge is a negative ordinary one that does not go from a later point to an earlier one.
+    pub(crate) fn rises(&self, edge: &Edge) -> bool
+        ensures { result ≡ rises self.now edge.now }
+    {
+        let is_negative_ordinary = edge.label.is_none() && edge.weight < 0;
+        is_negative_ordinary && !comes_before(self.place(edge.to), self.place(edge.from))
+    }
+
+    /// The place of a point in it.
+    fn place(&self, point: PointId) -> Option<usize>
+        ensures { result ≡ place_in self.now point }
+    {
+        *self.places.get(point.0 as usize)?
+    }
+}
+
+/// The place of each point in an order, or the refusal of its first point that stands before in it.
+fn places_of(alloc: Global, net: &Shown, order: &[PointId]) -> Result<Vec<Option<usize>>, Stop>
+    requires { All (IsPoint net.now) order.now }
+    ensures { Ends result (λ places. ArePlacesOf net.now order.now places.items) (RefusesItem (stands_before order.now) 1 CertFault.OrderBroken order.now) }
 {
+    let mut places = no_places(alloc, net.points().len())?;
     for (index, point) in order.iter().enumerate() {
         let place = point.0 as usize;
         if places[place].is_some() {
-            return Err(Refusal {
+            return Err(Stop::Refused(Refusal {
                 line: index as u64 + 1,
                 why: CertFault::OrderBroken,
-            });
+            }));
         }
         places[place] = Some(index);
     }
-    Ok(())
+    Ok(places)
 }
 
-/// Whether each point of the network has a place.
-pub(crate) fn is_complete(net: &Shown, order: &[PointId], places: &[Option<usize>]) -> bool
-    requires { ArePlaces net.now order.now places.now }
-    ensures { result ≡ is_complete net.now order.now }
+/// Room for the places of so many points, of which none has one yet.
+fn no_places(alloc: Global, count: usize) -> Result<Vec<Option<usize>>, AllocError>
+    ensures count { IfOk result (λ places. length places.items ≡ count) }
+    ensures none { IfOk result (λ places. ArePlaces [] places.items) }
 {
-    are_there(places)
+    vec![in alloc; None; count]
 }
 
+/// Whether each of these is a place.
 fn are_there(places: &[Option<usize>]) -> bool
     ensures { result ≡ list_all is_some places.now }
 {
     places.iter().all(|place| place.is_some())
-}
-
-/// Whether an edge is a negative ordinary one that does not go from a later point to an earlier one.
-pub(crate) fn rises(places: &[Option<usize>], edge: &Edge) -> bool
-    requires from { edge.now.from.0 < length places.now }
-    requires to { edge.now.to.0 < length places.now }
-    ensures { result ≡ rises_by places.now edge.now }
-{
-    let is_negative_ordinary = edge.label.is_none() && edge.weight < 0;
-    is_negative_ordinary && !comes_before(places[edge.to.0 as usize], places[edge.from.0 as usize])
 }
 
 fn comes_before(place: Option<usize>, other: Option<usize>) -> bool

@@ -1,22 +1,27 @@
 ghost use Rattle.std.specs.Prelude.{◌≡◌, ◌+◌, ◌*◌, ◌<◌, length};
 ghost use Rattle.cert_checker.specs.Lines.{line_at};
-ghost use Rattle.cert_checker.specs.Walk.{refusal, steps_known, returns_to, total_weight, weight_at, is_negative_total, is_negative_walk, walked, walk_passes};
+ghost use Rattle.cert_checker.specs.Walk.{refusal, steps_known, returns_to, total_weight, weight_at, is_negative_total, walked, walk_passes};
 
 use crate::judgement::{CertFault, Refusal};
 use crate::lookup::line_at;
 use cert_format::CertLine;
 use net_model::Weight;
 
-/// The walk of a refutation whose lines all pass.
+/// The walk of a refutation whose lines all pass: each step is one of them, it is closed, and its total is negative.
 #[tactic(auto, unfolding(crate::specs::Walk::walk_passes))]
 pub(crate) fn walk_passes(lines: &[CertLine], walk: &[u64]) -> Result<(), Refusal>
     ensures { result ≡ walk_passes lines.now walk.now }
 {
-    // The refusal is taken apart, so that the types of its fields are named here.
-    match steps_known(lines, walk) {
-        Ok(()) => is_negative_walk(lines, walk),
-        Err(Refusal { line, why }) => Err(Refusal { line, why }),
-    }
+    steps_known(lines, walk)?;
+    let place = lines.len() as u64 + 1;
+    let Some((first, rest)) = walk.split_first() else {
+        return Err(refusal(place, CertFault::WalkBroken));
+    };
+    let Some(first) = line_at(lines, *first) else {
+        return Err(refusal(place, CertFault::WalkBroken));
+    };
+    returns_to(lines, first, rest)?;
+    is_negative(place + rest.len() as u64, total_weight(lines, walk))
 }
 
 /// Each step is the number of a line.
@@ -36,22 +41,6 @@ fn refusal(line: u64, why: CertFault) -> Refusal
     ensures { result ≡ refusal line why }
 {
     Refusal { line, why }
-}
-
-/// A walk that is closed and of negative total.
-fn is_negative_walk(lines: &[CertLine], walk: &[u64]) -> Result<(), Refusal>
-    requires { steps_known lines.now (length lines.now + 1) walk.now ≡ Ok tt }
-    ensures { result ≡ is_negative_walk (length lines.now + 1) (walked lines.now walk.now) }
-{
-    let place = lines.len() as u64 + 1;
-    let Some((first, rest)) = walk.split_first() else {
-        return Err(refusal(place, CertFault::WalkBroken));
-    };
-    let Some(first) = line_at(lines, *first) else {
-        return Err(refusal(place, CertFault::WalkBroken));
-    };
-    returns_to(lines, first, rest)?;
-    is_negative(place + rest.len() as u64, total_weight(lines, walk))
 }
 
 /// The total of a walk whose last step stands at a place.

@@ -18,11 +18,11 @@ use Rattle.cert_format.specs.declared.kind.LineKind.{LineKind}
 use Rattle.cert_format.proofs.EdgeLemmas.{same_line}
 use Rattle.net_model.specs.NetworkParts.{point_name}
 use Rattle.refutations.specs.Certifying.{label_name, kind_of, only_if, is_there, line_by, lines_among}
-use Rattle.refutations.specs.Making.{AreInOrder}
+use Rattle.refutations.specs.Making.{AreInOrderOfMaking}
 use Rattle.refutations.proofs.Places.{place_of, place_there}
 
 -- numbers that are in order do not fall
-pub do_not_fall : (lines : List NodeId) → AreInOrder lines → IsNonDecreasingBy (λ (line : NodeId). line.0) lines
+pub do_not_fall : (lines : List NodeId) → AreInOrderOfMaking lines → IsNonDecreasingBy (λ (line : NodeId). line.0) lines
 do_not_fall lines in_order i j d before inside = by (ltb i j) refl
   where
     same : i ≡ j → (get_or lines i d).0 ≤ (get_or lines j d).0
@@ -36,7 +36,7 @@ do_not_fall lines in_order i j d before inside = by (ltb i j) refl
     by false test = let equal : i ≡ j = grind (arith, nat_tests) in same equal
 
 -- where a search ends that goes past the lesser numbers, the line stands
-pub searched_line : (lines : List NodeId) (id : NodeId) (place : ℕ) → AreInOrder lines → Contains lines id → place ≤ length lines → IsPartitionPoint (λ (line : NodeId). ltb line.0 id.0 ≡ true) (λ (line : NodeId). ltb line.0 id.0 ≡ false) lines place → place + 1 ≡ line_of lines id
+pub searched_line : (lines : List NodeId) (id : NodeId) (place : ℕ) → AreInOrderOfMaking lines → Contains lines id → place ≤ length lines → IsPartitionPoint (λ (line : NodeId). ltb line.0 id.0 ≡ true) (λ (line : NodeId). ltb line.0 id.0 ≡ false) lines place → place + 1 ≡ line_of lines id
 searched_line lines id place in_order there bound (lesser, others) =
     let j : ℕ = place_of lines id in
     let inside : j < length lines = slice_get_within lines j id (place_there lines id there) in

@@ -19,8 +19,8 @@ IsItemOf net (item.Bound name) = name.0 < length net.bounds
 IsItemOf net (item.Link name) = name.0 < length net.links
 
 -- numbers of nodes, in order of making
-abbrev pub AreInOrder : List NodeId → Type 0
-AreInOrder lines = AllPairs (λ (first second : NodeId). first.0 < second.0) lines
+abbrev pub AreInOrderOfMaking : List NodeId → Type 0
+AreInOrderOfMaking lines = AllPairs (λ (first second : NodeId). first.0 < second.0) lines
 
 -- a node can be a line: its edge and what its rule uses are of the network, its premises are lines, and its edge has the label that
 -- its line names
@@ -34,7 +34,7 @@ pub record CanBeLine (net : Plan) (lines : List NodeId) (node : Node) : Type 0 w
 
 -- nodes of a list, in order of making, that can all be lines
 pub record CanBeLines (net : Plan) (nodes : List Node) (lines : List NodeId) : Type 0 where
-  pub in_order : AreInOrder lines
+  pub in_order : AreInOrderOfMaking lines
   pub each : All (λ (id : NodeId). IsSomeAnd (node_at nodes id) (CanBeLine net lines)) lines
 
 -- a table has a weight for a key

@@ -6,7 +6,7 @@ ghost use Rattle.closure_model.specs.Derivations.{item_of, premises_of};
 ghost use Rattle.closure_model.specs.ReferenceRounds.{line_of};
 ghost use Rattle.cert_format.specs.Kind.{has_label};
 ghost use Rattle.refutations.specs.Certifying.{kind_of, label_name, only_if, line_by, lines_by};
-ghost use Rattle.refutations.specs.Making.{IsItemOf, AreInOrder, CanBeLine, CanBeLines};
+ghost use Rattle.refutations.specs.Making.{IsItemOf, AreInOrderOfMaking, CanBeLine, CanBeLines};
 
 use crate::names::{bound_name, link_name};
 use cert_format::{CertLine, LineKind};
@@ -38,7 +38,7 @@ fn push_line(
     lines: &[NodeId],
     node: &Node,
 ) -> Result<(), AllocError>
-    requires in_order { AreInOrder lines.now }
+    requires in_order { AreInOrderOfMaking lines.now }
     requires can { CanBeLine net.now lines.now node.now }
     ensures { OnOk result (made.new.items ≡ made.old.items ++ line_by net.now lines.now node.now ∷ []) }
 {
@@ -56,7 +56,7 @@ fn push_line(
 
 /// What the line of a rule names.
 fn kind_of(net: &Network, lines: &[NodeId], rule: &Rule) -> LineKind
-    requires in_order { AreInOrder lines.now }
+    requires in_order { AreInOrderOfMaking lines.now }
     requires item { IfSome (item_of rule.now) (IsItemOf net.now) }
     requires premises { AllByRecursion (Contains lines.now) (premises_of rule.now) }
     ensures { result ≡ kind_of net.now lines.now rule.now }
@@ -88,7 +88,7 @@ fn label_of(net: &Network, kind: &LineKind, label: Option<LinkId>) -> Option<Nam
 
 /// The number of the line of a node.
 pub(crate) fn line_of(lines: &[NodeId], id: NodeId) -> u64
-    requires in_order { AreInOrder lines.now }
+    requires in_order { AreInOrderOfMaking lines.now }
     requires there { Contains lines.now id }
     ensures { result ≡ line_of lines.now id }
 {

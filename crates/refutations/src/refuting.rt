@@ -12,7 +12,7 @@ ghost use Rattle.cert_checker.specs.Judgement.{judgement_of};
 ghost use Rattle.cert_checker.specs.declared.judgement.Judgement.TheVariants.{Accepted};
 ghost use Rattle.cert_checker.specs.declared.judgement.Claim.TheVariants.{NotControllable};
 ghost use Rattle.refutations.specs.Certifying.{IsCertificateBy};
-ghost use Rattle.refutations.specs.Making.{AreInOrder, HasWeight};
+ghost use Rattle.refutations.specs.Making.{AreInOrderOfMaking, HasWeight};
 
 use crate::lines::{line_of, lines_by};
 use cert_format::Certificate;
@@ -90,7 +90,7 @@ fn node_of<S: Supports>(store: &S, from: PointId, to: PointId) -> NodeId
 
 /// The numbers of the lines of the steps of a walk.
 fn walk_by(alloc: Global, lines: &[NodeId], steps: &[NodeId]) -> Result<Vec<u64>, AllocError>
-    requires in_order { AreInOrder lines.now }
+    requires in_order { AreInOrderOfMaking lines.now }
     requires there { All (Contains lines.now) steps.now }
     ensures { IfOk result (λ walk. walk.items ≡ map (line_of lines.now) steps.now) }
 {

@@ -1,7 +1,7 @@
-use Rattle.std.proofs.Common.{◌≡◌, ◌+◌, drop}
-use Rattle.cert_checker.specs.Tables.{point_passes, read_each}
-use Rattle.cert_checker.specs.Reading.{after_values}
+use Rattle.std.proofs.Common.{take}
+use Rattle.cert_checker.specs.TableRefusals.{ReadsEach}
+use Rattle.cert_checker.specs.Tables.{point_passes}
 use Rattle.cert_checker.proofs.entries.read_points.Given as goal
 
 abbrev pub invariant-loop-index : goal.invariant-loop-index
-invariant-loop-index l = after_values l.points.items (read_each (point_passes l.net) (1 + l.index) (drop l.index l.order)) ≡ read_each (point_passes l.net) 1 l.order
+invariant-loop-index l = ReadsEach (point_passes l.net) (take l.index l.order) l.points.items
