@@ -36,7 +36,7 @@ use Rattle.back_propagation.specs.Blocks.{AllAreMet, IsHeld, IsMetIn}
 use Rattle.back_propagation.specs.Begun.{goes_before}
 use Rattle.back_propagation.proofs.BegunSteps.{before_is}
 use Rattle.back_propagation.specs.SlimSlots.{StandsFor}
-use Rattle.back_propagation.specs.Offering.{place_of, slot_key, after_entry, IsRowAgainst, IsOfRow}
+use Rattle.back_propagation.specs.Offering.{place_in_slots, slot_key, after_entry, IsRowAgainst, IsOfRow}
 use Rattle.back_propagation.specs.OpenRows.{IsOffering, HasOffered}
 use Rattle.back_propagation.specs.declared.open_row.Basis.{Basis}
 use Rattle.back_propagation.specs.declared.open_row.OpenRow.{OpenRow}
@@ -62,7 +62,7 @@ module _ (net : Plan) (table : Graph) (to : PointId) (slots : List Slot) (width 
       by false other = refl
       by true ordinary =
           let place = first_place net table to slots width row edge column is (edge_into edge.from entry) has in
-          sym (first_left net table to slots width row edge column is (edge_into edge.from entry) has no_slot (met ordinary (get_or slots (place_of width entry.from column) no_slot) (slice_get-get_or slots (place_of width entry.from column) no_slot place)))
+          sym (first_left net table to slots width row edge column is (edge_into edge.from entry) has no_slot (met ordinary (get_or slots (place_in_slots width entry.from column) no_slot) (slice_get-get_or slots (place_in_slots width entry.from column) no_slot place)))
 
   -- nothing that follows with edges that are met changes the row
   pub block_left : (entries : List Entry) → ((i : ℕ) → i < length entries → IsHeld table edge (get_or entries i no_entry)) → ((i : ℕ) → i < length entries → IsMetIn slots width edge column (get_or entries i no_entry)) → fold offered slots (flat_map (after_entry edge) entries) ≡ slots
@@ -93,7 +93,7 @@ held_is_met slot weight some = by slot.weight some
     by (Some held) most = not_less weight held most
 
 -- what the words of a block say of an entry in it
-pub words_meet : (table : Graph) (slots : List Slot) (width : ℕ) (edge : Edge) (column : ℕ) (word : ℤ) (entry : Entry) → ((slot : Slot) → slice_get slots (place_of width entry.from column) ≡ Some slot → StandsFor word slot.weight) → IsHeld table edge entry
+pub words_meet : (table : Graph) (slots : List Slot) (width : ℕ) (edge : Edge) (column : ℕ) (word : ℤ) (entry : Entry) → ((slot : Slot) → slice_get slots (place_in_slots width entry.from column) ≡ Some slot → StandsFor word slot.weight) → IsHeld table edge entry
     → MeetsHeld (weight_of table (ordinary_key entry.from edge.from)) (held word) edge.weight → IsMetIn slots width edge column entry
 words_meet table slots width edge column word entry stands is_held met = λ ordinary slot here.
     let has : weight_of table (ordinary_key entry.from edge.from) ≡ Some entry.weight = of_ordinary entry.label refl ordinary in
@@ -114,16 +114,16 @@ words_meet table slots width edge column word entry stands is_held met = λ ordi
 
 -- ---- the words of the column of an edge
 module _ (net : Plan) (table : Graph) (to : PointId) (slots : List Slot) (width : ℕ) (row : IsRowAgainst net table to slots width) (edge : Edge) (column : ℕ) (is : IsOfRow net table to edge column) where
-  key_at : (from : PointId) → from.0 < table.shape.points → slice_get (row_keys table.shape to) (place_of width from column) ≡ Some (record { to = to; from = from; label = edge.label })
+  key_at : (from : PointId) → from.0 < table.shape.points → slice_get (row_keys table.shape to) (place_in_slots width from column) ≡ Some (record { to = to; from = from; label = edge.label })
   key_at from inside =
       ap (λ (w : ℕ). slice_get (row_keys table.shape to) (from.0 * w + column)) row.wide
       ∙ (row_at table.shape to from column inside (column_inside table.shape to edge.label column is.in_column) ∙ at_column table.shape to from edge.label column is.in_column)
 
   -- what stands there
-  slot_key_at : (from : PointId) (slot : Slot) → from.0 < table.shape.points → slice_get slots (place_of width from column) ≡ Some slot → slot_key to slot ≡ record { to = to; from = from; label = edge.label }
+  slot_key_at : (from : PointId) (slot : Slot) → from.0 < table.shape.points → slice_get slots (place_in_slots width from column) ≡ Some slot → slot_key to slot ≡ record { to = to; from = from; label = edge.label }
   slot_key_at from slot inside here =
       same_Some (slot_key to slot) (record { to = to; from = from; label = edge.label })
-      (ap (option_map (slot_key to)) (sym here) ∙ (sym (slice_get-map (slot_key to) slots (place_of width from column)) ∙ (ap (λ (ks : List Key). slice_get ks (place_of width from column)) row.keys ∙ key_at from inside)))
+      (ap (option_map (slot_key to)) (sym here) ∙ (sym (slice_get-map (slot_key to) slots (place_in_slots width from column)) ∙ (ap (λ (ks : List Key). slice_get ks (place_in_slots width from column)) row.keys ∙ key_at from inside)))
 
   first_point : PointId
   first_point = record { 0 = 0 }
@@ -142,14 +142,14 @@ module _ (net : Plan) (table : Graph) (to : PointId) (slots : List Slot) (width 
       subst (λ (n : ℕ). n < length slots) head_place (slice_get_within slots (0 * width + column) slot here)
 
   pub words_of_column : (words : List ℤ) → ((head slot : Slot) (other : ℕ) → slice_get slots column ≡ Some head → slice_get slots other ≡ Some slot → slot.label ≡ head.label → StandsFor (get_or words slot.from.0 (pos 0)) slot.weight)
-      → (from : PointId) (slot : Slot) → from.0 < table.shape.points → slice_get slots (place_of width from column) ≡ Some slot → StandsFor (get_or words from.0 (pos 0)) slot.weight
+      → (from : PointId) (slot : Slot) → from.0 < table.shape.points → slice_get slots (place_in_slots width from column) ≡ Some slot → StandsFor (get_or words from.0 (pos 0)) slot.weight
   words_of_column words stand from slot inside here =
       let head : Slot = get_or slots column no_slot in
       let at : slice_get slots column ≡ Some (get_or slots column no_slot) = slice_get-get_or slots column no_slot column_place in
       let first : slot_key to (get_or slots column no_slot) ≡ record { to = to; from = record { 0 = 0 }; label = edge.label } = slot_key_at (record { 0 = 0 }) (get_or slots column no_slot) many (ap (slice_get slots) head_place ∙ at) in
       let key : slot_key to slot ≡ record { to = to; from = from; label = edge.label } = slot_key_at from slot inside here in
       let label : slot.label ≡ (get_or slots column no_slot).label = ap (λ (k : Key). k.label) key ∙ sym (ap (λ (k : Key). k.label) first) in
-      subst (λ (p : PointId). StandsFor (get_or words p.0 (pos 0)) slot.weight) (ap (λ (k : Key). k.from) key) (stand (get_or slots column no_slot) slot (place_of width from column) at here label)
+      subst (λ (p : PointId). StandsFor (get_or words p.0 (pos 0)) slot.weight) (ap (λ (k : Key). k.from) key) (stand (get_or slots column no_slot) slot (place_in_slots width from column) at here label)
 
 -- ---- a whole column
 -- the entry of an edge that goes before another
@@ -191,7 +191,7 @@ module _ (net : Plan) (table : Graph) (to : PointId) (slots : List Slot) (width 
       by : (b : Bool) → goes_before first edge ≡ b → fold offered slots (from_first edge first) ≡ slots
       by true before =
           let place = first_place net table to slots width row edge column is first has in
-          sym (first_left net table to slots width row edge column is first has no_slot (met first has before (get_or slots (place_of width first.from column) no_slot) (slice_get-get_or slots (place_of width first.from column) no_slot place)))
+          sym (first_left net table to slots width row edge column is first has no_slot (met first has before (get_or slots (place_in_slots width first.from column) no_slot) (slice_get-get_or slots (place_in_slots width first.from column) no_slot place)))
       by false out =
           let no : given (No first edge) (no_case first edge) ≡ [] = nothing (No first edge) (no_case first edge) (λ one gave. (let gives = no_case_gives first edge one gave in let clash : true ≡ false = sym (before_is first edge gives.first_ordinary gives.meeting) ∙ out in absurd cc)) in
           let up : given (Up first edge) (upper_case first edge) ≡ [] = nothing (Up first edge) (upper_case first edge) (λ one gave. (let gives = upper_case_gives first edge one gave in let clash : true ≡ false = sym (before_is first edge gives.first_ordinary gives.meeting) ∙ out in absurd cc)) in

@@ -26,7 +26,7 @@ use Rattle.closure_model.proofs.TableLemmas.{edge_listed}
 use Rattle.closure_model.proofs.Weights.{same_weight}
 use Rattle.labelled_graph.specs.Entries.{edge_into, wide_label}
 use Rattle.labelled_graph.specs.declared.entry.Entry.{Entry}
-use Rattle.back_propagation.specs.Offering.{HasColumn, IsColumnOf, place_of, width_of}
+use Rattle.back_propagation.specs.Offering.{HasColumn, IsColumnOf, place_in_slots, width_of}
 use Rattle.back_propagation.specs.SlimSlots.{no_weight, stored, stored_of, weight_in, why_in, label_in, greatest_word, StandsFor, StandForKeys, IsSlim, slot_in, slots_of, width_in, word_place}
 use Rattle.back_propagation.specs.declared.slots.Slots.TheInside.{Inside}
 use Rattle.back_propagation.proofs.OfferSteps.{place_under, width_under}
@@ -72,7 +72,7 @@ places_under table to width sound wide =
 
 -- the key of an entry stands at its place
 pub entry_place : (table : Graph) (to : PointId) (labels : List LinkId) (entry : Entry) (column : ℕ) → labels ≡ labels_at table.shape to → IsGraph table → HasEdge table (edge_into to entry) → IsColumnOf labels (wide_label entry.label) column
-    → slice_get (row_keys table.shape to) (place_of (length labels + 1) entry.from column) ≡ Some (key_of (edge_into to entry))
+    → slice_get (row_keys table.shape to) (place_in_slots (length labels + 1) entry.from column) ≡ Some (key_of (edge_into to entry))
 entry_place table to labels entry column are sound held is =
     let has : HasColumn table.shape to (wide_label entry.label) column = subst (λ (ls : List LinkId). IsColumnOf ls (wide_label entry.label) column) are is in
     let wide : length labels + 1 ≡ width_of table.shape to = ap (λ (ls : List LinkId). length ls + 1) are in
@@ -80,7 +80,7 @@ entry_place table to labels entry column are sound held is =
     ∙ (row_at table.shape to entry.from column (sound.keys (edge_into to entry) held).from_point (column_inside table.shape to (wide_label entry.label) column has) ∙ at_column table.shape to entry.from (wide_label entry.label) column has)
 
 pub entry_under : (table : Graph) (to : PointId) (labels : List LinkId) (entry : Entry) (column : ℕ) → labels ≡ labels_at table.shape to → IsGraph table → HasEdge table (edge_into to entry) → IsColumnOf labels (wide_label entry.label) column
-    → place_of (length labels + 1) entry.from column < 2 ^ 64
+    → place_in_slots (length labels + 1) entry.from column < 2 ^ 64
 entry_under table to labels entry column are sound held is =
     let has : HasColumn table.shape to (wide_label entry.label) column = subst (λ (ls : List LinkId). IsColumnOf ls (wide_label entry.label) column) are is in
     let wide : length labels + 1 ≡ width_of table.shape to = ap (λ (ls : List LinkId). length ls + 1) are in
@@ -238,7 +238,7 @@ stand_none table to words count are many = (
     greatest : (k : ℕ) → k < length words → get_or words k (pos 0) ≡ greatest_word
     greatest k below = ap (λ (list : List ℤ). get_or list k (pos 0)) are ∙ replicated count k greatest_word (pos 0) (let long : length words ≡ count = ap length are ∙ long_replicate count greatest_word in omega (arith, below, long))
 
-pub stand_more : (table : Graph) (to : PointId) (words : List ℤ) (entry : Entry) (column place : ℕ) (word : ℤ) → column < width_of table.shape to → place ≡ place_of (width_of table.shape to) entry.from column → slice_get (row_keys table.shape to) place ≡ Some (key_of (edge_into to entry))
+pub stand_more : (table : Graph) (to : PointId) (words : List ℤ) (entry : Entry) (column place : ℕ) (word : ℤ) → column < width_of table.shape to → place ≡ place_in_slots (width_of table.shape to) entry.from column → slice_get (row_keys table.shape to) place ≡ Some (key_of (edge_into to entry))
     → HasEdge table (edge_into to entry) → StandsFor word (Some entry.weight) → StandForKeys table to words → StandForKeys table to (slice_set words (column * table.shape.points + entry.from.0) word)
 stand_more table to words entry column place word inside is at held stands (long, was) = (set_long words (column * table.shape.points + entry.from.0) word ∙ long, λ other key there. by other key there (same_or_apart other place))
   where

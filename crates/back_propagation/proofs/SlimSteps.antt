@@ -15,8 +15,26 @@ use Rattle.net_model.specs.Limits.{most_points}
 use Rattle.net_model.specs.declared.ids.LinkId.{LinkId}
 use Rattle.closure_model.specs.declared.rows.Slot.{Slot}
 use Rattle.closure_model.specs.declared.rows.Why.{Why}
+use Rattle.std.specs.Prelude.{◌≤ℤ◌}
+use Rattle.std.proofs.lemmas.Int.{ints}
+use Rattle.labelled_graph.specs.Words.{absent, least_word, nearest_word}
 use Rattle.back_propagation.specs.SlimSlots.{no_weight, weight_in, why_in, label_in, slot_in, slots_of, width_in, word_place, StandsFor, IsSlim}
 use Rattle.back_propagation.specs.declared.slots.Slots.TheInside.{Inside}
+
+-- ---- the nearest word of a weight stands for it
+pub nearest_stands : (word weight : ℤ) → word ≡ nearest_word weight → StandsFor word (Some weight)
+nearest_stands word weight is = subst (λ (w : ℤ). StandsFor w (Some weight)) (sym is) (by (int_lt weight least_word) refl (int_lt absent weight) refl)
+  where
+    by : (low : Bool) → int_lt weight least_word ≡ low → (high : Bool) → int_lt absent weight ≡ high → StandsFor (cond low least_word (cond high absent weight)) (Some weight)
+    by true low high is_high other = below weight low
+      where
+        below : (w : ℤ) → int_lt w least_word ≡ true → w ≤ℤ least_word
+        below w test = grind (arith, ints)
+    by false low true is_high other = absurd (other refl)
+    by false low false is_high other = itself weight
+      where
+        itself : (w : ℤ) → w ≤ℤ w
+        itself w = omega (arith, ints)
 
 -- ---- lists with another item at a place
 pub set_long : {X : Type 0} (xs : List X) (k : ℕ) (new : X) → length (slice_set xs k new) ≡ length xs

@@ -7,7 +7,7 @@ ghost use Rattle.closure_model.specs.ReferenceRow.{given, has_above, taken, from
 ghost use Rattle.closure_model.specs.Tables.{HasEdge};
 ghost use Rattle.labelled_graph.specs.Entries.{edge_into};
 ghost use Rattle.back_propagation.specs.Blocks.{AllAreMet, Ascend, IsHeld, IsMetIn};
-ghost use Rattle.back_propagation.specs.Offering.{place_of, IsSlotAt, after_entry};
+ghost use Rattle.back_propagation.specs.Offering.{place_in_slots, IsSlotAt, after_entry};
 ghost use Rattle.back_propagation.specs.OpenRows.{IsOffering, HasOffered};
 
 use crate::open_row::{Basis, OpenRow};
@@ -289,8 +289,8 @@ fn link_of(net: &Network, name: LinkId) -> Link
 
 /// The place of the slot of a source and a column, where there are so many slots for each source.
 pub(crate) fn place_of(width: usize, from: PointId, column: usize) -> usize
-    requires { place_of width from column < 2 ^ 64 }
-    ensures { result ≡ place_of width from column }
+    requires { place_in_slots width from column < 2 ^ 64 }
+    ensures { result ≡ place_in_slots width from column }
 {
     from.0 as usize * width + column
 }

@@ -2,3 +2,4 @@ pub mod MarkLemmas
 pub mod RestLemmas
 pub mod NumberLemmas
 pub mod PlainLemmas
+mod RowLemmas

@@ -2,3 +2,4 @@ pub mod Marks
 pub mod Numbers
 pub mod Supported
 pub mod SupportCode
+pub mod Rows

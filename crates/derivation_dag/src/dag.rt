@@ -43,6 +43,11 @@ impl Dag {
         }
     }
 
+    /// The allocator that it keeps for its growth.
+    pub(crate) fn allocator(&self) -> Global {
+        *self.nodes.allocator()
+    }
+
     /// Puts a node at the end of the list, and gives its number. Its premises are nodes of the list, and its rule gives its edge
     /// from them in the network. `AllocError` comes only for want of memory, and changes nothing.
     pub fn push(&mut self, net: &Network, node: Node) -> Result<NodeId, AllocError>

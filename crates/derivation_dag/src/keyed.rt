@@ -43,6 +43,11 @@ impl KeyedDag {
         }
     }
 
+    /// The allocator that it keeps for its growth.
+    pub(crate) fn allocator(&self) -> Global {
+        self.dag.allocator()
+    }
+
     /// The list.
     pub(crate) fn dag(&self) -> &Dag
         ensures { result.now ≡ self.now }

@@ -5,11 +5,13 @@ ghost use Rattle.net_model.specs.Limits.{most_size, IsWeight};
 ghost use Rattle.closure_model.specs.Keys.{key_of, IsKey};
 ghost use Rattle.closure_model.specs.Tables.{weight_of, IsFor};
 ghost use Rattle.closure_model.specs.Derivations.{base_support, bound_node, link_node, with_node, IsGiven, StandsOn};
-ghost use Rattle.derivation_dag.specs.Supported.{no_support, restored};
+ghost use Rattle.derivation_dag.specs.Rows.{CanTakeRow, with_row};
+ghost use Rattle.derivation_dag.specs.Supported.{no_support, restored, IsSupported};
 
 use crate::dag::Dag;
 use crate::keyed::KeyedDag;
-use crate::supports::Supports;
+use crate::made::push_row;
+use crate::supports::{MadeRow, Supports};
 use closure_model::{Node, NodeId, Rule};
 use labelled_graph::Table;
 use net_model::{Bound, BoundId, Edge, Link, LinkId, Network, Weight, bound_edge, link_edge};
@@ -113,6 +115,38 @@ impl Supports for Plain {
             }
         }
     }
+
+    fn accept_row(&mut self, net: &Network, row: &MadeRow<'_>) -> Result<(), AllocError> {
+        // The proof reads here that the network is sound.
+        let _ = net.points();
+        match take_row(net, &mut self.list, &mut self.table, row) {
+            Ok(()) => Ok(()),
+            Err(error) => {
+                // The list has nodes then whose edges are not in the table.
+                let alloc = self.list.allocator();
+                self.list = KeyedDag::new(alloc);
+                self.table = Table::empty(alloc);
+                Err(error)
+            }
+        }
+    }
+}
+
+/// Puts the nodes of what a row made into a list, and its edges into a table.
+fn take_row(
+    net: &Network,
+    list: &mut KeyedDag,
+    table: &mut Table,
+    row: &MadeRow<'_>,
+) -> Result<(), AllocError>
+    requires supported { IsSupported (record { nodes = list.old; table = table.old }) }
+    requires row { CanTakeRow net.now (record { nodes = list.old; table = table.old }) row.now.target row.now.made.now row.now.firsts.now }
+    ensures { OnOk result (record { nodes = list.new; table = table.new } ≡ with_row (record { nodes = list.old; table = table.old }) row.now.made.now row.now.firsts.now) }
+{
+    // The proof reads here that the network is sound.
+    let _ = net.points();
+    push_row(net, list, row)?;
+    table.lower_all(row.target, row.made)
 }
 
 fn push_bounds(list: &mut KeyedDag, net: &Network) -> Result<(), AllocError>

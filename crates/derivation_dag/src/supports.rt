@@ -1,13 +1,23 @@
-ghost use Rattle.std.specs.Prelude.{◌≡◌, false, length, IfOk};
+ghost use Rattle.std.specs.Prelude.{◌≡◌, false, length, IfOk, OnOk};
 ghost use Rattle.net_model.specs.Edges.{IsEdge};
 ghost use Rattle.closure_model.specs.Keys.{key_of};
 ghost use Rattle.closure_model.specs.Tables.{IsFor, has_at_most, weight_of};
 ghost use Rattle.closure_model.specs.Derivations.{Support, IsGiven, IsNewest, weight_at, with_node};
+ghost use Rattle.derivation_dag.specs.Rows.{CanTakeRow, with_row};
 
+use closure_model::rows::Made;
 use closure_model::{Node, NodeId};
 use labelled_graph::Table;
-use net_model::{Edge, Network};
+use net_model::{Edge, Network, PointId};
 use std::alloc::AllocError;
+
+/// The edges that a row made for a target, and for each the node that its first premise had before the round, where its rule takes two.
+#[derive(Clone, Copy, Debug)]
+pub struct MadeRow<'a> {
+    pub target: PointId,
+    pub made: &'a [Made],
+    pub firsts: &'a [Option<NodeId>],
+}
 
 /// A store of derivations: a derivation list with the table of the least edges of its nodes.
 pub trait Supports {
@@ -33,4 +43,11 @@ pub trait Supports {
         requires follows { IsGiven net.now (support self.old).nodes node }
         requires lowers { has_at_most (support self.old).table node.edge ≡ false }
         ensures { IfOk result (λ id. (id.0 ≡ length (support self.old).nodes) × (support self.new ≡ with_node (support self.old) node)) };
+
+    /// Gives each edge that a row made its node, one after another, and puts the edges into the table, going over its row once. The table
+    /// is for the points and links of the network, the edges are such of the network that end in the target and fall, and each has its rule
+    /// from nodes of the list. `AllocError` comes only for want of memory; then the store is lost, and the caller drops it.
+    fn accept_row(&mut self, net: &Network, row: &MadeRow<'_>) -> Result<(), AllocError>
+        requires { CanTakeRow net.now (support self.old) row.now.target row.now.made.now row.now.firsts.now }
+        ensures { OnOk result (support self.new ≡ with_row (support self.old) row.now.made.now row.now.firsts.now) };
 }

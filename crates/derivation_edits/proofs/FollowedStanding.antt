@@ -13,7 +13,7 @@ use Rattle.closure_model.proofs.Lists.{Contains-none, Contains-map_from}
 use Rattle.closure_model.proofs.Made.{rests_cases}
 use Rattle.closure_model.proofs.Nodes.{listed_at}
 use Rattle.closure_model.proofs.Standing.{base_given, list_pushed}
-use Rattle.derivation_edits.specs.Following.{Renumbering, IsRenumbering, RestsOnTaken, moved_rule, moved_node, place_at, followed, IsPlaced, IsMovedBase, AreNewBase, followed_support}
+use Rattle.derivation_edits.specs.Following.{Renumbering, IsRenumbering, RestsOnTaken, moved_rule, moved_node, place_at, followed, IsKeptOrTaken, IsMovedBase, AreNewBase, followed_support}
 use Rattle.derivation_edits.specs.FollowingLaws.{FollowedStands}
 use Rattle.derivation_edits.proofs.Keeping.{made_of}
 use Rattle.derivation_edits.proofs.KeptDerived.{DerivedSoFar, all_derived}
@@ -64,7 +64,7 @@ module _ (old new : Plan) (moves : Renumbering) (news : List Node) (support : Su
           from (inl uses) = let (rule, some, made_is) = made_of moves what node (moved_rule moves [] what.rule) moved in item_kept moves [] what.rule rule some item uses taken
           from (inr (premise, among, under)) = Contains-none premise (subst (λ (ps : List NodeId). Contains ps premise) (no_premises old what based) among)
 
-      by : (o : Option NodeId) → IsPlaced moves support.nodes (followed moves support.nodes).places (followed moves support.nodes).kept (record { 0 = at.0 }) what o → Contains (followed moves support.nodes).kept node
+      by : (o : Option NodeId) → IsKeptOrTaken moves support.nodes (followed moves support.nodes).places (followed moves support.nodes).kept (record { 0 = at.0 }) what o → Contains (followed moves support.nodes).kept node
       by None rests = absurd (free rests)
       by (Some place) kept =
           let both : Some kept.made ≡ Some node = sym kept.moved ∙ (unplaced moves (followed moves support.nodes).places old what based ∙ moved) in

@@ -14,7 +14,7 @@ use Rattle.closure_model.specs.declared.derivation.NodeId.{NodeId}
 use Rattle.closure_model.specs.declared.derivation.Rule.{Rule}
 use Rattle.closure_model.proofs.Made.{rests_cases, rests_by, rests_itself}
 use Rattle.closure_model.proofs.Nodes.{before_push, at_push}
-use Rattle.derivation_edits.specs.Following.{Renumbering, RestsOnTaken, IsTaken, Following, none_followed, placed, follow_node, place_at, moved_rule, moved_node, moved_edge, followed, IsKeptAt, IsPlaced}
+use Rattle.derivation_edits.specs.Following.{Renumbering, RestsOnTaken, IsTakenAway, Following, none_followed, placed, follow_node, place_at, moved_rule, moved_node, moved_edge, followed, IsKeptAt, IsKeptOrTaken}
 use Rattle.derivation_edits.specs.FollowingLaws.{KeptIsWhatRestsOnNothingTaken}
 use Rattle.derivation_edits.proofs.MovedPremises.{place_before, place_last, placed_within, lacking, premises_have, item_kept, moved_rule_more}
 use Rattle.derivation_edits.proofs.Prefixes.{over_all}
@@ -22,7 +22,7 @@ use Rattle.derivation_edits.proofs.Prefixes.{over_all}
 -- the first nodes have their places or rest on something taken away
 pub record KeptSoFar (moves : Renumbering) (nodes : List Node) (n : ℕ) (so_far : Following) : Type 0 where
   pub size : length so_far.places ≡ n
-  pub each : (id : NodeId) (node : Node) → id.0 < n → node_at nodes id ≡ Some node → IsPlaced moves nodes so_far.places so_far.kept id node (place_at so_far.places id)
+  pub each : (id : NodeId) (node : Node) → id.0 < n → node_at nodes id ≡ Some node → IsKeptOrTaken moves nodes so_far.places so_far.kept id node (place_at so_far.places id)
   pub rising : (one two place other : NodeId) → one.0 < two.0 → place_at so_far.places one ≡ Some place → place_at so_far.places two ≡ Some other → place.0 < other.0
   pub inside : (id place : NodeId) → place_at so_far.places id ≡ Some place → place.0 < length so_far.kept
   pub whole : (place : NodeId) → place.0 < length so_far.kept → (id : NodeId) × (place_at so_far.places id ≡ Some place)
@@ -60,12 +60,12 @@ module _ (moves : Renumbering) (nodes : List Node) (earlier : PremisesStandEarli
     rests : moved_rule moves so_far.places node.rule ≡ None → RestsOnTaken moves nodes this
     rests none = by (lacking moves so_far.places node.rule none)
       where
-        by : ((what : Item) × IsTaken moves what × (item_of node.rule ≡ Some what)) ⊎ ((premise : NodeId) × Contains (premises_of node.rule) premise × (place_at so_far.places premise ≡ None)) → RestsOnTaken moves nodes this
+        by : ((what : Item) × IsTakenAway moves what × (item_of node.rule ≡ Some what)) ⊎ ((premise : NodeId) × Contains (premises_of node.rule) premise × (place_at so_far.places premise ≡ None)) → RestsOnTaken moves nodes this
         by (inl (what, taken, uses)) = (what, taken, rests_itself nodes this node what here uses)
         by (inr (premise, among, lacks)) =
             let (other, there) = premise_node premise (below premise among) in
             let (what, taken, rests_on) : RestsOnTaken moves nodes premise =
-            subst (IsPlaced moves nodes so_far.places so_far.kept premise other) lacks (was.each premise other (below premise among) there) in
+            subst (IsKeptOrTaken moves nodes so_far.places so_far.kept premise other) lacks (was.each premise other (below premise among) there) in
             (what, taken, rests_by nodes this premise node what here among rests_on)
 
     -- where it has, the node rests on nothing taken away
@@ -78,7 +78,7 @@ module _ (moves : Renumbering) (nodes : List Node) (earlier : PremisesStandEarli
             let (place, has) = premises_have moves so_far.places node.rule rule some premise among in
             let (other, there) = premise_node premise (below premise among) in
             let kept : IsKeptAt moves nodes so_far.places so_far.kept premise other place =
-            subst (IsPlaced moves nodes so_far.places so_far.kept premise other) has (was.each premise other (below premise among) there) in
+            subst (IsKeptOrTaken moves nodes so_far.places so_far.kept premise other) has (was.each premise other (below premise among) there) in
             kept.free (what, taken, under)
 
     premises_placed : (other : Node) (id : NodeId) → id.0 < suc n → node_at nodes id ≡ Some other → All (λ (premise : NodeId). premise.0 < length so_far.places) (premises_of other.rule)
@@ -91,12 +91,12 @@ module _ (moves : Renumbering) (nodes : List Node) (earlier : PremisesStandEarli
 
     -- what was kept stays kept
     stays : (last : Option NodeId) (kept : List Node) → ((k : ℕ) (m : Node) → slice_get so_far.kept k ≡ Some m → slice_get kept k ≡ Some m) → (id : NodeId) (other : Node) → id.0 < n → node_at nodes id ≡ Some other
-        → IsPlaced moves nodes (so_far.places ++ last ∷ []) kept id other (place_at (so_far.places ++ last ∷ []) id)
+        → IsKeptOrTaken moves nodes (so_far.places ++ last ∷ []) kept id other (place_at (so_far.places ++ last ∷ []) id)
     stays last kept more id other before there =
-        subst (IsPlaced moves nodes (so_far.places ++ last ∷ []) kept id other) (sym (place_before so_far.places last id (let size : length so_far.places ≡ n = was.size in omega arith)))
+        subst (IsKeptOrTaken moves nodes (so_far.places ++ last ∷ []) kept id other) (sym (place_before so_far.places last id (let size : length so_far.places ≡ n = was.size in omega arith)))
         (by (place_at so_far.places id) (was.each id other before there))
       where
-        by : (o : Option NodeId) → IsPlaced moves nodes so_far.places so_far.kept id other o → IsPlaced moves nodes (so_far.places ++ last ∷ []) kept id other o
+        by : (o : Option NodeId) → IsKeptOrTaken moves nodes so_far.places so_far.kept id other o → IsKeptOrTaken moves nodes (so_far.places ++ last ∷ []) kept id other o
         by None rests_on = rests_on
         by (Some place) is = record { free = is.free; made = is.made; moved = moved_more last other id (omega arith) there ∙ is.moved; here = more place.0 is.made is.here }
 
@@ -125,14 +125,14 @@ module _ (moves : Renumbering) (nodes : List Node) (earlier : PremisesStandEarli
       whole = whole;
     }
       where
-        each : (id : NodeId) (other : Node) → id.0 < suc n → node_at nodes id ≡ Some other → IsPlaced moves nodes (so_far.places ++ None ∷ []) so_far.kept id other (place_at (so_far.places ++ None ∷ []) id)
+        each : (id : NodeId) (other : Node) → id.0 < suc n → node_at nodes id ≡ Some other → IsKeptOrTaken moves nodes (so_far.places ++ None ∷ []) so_far.kept id other (place_at (so_far.places ++ None ∷ []) id)
         each id other before there = by (id.0 == n) refl
           where
-            by : (b : Bool) → (id.0 == n) ≡ b → IsPlaced moves nodes (so_far.places ++ None ∷ []) so_far.kept id other (place_at (so_far.places ++ None ∷ []) id)
+            by : (b : Bool) → (id.0 == n) ≡ b → IsKeptOrTaken moves nodes (so_far.places ++ None ∷ []) so_far.kept id other (place_at (so_far.places ++ None ∷ []) id)
             by true same =
                 let end : id.0 ≡ n = eqb-true id.0 n same in
                 let is : this ≡ id = ap (λ (k : ℕ). record { 0 = k }) (sym end) in
-                subst (IsPlaced moves nodes (so_far.places ++ None ∷ []) so_far.kept id other) (sym (place_last so_far.places None id (end ∙ sym was.size)))
+                subst (IsKeptOrTaken moves nodes (so_far.places ++ None ∷ []) so_far.kept id other) (sym (place_last so_far.places None id (end ∙ sym was.size)))
                 (subst (RestsOnTaken moves nodes) is (rests (mapped_node moves node (moved_rule moves so_far.places node.rule) none)))
             by false apart = stays None so_far.kept (λ k m is. is) id other (let differ : id.0 ≢ n = eqb-false id.0 n apart in omega arith) there
 
@@ -172,17 +172,17 @@ module _ (moves : Renumbering) (nodes : List Node) (earlier : PremisesStandEarli
         longer : length more ≡ length so_far.kept + 1
         longer = length-append so_far.kept (made ∷ [])
 
-        each : (id : NodeId) (other : Node) → id.0 < suc n → node_at nodes id ≡ Some other → IsPlaced moves nodes (so_far.places ++ Some new ∷ []) more id other (place_at (so_far.places ++ Some new ∷ []) id)
+        each : (id : NodeId) (other : Node) → id.0 < suc n → node_at nodes id ≡ Some other → IsKeptOrTaken moves nodes (so_far.places ++ Some new ∷ []) more id other (place_at (so_far.places ++ Some new ∷ []) id)
         each id other before there = by (id.0 == n) refl
           where
-            by : (b : Bool) → (id.0 == n) ≡ b → IsPlaced moves nodes (so_far.places ++ Some new ∷ []) more id other (place_at (so_far.places ++ Some new ∷ []) id)
+            by : (b : Bool) → (id.0 == n) ≡ b → IsKeptOrTaken moves nodes (so_far.places ++ Some new ∷ []) more id other (place_at (so_far.places ++ Some new ∷ []) id)
             by true same =
                 let end : id.0 ≡ n = eqb-true id.0 n same in
                 let is : this ≡ id = ap (λ (k : ℕ). record { 0 = k }) (sym end) in
                 let both : Some node ≡ Some other = sym here ∙ (ap (node_at nodes) is ∙ there) in
                 let one : node ≡ other = cc in
                 let (rule, rule_is, made_is) = made_of moves node made (moved_rule moves so_far.places node.rule) some in
-                subst (IsPlaced moves nodes (so_far.places ++ Some new ∷ []) more id other) (sym (place_last so_far.places (Some new) id (end ∙ sym was.size)))
+                subst (IsKeptOrTaken moves nodes (so_far.places ++ Some new ∷ []) more id other) (sym (place_last so_far.places (Some new) id (end ∙ sym was.size)))
                 (record {
                   free = subst (λ (i : NodeId). ¬ RestsOnTaken moves nodes i) is (free rule rule_is);
                   made = made;

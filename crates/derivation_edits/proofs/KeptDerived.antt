@@ -16,7 +16,7 @@ use Rattle.closure_model.specs.declared.derivation.Rule.{Rule}
 use Rattle.closure_model.proofs.Made.{Made, made_bound, made_link, made_no, made_up, made_low, made_cross, made_drop, made_at, premises_earlier, labelled_rests}
 use Rattle.closure_model.proofs.Nodes.{IsPremise}
 use Rattle.closure_model.proofs.Standing.{list_pushed}
-use Rattle.derivation_edits.specs.Following.{Renumbering, IsRenumbering, moved_link, moved_edge, Following, none_followed, placed, follow_node, place_at, moved_rule, moved_node, followed, IsKeptAt, IsPlaced}
+use Rattle.derivation_edits.specs.Following.{Renumbering, IsRenumbering, moved_link, moved_edge, Following, none_followed, placed, follow_node, place_at, moved_rule, moved_node, followed, IsKeptAt, IsKeptOrTaken}
 use Rattle.derivation_edits.specs.FollowingLaws.{KeptIsDerived}
 use Rattle.derivation_edits.proofs.Keeping.{KeptSoFar, made_of, none_kept, one_followed}
 use Rattle.derivation_edits.proofs.MovedPremises.{both_of_two, one_of_one}
@@ -30,7 +30,7 @@ link_moved moves name place link there = ap (λ (o : Option LinkId). record { fr
 module _ (old new : Plan) (moves : Renumbering) (is : IsRenumbering old new moves) (nodes : List Node) (list : IsDerivationList old nodes) where
   module _ (n : ℕ) (node : Node) (so_far : Following) (here : slice_get nodes n ≡ Some node) (was : KeptSoFar moves nodes n so_far) where
     premise_kept : (id place : NodeId) (edge : Edge) → (read : IsPremise nodes n id edge) → place_at so_far.places id ≡ Some place → IsKeptAt moves nodes so_far.places so_far.kept id read.node place
-    premise_kept id place edge read has = subst (IsPlaced moves nodes so_far.places so_far.kept id read.node) has (was.each id read.node read.earlier read.here)
+    premise_kept id place edge read has = subst (IsKeptOrTaken moves nodes so_far.places so_far.kept id read.node) has (was.each id read.node read.earlier read.here)
 
     -- the edge of a premise that is kept
     premise_moved : (id place : NodeId) (edge : Edge) → IsPremise nodes n id edge → place_at so_far.places id ≡ Some place → edge_at so_far.kept place ≡ Some (moved_edge moves edge)

@@ -15,7 +15,7 @@ use Rattle.closure_model.specs.declared.derivation.NodeId.{NodeId}
 use Rattle.closure_model.specs.declared.derivation.Rule.TheVariants as by_rule
 use Rattle.closure_model.specs.declared.derivation.Rule.{Rule}
 use Rattle.closure_model.proofs.Lists.{Contains-head, Contains-tail, Contains-cases, Contains-none}
-use Rattle.derivation_edits.specs.Following.{Renumbering, IsTaken, place_at, moved_rule}
+use Rattle.derivation_edits.specs.Following.{Renumbering, IsTakenAway, place_at, moved_rule}
 
 -- ---- places, after one more
 module _ (places : List (Option NodeId)) (last : Option NodeId) where
@@ -60,7 +60,7 @@ one_of_one P (Some x) made is = (x, refl, cc)
 module _ (moves : Renumbering) (places : List (Option NodeId)) where
   -- what keeps a rule from having new numbers
   abbrev Lacks : Rule → Type 0
-  Lacks rule = ((what : Item) × IsTaken moves what × (item_of rule ≡ Some what)) ⊎ ((premise : NodeId) × Contains (premises_of rule) premise × (place_at places premise ≡ None))
+  Lacks rule = ((what : Item) × IsTakenAway moves what × (item_of rule ≡ Some what)) ⊎ ((premise : NodeId) × Contains (premises_of rule) premise × (place_at places premise ≡ None))
 
   two_lack : (first second : NodeId) (rule : Rule) → premises_of rule ≡ first ∷ second ∷ [] → (place_at places first ≡ None) ⊎ (place_at places second ≡ None) → Lacks rule
   two_lack first second rule are (inl none) = inr (first, subst (λ (ps : List NodeId). Contains ps first) (sym are) (Contains-head first (second ∷ [])), none)
@@ -120,7 +120,7 @@ module _ (moves : Renumbering) (places : List (Option NodeId)) where
   not_taken : (name other : LinkId) (place : LinkId) → moves.links name ≡ Some place → Some (item.Link name) ≡ Some (item.Link other) → moves.links other ≡ None → ⊥
   not_taken name other place there same none = let is : name ≡ other = cc in let both : Some place ≡ None = sym there ∙ (ap moves.links is ∙ none) in absurd cc
 
-  pub item_kept : (rule made : Rule) → moved_rule moves places rule ≡ Some made → (what : Item) → item_of rule ≡ Some what → IsTaken moves what → ⊥
+  pub item_kept : (rule made : Rule) → moved_rule moves places rule ≡ Some made → (what : Item) → item_of rule ≡ Some what → IsTakenAway moves what → ⊥
   item_kept (by_rule.Bound name) made is (item.Bound other) uses taken =
       let (place, there, same) = one_of_one by_rule.Bound (moves.bounds name) made is in
       let names : name ≡ other = cc in

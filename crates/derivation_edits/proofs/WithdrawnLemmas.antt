@@ -14,7 +14,7 @@ use Rattle.closure_model.specs.declared.derivation.Node.{Node}
 use Rattle.closure_model.specs.declared.derivation.NodeId.{NodeId}
 use Rattle.closure_model.specs.declared.derivation.Rule.{Rule}
 use Rattle.closure_model.proofs.Made.{Made, made_bound, made_link, made_no, made_up, made_low, made_cross, made_drop, made_at}
-use Rattle.derivation_edits.specs.Following.{IsTaken, RestsOnTaken, place_at, IsPlaced}
+use Rattle.derivation_edits.specs.Following.{IsTakenAway, RestsOnTaken, place_at, IsKeptOrTaken}
 use Rattle.derivation_edits.specs.Taken.{renumbering}
 use Rattle.derivation_edits.specs.TakenAway.{HasEditedParts, Takes, RestsOnWhatGoes, EditsWithdrawNodes}
 use Rattle.derivation_edits.proofs.TakenLemmas.{edits_take_bounds, edits_take_links}
@@ -40,11 +40,11 @@ module _ (net : Plan) where
   used_stands nodes edge rule limit what (made_drop premise one read_one gave) uses = absurd cc
 
 module _ (old : Plan) (edit : Edit) (new : Plan) (before : IsPlan old) (after : IsPlan new) (has : HasEditedParts old edit new) where
-  goes : (what : Item) → Stands old what → IsTaken (renumbering old edit new) what → Takes old edit new what
+  goes : (what : Item) → Stands old what → IsTakenAway (renumbering old edit new) what → Takes old edit new what
   goes (item.Bound id) (bound, here) taken = (bound, here, (edits_take_bounds old edit new id bound before after has here).0 taken)
   goes (item.Link id) (link, here) taken = (link, here, (edits_take_links old edit new id link before after has here).0 taken)
 
-  taken_of : (what : Item) → Takes old edit new what → IsTaken (renumbering old edit new) what
+  taken_of : (what : Item) → Takes old edit new what → IsTakenAway (renumbering old edit new) what
   taken_of (item.Bound id) (bound, here, takes) = (edits_take_bounds old edit new id bound before after has here).1 takes
   taken_of (item.Link id) (link, here, takes) = (edits_take_links old edit new id link before after has here).1 takes
 
@@ -59,13 +59,13 @@ module _ (old : Plan) (edit : Edit) (new : Plan) (before : IsPlan old) (after : 
 pub edits_withdraw_nodes : EditsWithdrawNodes
 edits_withdraw_nodes old edit new nodes following before after has list are id node here = (withdrawn, gone)
   where
-    kept : IsPlaced (renumbering old edit new) nodes following.places following.kept id node (place_at following.places id)
+    kept : IsKeptOrTaken (renumbering old edit new) nodes following.places following.kept id node (place_at following.places id)
     kept = are.each id node here
 
     withdrawn : place_at following.places id ≡ None → RestsOnWhatGoes old edit new nodes id
-    withdrawn none = rests_on_what_goes old edit new before after has nodes list id (subst (IsPlaced (renumbering old edit new) nodes following.places following.kept id node) none kept)
+    withdrawn none = rests_on_what_goes old edit new before after has nodes list id (subst (IsKeptOrTaken (renumbering old edit new) nodes following.places following.kept id node) none kept)
 
-    by : (o : Option NodeId) → IsPlaced (renumbering old edit new) nodes following.places following.kept id node o → RestsOnTaken (renumbering old edit new) nodes id → o ≡ None
+    by : (o : Option NodeId) → IsKeptOrTaken (renumbering old edit new) nodes following.places following.kept id node o → RestsOnTaken (renumbering old edit new) nodes id → o ≡ None
     by None placed rests = refl
     by (Some place) placed rests = absurd (placed.free rests)
 

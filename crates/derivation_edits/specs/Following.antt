@@ -41,13 +41,13 @@ pub record IsRenumbering (old new : Plan) (moves : Renumbering) : Type 0 where
   pub apart : (one two place : LinkId) → moves.links one ≡ Some place → moves.links two ≡ Some place → one ≡ two
 
 -- a bound or a link is taken away
-abbrev pub IsTaken : Renumbering → Item → Type 0
-IsTaken moves (item.Bound id) = moves.bounds id ≡ None
-IsTaken moves (item.Link id) = moves.links id ≡ None
+abbrev pub IsTakenAway : Renumbering → Item → Type 0
+IsTakenAway moves (item.Bound id) = moves.bounds id ≡ None
+IsTakenAway moves (item.Link id) = moves.links id ≡ None
 
 -- a node rests on something that is taken away
 abbrev pub RestsOnTaken : Renumbering → List Node → NodeId → Type 0
-RestsOnTaken moves nodes id = (what : Item) × IsTaken moves what × RestsOn nodes id what
+RestsOnTaken moves nodes id = (what : Item) × IsTakenAway moves what × RestsOn nodes id what
 
 -- the number of a label in the edited network; one that is taken away keeps its own
 abbrev pub moved_label : Renumbering → LinkId → LinkId
@@ -103,9 +103,9 @@ pub record IsKeptAt (moves : Renumbering) (nodes : List Node) (places : List (Op
   pub moved : moved_node moves places node ≡ Some made
   pub here : node_at kept place ≡ Some made
 
-abbrev pub IsPlaced : Renumbering → (nodes : List Node) → List (Option NodeId) → List Node → NodeId → Node → Option NodeId → Type 0
-IsPlaced moves nodes places kept id node None = RestsOnTaken moves nodes id
-IsPlaced moves nodes places kept id node (Some place) = IsKeptAt moves nodes places kept id node place
+abbrev pub IsKeptOrTaken : Renumbering → (nodes : List Node) → List (Option NodeId) → List Node → NodeId → Node → Option NodeId → Type 0
+IsKeptOrTaken moves nodes places kept id node None = RestsOnTaken moves nodes id
+IsKeptOrTaken moves nodes places kept id node (Some place) = IsKeptAt moves nodes places kept id node place
 
 -- a base node of the edited network is that of a bound or a link of the old one that is not taken away
 abbrev pub IsMovedBase : Plan → Plan → Renumbering → Node → Type 0

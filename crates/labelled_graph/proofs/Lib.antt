@@ -4,3 +4,6 @@ mod ListedLemmas
 mod LoopLemmas
 mod WordLemmas
 mod MirrorLemmas
+mod MergeLemmas
+mod LowerLemmas
+mod SoonLemmas

@@ -3,7 +3,7 @@ use Rattle.std.specs.Prelude.{int_lt, ◌<ℤ◌}
 use Rattle.std.specs.Ordering.{int_eq}
 use Rattle.std.proofs.lemmas.Int.{ints}
 use Rattle.closure_model.proofs.Weights.{same_weight}
-use Rattle.std.proofs.Common.{◌≡◌, ◌≢◌, ℕ, ◌+◌, ◌==◌, ◌<◌, ℤ, zero, suc, Bool, true, false, cond, List, [], ◌∷◌, ◌++◌, length, get_or, set, get_or-set_same, get_or-set_other, length-set, Option, Some, None, refl, ap, sym, subst, ◌∙◌, arith}
+use Rattle.std.proofs.Common.{◌≡◌, ◌≢◌, ℕ, ◌==◌, ◌<◌, ℤ, zero, suc, Bool, true, false, cond, List, [], ◌∷◌, length, get_or, set, get_or-set_same, get_or-set_other, length-set, Option, Some, None, refl, ap, sym, subst, ◌∙◌, arith}
 use Rattle.std.specs.FinMap as map_of
 use Rattle.std.proofs.lemmas.Bool.{eqb-true}
 use Rattle.std.proofs.lemmas.Bool.Decides.{nat_tests}
@@ -13,9 +13,15 @@ use Rattle.net_model.specs.declared.part.Edge.{Edge}
 use Rattle.closure_model.specs.Keys.{Key, key_of, ordinary_key}
 use Rattle.closure_model.proofs.KeyOrder.{key_test, key_total, test_apart}
 use Rattle.labelled_graph.specs.declared.entry.Entry.{Entry}
+use Rattle.labelled_graph.specs.Entries.{key_into}
+use Rattle.labelled_graph.specs.Merging.{row_set, weights_set, word_set, words_set, IsMerged}
 use Rattle.labelled_graph.specs.Rows.{TargetRow, row_with, mirrored, mirrored_for, AllFitIn, AreRising, IsKept, IsMirrorOf}
 use Rattle.labelled_graph.specs.Words.{absent, held, least_word, word_of, IsTold, MeetsHeld}
+use Rattle.labelled_graph.proofs.MergeLemmas.{row_of_entries}
 use Rattle.labelled_graph.proofs.StoredLemmas.{same_point, IsChangedAt}
+use Rattle.std.specs.FinMap.{get-from_sorted}
+use Rattle.closure_model.specs.Keys.{key_cmp}
+use Rattle.std.proofs.Common.{replicate}
 use Rattle.labelled_graph.proofs.WordLemmas.{word_of_same}
 
 -- ---- one key changed
@@ -69,39 +75,48 @@ pub kept_gone : (to : PointId) (xs ys : List Entry) (words new : List (Option �
 kept_gone to xs ys words new row edge kept view ends (rises, is) erased =
     kept_after to xs ys words new row (record row { weights = map_of.remove row.weights (key_of edge) }) (key_of edge) None kept view rises is ends refl (map_of.get-remove key_total row.weights (key_of edge)) erased
 
--- ---- a dense row made place after place
-last_item : {A : Type 0} (xs : List A) (x d : A) → get_or (xs ++ x ∷ []) (length xs) d ≡ x
-last_item [] x d = refl
-last_item (y ∷ xs) x d = last_item xs x d
+-- a dense row says what a row has after the keys of entries were given their weights
+mirror_set : (row : TargetRow) (words : List (Option ℤ)) (new : List Entry) → IsMirrorOf row words → IsMirrorOf (row_set row new) (words_set words new)
+mirror_set row words [] mirror = mirror
+mirror_set row words (entry ∷ new) mirror =
+    let after : TargetRow = record row { weights = weights_set row.to row.weights entry } in
+    mirror_set after (word_set words entry) new
+    (mirror_changed row after words mirror (key_into row.to entry) (Some entry.weight) refl refl (map_of.get-insert key_total row.weights (key_into row.to entry) entry.weight))
 
-item_before : {A : Type 0} (xs : List A) (x d : A) (k : ℕ) → k < length xs → get_or (xs ++ x ∷ []) k d ≡ get_or xs k d
-item_before [] x d k inside = absurd (omega (arith, inside))
-item_before (y ∷ xs) x d zero inside = refl
-item_before (y ∷ xs) x d (suc k) inside = item_before xs x d k (omega (arith, inside))
+pub kept_merged : (to : PointId) (xs ys read new : List Entry) (words after : List (Option ℤ)) (row : TargetRow) → IsKept to xs words → row_with to xs ≡ row → AreRising row.to new → read ≡ xs
+    → ((t : PointId) → AreRising t read → AreRising t new → IsMerged t read new ys) → after ≡ words_set words new → IsKept to ys after
+kept_merged to xs ys read new words after row kept view rises is merged written =
+    let target : row.to ≡ to = sym (ap (λ (r : TargetRow). r.to) view) in
+    let whole : IsMerged to xs new ys =
+    subst (λ (es : List Entry). IsMerged to es new ys) is (merged to (subst (AreRising to) (sym is) kept.rises) (subst (λ (t : PointId). AreRising t new) target rises)) in
+    record {
+      rises = whole.rises;
+      mirror = subst (λ (r : TargetRow). IsMirrorOf r after) (sym whole.row) (subst (IsMirrorOf (row_set (row_with to xs) new)) (sym written) (mirror_set (row_with to xs) words new kept.mirror));
+    }
 
-one_longer : {A : Type 0} (xs : List A) (x : A) → length (xs ++ x ∷ []) ≡ length xs + 1
-one_longer [] x = refl
-one_longer (y ∷ xs) x = let rest = one_longer xs x in omega (arith, rest)
+pub row_merged : (to : PointId) (xs ys read new : List Entry) (words : List (Option ℤ)) (row : TargetRow) → IsKept to xs words → row_with to xs ≡ row → AreRising row.to new → read ≡ xs → ((t : PointId) → AreRising t read → AreRising t new → IsMerged t read new ys)
+    → row_with to ys ≡ row_set row new
+row_merged to xs ys read new words row kept view rises is merged =
+    let target : row.to ≡ to = sym (ap (λ (r : TargetRow). r.to) view) in
+    let whole : IsMerged to xs new ys =
+    subst (λ (es : List Entry). IsMerged to es new ys) is (merged to (subst (AreRising to) (sym is) kept.rises) (subst (λ (t : PointId). AreRising t new) target rises)) in
+    whole.row ∙ ap (λ (r : TargetRow). row_set r new) view
 
-pub mirror_more : (row : TargetRow) (words new : List (Option ℤ)) (k : ℕ) (o : Option ℤ) → length words ≡ k → IsMirrorOf row words → o ≡ map_of.get row.weights (ordinary_key (record { 0 = k }) row.to) → new ≡ words ++ held (word_of o) ∷ []
-    → (length new ≡ k + 1) × IsMirrorOf row new
-mirror_more row words new k o long mirror is made = (ap length made ∙ one_longer words (held (word_of o)) ∙ ap (λ n. n + 1) long, subst (IsMirrorOf row) (sym made) more)
+-- ---- a dense row made of all entries
+same_at : (o : Option ℤ) (points k : ℕ) → get_or (replicate points o) k o ≡ o
+same_at o zero k = refl
+same_at o (suc points) zero = refl
+same_at o (suc points) (suc k) = same_at o points k
+
+pub mirror_of_all : (to : PointId) (xs read : List Entry) (points : ℕ) (words after : List (Option ℤ)) (row : TargetRow) → row_with to xs ≡ row → AreRising to xs → read ≡ xs → words ≡ replicate points None → after ≡ words_set words read → IsMirrorOf row after
+mirror_of_all to xs read points words after row view rises is none written =
+    subst (IsMirrorOf row) (sym (written ∙ (λ i. words_set (none i) (is i))))
+    (subst (λ (r : TargetRow). IsMirrorOf r (words_set (replicate points None) xs)) (sym (row_of_entries to xs rises) ∙ view) (mirror_set (row_with to []) (replicate points None) xs begins))
   where
-    more : IsMirrorOf row (words ++ held (word_of o) ∷ [])
-    more from inside = by (from.0 == k) refl
-      where
-        by : (b : Bool) → from.0 == k ≡ b → get_or (words ++ held (word_of o) ∷ []) from.0 None ≡ held (word_of (map_of.get row.weights (ordinary_key from row.to)))
-        by true test =
-            let here : from.0 ≡ k = eqb-true from.0 k test in
-            ap (λ n. get_or (words ++ held (word_of o) ∷ []) n None) (here ∙ sym long) ∙ last_item words (held (word_of o)) None
-            ∙ ap (λ (h : Option ℤ). held (word_of h)) (is ∙ ap (λ (p : PointId). map_of.get row.weights (ordinary_key p row.to)) (sym (same_point from (record { 0 = k }) here)))
-        by false test =
-            let apart : from.0 ≢ k = grind (arith, nat_tests) in
-            let there : from.0 < length words = omega (arith, inside, one_longer words (held (word_of o)), long, apart) in
-            item_before words (held (word_of o)) None from.0 there ∙ mirror from there
-
-pub mirror_begins : (row : TargetRow) (words : List (Option ℤ)) → words ≡ [] → IsMirrorOf row words
-mirror_begins row words none from inside = let no : length words ≡ 0 = ap length none in absurd (omega (arith, inside, no))
+    begins : IsMirrorOf (row_with to []) (replicate points None)
+    begins from inside =
+        let has : map_of.get (row_with to []).weights (ordinary_key from to) ≡ None = get-from_sorted key_cmp [] (ordinary_key from to) tt in
+        same_at None points from.0 ∙ sym (ap (λ (o : Option ℤ). held (word_of o)) has)
 
 -- ---- what does not fall
 pub meets_in : (row : TargetRow) (words : List (Option ℤ)) (first : PointId) (there : Option ℤ) (weight : ℤ) → IsMirrorOf row words → AllFitIn row → first.0 < length words → MeetsHeld (get_or words first.0 None) there weight

@@ -19,17 +19,17 @@ use Rattle.closure_model.proofs.KeyOrder.{key_total, same_key, key_itself, key_t
 use Rattle.closure_model.proofs.Entries.{both}
 use Rattle.labelled_graph.specs.declared.entry.Entry.{Entry}
 use Rattle.labelled_graph.specs.Entries.{edge_into, key_into, key_with}
-use Rattle.labelled_graph.specs.Rows.{TargetRow, keyed, row_with, AreRising, IsAt, IsGapFor, IsPlaceOf}
+use Rattle.labelled_graph.specs.Rows.{TargetRow, keyed, row_with, AreRising, IsEntryAt, IsGapFor, IsPlaceOf}
 
 is_less : (o : Ordering) → T (is_lt o) → o ≡ Less
 is_less Less holds = refl
 is_less Equal holds = absurd holds
 is_less Greater holds = absurd holds
 
-turned_less : (a b : Key) → key_cmp a b ≡ Less → key_cmp b a ≡ Greater
+pub turned_less : (a b : Key) → key_cmp a b ≡ Less → key_cmp b a ≡ Greater
 turned_less a b less = key_total.antisymm b a ∙ ap ordering_reverse less
 
-turned_greater : (a b : Key) → key_cmp a b ≡ Greater → key_cmp b a ≡ Less
+pub turned_greater : (a b : Key) → key_cmp a b ≡ Greater → key_cmp b a ≡ Less
 turned_greater a b greater = key_total.antisymm b a ∙ ap ordering_reverse greater
 
 -- ---- a search among entries that rise
@@ -47,12 +47,12 @@ index_rises a b key less = by (key_cmp b key) refl
     by Greater is = index_at_most (key_cmp a key)
 
 module _ (to : PointId) where
-  below_at : (key : Key) (xs : List Entry) → T (below_all key_cmp key (map (keyed to) xs)) → (j : ℕ) (d : Entry) → j < length xs → key_cmp key (key_into to (get_or xs j d)) ≡ Less
+  pub below_at : (key : Key) (xs : List Entry) → T (below_all key_cmp key (map (keyed to) xs)) → (j : ℕ) (d : Entry) → j < length xs → key_cmp key (key_into to (get_or xs j d)) ≡ Less
   below_at key [] below j d inside = absurd (omega arith)
   below_at key (x ∷ xs) below zero d inside = is_less (key_cmp key (key_into to x)) (both _ _ below).0
   below_at key (x ∷ xs) below (suc j) d inside = below_at key xs (both _ _ below).1 j d (omega arith)
 
-  rising_pair : (xs : List Entry) → AreRising to xs → (i j : ℕ) (d : Entry) → i < j → j < length xs → key_cmp (key_into to (get_or xs i d)) (key_into to (get_or xs j d)) ≡ Less
+  pub rising_pair : (xs : List Entry) → AreRising to xs → (i j : ℕ) (d : Entry) → i < j → j < length xs → key_cmp (key_into to (get_or xs i d)) (key_into to (get_or xs j d)) ≡ Less
   rising_pair [] rises i j d less inside = absurd (omega arith)
   rising_pair (x ∷ xs) rises i zero d less inside = absurd (omega arith)
   rising_pair (x ∷ xs) rises zero (suc j) d less inside = below_at (key_into to x) xs (both _ _ rises).0 j d (omega arith)
@@ -77,7 +77,7 @@ module _ (to : PointId) where
   }
 
   -- ---- the rest of a list
-  at_rest : (x : Entry) (xs : List Entry) (key : Key) (i : ℕ) → IsAt to (x ∷ xs) key (suc i) → IsAt to xs key i
+  at_rest : (x : Entry) (xs : List Entry) (key : Key) (i : ℕ) → IsEntryAt to (x ∷ xs) key (suc i) → IsEntryAt to xs key i
   at_rest x xs key i at = record { inside = (let inside = at.inside in omega arith); same = at.same }
 
   gap_rest : (x : Entry) (xs : List Entry) (key : Key) (i : ℕ) → IsGapFor to (x ∷ xs) key (suc i) → IsGapFor to xs key i
@@ -95,11 +95,11 @@ module _ (to : PointId) where
   }
 
   -- the first entry is below the one at a later place
-  first_below : (x : Entry) (xs : List Entry) (key : Key) (i : ℕ) → AreRising to (x ∷ xs) → IsAt to (x ∷ xs) key (suc i) → key_cmp (key_into to x) key ≡ Less
+  first_below : (x : Entry) (xs : List Entry) (key : Key) (i : ℕ) → AreRising to (x ∷ xs) → IsEntryAt to (x ∷ xs) key (suc i) → key_cmp (key_into to x) key ≡ Less
   first_below x xs key i rises at = let inside : i < length xs = (let range = at.inside in omega arith) in ap (key_cmp (key_into to x)) (sym (at.same x)) ∙ below_at (key_into to x) xs (both _ _ rises).0 i x inside
 
   -- ---- what is found
-  find_at : (xs : List Entry) (i : ℕ) (key : Key) (d : Entry) → AreRising to xs → IsAt to xs key i → find key_cmp key (map (keyed to) xs) ≡ Some (get_or xs i d).weight
+  find_at : (xs : List Entry) (i : ℕ) (key : Key) (d : Entry) → AreRising to xs → IsEntryAt to xs key i → find key_cmp key (map (keyed to) xs) ≡ Some (get_or xs i d).weight
   find_at [] i key d rises at = absurd (let range = at.inside in omega arith)
   find_at (x ∷ xs) zero key d rises at =
       let test : eq_by_cmp key_cmp key (key_into to x) ≡ true = (key_test key (key_into to x)).1 (sym (at.same d)) in
@@ -118,7 +118,7 @@ module _ (to : PointId) where
       ∙ find_gap xs i key (gap_rest x xs key i gap)
 
   -- ---- an entry set, put in or taken out
-  put_at : (xs : List Entry) (i : ℕ) (x : Entry) → AreRising to xs → IsAt to xs (key_into to x) i → map (keyed to) (set xs i x) ≡ put key_cmp (key_into to x) x.weight (map (keyed to) xs)
+  pub put_at : (xs : List Entry) (i : ℕ) (x : Entry) → AreRising to xs → IsEntryAt to xs (key_into to x) i → map (keyed to) (set xs i x) ≡ put key_cmp (key_into to x) x.weight (map (keyed to) xs)
   put_at [] i x rises at = absurd (let range = at.inside in omega arith)
   put_at (y ∷ ys) zero x rises at =
       let key = key_into to x in
@@ -133,7 +133,7 @@ module _ (to : PointId) where
       ap (λ es. keyed to y ∷ es) (put_at ys i x (both _ _ rises).1 (at_rest y ys key i at))
       ∙ sym (ap (λ r. by_order r ((key, x.weight) ∷ keyed to y ∷ rest) ((key_into to y, x.weight) ∷ rest) (keyed to y ∷ put key_cmp key x.weight rest)) later)
 
-  put_gap : (xs : List Entry) (i : ℕ) (x : Entry) → IsGapFor to xs (key_into to x) i → map (keyed to) (insert xs i x) ≡ put key_cmp (key_into to x) x.weight (map (keyed to) xs)
+  pub put_gap : (xs : List Entry) (i : ℕ) (x : Entry) → IsGapFor to xs (key_into to x) i → map (keyed to) (insert xs i x) ≡ put key_cmp (key_into to x) x.weight (map (keyed to) xs)
   put_gap [] zero x gap = refl
   put_gap [] (suc i) x gap = absurd (let range = gap.inside in omega arith)
   put_gap (y ∷ ys) zero x gap =
@@ -157,7 +157,7 @@ module _ (to : PointId) where
       let rest = where_key key_cmp (others key) (map (keyed to) xs) in
       ap (λ r. cond (not (is_eq r)) (keyed to x ∷ rest) rest) (is_less (key_cmp key (key_into to x)) (both _ _ below).0) ∙ ap (λ es. keyed to x ∷ es) (keep_above key xs (both _ _ below).1)
 
-  remove_at : (xs : List Entry) (i : ℕ) (key : Key) → AreRising to xs → IsAt to xs key i → map (keyed to) (remove xs i) ≡ where_key key_cmp (others key) (map (keyed to) xs)
+  remove_at : (xs : List Entry) (i : ℕ) (key : Key) → AreRising to xs → IsEntryAt to xs key i → map (keyed to) (remove xs i) ≡ where_key key_cmp (others key) (map (keyed to) xs)
   remove_at [] i key rises at = absurd (let range = at.inside in omega arith)
   remove_at (x ∷ xs) zero key rises at =
       let same : key_into to x ≡ key = at.same x in
@@ -170,7 +170,7 @@ module _ (to : PointId) where
       ∙ sym (ap (λ r. cond (not (is_eq r)) (keyed to x ∷ rest) rest) (turned_less (key_into to x) key (first_below x xs key i rises at)))
 
   -- ---- the row of entries
-  row_put : (xs ys : List Entry) (key : Key) (w : ℤ) → AreRising to xs → map (keyed to) ys ≡ put key_cmp key w (map (keyed to) xs) → AreRising to ys × (row_with to ys ≡ record { to = to; weights = map_of.insert (row_with to xs).weights key w })
+  pub row_put : (xs ys : List Entry) (key : Key) (w : ℤ) → AreRising to xs → map (keyed to) ys ≡ put key_cmp key w (map (keyed to) xs) → AreRising to ys × (row_with to ys ≡ record { to = to; weights = map_of.insert (row_with to xs).weights key w })
   row_put xs ys key w rises is = (rising, λ i. record { to = to; weights = same i })
     where
       rising : AreRising to ys
@@ -235,7 +235,7 @@ module _ (to : PointId) (xs : List Entry) (row : TargetRow) (view : row_with to 
       subst (λ (q : Key). IsPlaceOf to xs q r) same
       (subst (λ (es : List Entry). IsPlaceOf to es (record { to = to; from = key.from; label = key.label }) r) is (place to (subst (AreRising to) (sym is) rises)))
 
-  get_found : (key : Key) (i : ℕ) (d : Entry) → IsAt to xs key i → map_of.get row.weights key ≡ Some (get_or xs i d).weight
+  get_found : (key : Key) (i : ℕ) (d : Entry) → IsEntryAt to xs key i → map_of.get row.weights key ≡ Some (get_or xs i d).weight
   get_found key i d at = ap (λ (m : map_of.FinMap key_cmp ℤ). map_of.get m key) (sym weights) ∙ get-from_sorted key_cmp (map (keyed to) xs) key rises ∙ find_at to xs i key d rises at
 
   get_missed : (key : Key) (i : ℕ) → IsGapFor to xs key i → map_of.get row.weights key ≡ None
@@ -261,7 +261,7 @@ module _ (to : PointId) (xs : List Entry) (row : TargetRow) (view : row_with to 
         (rising, same ∙ (λ i. record { to = target i; weights = map_of.insert (weights i) (key_of edge) edge.weight }))
 
     pub set_found : (i : ℕ) → ((t : PointId) → AreRising t searched → IsPlaceOf t searched (key_with t edge.from edge.label) (Ok i)) → AreRising to (set xs i x) × (row_with to (set xs i x) ≡ record row { weights = map_of.insert row.weights (key_of edge) edge.weight })
-    set_found i place = put_in (set xs i x) (put_at to xs i x rises (subst (λ (q : Key). IsAt to xs q i) (sym stands) (found (Ok i) (key_of edge) place ends)))
+    set_found i place = put_in (set xs i x) (put_at to xs i x rises (subst (λ (q : Key). IsEntryAt to xs q i) (sym stands) (found (Ok i) (key_of edge) place ends)))
 
     pub set_missed : (i : ℕ) → ((t : PointId) → AreRising t searched → IsPlaceOf t searched (key_with t edge.from edge.label) (Err i)) → (ys : List Entry) → ys ≡ insert xs i x → AreRising to ys × (row_with to ys ≡ record row { weights = map_of.insert row.weights (key_of edge) edge.weight })
     set_missed i place ys are = put_in ys (ap (map (keyed to)) are ∙ put_gap to xs i x (subst (λ (q : Key). IsGapFor to xs q i) (sym stands) (found (Err i) (key_of edge) place ends)))

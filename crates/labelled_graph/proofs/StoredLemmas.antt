@@ -1,5 +1,5 @@
 -- What the rows of a table have for a key, before and after one row is changed.
-use Rattle.std.proofs.Common.{◌≡◌, ◌≢◌, ℕ, zero, suc, ◌+◌, ◌==◌, ◌<◌, ◌≤◌, ◌^◌, ℤ, Bool, true, false, cond, not, List, length, map, get_or, set, get_or-set_same, get_or-set_other, length-set, take, Option, Some, None, refl, ap, sym, subst, ◌∙◌, arith}
+use Rattle.std.proofs.Common.{◌≡◌, ◌≢◌, ℕ, zero, suc, ◌+◌, ◌==◌, ◌<◌, ◌≤◌, ◌^◌, ℤ, Bool, true, false, cond, not, List, [], length, map, get_or, set, get_or-set_same, get_or-set_other, length-set, take, Option, Some, None, refl, ap, sym, subst, ◌∙◌, arith}
 use Rattle.std.specs.Prelude.{slice_get, IfSome, IsSome}
 use Rattle.std.specs.List.{All, range_with_len}
 use Rattle.std.specs.Ordering.{eq_by_cmp}
@@ -25,6 +25,7 @@ use Rattle.closure_model.proofs.Tabulated.{dense_map, get-dense_in, is_dense}
 use Rattle.closure_model.proofs.Listed.{nothing_elsewhere}
 use Rattle.closure_model.proofs.SoundTables.{IsGraph-with_edge, IsGraph-without_key}
 use Rattle.labelled_graph.specs.Changes.{with_weight}
+use Rattle.labelled_graph.specs.Merging.{no_shape}
 use Rattle.labelled_graph.specs.Rows.{TargetRow, no_row, empty_row}
 use Rattle.labelled_graph.specs.Stored.{shape_with, at_key, graph_with, AreStored}
 
@@ -285,6 +286,12 @@ module _ (shape : Shape) (begins : All (λ (p : PointId). p.0 < shape.points) sh
 
       is : graph_with (map empty_row (range_with_len 0 shape.points)) shape.activations ≡ no_edges shape
       is = λ i. record { shape = same i; weights = empty i }
+
+-- no rows store the table of no points
+pub none_stored : (rows : List TargetRow) (activations : List PointId) → rows ≡ [] → activations ≡ [] → AreTableOf rows activations (no_edges no_shape)
+none_stored rows activations no_rows none =
+    subst (λ (rs : List TargetRow). AreTableOf rs activations (no_edges no_shape)) (sym no_rows)
+    (subst (λ (points : List PointId). AreTableOf [] points (no_edges no_shape)) (sym none) (empty_stored no_shape (λ k d inside. absurd (omega (arith, inside))) (omega arith) (omega arith)))
 
 pub empty_made : (net : Plan) → IsPlan net → (points : List (List ℕ)) (links : List Link) (k : ℕ) → points ≡ net.points → links ≡ net.links → length links ≤ k → (rows : List TargetRow) (activations : List PointId)
     → rows ≡ map empty_row (range_with_len 0 (length points)) → activations ≡ map (λ (l : Link). l.from) (take k links) → AreTableOf rows activations (no_edges (shape_of net))

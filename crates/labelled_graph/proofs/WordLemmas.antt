@@ -1,11 +1,10 @@
 -- What words hold, one by one and in rows.
-use Rattle.std.proofs.Common.{◌≡◌, ◌+◌, ◌||◌, ◌&&◌, not, ℕ, zero, suc, ℤ, pos, ◌+ℤ◌, ◌≤ℤ◌, ◌<ℤ◌, ◌<◌, ◌≤◌, ◌⊎◌, inl, inr, Bool, true, false, length, get_or, sym, subst, cond, List, [], ◌∷◌, ◌++◌, map, replicate, Option, Some, None, refl, ap, ◌∙◌, arith}
+use Rattle.std.proofs.Common.{◌≡◌, ◌+◌, ◌||◌, ◌&&◌, not, ℕ, zero, suc, ℤ, pos, ◌+ℤ◌, ◌≤ℤ◌, ◌<ℤ◌, ◌<◌, ◌≤◌, ◌⊎◌, inl, inr, Bool, true, false, length, get_or, sym, subst, cond, List, [], ◌∷◌, map, replicate, Option, Some, None, refl, ap, ◌∙◌, arith}
 use Rattle.std.specs.List.{slice_set}
 use Rattle.std.specs.Prelude.{IsSomeAnd, int_lt}
 use Rattle.std.specs.Int.{int_max}
 use Rattle.std.specs.Ordering.{int_eq}
 use Rattle.std.proofs.lemmas.Int.{ints, int_max_is}
-use Rattle.std.proofs.lemmas.List.{map-append}
 use Rattle.labelled_graph.specs.Words.{absent, least_word, held, word_of, FitsWord, MeetsHeld}
 
 -- a word of a weight that it may hold is that weight
@@ -93,12 +92,9 @@ held_once one other same = by (int_eq one absent) refl (int_eq other absent) ref
     by false apart true is = let no : ◌≡◌ {A = Option ℤ} (Some one) None = sym (ap (λ b. cond b None (Some one)) apart) ∙ same ∙ ap (λ b. cond b None (Some other)) is in absurd cc
     by false one_is false other_is = let both : Some one ≡ Some other = sym (ap (λ b. cond b None (Some one)) one_is) ∙ same ∙ ap (λ b. cond b None (Some other)) other_is in cc
 
--- a row after the nearest word of what a key has was put at a place, or to the end
+-- a row after the nearest word of what a key has was put at a place
 pub row_put : (words new : List ℤ) (row : List (Option ℤ)) (place : ℕ) (o : Option ℤ) → map held words ≡ row → new ≡ slice_set words place (word_of o) → map held new ≡ slice_set row place (held (word_of o))
 row_put words new row place o view is = ap (map held) is ∙ map_held-set words place (word_of o) ∙ ap (λ r. slice_set r place (held (word_of o))) view
-
-pub row_pushed : (words new : List ℤ) (row : List (Option ℤ)) (o : Option ℤ) → map held words ≡ row → new ≡ words ++ word_of o ∷ [] → map held new ≡ row ++ held (word_of o) ∷ []
-row_pushed words new row o view is = ap (map held) is ∙ map-append held words (word_of o ∷ []) ∙ ap (λ r. r ++ held (word_of o) ∷ []) view
 
 -- a row without a place for a point stays as it is
 pub set_beyond : {A : Type 0} (row : List A) (place : ℕ) (one : A) → length row ≤ place → slice_set row place one ≡ row

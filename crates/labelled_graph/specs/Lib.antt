@@ -3,3 +3,4 @@ pub mod Rows
 pub mod Stored
 pub mod Changes
 pub mod Words
+pub mod Merging

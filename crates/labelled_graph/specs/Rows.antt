@@ -55,7 +55,7 @@ abbrev pub AllFitIn : TargetRow → Type 0
 AllFitIn row = (key : Key) (weight : ℤ) → map_of.get row.weights key ≡ Some weight → FitsWord weight
 
 -- an entry of the key stands at a place
-pub record IsAt (to : PointId) (entries : List Entry) (key : Key) (place : ℕ) : Type 0 where
+pub record IsEntryAt (to : PointId) (entries : List Entry) (key : Key) (place : ℕ) : Type 0 where
   pub inside : place < length entries
   pub same : (d : Entry) → key_into to (slice_index_or entries place d) ≡ key
 
@@ -67,7 +67,7 @@ pub record IsGapFor (to : PointId) (entries : List Entry) (key : Key) (place : �
 
 -- where the key stands, or the place at which it would
 abbrev pub IsPlaceOf : PointId → List Entry → Key → Result ℕ ℕ → Type 0
-IsPlaceOf to entries key (Ok place) = IsAt to entries key place
+IsPlaceOf to entries key (Ok place) = IsEntryAt to entries key place
 IsPlaceOf to entries key (Err place) = IsGapFor to entries key place
 
 -- a row without edges, of the first point

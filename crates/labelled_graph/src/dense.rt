@@ -78,13 +78,6 @@ impl DenseRow {
         }
     }
 
-    /// Puts a place to the end, by the nearest word. `AllocError` comes only for want of memory.
-    pub(crate) fn push(&mut self, weight: Option<Weight>) -> Result<(), AllocError>
-        ensures { OnOk result (self.new ≡ self.old ++ held (word_of weight) ∷ []) }
-    {
-        Ok(self.words.push(word_of(weight))?)
-    }
-
     /// The weight of a point, where its word tells it: a word at either end may stand for a weight beyond it, or for none.
     pub(crate) fn told(&self, from: PointId) -> Option<Weight>
         ensures { IfSome result (IsTold self.now from.0) }
@@ -168,7 +161,8 @@ fn word_of(weight: Option<Weight>) -> i32
     }
 }
 
-fn nearest_word(weight: Weight) -> i32
+/// The word that is nearest to a weight.
+pub fn nearest_word(weight: Weight) -> i32
     ensures { result ≡ nearest_word weight }
 {
     if weight < i32::MIN as i64 {

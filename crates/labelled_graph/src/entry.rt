@@ -76,7 +76,7 @@ fn short_label(label: Option<LinkId>) -> Option<u16>
 }
 
 /// The label of a number.
-fn wide_label(label: Option<u16>) -> Option<LinkId>
+pub(crate) fn wide_label(label: Option<u16>) -> Option<LinkId>
     ensures { result ≡ wide_label label }
 {
     match label {

@@ -3,9 +3,10 @@
 
 mod dense;
 mod entry;
+mod ordered;
 mod row;
 mod table;
 
-pub use dense::DenseRow;
+pub use dense::{DenseRow, nearest_word};
 pub use entry::Entry;
 pub use table::Table;

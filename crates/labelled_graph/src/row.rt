@@ -1,20 +1,28 @@
-ghost use Rattle.std.specs.Prelude.{◌≡◌, ◌<◌, ◌≤◌, ◌*◌, ◌+◌, ◌^◌, ◌<ℤ◌, pos, false, IfSome, IsSome, Some, OnOk, OnErr, IfOk, map, slice_index_or};
+ghost use Rattle.std.specs.Prelude.{◌≡◌, ◌<◌, ◌≤◌, ◌*◌, ◌+◌, ◌^◌, ◌<ℤ◌, ◌++◌, ◌∷◌, [], take, drop, length, pos, false, IfSome, IsSome, Some, OnOk, OnErr, IfOk, map, slice_index_or};
 ghost use Rattle.std.specs.FinMap as map_of;
+ghost use Rattle.std.specs.List.Sorted.{IsSearchInRange};
+ghost use Rattle.std.specs.declared.cmp.Ordering.TheVariants.{Less};
 ghost use Rattle.std.specs.Vec.{vec_len, vec_capacity};
 ghost use Rattle.net_model.specs.declared.ids.PointId.{PointId};
 ghost use Rattle.closure_model.specs.Keys.{key_of, ordinary_key};
 ghost use Rattle.labelled_graph.specs.Entries.{key_with};
+ghost use Rattle.labelled_graph.specs.Merging.{row_set, word_set, words_set, CanPutNext, IsMerged, IsNextOf};
 ghost use Rattle.labelled_graph.specs.Rows.{keyed, mirrored, AllFitIn, AreRising, IsMirrorOf, IsPlaceOf};
 ghost use Rattle.labelled_graph.specs.Words.{held, FitsWord, MeetsHeld};
 
 use crate::dense::DenseRow;
-use crate::entry::Entry;
+use crate::entry::{Entry, wide_label};
 use net_model::{Edge, LinkId, PointId, Weight};
 use std::alloc::{AllocError, Global};
+use std::cmp::Ordering;
 use std::marker::Model;
 
 /// How many points there are at least for each edge of a row that has no dense row beside its entries.
 const POINTS_AN_EDGE: u32 = 12;
+
+/// So many entries are looked at one after another before a place is sought among the others: where many entries are put among some, the
+/// next place is mostly near.
+const NEAR: usize = 8;
 
 /// The edges that end in one point: an entry for each, in the order of their keys, and once they are many also the weights of the
 /// ordinary ones by the points in which they begin, a word for each point. Contracts see it as the point in which they end, with a map
@@ -117,15 +125,16 @@ impl Row {
         ensures set { OnOk result (self.new ≡ record self.old { weights = map_of.insert self.old.weights (key_of edge.now) edge.now.weight }) }
         ensures unchanged { OnErr result (self.new ≡ self.old) }
     {
-        self.keep_words(points)?;
+        self.keep_words(0, points)?;
         self.put(edge)
     }
 
-    /// Keeps words of the ordinary edges from now on, if the row has many edges for so many points.
-    fn keep_words(&mut self, points: u32) -> Result<(), AllocError>
+    /// Keeps words of the ordinary edges from now on, if the row, with so many more, has many edges for so many points.
+    fn keep_words(&mut self, more: usize, points: u32) -> Result<(), AllocError>
         ensures { self.new ≡ self.old }
     {
-        if self.ordinary.is_empty() && self.entries.len() > (points / POINTS_AN_EDGE) as usize {
+        let edges = self.entries.len().saturating_add(more);
+        if self.ordinary.is_empty() && edges > (points / POINTS_AN_EDGE) as usize {
             self.ordinary = self.all_words(points)?;
         }
         Ok(())
@@ -135,10 +144,8 @@ impl Row {
     fn all_words(&self, points: u32) -> Result<DenseRow, AllocError>
         ensures { IfOk result (IsMirrorOf self.now) }
     {
-        let mut words = DenseRow::empty(*self.entries.allocator());
-        for from in 0..points {
-            words.push(self.get(PointId(from), None))?;
-        }
+        let mut words = DenseRow::absent(*self.entries.allocator(), points as usize)?;
+        write_words(&mut words, self.entries.as_slice());
         Ok(words)
     }
 
@@ -161,6 +168,19 @@ impl Row {
                 Ok(())
             }
         }
+    }
+
+    /// Gives the keys of entries, which rise, their weights, going over the row once, in a row of so many points. `AllocError` comes only
+    /// for want of memory, and changes nothing.
+    pub(crate) fn merge(&mut self, new: &[Entry], points: u32) -> Result<(), AllocError>
+        requires { AreRising self.old.to new.now }
+        ensures set { OnOk result (self.new ≡ row_set self.old new.now) }
+        ensures unchanged { OnErr result (self.new ≡ self.old) }
+    {
+        self.keep_words(new.len(), points)?;
+        self.entries = merged(self.entries.as_slice(), new, *self.entries.allocator())?;
+        write_words(&mut self.ordinary, new);
+        Ok(())
     }
 
     /// Sets the weight of a key that has one.
@@ -203,9 +223,92 @@ impl Row {
 
 /// The place of a key among entries, or the place at which it would stand.
 fn place_of(entries: &[Entry], from: PointId, label: Option<LinkId>) -> Result<usize, usize>
-    ensures { (to : PointId) → AreRising to entries.now → IsPlaceOf to entries.now (key_with to from label) result }
+    ensures range { IsSearchInRange result (length entries.now) }
+    ensures place { (to : PointId) → AreRising to entries.now → IsPlaceOf to entries.now (key_with to from label) result }
 {
     entries.binary_search_by(|entry| entry.compare(from, label))
+}
+
+/// The same, quicker where the place is among the first.
+fn place_soon(entries: &[Entry], from: PointId, label: Option<LinkId>) -> Result<usize, usize>
+    ensures range { IsSearchInRange result (length entries.now) }
+    ensures place { (to : PointId) → AreRising to entries.now → IsPlaceOf to entries.now (key_with to from label) result }
+{
+    let near = entries.len().min(NEAR);
+    for place in 0..near {
+        match entries[place].compare(from, label) {
+            Ordering::Less => {}
+            Ordering::Equal => return Ok(place),
+            Ordering::Greater => return Err(place),
+        }
+    }
+    let (_, far) = entries.split_at(near);
+    match place_of(far, from, label) {
+        Ok(place) => Ok(near + place),
+        Err(place) => Err(near + place),
+    }
+}
+
+/// Entries whose keys rise and others whose keys rise as one list, in the order of their keys; where both have a key, as the others have it.
+fn merged(entries: &[Entry], new: &[Entry], alloc: Global) -> Result<Vec<Entry>, AllocError>
+    ensures { (to : PointId) → AreRising to entries.now → AreRising to new.now → IfOk result (λ all. IsMerged to entries.now new.now all.items) }
+{
+    let mut all = Vec::with_capacity(alloc, entries.len() + new.len())?;
+    let mut left = entries;
+    for entry in new {
+        left = put_next(&mut all, left, entry)?;
+    }
+    all.extend_from_slice(left)?;
+    all.shrink_to_fit();
+    Ok(all)
+}
+
+/// Puts to the end of a list the entries, of those that are left, that stand before the key of an entry, and then this one. Gives what is
+/// left then: the entries behind the key.
+fn put_next<'a>(
+    all: &mut Vec<Entry>,
+    left: &'a [Entry],
+    entry: &Entry,
+) -> Result<&'a [Entry], AllocError>
+    ensures { (to : PointId) → CanPutNext to all.old.items left.now entry.now → IfOk result (λ rest. IsNextOf to all.old.items left.now entry.now all.new.items rest.now) }
+{
+    match place_soon(left, entry.from, wide_label(entry.label)) {
+        Ok(place) => put_part(all, left, place, place + 1, entry),
+        Err(place) => put_part(all, left, place, place, entry),
+    }
+}
+
+fn put_part<'a>(
+    all: &mut Vec<Entry>,
+    left: &'a [Entry],
+    before: usize,
+    after: usize,
+    entry: &Entry,
+) -> Result<&'a [Entry], AllocError>
+    requires before { before ≤ length left.now }
+    requires after { after ≤ length left.now }
+    ensures { IfOk result (λ rest. (all.new.items ≡ all.old.items ++ take before left.now ++ entry.now ∷ []) × (rest.now ≡ drop after left.now)) }
+{
+    all.extend_from_slice(left.split_at(before).0)?;
+    all.push(*entry)?;
+    Ok(left.split_at(after).1)
+}
+
+/// Sets the words of the keys of entries to their weights.
+fn write_words(ordinary: &mut DenseRow, new: &[Entry])
+    ensures { ordinary.new ≡ words_set ordinary.old new.now }
+{
+    for entry in new {
+        write_entry(ordinary, entry);
+    }
+}
+
+fn write_entry(ordinary: &mut DenseRow, entry: &Entry)
+    ensures { ordinary.new ≡ word_set ordinary.old entry.now }
+{
+    if entry.is_ordinary() {
+        ordinary.put(entry.from, Some(entry.weight));
+    }
 }
 
 /// Sets the word of the key of an edge to its weight; the key of a labelled edge has none.

@@ -3,15 +3,18 @@ ghost use Rattle.std.specs.List.{All, enumerate_from, range_with_len};
 ghost use Rattle.net_model.specs.Limits.{most_links, IsWeight};
 ghost use Rattle.net_model.specs.Rules.{bound_edge, link_edge};
 ghost use Rattle.closure_model.specs.Keys.{IsKey, shape_of, key_of, ordinary_key, labelled_key};
-ghost use Rattle.closure_model.specs.ReferenceRow.{ordinary_into};
+ghost use Rattle.closure_model.specs.ReferenceRow.{ordinary_into, with_made};
 ghost use Rattle.closure_model.specs.Tables.{weight_of, row_of, with_edge, without_key, no_edges, has_at_most, lowered, base_table, IsFor, IsGraph};
 ghost use Rattle.labelled_graph.specs.Changes.{IsEdgeFor};
 ghost use Rattle.labelled_graph.specs.Entries.{edge_into, is_ordinary};
+ghost use Rattle.labelled_graph.specs.Merging.{no_shape, AreMadeFor};
 ghost use Rattle.labelled_graph.specs.Rows.{empty_row};
 ghost use Rattle.labelled_graph.specs.Words.{held, AllFitWords, AreWordsOf, FitsWord, MeetsHeld};
 
 use crate::entry::Entry;
+use crate::ordered::{ordered, rise};
 use crate::row::Row;
+use closure_model::rows::Made;
 use net_model::{Bound, Edge, Link, LinkId, Network, PointId, Weight, bound_edge, link_edge};
 use std::alloc::{AllocError, Global};
 use std::marker::Model;
@@ -41,7 +44,20 @@ impl Model for Table {
     ghost invariant = { IsStored };
 }
 
+/// So many edges of a row come into a table by going over its row once. Fewer come one after another, which moves less.
+const MANY: usize = 4;
+
 impl Table {
+    /// The table of no points. It takes no memory.
+    pub fn empty(alloc: Global) -> Table
+        ensures { result ≡ no_edges no_shape }
+    {
+        Table {
+            rows: Vec::new(alloc),
+            activations: Vec::new(alloc),
+        }
+    }
+
     /// The base table of a network: for each key the least weight of the edges of its bounds and links. `AllocError` comes only for
     /// want of memory.
     pub fn of(alloc: Global, net: &Network) -> Result<Table, AllocError>
@@ -117,6 +133,36 @@ impl Table {
         let row = &mut self.rows[edge.to.0 as usize];
         row.set(edge, points)?;
         Ok(true)
+    }
+
+    /// Gives the keys of the edges that a row made their weights, going over the edges that end in its target once. Nothing else changes.
+    /// `AllocError` comes only for want of memory; then some of the edges may have come in.
+    pub fn lower_all(&mut self, to: PointId, made: &[Made]) -> Result<(), AllocError>
+        requires { AreMadeFor self.old to made.now }
+        ensures { OnOk result (self.new ≡ with_made self.old made.now) }
+    {
+        if made.len() < MANY {
+            return self.lower_each(made);
+        }
+        let new = ordered(*self.rows.allocator(), made)?;
+        // Of two edges of one key the lesser stays.
+        if !rise(new.as_slice()) {
+            return self.lower_each(made);
+        }
+        let points = self.rows.len() as u32;
+        let row = &mut self.rows[to.0 as usize];
+        row.merge(new.as_slice(), points)
+    }
+
+    /// The same, edge by edge.
+    fn lower_each(&mut self, made: &[Made]) -> Result<(), AllocError>
+        requires { All (λ one. IsEdgeFor self.old.shape one.edge) made.now }
+        ensures { OnOk result (self.new ≡ with_made self.old made.now) }
+    {
+        for one in made {
+            self.lower_to(&one.edge)?;
+        }
+        Ok(())
     }
 
     /// Sets the weight of a key that has one. Nothing else changes.

@@ -37,7 +37,7 @@ use Rattle.closure_model.proofs.Weights.{not_below, le_then_lt}
 use Rattle.back_propagation.specs.declared.settling.NewRow.{NewRow}
 use Rattle.parallel_rounds.specs.Rows.{new_row}
 use Rattle.parallel_rounds.specs.Targets.{AreRising, AreRowsOfRound}
-use Rattle.parallel_rounds.specs.Telling.{ordinary_made, is_low, was_low, was_low_by, AreFreshIn, AreInOrder, AreListed, IsTableFor, changed_in}
+use Rattle.parallel_rounds.specs.Telling.{ordinary_made, is_low, was_low, was_low_by, AreFreshIn, AreFallenInOrder, AreListed, IsTableFor, changed_in}
 use Rattle.parallel_rounds.proofs.Rising.{rising_tail, rising_above, all_rise, all_inside}
 
 -- ---- loops
@@ -352,7 +352,7 @@ module _ (net : Plan) (before : Graph) (plan : IsPlan net) (fits : IsFor net bef
           let weights : weight ≡ one.edge.weight = sym (ap (λ (e : Edge). e.weight) is) ∙ ap (λ (m : Made). m.edge.weight) (sym same) in
           held ∙ ap Some weights
 
-  module _ (point : PointId) (list : List Edge) (are : AreInOrder (reference_row net before point) list) (inside : point.0 < before.shape.points) where
+  module _ (point : PointId) (list : List Edge) (are : AreFallenInOrder (reference_row net before point) list) (inside : point.0 < before.shape.points) where
     in_round : (one : Made) → Contains (reference_row net before point) one → Contains (round_made net before) one
     in_round one made = Contains-flat_map (reference_row net before) (all_points before.shape) point one (all_points_stand before.shape point inside) made
 

@@ -39,7 +39,7 @@ module _ (net : Plan) (table : Graph) (rows : List NewRow) (are : AreRowsOfRound
   rows_rise = subst (AllPairs (λ (one other : NewRow). one.target.0 < other.target.0)) (sym are.rows_are)
       (map_pairs (new_row net table) (λ (one other : PointId). one.0 < other.0) (λ (one other : NewRow). one.target.0 < other.target.0) (λ one other less. less) are.targets are.rise)
 
-  row_of_target : (row : NewRow) → Contains rows row → (point : PointId) × Contains are.targets point × (new_row net table point ≡ row)
+  pub row_of_target : (row : NewRow) → Contains rows row → (point : PointId) × Contains are.targets point × (new_row net table point ≡ row)
   row_of_target row inside = Contains-map_from (new_row net table) are.targets row (subst (λ (l : List NewRow). Contains l row) are.rows_are inside)
 
   target_inside : (row : NewRow) → Contains rows row → row.target.0 < table.shape.points

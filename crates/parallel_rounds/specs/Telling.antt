@@ -43,7 +43,7 @@ abbrev pub ordinary_made : List Made → List Edge
 ordinary_made made = filter (λ (edge : Edge). is_none edge.label) (map (λ (one : Made). one.edge) made)
 
 -- edges are those ordinary ones that fell, by the points in which they begin
-pub record AreInOrder (made : List Made) (edges : List Edge) : Type 0 where
+pub record AreFallenInOrder (made : List Made) (edges : List Edge) : Type 0 where
   pub same : IsPermutation (ordinary_made made) edges
   pub rise : IsNonDecreasingBy (λ (edge : Edge). edge.from.0) edges
 
@@ -62,7 +62,7 @@ was_low before edge = was_low_by before edge edge.label
 -- edges are those ordinary ones that fell and whose keys had no weight or one above 0, by the points in which they begin
 pub record AreFreshIn (before : Graph) (made : List Made) (edges : List Edge) : Type 0 where
   pub all : List Edge
-  pub in_order : AreInOrder made all
+  pub in_order : AreFallenInOrder made all
   pub kept : edges ≡ filter (λ edge. not (was_low before edge)) all
 
 -- lists of edges by the points in which they end are those of the edges that fell in some rows and are fresh

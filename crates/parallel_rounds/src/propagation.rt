@@ -9,7 +9,7 @@ ghost use Rattle.parallel_rounds.specs.Propagated.{IsPropagated};
 ghost use Rattle.parallel_rounds.specs.Targets.{AreRowsOfRound};
 ghost use Rattle.parallel_rounds.specs.Telling.{IsLastRound};
 
-use crate::adding::{fallen_in, take_all};
+use crate::adding::{firsts_in, take_all};
 use crate::gate::Gate;
 use crate::outcome::Outcome;
 use crate::parts::Task;
@@ -86,17 +86,17 @@ fn make_round<R: Threads + Sync, S: Supports, G: Gate>(
     // The proof reads here that the network is sound.
     let points = net.points().len() as u32;
     let rows = rows_of_round(rt, alloc, store.table(), net, workers, gate, last)?;
-    let fallen = fallen_in(alloc, store, rows.as_slice())?;
+    let firsts = firsts_in(alloc, store, rows.as_slice())?;
     let last = LastRound::of(
         alloc,
         points,
         store.table(),
         rows.as_slice(),
-        fallen.len(),
+        firsts.len(),
         order,
     )?;
-    take_all(net, store, fallen.as_slice())?;
-    if fallen.is_empty() {
+    take_all(net, store, rows.as_slice(), firsts.as_slice())?;
+    if firsts.is_empty() {
         return Ok(None);
     }
     Ok(Some(last))

@@ -5,7 +5,7 @@ ghost use Rattle.closure_model.specs.Orders.{IsOrder};
 ghost use Rattle.closure_model.specs.ReferenceRow.{with_made};
 ghost use Rattle.closure_model.specs.Tables.{Graph};
 ghost use Rattle.parallel_rounds.specs.Adding.{made_in};
-ghost use Rattle.parallel_rounds.specs.Telling.{AreFreshIn, AreInOrder, AreListed, IsTableFor, changed_in, is_low, ordinary_made, was_low};
+ghost use Rattle.parallel_rounds.specs.Telling.{AreFreshIn, AreFallenInOrder, AreListed, IsTableFor, changed_in, is_low, ordinary_made, was_low};
 
 use back_propagation::{Made, NewRow};
 use labelled_graph::Table;
@@ -189,7 +189,7 @@ fn is_low(points: u32, table: &Table, from: PointId, to: PointId) -> bool
 
 /// The ordinary edges that fell in a row, in the order of the points in which they begin.
 fn in_order(alloc: Global, made: &[Made]) -> Result<Items<Edge>, AllocError>
-    ensures { IfOk result (AreInOrder made.now) }
+    ensures { IfOk result (AreFallenInOrder made.now) }
 {
     let mut edges = ordinary_made(alloc, made)?;
     edges.sort_unstable_by_key(|edge| edge.from.0);

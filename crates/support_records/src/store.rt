@@ -5,7 +5,7 @@ ghost use Rattle.support_records.specs.Followed.{IsFollowed};
 use crate::following::follow_into;
 use crate::moves::Moves;
 use closure_model::{Node, NodeId};
-use derivation_dag::{Dag, Plain, Supports};
+use derivation_dag::{Dag, MadeRow, Plain, Supports};
 use labelled_graph::Table;
 use net_model::{Edge, Edit, Network};
 use std::alloc::{AllocError, Global};
@@ -107,5 +107,9 @@ impl Supports for Store {
 
     fn accept(&mut self, net: &Network, node: Node) -> Result<NodeId, AllocError> {
         self.plain.accept(net, node)
+    }
+
+    fn accept_row(&mut self, net: &Network, row: &MadeRow<'_>) -> Result<(), AllocError> {
+        self.plain.accept_row(net, row)
     }
 }

@@ -4,8 +4,9 @@ use Rattle.std.specs.Prelude.{slice_set}
 use Rattle.std.proofs.lemmas.Option.{slice_get_within}
 use Rattle.net_model.specs.declared.ids.LinkId.{LinkId}
 use Rattle.closure_model.specs.Keys.{row_keys}
-use Rattle.back_propagation.specs.Offering.{place_of, width_of}
+use Rattle.back_propagation.specs.Offering.{place_in_slots, width_of}
 use Rattle.back_propagation.specs.SlimSlots.{StandsFor, StandForKeys}
+use Rattle.back_propagation.proofs.SlimSteps.{nearest_stands}
 use Rattle.back_propagation.proofs.FirstSteps.{no_entry, column_under, word_under, stand_none, stand_more, IsStoredTo, labels_among, places_under, entry_place, entry_under, stored_none, stored_more, stored_all}
 use Rattle.back_propagation.proofs.OfferSteps.{entry_held}
 use Rattle.back_propagation.proofs.RowPlaces.{length-row_keys}
@@ -53,14 +54,14 @@ loop-entry-preserved c =
     (subst (λ (place : ℕ). IsStoredTo c.args.table.now c.args.target c.entries-entries.result.now (slice_set c.loop-entry.weights.items place (get_or c.entries-entries.result.now c.loop-entry.entry-index no_entry).weight) (c.loop-entry.entry-index + 1)) (sym c.place_of-place.ensures)
     (stored_more c.args.table.now c.args.target c.entries-entries.result.now held c.loop-entry.weights.items c.loop-entry.entry-index c.loop-entry-test.true c.loop-entry.invariant.0 _ at))) in
     let narrow = column_under c.args.table.now c.args.target c.args.labels.now (get_or c.entries-entries.result.now c.loop-entry.entry-index no_entry) c.column_of-column.result c.requires.labels c.column_of-column.ensures in
-    let stands : StandsFor c.word_of.result (Some (get_or c.entries-entries.result.now c.loop-entry.entry-index no_entry).weight) = subst (λ (w : ℤ). StandsFor c.word_of.result (Some w)) kept c.word_of.ensures in
-    let word : to_z w32 (of_z w32 c.word_of.result) ≡ c.word_of.result = search rules in
+    let stands : StandsFor c.nearest_word.result (Some (get_or c.entries-entries.result.now c.loop-entry.entry-index no_entry).weight) = subst (λ (w : ℤ). StandsFor c.nearest_word.result (Some w)) kept (nearest_stands _ _ c.nearest_word.ensures) in
+    let word : to_z w32 (of_z w32 c.nearest_word.result) ≡ c.nearest_word.result = search rules in
     let place : c.word_place-word_place.result ≡ c.column_of-column.result * c.args.table.now.shape.points + (get_or c.entries-entries.result.now c.loop-entry.entry-index no_entry).from.0 = c.word_place-word_place.ensures ∙ ap (λ (n : ℕ). c.column_of-column.result * n + (get_or c.entries-entries.result.now c.loop-entry.entry-index no_entry).from.0) c.requires.points in
     let wide : length c.args.labels.now + 1 ≡ width_of c.args.table.now.shape c.args.target = ap (λ (ls : List LinkId). length ls + 1) c.requires.labels in (
       stored,
-      subst (λ (n : ℕ). StandForKeys c.args.table.now c.args.target (slice_set c.loop-entry.words.items n (to_z w32 (of_z w32 c.word_of.result)))) (sym place)
+      subst (λ (n : ℕ). StandForKeys c.args.table.now c.args.target (slice_set c.loop-entry.words.items n (to_z w32 (of_z w32 c.nearest_word.result)))) (sym place)
           (subst (λ (w : ℤ). StandForKeys c.args.table.now c.args.target (slice_set c.loop-entry.words.items (c.column_of-column.result * c.args.table.now.shape.points + (get_or c.entries-entries.result.now c.loop-entry.entry-index no_entry).from.0) w)) (sym word)
-          (stand_more c.args.table.now c.args.target c.loop-entry.words.items (get_or c.entries-entries.result.now c.loop-entry.entry-index no_entry) c.column_of-column.result (place_of (length c.args.labels.now + 1) (get_or c.entries-entries.result.now c.loop-entry.entry-index no_entry).from c.column_of-column.result) c.word_of.result narrow
+          (stand_more c.args.table.now c.args.target c.loop-entry.words.items (get_or c.entries-entries.result.now c.loop-entry.entry-index no_entry) c.column_of-column.result (place_in_slots (length c.args.labels.now + 1) (get_or c.entries-entries.result.now c.loop-entry.entry-index no_entry).from c.column_of-column.result) c.nearest_word.result narrow
           (ap (λ (n : ℕ). (get_or c.entries-entries.result.now c.loop-entry.entry-index no_entry).from.0 * n + c.column_of-column.result) wide) at (held c.loop-entry.entry-index c.loop-entry-test.true) stands c.loop-entry.invariant.1)),
     )
 

@@ -6,8 +6,11 @@ use Rattle.labelled_graph.proofs.RowLemmas.{searched_place}
 use Rattle.labelled_graph.proofs.row.place_of.Goals as goal
 
 -- the closure compares an entry with the key
-pub returns : goal.returns
-returns c = λ to rises.
+pub returns-clause-range : goal.returns-clause-range
+returns-clause-range c = c.binary_search_by.ensures.bound
+
+pub returns-clause-place : goal.returns-clause-place
+returns-clause-place c = λ to rises.
     let facts = c.binary_search_by.ensures in
     let by_key = facts.position (λ entry. key_cmp (key_into to entry) (key_with to c.args.from c.args.label)) (always_returns_same _ _ _ (λ a r f called. search rules)) in
     searched_place to c.args.entries.now (key_with to c.args.from c.args.label) rises c.binary_search_by.result facts.bound by_key

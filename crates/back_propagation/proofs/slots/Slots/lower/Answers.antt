@@ -3,9 +3,9 @@ use Rattle.std.specs.Vec.{vec_len, with_item}
 use Rattle.std.specs.Prelude.{slice_set}
 use Rattle.back_propagation.specs.SlimSlots.{slot_in, word_place, StandsFor}
 use Rattle.back_propagation.specs.declared.slots.Slots.TheInside.{Inside}
-use Rattle.back_propagation.proofs.SlimSteps.{IsLoweredAt, lowered_slim, lowered_view, place_stored, slot_is, word_inside}
+use Rattle.back_propagation.proofs.SlimSteps.{nearest_stands, IsLoweredAt, lowered_slim, lowered_view, place_stored, slot_is, word_inside}
 use Rattle.back_propagation.proofs.slots.Slots.lower.Goals as goal
-use Rattle.back_propagation.proofs.slots.Slots.lower.Goals.{After-word_of}
+use Rattle.back_propagation.proofs.slots.Slots.lower.Goals.{After-nearest_word}
 
 pub index_mut-requires : goal.index_mut-requires
 index_mut-requires c =
@@ -20,29 +20,29 @@ index_mut-requires-2 c =
 word_is : (s : Inside) (place width word : ℕ) → width ≡ vec_len s.labels → word ≡ place % (width + 1) * s.points + place / (width + 1) → word ≡ word_place s place
 word_is s place width word wide is = is ∙ ap (λ (n : ℕ). place % (n + 1) * s.points + place / (n + 1)) (wide ∙ s.labels.ok.0)
 
-abbrev after : After-word_of → Inside
+abbrev after : After-nearest_word → Inside
 after c =
     record {
       points = c.self.inside.points;
       labels = c.self.inside.labels;
       weights = with_item c.self.inside.weights c.args.place (to_z w64 (of_z w64 c.args.made.now.edge.weight));
-      words = with_item c.self.inside.words c.word_place-word_place.result (to_z w32 (of_z w32 c.word_of.result));
+      words = with_item c.self.inside.words c.word_place-word_place.result (to_z w32 (of_z w32 c.nearest_word.result));
       marks = with_item c.self.inside.marks c.args.place c.len.result;
       settled = c.self.inside.settled;
       whys = c.push.new.self;
     }
 
-is_lowered : (c : After-word_of) → IsLoweredAt c.self.inside (after c) c.args.place (to_z w64 (of_z w64 c.args.made.now.edge.weight)) c.args.made.now.why
+is_lowered : (c : After-nearest_word) → IsLoweredAt c.self.inside (after c) c.args.place (to_z w64 (of_z w64 c.args.made.now.edge.weight)) c.args.made.now.why
 is_lowered c = record {
   points = refl;
   labels = refl;
   weights = refl;
   marks = ap (slice_set c.self.inside.marks.items c.args.place) (c.len.ensures ∙ c.push.new.self.ok.0);
-  word = to_z w32 (of_z w32 c.word_of.result);
+  word = to_z w32 (of_z w32 c.nearest_word.result);
   stands =
-      (let kept : to_z w32 (of_z w32 c.word_of.result) ≡ c.word_of.result = search rules in
-      subst (λ (w : ℤ). StandsFor w (Some (to_z w64 (of_z w64 c.args.made.now.edge.weight)))) (sym kept) c.word_of.ensures);
-  words = ap (λ (n : ℕ). slice_set c.self.inside.words.items n (to_z w32 (of_z w32 c.word_of.result))) (word_is c.self.inside c.args.place c.len-width.result c.word_place-word_place.result c.len-width.ensures c.word_place-word_place.ensures);
+      (let kept : to_z w32 (of_z w32 c.nearest_word.result) ≡ c.nearest_word.result = search rules in
+      subst (λ (w : ℤ). StandsFor w (Some (to_z w64 (of_z w64 c.args.made.now.edge.weight)))) (sym kept) (nearest_stands _ _ c.nearest_word.ensures));
+  words = ap (λ (n : ℕ). slice_set c.self.inside.words.items n (to_z w32 (of_z w32 c.nearest_word.result))) (word_is c.self.inside c.args.place c.len-width.result c.word_place-word_place.result c.len-width.ensures c.word_place-word_place.ensures);
   settled = refl;
   whys = c.in_ok-push.ensures.items;
 }
@@ -62,12 +62,12 @@ invariant_of-self c = record {
 
 pub invariant_of-self-2 : goal.invariant_of-self-2
 invariant_of-self-2 c =
-    let a = (goal.at.invariant_of-self-2 c).After-word_of in
+    let a = (goal.at.invariant_of-self-2 c).After-nearest_word in
     lowered_slim c.self.inside (after a) c.args.place (to_z w64 (of_z w64 c.args.made.now.edge.weight)) c.args.made.now.why (is_lowered a) c.self.invariant (place_stored c.self.inside c.args.self.now c.self.view_is c.args.place c.requires)
 
 pub returns : goal.returns
 returns c = λ slot here.
-    let a = (goal.at.returns c).After-word_of in
+    let a = (goal.at.returns c).After-nearest_word in
     let kept : to_z w64 (of_z w64 c.args.made.now.edge.weight) ≡ c.args.made.now.edge.weight = search rules in
     let slot_same : slot_in c.self.inside c.args.place ≡ slot = slot_is c.self.inside c.args.self.now c.self.view_is c.args.place c.requires slot here in
     lowered_view c.self.inside (after a) c.args.place (to_z w64 (of_z w64 c.args.made.now.edge.weight)) c.args.made.now.why (is_lowered a) c.self.invariant (place_stored c.self.inside c.args.self.now c.self.view_is c.args.place c.requires)
