@@ -14,7 +14,7 @@ use Rattle.closure_model.proofs.Weights.{le_then}
 use Rattle.cell_table.specs.CellRule.{IsShown, IsKnown, OfLive}
 use Rattle.cell_table.specs.Filling.{IsLeftOf}
 use Rattle.cell_table.specs.Places.{held, place_of, word_count}
-use Rattle.cell_table.specs.Taking.{CanTake, IsTaken, HoldsAt}
+use Rattle.cell_table.specs.Taking.{CanTake, TakesCellWords, HoldsAt}
 use Rattle.cell_table.specs.declared.view.About.{About}
 use Rattle.cell_table.specs.declared.view.Standing.{Standing}
 use Rattle.cell_table.specs.declared.view.Standing.TheVariants.{Live}
@@ -37,7 +37,7 @@ module _ (about : About) (first : Graph) (words : List ℕ) (s : State (Unit {0}
     each = (λ key sound other its same weight has. derivable_weight about.net.value shown.plan (edge_of key weight) (word_derivable key sound weight has));
   }
 
-  module _ (derivable : HoldsDerivable about.net.value first) (first_is : first ≡ about.first.value) (id : ℕ) (view : View) (at : get_elem? s.views id ≡ some (Live view)) (table : Graph) (taken : IsTaken first words table) where
+  module _ (derivable : HoldsDerivable about.net.value first) (first_is : first ≡ about.first.value) (id : ℕ) (view : View) (at : get_elem? s.views id ≡ some (Live view)) (table : Graph) (taken : TakesCellWords first words table) where
     note_left : (note : Edge) → HasAtMost shown.past.table note → HasAtMost table note
     note_left note there =
         let (weight, has, less) = at_most_gives shown.past.table note there in

@@ -5,7 +5,7 @@ ghost use Rattle.std.specs.List.{All};
 ghost use Rattle.std.specs.Mem.Slots.{slots_items, slots_len, IsFull};
 ghost use Rattle.closure_model.specs.Keys.{IsKey, key_of, shape_of};
 ghost use Rattle.cell_table.specs.Places.{place_of};
-ghost use Rattle.cell_table.specs.Taking.{CanTake, CanTakeAt, TakesAt, IsTaken};
+ghost use Rattle.cell_table.specs.Taking.{CanTake, CanTakeAt, TakesAt, TakesCellWords};
 
 use crate::word::weight_of_word;
 use atomic_table::Closed;
@@ -40,7 +40,7 @@ pub(crate) fn taken_in(
     requires points { points ≡ table.shape.points }
     requires few { points < 4000 }
     requires few_links { length table.shape.activations < 4000 }
-    ensures { IfOk result (IsTaken table (slots_items words.now.words)) }
+    ensures { IfOk result (TakesCellWords table (slots_items words.now.words)) }
 {
     for place in 0..count - 1 {
         let word = words.word(place + 1);

@@ -18,6 +18,11 @@ pub record IsOnWay (net : Plan) (table : Graph) : Type 0 where
   pub base : HasBase net table
   pub derivable : HoldsDerivable net table
 
+-- an edge is derivable, and begins in a point of the network
+pub record IsDerivedEdge (net : Plan) (edge : Edge) : Type 0 where
+  pub derivable : IsDerivable net edge
+  pub from_point : edge.from.0 < length net.points
+
 -- a table of a network whose edges are all derivable
 pub record IsOfDerivable (net : Plan) (table : Graph) : Type 0 where
   pub plan : IsPlan net

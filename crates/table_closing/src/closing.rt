@@ -33,8 +33,8 @@ pub fn close<R: Threads + Sync>(
 {
     let points = net.points().len() as u32;
     let mut table = Table::of(alloc, net)?;
-    let mut dense = dense_of(alloc, net, &table)?;
-    deepen(alloc, &mut dense, net)?;
+    let dense = dense_of(alloc, net, &table)?;
+    let mut dense = deepen(alloc, net, dense)?;
     loop {
         lower_to_dense(&mut table, net, &dense)?;
         match order(alloc, &table, points)? {

@@ -10,7 +10,7 @@ pub dense_of-requires : goal.dense_of-requires
 dense_of-requires g c = way_begins c.args.net.now c.in_ok-table.table c.points.ensures.sound c.in_ok-table.ensures.base c.in_ok-table.ensures.shape
 
 pub loop-dense-init : goal.loop-dense-init
-loop-dense-init g c = (c.in_ok-deepen.ensures, way_begins c.args.net.now c.in_ok-table.table c.points.ensures.sound c.in_ok-table.ensures.base c.in_ok-table.ensures.shape)
+loop-dense-init g c = (c.in_ok-dense-2.ensures, way_begins c.args.net.now c.in_ok-table.table c.points.ensures.sound c.in_ok-table.ensures.base c.in_ok-table.ensures.shape)
 
 pub returns-in-Cycle : goal.returns-in-Cycle
 returns-in-Cycle g c = record {

@@ -5,7 +5,7 @@ use Rattle.cell_table.proofs.CloseLemmas.{left_can, left_is, ok_then}
 use Rattle.cell_table.proofs.TakeLemmas.{ends_begin}
 use mathlib.Core.Option.{some}
 use Rattle.cell_table.specs.Filling.{IsLeftOf}
-use Rattle.cell_table.specs.Taking.{IsTaken}
+use Rattle.cell_table.specs.Taking.{TakesCellWords}
 use Rattle.cell_table.specs.Seats.{view_of}
 use Rattle.cell_table.specs.declared.view.About.{About}
 use Rattle.cell_table.specs.declared.view.View.{View}
@@ -29,7 +29,7 @@ returns c =
     let about = c.self.inside.words.shared.key in
     let place = c.seat.inside.place in
     let words = slots_items c.close_with-closed.result.words in
-    ok_then (IsTaken c.self.inside.first words) (IsLeftOf c.args.self.about c.args.seat.view)
+    ok_then (TakesCellWords c.self.inside.first words) (IsLeftOf c.args.self.about c.args.seat.view)
     (λ table taken.
     subst (λ (p : About × View). IsLeftOf p.0 p.1 table) (λ i. ((c.self.view_is i).about, (c.seat.view_is i).view))
     (left_is about c.self.inside.first words final.0 final.1.0 final.2 c.self.invariant.fits c.self.invariant.derivable c.self.invariant.first_is place.id (view_of place.me.0)
