@@ -18,10 +18,10 @@ use Rattle.plan_inputs.proofs.PlanInputLemmas.{input_one}
 abbrev first_byte : List ℕ → ℕ
 first_byte bytes = get_or bytes 0 0
 
-no_refusal_is_controllable : (fault : Fault) (more : List ℕ) → fault_line fault ≡ controllable_line ++ more → ⊥
+pub no_refusal_is_controllable : (fault : Fault) (more : List ℕ) → fault_line fault ≡ controllable_line ++ more → ⊥
 no_refusal_is_controllable fault more same = let byte : ◌≡◌ {A = ℕ} 101 99 = ap first_byte same in omega arith
 
-no_refusal_is_refuted : (fault : Fault) (more : List ℕ) → fault_line fault ≡ refuted_line ++ more → ⊥
+pub no_refusal_is_refuted : (fault : Fault) (more : List ℕ) → fault_line fault ≡ refuted_line ++ more → ⊥
 no_refusal_is_refuted fault more same = let byte : ◌≡◌ {A = ℕ} 101 110 = ap first_byte same in omega arith
 
 apart : (more others : List ℕ) → controllable_line ++ more ≡ refuted_line ++ others → ⊥

@@ -37,7 +37,7 @@ no_hyphen : (bytes : Text) (number : ℕ) → natural_of most_workers (45 ∷ by
 unfolding natural_of
 no_hyphen bytes number is = absurd cc
 
-plain_number : (number : ℕ) (word : Text) → natural_of most_workers word ≡ Ok number → is_plain word ≡ true
+pub plain_number : (number : ℕ) (word : Text) → natural_of most_workers word ≡ Ok number → is_plain word ≡ true
 plain_number number [] is = refl
 plain_number number (b ∷ bytes) is = by (b == 45) refl
   where

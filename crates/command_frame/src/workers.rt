@@ -1,6 +1,7 @@
 //! The workers that make the rows of a round, and test a closed table.
 
-ghost use Rattle.std.specs.Prelude.{◌≡◌, option_map, IfOk};
+ghost use Rattle.std.specs.Prelude.{◌≡◌, ◌≤◌, option_map, IfOk};
+ghost use Rattle.cell_table.specs.Limits.{key_count, most_keys};
 ghost use Rattle.plan_session.specs.Sessions.{IsOpenedOn};
 ghost use Rattle.verdicts.specs.Verdict.{IsVerdict};
 ghost use Rattle.command_frame.specs.Workers.{workers_of};
@@ -8,11 +9,11 @@ ghost use Rattle.command_frame.specs.Workers.{workers_of};
 use crate::counts::count_within;
 use net_model::Network;
 use parallel_rounds::NoGate;
-use plan_session::Session;
+use plan_session::OpenSession;
 use std::alloc::{AllocError, Global};
 use std::marker::Model;
 use std::thread::Threads;
-use verdicts::{Verdict, decide};
+use verdicts::{Verdict, decide, decide_by_cells};
 
 /// How many workers there may be.
 const MOST_WORKERS: u32 = 64;
@@ -55,11 +56,11 @@ impl Workers {
         rt: &R,
         alloc: Global,
         net: Network,
-    ) -> Result<Session, AllocError>
+    ) -> Result<OpenSession, AllocError>
         ensures opened { IfOk result (λ session. IsOpenedOn net session.state) }
         ensures workers { IfOk result (λ session. session.workers ≡ self.now) }
     {
-        Session::open(rt, alloc, net, self.count, &NoGate)
+        OpenSession::open(rt, alloc, net, self.count, &NoGate)
     }
 
     /// Decides whether a network is controllable. `AllocError` comes only for want of memory.
@@ -72,5 +73,18 @@ impl Workers {
         ensures { IfOk result (IsVerdict net) }
     {
         decide(rt, alloc, net, self.count, &NoGate)
+    }
+
+    /// The same of a network whose keys shared cells hold, by these. `AllocError` comes only for want of memory.
+    pub fn decide_by_cells<R: Threads + Sync>(
+        &self,
+        rt: &R,
+        alloc: Global,
+        net: Network,
+    ) -> Result<Verdict, AllocError>
+        requires { key_count net ≤ most_keys }
+        ensures { IfOk result (IsVerdict net) }
+    {
+        decide_by_cells(rt, alloc, net, self.count, &NoGate)
     }
 }

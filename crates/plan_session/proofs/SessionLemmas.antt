@@ -19,7 +19,7 @@ use Rattle.net_model.proofs.ShownLemmas.{shown_sound}
 use Rattle.derivation_edits.specs.TakenAway.{AreWithdrawn, EditsWithdrawNodes, ShownFormsFollowEdits}
 use Rattle.controllability.specs.Laws.{OrderedClosuresAreControllable, StandingCyclesExclude}
 use Rattle.table_histories.specs.LaterNodes.{LaterNodesFall}
-use Rattle.parallel_rounds.specs.Propagated.{IsPropagated, Says, ending_of, rounds_of}
+use Rattle.parallel_rounds.specs.Propagated.{IsPropagated, OutcomeHolds, ending_of, rounds_of}
 use Rattle.parallel_rounds.specs.declared.outcome.Outcome.{Outcome}
 use Rattle.parallel_rounds.specs.declared.outcome.Outcome.TheVariants.{Closed, Looped}
 use Rattle.support_records.specs.Followed.{IsFollowed}
@@ -37,7 +37,7 @@ use Rattle.dispatch_net.specs.OfClosure.{IsDispatchOfClosure}
 use Rattle.plan_session.specs.Sessions.{Opened, EndsWell, IsPlacedBy, IsSound, Opens, FollowsEdit}
 
 -- what an outcome says of a table is what its ending does
-pub says_well : (net : Plan) (support : Support) (outcome : Outcome) → Says net support outcome → EndsWell net support (ending_of outcome)
+pub says_well : (net : Plan) (support : Support) (outcome : Outcome) → OutcomeHolds net support outcome → EndsWell net support (ending_of outcome)
 says_well net support (Closed rounds order) says = says
 says_well net support (Looped rounds cycle) says = says
 

@@ -11,20 +11,20 @@ use Rattle.closure_model.specs.ReferenceRounds.{Ending, closed, looped}
 use Rattle.derivation_dag.specs.SupportCode.{support_code}
 use Rattle.plan_session.specs.Sessions.{Opened, State, SessionView}
 
-abbrev pub points_of : Ending → List PointId ⊎ List PointId
-points_of (closed order) = inl order
-points_of (looped cycle) = inr cycle
+abbrev pub ending_points : Ending → List PointId ⊎ List PointId
+ending_points (closed order) = inl order
+ending_points (looped cycle) = inr cycle
 
 abbrev pub ending_by : List PointId ⊎ List PointId → Ending
 ending_by (inl order) = closed order
 ending_by (inr cycle) = looped cycle
 
-abbrev pub ending_back : (ending : Ending) → ending_by (points_of ending) ≡ ending
+abbrev pub ending_back : (ending : Ending) → ending_by (ending_points ending) ≡ ending
 ending_back (closed order) = refl
 ending_back (looped cycle) = refl
 
 abbrev pub ending_code : Coded Ending
-ending_code = code_by (List PointId ⊎ List PointId) (coded⊎ (coded_list point_code) (coded_list point_code)) points_of ending_by ending_back
+ending_code = code_by (List PointId ⊎ List PointId) (coded⊎ (coded_list point_code) (coded_list point_code)) ending_points ending_by ending_back
 
 abbrev pub opened_code : Coded Opened
 opened_code =

@@ -4,8 +4,10 @@
 
 mod answers;
 pub mod laws;
+mod open_session;
 mod propagated;
 mod session;
 
 pub use answers::{AskFault, Report, SessionFault, Verdict};
+pub use open_session::OpenSession;
 pub use session::Session;

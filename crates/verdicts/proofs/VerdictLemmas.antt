@@ -1,7 +1,9 @@
 -- What decides the verdict of a network, and what a certificate of it says.
-use Rattle.std.proofs.Common.{◌≡◌, ℕ, List, Option, Some, None, sym, ap, ◌∙◌, subst, inl, inr}
+use Rattle.std.proofs.Common.{◌≡◌, ℕ, ◌+◌, ◌*◌, ◌≤◌, length, List, Option, Some, None, sym, ap, ◌∙◌, subst, inl, inr}
+use Rattle.std.proofs.lemmas.List.{length-map}
 use Rattle.net_model.specs.Network.{Plan, IsPlan}
-use Rattle.net_model.specs.ShownForm.{shown_form}
+use Rattle.net_model.specs.ShownForm.{shown_form, shown_link}
+use Rattle.cell_table.specs.Limits.{key_count, most_keys}
 use Rattle.controllability.specs.Laws.{CyclesOfTablesExclude, OrderedClosuresAreControllable}
 use Rattle.strategy_model.specs.Plays.{IsInstant}
 use Rattle.strategy_model.specs.Control.{IsControllable}
@@ -73,3 +75,9 @@ decides_no net cert never (inr refutes) = refutes
 pub verdict_put : (net : Plan) (Yes : Type 0) (put : List ℕ) (end : End) → Decides net Yes (λ cert. PutsRefuted cert put end) → PutsDecided net Yes put end
 verdict_put net Yes put end (inl controllable) = inl controllable
 verdict_put net Yes put end (inr (never, (cert, refutes, puts))) = inr (never, (cert, refutes.accepted, puts))
+
+-- cells that hold the keys of a network hold those of its shown form
+pub shown_fits : (net shown : Plan) → shown ≡ shown_form net → key_count net ≤ most_keys → key_count shown ≤ most_keys
+shown_fits net shown is few =
+    let many : key_count (shown_form net) ≡ key_count net = ap (λ (links : ℕ). (length net.points + links) * length net.points) (length-map net.links (shown_link net)) in
+    subst (λ (keys : ℕ). keys ≤ most_keys) (sym (ap key_count is ∙ many)) few

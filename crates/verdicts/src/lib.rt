@@ -3,4 +3,4 @@
 
 mod verdict;
 
-pub use verdict::{Verdict, decide, decide_by_closure, dispatch_by, refute};
+pub use verdict::{Verdict, decide, decide_by_cells, decide_by_closure, dispatch_by, refute};

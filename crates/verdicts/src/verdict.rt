@@ -3,18 +3,20 @@
 ghost use Rattle.std.specs.Prelude.{◌≡◌, ◌≤◌, IfOk};
 ghost use Rattle.net_model.specs.ShownForm.{shown_form};
 ghost use Rattle.strategy_model.specs.Control.{IsControllable};
+ghost use Rattle.cell_table.specs.Limits.{key_count, most_keys};
 ghost use Rattle.work_board.specs.Limits.{most_seats};
 ghost use Rattle.dispatch_net.specs.OfClosure.{IsDispatchOfClosure};
 ghost use Rattle.execution_model.specs.Laws.{IsDispatchedByClosure};
 ghost use Rattle.refutations.specs.Refuting.{Refutes};
 ghost use Rattle.verdicts.specs.Verdict.{IsDecidedByClosure, IsVerdict};
 
+use cell_table::close_by_cells;
 use cert_format::Certificate;
 use controllability::laws::{cycles_of_tables_exclude, ordered_closures_are_controllable};
 use dispatch_net::Dispatch;
 use net_model::Network;
 use parallel_rounds::Gate;
-use plan_session::{AskFault, Session};
+use plan_session::OpenSession;
 use std::alloc::{AllocError, Global};
 use std::thread::Threads;
 use strategy_model::laws::shown::controllable_is_shown;
@@ -46,11 +48,48 @@ pub fn decide<R: Threads + Sync, G: Gate>(
     requires { (1 ≤ workers) × (workers ≤ most_seats) }
     ensures { IfOk result (IsVerdict net) }
 {
+    let shown = net.shown(alloc)?;
+    let found = decide_by_closure(rt, alloc, &shown, workers)?;
+    verdict_by(rt, alloc, net, shown, found, workers, gate)
+}
+
+/// The same of a network whose keys shared cells hold, and by these: so many workers, 1 to 64, lower the cells of its shown form. The
+/// certificate is made of rounds here too. `AllocError` comes only for want of memory.
+pub fn decide_by_cells<R: Threads + Sync, G: Gate>(
+    rt: &R,
+    alloc: Global,
+    net: Network,
+    workers: u32,
+    gate: &G,
+) -> Result<Verdict, AllocError>
+    requires workers { (1 ≤ workers) × (workers ≤ most_seats) }
+    requires few { key_count net ≤ most_keys }
+    ensures { IfOk result (IsVerdict net) }
+{
+    let shown = net.shown(alloc)?;
+    let found = closed_by_cells(rt, alloc, &shown, workers)?;
+    verdict_by(rt, alloc, net, shown, found, workers, gate)
+}
+
+/// The verdict of a network by what decides its shown form.
+fn verdict_by<R: Threads + Sync, G: Gate>(
+    rt: &R,
+    alloc: Global,
+    net: Network,
+    shown: Network,
+    found: Option<Closed>,
+    workers: u32,
+    gate: &G,
+) -> Result<Verdict, AllocError>
+    requires as_shown { shown ≡ shown_form net }
+    requires decided { IsDecidedByClosure shown found }
+    requires workers { (1 ≤ workers) × (workers ≤ most_seats) }
+    ensures { IfOk result (IsVerdict net) }
+{
     controllable_is_shown();
     // The proof reads here that the network is sound.
     let _ = net.points();
-    let shown = net.shown(alloc)?;
-    match decide_by_closure(rt, alloc, &shown, workers)? {
+    match found {
         Some(closed) => Ok(Verdict::Controllable {
             stated: net,
             shown,
@@ -82,6 +121,25 @@ pub fn decide_by_closure<R: Threads + Sync>(
     close(rt, alloc, net, workers)
 }
 
+/// The same of a network whose keys shared cells hold, by these: so many workers, 1 to 64, lower them.
+fn closed_by_cells<R: Threads + Sync>(
+    rt: &R,
+    alloc: Global,
+    net: &Network,
+    workers: u32,
+) -> Result<Option<Closed>, AllocError>
+    requires workers { (1 ≤ workers) × (workers ≤ most_seats) }
+    requires few { key_count net.now ≤ most_keys }
+    requires no_delay { net.now.delay ≡ 0 }
+    ensures { IfOk result (IsDecidedByClosure net.now) }
+{
+    ordered_closures_are_controllable();
+    cycles_of_tables_exclude();
+    // The proof reads here that the network is sound.
+    let _ = net.points();
+    close_by_cells(rt, alloc, net, workers)
+}
+
 /// The certificate that refutes the shown form of a network, which is not controllable, by the rounds of so many workers, 1 to 64; the gate is called before
 /// each row. `AllocError` comes only for want of memory.
 pub fn refute<R: Threads + Sync, G: Gate>(
@@ -98,12 +156,8 @@ pub fn refute<R: Threads + Sync, G: Gate>(
     controllable_is_shown();
     // The proof reads here that the network is sound.
     let _ = net.points();
-    let session = Session::open(rt, alloc, net, workers, gate)?;
-    match session.certificate(rt, alloc) {
-        Ok(certificate) => Ok(certificate),
-        Err(AskFault::OutOfMemory) => Err(AllocError),
-        Err(AskFault::Broken) => unreachable!(),
-    }
+    let session = OpenSession::open(rt, alloc, net, workers, gate)?;
+    session.certificate(rt, alloc)
 }
 
 /// The dispatchable network of a controllable network by its closure. `AllocError` comes only for want of memory.

@@ -1,0 +1,11 @@
+use Rattle.std.proofs.lemmas.Result.{IfOk-weaker}
+use Rattle.table_closing.specs.Closing.{ClosesTo}
+use Rattle.verdicts.specs.Verdict.{IsDecidedByClosure}
+use Rattle.verdicts.proofs.VerdictLemmas.{closes_decides}
+use Rattle.verdicts.proofs.verdict.closed_by_cells.Goals as goal
+
+pub returns : goal.returns
+returns g c =
+    let net = c.args.net.now in
+    IfOk-weaker c.close_by_cells.result (ClosesTo net) (IsDecidedByClosure net)
+    (closes_decides c.ordered_closures_are_controllable.ensures c.cycles_of_tables_exclude.ensures net (record { sound = c.points.ensures.sound; no_delay = c.requires.no_delay })) c.close_by_cells.ensures
