@@ -6,7 +6,7 @@ use Rattle.std.specs.List.{concat}
 use Rattle.texts.specs.Lines.{InputLine, input_lines, whole_lines, whole_line}
 use Rattle.texts.proofs.InputLemmas.{whole_lines_is, unfinished_is, first_grows}
 use Rattle.plan_port.specs.Lines.{Coming, TooLong as LongLine, TooMuch as MuchInput}
-use Rattle.plan_port.specs.Talk.{Piece, Place, Talk, Seen, WhereTold, LosesFront, place_of, raised}
+use Rattle.plan_port.specs.Talk.{Piece, TalkPlace, Talk, Seen, WhereTold, LosesFront, place_in_talk, raised}
 use Rattle.plan_port.specs.Writing.{Writes, after_writing}
 use Rattle.plan_port.specs.Reader.{Reader, IsReader, room, remaining, fresh, is_read_fault, lines_begun, after_takes, counted_takes, ReadsNext, FirstIs, GivesFirst, GivesNext}
 use Rattle.plan_port.specs.declared.lines.Line.{Line}
@@ -43,7 +43,7 @@ bytes_put (Part count) bytes = take count bytes
 -- where the last put failed, after a writing
 abbrev pub put_place : Written → Talk → Talk → Type 0
 put_place All is fin = fin.failed_put ≡ is.failed_put
-put_place (Part count) is fin = fin.failed_put ≡ Some (place_of fin)
+put_place (Part count) is fin = fin.failed_put ≡ Some (place_in_talk fin)
 
 -- what a writing changes of a talk
 pub record Wrote (written : Written) (bytes : List ℕ) (is fin : Talk) : Type 0 where
@@ -284,7 +284,7 @@ module _ {C : Type 0} (machine : Machine C) (start : C) where
   no_take false was is fault place = place
   no_take true was is fault place = absurd (cc fault)
 
-  one_take : (fault : Bool) (was is : Talk) → fault ≡ true → take_place machine start fault was is → is.failed_take ≡ Some (place_of is)
+  one_take : (fault : Bool) (was is : Talk) → fault ≡ true → take_place machine start fault was is → is.failed_take ≡ Some (place_in_talk is)
   one_take true was is fault place = place
   one_take false was is fault place = absurd (cc fault)
 
@@ -301,7 +301,7 @@ module _ {C : Type 0} (machine : Machine C) (start : C) where
     place = WhereTold-twice first.talk between.talk after.talk (ReadSoFar machine start command old new line first.left between.left) (λ is fin. fin ≡ after_writing written answer is) (λ was fin. EndsAfterTake fin (bytes_put written answer))
         (λ was is fin read changed.
         let w = wrote written answer is fin changed in
-        (is.put, w.put, w.take_same ∙ (one_take (is_read_fault line) was is fault read.take_is ∙ ap (λ (n : ℕ). Some (let p : Place = record { taken = n; put = length is.put } in p)) (ap (λ (l : List Piece). length l) (sym w.taken))))) (read_seen command old new line first before between from) writes.talk;
+        (is.put, w.put, w.take_same ∙ (one_take (is_read_fault line) was is fault read.take_is ∙ ap (λ (n : ℕ). Some (let p : TalkPlace = record { taken = n; put = length is.put } in p)) (ap (λ (l : List Piece). length l) (sym w.taken))))) (read_seen command old new line first before between from) writes.talk;
   }
 
   no_put_failed : (command : C) (old new : Reader) (line : Line) (first before between after : Seen) (answer : List ℕ) → ReadFrom line command old new first before between → Writes between after All answer → NoPutFailed first after
@@ -314,7 +314,7 @@ module _ {C : Type 0} (machine : Machine C) (start : C) where
   last_put_failed : (command : C) (old new : Reader) (line : Line) (first before between after : Seen) (count : ℕ) (answer : List ℕ) → ReadFrom line command old new first before between → Writes between after (Part count) answer → LastPutFailed first after
   last_put_failed command old new line first before between after count answer from writes = record {
     count = writes.write_faults ∙ ap raised (from.reads.takes.write_faults ∙ from.serving.write_faults);
-    place = WhereTold-twice first.talk between.talk after.talk (ReadSoFar machine start command old new line first.left between.left) (λ is fin. fin ≡ after_writing (Part count) answer is) (λ was fin. fin.failed_put ≡ Some (place_of fin))
+    place = WhereTold-twice first.talk between.talk after.talk (ReadSoFar machine start command old new line first.left between.left) (λ is fin. fin ≡ after_writing (Part count) answer is) (λ was fin. fin.failed_put ≡ Some (place_in_talk fin))
         (λ was is fin read changed. (wrote (Part count) answer is fin changed).put_is) (read_seen command old new line first before between from) writes.talk;
   }
 

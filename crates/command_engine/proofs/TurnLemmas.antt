@@ -5,7 +5,7 @@ use Rattle.std.specs.List.{concat}
 use Rattle.std.proofs.lemmas.List.{map-append}
 use Rattle.texts.specs.Lines.{InputLine, input_lines, whole_lines, unfinished, whole_line, open_line, line_size}
 use Rattle.plan_port.specs.Lines.{Coming, Comes, TooLong as LongLine, TooMuch as MuchInput, coming, DecideNothing}
-use Rattle.plan_port.specs.Talk.{Piece, Talk, Seen, WhereTold, LosesFront, place_of}
+use Rattle.plan_port.specs.Talk.{Piece, Talk, Seen, WhereTold, LosesFront, place_in_talk}
 use Rattle.plan_port.specs.Reader.{Reader, room, remaining, is_read_fault, after_takes, Takes, answer_by, answer_to, answer, without_line, ReadsNext, GivesFirst, GivesNext, WantsRoom}
 use Rattle.plan_port.specs.declared.lines.Line.{Line}
 use Rattle.plan_port.specs.declared.lines.Line.TheVariants.{Text, End, TooLong, TooMuch, ReadFault, OutOfMemory}
@@ -80,7 +80,7 @@ module _ {C : Type 0} (machine : Machine C) (start : C) where
 
   -- where the last take failed
   abbrev pub take_place : Bool → Talk → Talk → Type 0
-  take_place true was is = is.failed_take ≡ Some (place_of is)
+  take_place true was is = is.failed_take ≡ Some (place_in_talk is)
   take_place false was is = is.failed_take ≡ was.failed_take
 
   -- the same after the reader has read on, before the reply is put

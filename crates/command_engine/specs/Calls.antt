@@ -1,6 +1,6 @@
 -- The failed calls of a run: no call comes after one but the line that tells of it.
 use Rattle.std.specs.Prelude.{◌≡◌, ◌⊎◌, ℕ, List, ◌++◌, length, Some}
-use Rattle.plan_port.specs.Talk.{Talk, Seen, WhereTold, raised, place_of}
+use Rattle.plan_port.specs.Talk.{Talk, Seen, WhereTold, raised, place_in_talk}
 use Rattle.command_engine.specs.Breaks.{IsPart, read_fault_line}
 use Rattle.command_engine.specs.declared.endings.Status.{Status}
 use Rattle.command_engine.specs.declared.endings.Status.TheVariants.{Ended, ReadFault, WriteFault, NoMemory}
@@ -28,7 +28,7 @@ pub record LastTakeFailed (before after : Seen) (bytes : List ℕ) : Type 0 wher
 -- one put failed; nothing was taken or put after it
 pub record LastPutFailed (before after : Seen) : Type 0 where
   pub count : after.write_faults ≡ raised before.write_faults
-  pub place : WhereTold before.talk after.talk (λ was is. is.failed_put ≡ Some (place_of is))
+  pub place : WhereTold before.talk after.talk (λ was is. is.failed_put ≡ Some (place_in_talk is))
 
 -- the failed calls of a run, by its status
 abbrev pub Calls : Status → (before after : Seen) → Type 0

@@ -16,7 +16,7 @@ use Rattle.command_engine.specs.declared.endings.End.TheVariants as end
 use Rattle.command_engine.specs.declared.machines.Stop.{Stop}
 use Rattle.command_engine.specs.declared.machines.Stop.TheVariants as stop
 use Rattle.common_answers.specs.declared.faults.Fault.{Fault}
-use Rattle.common_answers.specs.declared.faults.Fault.TheVariants.{Format, Part, Document, DocumentTooLong, LineTooLong, InputTooMuch}
+use Rattle.common_answers.specs.declared.faults.Fault.TheVariants.{Format, Part, Document, DocumentTooLong, LineTooLong, InputTooMuch, Cells, DuplicatePlan, TooManyPlans}
 
 -- what is printed of a fault of a document
 abbrev pub document_fault_words : JsonFault → List (List ℕ)
@@ -36,6 +36,9 @@ fault_words (Document fault) = document_fault_words fault
 fault_words (DocumentTooLong number) = codes "limit" ∷ decimal number ∷ codes "json" ∷ []
 fault_words (LineTooLong number) = codes "limit" ∷ decimal number ∷ codes "line" ∷ []
 fault_words (InputTooMuch number) = codes "limit" ∷ decimal number ∷ codes "total" ∷ []
+fault_words (Cells number) = codes "limit" ∷ decimal number ∷ codes "cells" ∷ []
+fault_words (DuplicatePlan number) = codes "format" ∷ decimal number ∷ codes "duplicate-plan" ∷ []
+fault_words (TooManyPlans number) = codes "limit" ∷ decimal number ∷ codes "plans" ∷ []
 
 -- the line that is printed
 abbrev pub fault_line : Fault → List ℕ
@@ -55,6 +58,9 @@ fault_end (Document fault) = document_fault_end fault
 fault_end (DocumentTooLong number) = end.Limit
 fault_end (LineTooLong number) = end.Limit
 fault_end (InputTooMuch number) = end.Limit
+fault_end (Cells number) = end.Limit
+fault_end (DuplicatePlan number) = end.Fault
+fault_end (TooManyPlans number) = end.Limit
 
 -- what is printed for a fault, and how it ends the run
 abbrev pub refusing : Refusing Fault

@@ -26,6 +26,12 @@ pub enum Fault {
     LineTooLong(u32),
     /// The input has more bytes than it may have, and the byte beyond belongs to the line or is its end.
     InputTooMuch(u32),
+    /// The network of the plan that ends in the line has more keys than shared cells hold; of a document the number is 0.
+    Cells(u32),
+    /// The line names a plan by a name that stands before.
+    DuplicatePlan(u32),
+    /// The line names a plan more than there may be.
+    TooManyPlans(u32),
 }
 
 impl Refusal for Fault {
@@ -45,6 +51,9 @@ impl Refusal for Fault {
             Fault::DocumentTooLong(number) => refuse_line(answer, "limit", number, "json"),
             Fault::LineTooLong(number) => refuse_line(answer, "limit", number, "line"),
             Fault::InputTooMuch(number) => refuse_line(answer, "limit", number, "total"),
+            Fault::Cells(number) => refuse_line(answer, "limit", number, "cells"),
+            Fault::DuplicatePlan(number) => refuse_line(answer, "format", number, "duplicate-plan"),
+            Fault::TooManyPlans(number) => refuse_line(answer, "limit", number, "plans"),
         }
     }
 
@@ -58,6 +67,9 @@ impl Refusal for Fault {
             Fault::DocumentTooLong(_) => End::Limit,
             Fault::LineTooLong(_) => End::Limit,
             Fault::InputTooMuch(_) => End::Limit,
+            Fault::Cells(_) => End::Limit,
+            Fault::DuplicatePlan(_) => End::Fault,
+            Fault::TooManyPlans(_) => End::Limit,
         }
     }
 }

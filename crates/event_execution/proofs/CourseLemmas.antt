@@ -27,7 +27,8 @@ use Rattle.command_engine.specs.Inputs.{texts, room_after}
 use Rattle.common_answers.specs.ToRead.{Come}
 use Rattle.common_answers.specs.declared.faults.Fault.{Fault}
 use Rattle.common_answers.specs.declared.faults.Fault.TheVariants.{Format, LineTooLong as LongLine, InputTooMuch as MuchInput}
-use Rattle.event_execution.specs.Handing.{Handing, handed_line, Tells}
+use Rattle.event_execution.specs.Handing.{Handing, Tells}
+use Rattle.event_execution.proofs.HandingLemmas.{hands_something}
 use Rattle.event_execution.proofs.EventLemmas.{at, EndsBy, no_line, too_long, too_much, one_blank, one_feed, one_refused, one_done, one_unfinished, one_fault}
 
 -- ---- lists of feeds
@@ -240,7 +241,7 @@ module _ (reading : (net : Plan) (line : List (List ℕ)) → OneReading net lin
   tells_or_fails line = by (reading net (words line.text)).either
     where
       by : ((told : EventLine) × AreWordsOf net told (words line.text)) ⊎ ((kind : FormatKind) × IsFaultOfWords net (words line.text) kind) → TellsOrFails line
-      by (inl (read, is)) = inl (handed_line handing read, (read, is, refl))
+      by (inl (read, is)) = let told = hands_something handing read in inl (told.0, (read, is, told.1))
       by (inr fault) = inr fault
 
   -- a run of an execution over lines, and how each ends over the lines after one

@@ -43,7 +43,7 @@ use Rattle.common_answers.specs.Faults.{fault_end}
 use Rattle.common_answers.specs.VerdictLines.{controllable_line}
 use Rattle.plan_json.specs.declared.fault.JsonFault.TheVariants as json
 use Rattle.common_answers.specs.declared.faults.Fault.{Fault}
-use Rattle.common_answers.specs.declared.faults.Fault.TheVariants.{Format, Part, Document, DocumentTooLong, LineTooLong, InputTooMuch}
+use Rattle.common_answers.specs.declared.faults.Fault.TheVariants.{Format, Part, Document, DocumentTooLong, LineTooLong, InputTooMuch, Cells, DuplicatePlan, TooManyPlans}
 use Rattle.event_execution.proofs.CourseLemmas.{OverEvents, over_events, Decides, IsDecided, EndsAt, ends_so, fault_there}
 use Rattle.event_execution.proofs.DayLemmas.{ExecutionLaws, lists_within, puts_listings, all_come, acts_left, faithful_fed, fed_faithful, taken_faithful, closed_faithful, faithful_closed, unfaithful_there, whole_there}
 use Rattle.event_execution.proofs.DueLemmas.{fed_by, due_answered}
@@ -62,6 +62,9 @@ fault_ends_so (Document why) = inr refl
 fault_ends_so (DocumentTooLong number) = inl refl
 fault_ends_so (LineTooLong number) = inl refl
 fault_ends_so (InputTooMuch number) = inl refl
+fault_ends_so (Cells number) = inl refl
+fault_ends_so (DuplicatePlan number) = inr refl
+fault_ends_so (TooManyPlans number) = inl refl
 
 pub fault_not : (fault : Fault) (end : End) → end ≡ fault_end fault → (end ≡ ends.EventRefused) ⊎ (end ≡ ends.Done) → ⊥
 fault_not fault end is so = by (fault_ends_so fault) so
@@ -82,8 +85,8 @@ not_decided final done end (inl (shut, is)) (inr limit) = absurd (cc (is, limit)
 not_decided final done end (inr (point, opens, is)) (inl fault) = absurd (cc (is, fault))
 not_decided final done end (inr (point, opens, is)) (inr limit) = absurd (cc (is, limit))
 
--- an execution is opened, and goes on over lines of events
-pub record Opened (net : Plan) (number room : ℕ) (rest : List InputLine) (put : List ℕ) (end : End) : Type 0 where
+-- an execution is opened, in which points are handed over so, and goes on over lines of events
+pub record OpenedBy (handing : Handing) (net : Plan) (number room : ℕ) (rest : List InputLine) (put : List ℕ) (end : End) : Type 0 where
   pub controllable : IsControllable net
   pub table : Graph
   pub order : List PointId
@@ -92,7 +95,11 @@ pub record Opened (net : Plan) (number room : ℕ) (rest : List InputLine) (put 
   pub first : IsDueAnswer (started (setting_of net table)) due
   pub more : List ℕ
   pub all : put ≡ controllable_line ++ (due_line due ++ more)
-  pub later : RunOver executing_machine (at net (started (setting_of net table)) as_named number room) rest more end
+  pub later : RunOver executing_machine (at net (started (setting_of net table)) handing number room) rest more end
+
+-- one in which they are handed over as a line names them
+abbrev pub Opened : (net : Plan) (number room : ℕ) (rest : List InputLine) (put : List ℕ) → End → Type 0
+Opened net number room rest put end = OpenedBy as_named net number room rest put end
 
 -- an execution is opened by these lines, after these bytes: of a controllable network, by its closure; and it goes on over the other lines
 pub record IsOpened (handing : Handing) (net : Plan) (used rest : List InputLine) (before put : List ℕ) (end : End) : Type 0 where

@@ -19,12 +19,14 @@ use Rattle.command_engine.specs.declared.endings.End.{End}
 use Rattle.command_engine.specs.declared.endings.End.TheVariants as ends
 use Rattle.command_engine.specs.declared.machines.Onward.{Onward}
 use Rattle.command_engine.specs.declared.machines.Onward.TheVariants.{Goes, Ends}
-use Rattle.event_execution.specs.Course.{Course, IsCourse, course_of}
+use Rattle.event_execution.specs.Course.{AreParts, Course, IsCourse, course_by, course_in}
+use Rattle.event_execution.specs.declared.executing.Parts.{Parts}
 use Rattle.event_execution.specs.EventAnswers.{event_fault_line, NamesPoints}
-use Rattle.event_execution.specs.Executing.{AnswersEvent, EndsAmong, FeedsAmong, PutsFed, TakesEvent}
+use Rattle.event_execution.specs.Executing.{AnswersEvent, AnswersRead, EndsAmong, FeedsAmong, FeedsNamed, PutsFed, TakesEvent}
+use Rattle.event_execution.specs.Handing.{Handing, handing_where}
 use Rattle.common_answers.specs.Faults.{fault_end}
 use Rattle.common_answers.specs.declared.faults.Fault.TheVariants.{Format}
-use Rattle.event_execution.proofs.HandingLemmas.{as_it_is}
+use Rattle.event_execution.proofs.HandingLemmas.{handed_points}
 use Rattle.event_execution.proofs.CauseLemmas.{IsActOf, acts_while_of_points, fed_acts_of_points, open_point, cause_names}
 
 -- ---- feeds
@@ -98,15 +100,52 @@ fed_answers state number moment listed (fed.Ended why) after due put None is nex
 fed_answers state number moment listed (fed.Ended why) after due put (Some end) is next puts = let same : end ≡ ends.EventRefused = cc (puts.1) in (fed.Ended why, after, is, (puts.0, ap (λ (e : End). Ends e) same))
 
 -- where a feed does not end it, the execution is still one of the network
-pub keeps_course : (net : Plan) (execution : Execution) (moment : ℕ) (listed : List PointId) (answer : Fed) (after : Execution) (number : ℕ) (acts : List Act) (due : Option ℕ) (put : List ℕ)
-    (ended : Option End) → IsCourse (course_of net execution) → IsFed execution moment listed answer after → length after.moments ≡ length after.setting.dispatch
-    → PutsFed net number answer acts due put ended → ended ≡ None → IsCourse (course_of net after)
-keeps_course net execution moment listed fed.Acts after number acts due put ended course is count puts none =
+pub keeps_course : (handing : Handing) (net : Plan) (execution : Execution) (moment : ℕ) (listed : List PointId) (answer : Fed) (after : Execution) (number : ℕ) (acts : List Act) (due : Option ℕ) (put : List ℕ)
+    (ended : Option End) → IsCourse (course_by handing net execution) → IsFed execution moment listed answer after → length after.moments ≡ length after.setting.dispatch
+    → PutsFed net number answer acts due put ended → ended ≡ None → IsCourse (course_by handing net after)
+keeps_course handing net execution moment listed fed.Acts after number acts due put ended course is count puts none =
     let took = fed_acts execution moment listed fed.Acts after course.goes_on is refl in
     let same : length after.setting.dispatch ≡ length net.points = ap (λ (s : Setting). length s.dispatch) took.setting ∙ course.dispatch in
     record { moments = count ∙ same; dispatch = same; goes_on = took.goes_on }
-keeps_course net execution moment listed (fed.Refused why) after number acts due put ended course is count puts none = absurd (cc (puts.1, none))
-keeps_course net execution moment listed (fed.Ended why) after number acts due put ended course is count puts none = absurd (cc (puts.1, none))
+keeps_course handing net execution moment listed (fed.Refused why) after number acts due put ended course is count puts none = absurd (cc (puts.1, none))
+keeps_course handing net execution moment listed (fed.Ended why) after number acts due put ended course is count puts none = absurd (cc (puts.1, none))
+
+-- the points that a line named are fed as they are handed over
+module _ (before : Parts) (moment : ℕ) (answer : Fed) (after : Parts) (feeds : FeedsNamed before moment answer after) (are : AreParts before) where
+  named_among : All (IsPoint before.net) before.events → length after.executor.acts ≤ length after.executor.setting.dispatch → FeedsAmong before.net answer after.executor.acts
+  named_among all few =
+      feeds_among before.net before.executor moment feeds.points answer after.executor are.course.goes_on are.course.dispatch (handed_points (handing_where before.feeding) (IsPoint before.net) before.events feeds.points feeds.handed all)
+      feeds.fed few
+
+  same_net : after.net ≡ before.net
+  same_net = ap (λ (parts : Parts). parts.net) feeds.same
+
+  pub put_among : All (IsPoint before.net) before.events → length after.executor.acts ≤ length after.executor.moments → length after.executor.moments ≡ length after.executor.setting.dispatch
+      → FeedsAmong after.net answer after.executor.acts
+  put_among all few count = subst (λ (net : Plan). FeedsAmong net answer after.executor.acts) (sym same_net) (named_among all (subst (λ (n : ℕ). length after.executor.acts ≤ n) count few))
+
+  module _ (number : ℕ) (due : Option ℕ) (put : List ℕ) (ended : Option End) (puts : PutsFed after.net number answer after.executor.acts due put ended) where
+    puts_before : PutsFed before.net number answer after.executor.acts due put ended
+    puts_before = subst (λ (net : Plan). PutsFed net number answer after.executor.acts due put ended) same_net puts
+
+    pub named_answers : IsDueAnswer after.executor due → AnswersRead (course_in before) number (completed moment before.events) put (onward_of (course_in before) after.executor ended)
+    named_answers next = (
+      completed moment feeds.points,
+      (feeds.points, feeds.handed, refl),
+      fed_answers (course_in before) number moment feeds.points answer after.executor due put ended feeds.fed next puts_before,
+    )
+
+    pub named_keeps : length after.executor.moments ≡ length after.executor.setting.dispatch → ended ≡ None → AreParts after
+    named_keeps count none =
+        let from : AreParts (record before { executor = after.executor }) = record {
+          course = keeps_course (handing_where before.feeding) before.net before.executor moment feeds.points answer after.executor number after.executor.acts due put ended are.course feeds.fed count puts_before none;
+          desk = are.desk;
+        } in
+        subst AreParts (sym feeds.same) from
+
+  -- the execution that they make up then
+  pub course_after : course_in after ≡ record (course_in before) { execution = after.executor }
+  course_after = ap course_in feeds.same
 
 -- ---- the end
 module _ (execution : Execution) (answer : Finished) (after : Execution) (going : execution.refused ≡ None) where
@@ -160,9 +199,9 @@ ends_among net execution answer after going same is few = by (first_open executi
 
 -- ---- lines of events
 -- what a line tells is answered so
-pub told_answers : (net : Plan) (execution : Execution) (number : ℕ) (line : List ℕ) (told : EventLine) (put : List ℕ) (onward : Onward Course)
-    → IsLine net told line → AnswersEvent (course_of net execution) number told put onward → TakesEvent (course_of net execution) number line put onward
-told_answers net execution number line told put onward is answers = inl (told, (told, is, as_it_is told), answers)
+pub told_answers : (state : Course) (number : ℕ) (line : List ℕ) (read : EventLine) (put : List ℕ) (onward : Onward Course)
+    → IsLine state.net read line → AnswersRead state number read put onward → TakesEvent state number line put onward
+told_answers state number line read put onward is (told, hands, answers) = inl (told, (read, is, hands), answers)
 
 -- a line that tells nothing is answered by its fault
 pub fault_answers : (state : Course) (number : ℕ) (line : List ℕ) (kind : FormatKind) (put : List ℕ) (end : End) → IsFaultOf state.net line kind

@@ -9,3 +9,4 @@ pub mod CourseLemmas
 pub mod DueLemmas
 pub mod DayLemmas
 pub mod ExecutionLemmas
+mod SizeLemmas

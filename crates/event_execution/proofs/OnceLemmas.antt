@@ -26,12 +26,13 @@ use Rattle.command_engine.specs.Single.{IsSingle}
 use Rattle.command_engine.specs.declared.machines.Onward.{Onward}
 use Rattle.command_engine.specs.declared.machines.Onward.TheVariants.{Goes, Ends}
 use Rattle.common_answers.specs.VerdictLines.{controllable_line}
-use Rattle.event_execution.specs.Course.{Course, course_of}
+use Rattle.event_execution.specs.Course.{Course, course_by}
 use Rattle.event_execution.specs.EventAnswers.{acts_text, due_line, event_fault_line}
 use Rattle.event_execution.specs.Executing.{AnswersFeed, AnswersEnd, AnswersEvent, TakesEvent, executing_machine}
 use Rattle.common_answers.specs.Faults.{fault_end}
 use Rattle.common_answers.specs.declared.faults.Fault.TheVariants.{Format}
-use Rattle.event_execution.specs.Begin.{BeginsExecution}
+use Rattle.event_execution.specs.Begin.{BeginsExecution, BeginsExecutionBy}
+use Rattle.event_execution.specs.Handing.{Handing, as_named}
 use Rattle.event_execution.proofs.HandingLemmas.{told_once, no_fault}
 
 -- ---- the next due moment is one
@@ -193,10 +194,13 @@ module _ (reading : (net : Plan) (line : List (List ℕ)) → OneReading net lin
   }
 
 -- ---- the beginning is one
-pub begun_one : (net : Plan) (a b : List ℕ) (x y : Onward Course) → BeginsExecution net a x → BeginsExecution net b y → (a ≡ b) × (x ≡ y)
-begun_one net a b x y one other =
+pub begun_one_by : (handing : Handing) (net : Plan) (a b : List ℕ) (x y : Onward Course) → BeginsExecutionBy handing net a x → BeginsExecutionBy handing net b y → (a ≡ b) × (x ≡ y)
+begun_one_by handing net a b x y one other =
     let same : one.table ≡ other.table = closure_is_one net one.table other.table one.by_closure.closure other.by_closure.closure in
     let from : Graph → Execution = λ table. started (setting_of net table) in
-    let onward : Graph → Onward Course = λ table. Goes (course_of net (from table)) in
+    let onward : Graph → Onward Course = λ table. Goes (course_by handing net (from table)) in
     let due = due_one (from other.table) one.due other.due (subst (λ (t : Graph). IsDueAnswer (from t) one.due) same one.first) other.first in
     (one.put ∙ (ap (λ (d : Option ℕ). controllable_line ++ due_line d) due ∙ sym other.put), one.goes ∙ (ap onward same ∙ sym other.goes))
+
+pub begun_one : (net : Plan) (a b : List ℕ) (x y : Onward Course) → BeginsExecution net a x → BeginsExecution net b y → (a ≡ b) × (x ≡ y)
+begun_one = begun_one_by as_named

@@ -4,6 +4,8 @@ use Rattle.std.specs.List.{All}
 use Rattle.net_model.specs.Network.{Plan, IsPoint}
 use Rattle.net_model.specs.declared.format.FormatKind.{FormatKind}
 use Rattle.net_model.specs.declared.format.FormatKind.TheVariants.{NoEnd}
+use Rattle.net_model.specs.Limits.{most_moment}
+use Rattle.net_model.specs.declared.ids.PointId.{PointId}
 use Rattle.texts.specs.Limits.{most_line}
 use Rattle.event_stream.specs.EventText.{EventLine, blank, completed, done, IsFaultOf}
 use Rattle.execution_model.specs.Feeding.{Execution, IsFed, IsFinished, IsDueAnswer}
@@ -19,7 +21,8 @@ use Rattle.command_engine.specs.declared.endings.End.TheVariants as ends
 use Rattle.command_engine.specs.declared.machines.Onward.{Onward}
 use Rattle.command_engine.specs.declared.machines.Onward.TheVariants.{Goes, Ends}
 use Rattle.event_execution.specs.Course.{Course}
-use Rattle.event_execution.specs.Handing.{Tells}
+use Rattle.event_execution.specs.declared.executing.Parts.{Parts}
+use Rattle.event_execution.specs.Handing.{AreHanded, HandsOver, handing_where, Tells}
 use Rattle.event_execution.specs.EventAnswers.{acts_text, due_line, complete_line, NamesPoints, why_words, unfinished_words, event_line, event_fault_line, most_act}
 use Rattle.common_answers.specs.Faults.{fault_line, fault_end, stop_fault}
 use Rattle.common_answers.specs.declared.faults.Fault.TheVariants.{Format}
@@ -72,6 +75,24 @@ AnswersEvent state number (completed moment points) answer onward =
     × AnswersFeed state number answered (record state { execution = after }) answer onward
 AnswersEvent state number done answer onward =
     (answered : Finished) × (after : Execution) × IsFinished state.execution answered after × AnswersEnd state.net number answered after.acts answer onward
+
+-- the answer to what a line of events tells: to that, with its points as they are handed to the execution
+abbrev pub AnswersRead : Course → ℕ → EventLine → List ℕ → Onward Course → Type 0
+AnswersRead state number read answer onward =
+    (told : EventLine) × HandsOver state.handing read told × AnswersEvent state number told answer onward
+
+-- the moment that a line tells, if it tells one, is within its limit
+abbrev pub IsWithin : EventLine → Type 0
+IsWithin blank = Unit {0}
+IsWithin (completed moment points) = moment ≤ most_moment
+IsWithin done = Unit {0}
+
+-- the points that the last line named are fed at a moment, as they are handed over; nothing changes but the execution
+pub record FeedsNamed (before : Parts) (moment : ℕ) (answer : Fed) (after : Parts) : Type 0 where
+  pub points : List PointId
+  pub handed : AreHanded (handing_where before.feeding) before.events points
+  pub fed : IsFed before.executor moment points answer after.executor
+  pub same : after ≡ record before { executor = after.executor }
 
 -- where the run goes on, it does for the same network
 abbrev pub GoesWith : Plan → Onward Course → Type 0

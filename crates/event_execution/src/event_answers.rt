@@ -47,10 +47,11 @@ fn put_act(answer: &mut Answer, net: &Network, act: &Act)
     ]);
 }
 
-/// Puts the next due moment.
-pub(crate) fn put_due(answer: &mut Answer, due: Option<u64>)
+/// Puts the next due moment, without memory.
+pub fn put_due(answer: &mut Answer, due: Option<u64>)
     requires { length answer.old.text + most_act ≤ answer.old.capacity }
     ensures text { answer.new.text ≡ answer.old.text ++ due_line due }
+    ensures size { length answer.new.text ≤ length answer.old.text + most_act }
     ensures capacity { answer.old.capacity ≤ answer.new.capacity }
 {
     match due {
@@ -63,19 +64,24 @@ pub(crate) fn put_due(answer: &mut Answer, due: Option<u64>)
 pub(crate) fn put_complete(answer: &mut Answer)
     requires { length answer.old.text + least_room ≤ answer.old.capacity }
     ensures text { answer.new.text ≡ answer.old.text ++ complete_line }
+    ensures size { length answer.new.text ≤ length answer.old.text + least_room }
     ensures capacity { answer.old.capacity ≤ answer.new.capacity }
 {
     answer.put_line(&[Word::Text("complete")]);
 }
 
-/// Refuses a line that is no line of events.
-pub(crate) fn refuse_line(answer: &mut Answer, number: u32, kind: FormatKind) -> End
+/// Refuses a line that is no line of events, without memory: its line stands in place of what stood in the buffer.
+pub fn refuse_line(answer: &mut Answer, number: u32, kind: FormatKind) -> End
     ensures put { answer.new.text ≡ event_fault_line number kind }
+    ensures size { length answer.new.text ≤ least_room }
     ensures end { result ≡ fault_end (Format number kind) }
     ensures capacity { answer.old.capacity ≤ answer.new.capacity }
 {
     if kind == FormatKind::NumberLimit {
-        answer.refuse(&[
+        // The proof reads here that there is room.
+        let _ = answer.bytes();
+        answer.clear();
+        answer.put_line(&[
             Word::Text("error"),
             Word::Text("limit"),
             Word::Number(u64::from(number)),
@@ -92,6 +98,7 @@ pub(crate) fn refuse_line(answer: &mut Answer, number: u32, kind: FormatKind) ->
 pub(crate) fn refuse_event(answer: &mut Answer, net: &Network, number: u32, why: Why) -> End
     requires { NamesPoints net.now why }
     ensures put { answer.new.text ≡ event_line number (why_words net.now why) }
+    ensures size { length answer.new.text ≤ least_room }
     ensures end { result ≡ EventRefused }
     ensures capacity { answer.old.capacity ≤ answer.new.capacity }
 {
@@ -115,6 +122,7 @@ pub(crate) fn refuse_event(answer: &mut Answer, net: &Network, number: u32, why:
 pub(crate) fn refuse_end(answer: &mut Answer, net: &Network, number: u32, point: PointId) -> End
     requires { IsPoint net.now point }
     ensures put { answer.new.text ≡ event_line number (unfinished_words net.now point) }
+    ensures size { length answer.new.text ≤ least_room }
     ensures end { result ≡ EventRefused }
     ensures capacity { answer.old.capacity ≤ answer.new.capacity }
 {
@@ -126,6 +134,7 @@ pub(crate) fn refuse_end(answer: &mut Answer, net: &Network, number: u32, point:
 fn refuse_point(answer: &mut Answer, net: &Network, number: u32, word: &str, point: PointId)
     requires { (length word.now ≤ 32) × IsPoint net.now point }
     ensures put { answer.new.text ≡ event_line number (word.now ∷ point_name net.now.points point ∷ []) }
+    ensures size { length answer.new.text ≤ least_room }
     ensures capacity { answer.old.capacity ≤ answer.new.capacity }
 {
     refuse(answer, number, word, Word::Name(name_of(net, point)));
@@ -142,6 +151,7 @@ fn refuse_point_at(
 )
     requires { (length word.now ≤ 32) × IsPoint net.now point }
     ensures put { answer.new.text ≡ event_line number (word.now ∷ point_name net.now.points point ∷ decimal moment ∷ []) }
+    ensures size { length answer.new.text ≤ least_room }
     ensures capacity { answer.old.capacity ≤ answer.new.capacity }
 {
     refuse_at(
@@ -157,10 +167,14 @@ fn refuse_point_at(
 fn refuse<'a>(answer: &mut Answer, number: u32, word: &'a str, of: Word<'a>)
     requires { (length word.now ≤ 32) × (most_word of ≤ 32) }
     ensures put { answer.new.text ≡ event_line number (word.now ∷ word_text of.entry ∷ []) }
+    ensures size { length answer.new.text ≤ least_room }
     ensures capacity { answer.old.capacity ≤ answer.new.capacity }
 {
     let line = Word::Number(u64::from(number));
-    answer.refuse(&[
+    // The proof reads here that there is room.
+    let _ = answer.bytes();
+    answer.clear();
+    answer.put_line(&[
         Word::Text("error"),
         Word::Text("event"),
         line,
@@ -173,9 +187,13 @@ fn refuse<'a>(answer: &mut Answer, number: u32, word: &'a str, of: Word<'a>)
 fn refuse_at<'a>(answer: &mut Answer, number: u32, word: &'a str, point: Word<'a>, moment: u64)
     requires { (length word.now ≤ 32) × (most_word point ≤ 32) }
     ensures put { answer.new.text ≡ event_line number (word.now ∷ word_text point.entry ∷ decimal moment ∷ []) }
+    ensures size { length answer.new.text ≤ least_room }
     ensures capacity { answer.old.capacity ≤ answer.new.capacity }
 {
-    answer.refuse(&[
+    // The proof reads here that there is room.
+    let _ = answer.bytes();
+    answer.clear();
+    answer.put_line(&[
         Word::Text("error"),
         Word::Text("event"),
         Word::Number(u64::from(number)),

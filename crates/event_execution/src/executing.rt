@@ -1,20 +1,24 @@
 //! The phase of `run` in which a network is executed over lines of events.
 
-ghost use Rattle.std.specs.Prelude.{◌≡◌, ◌≤◌, [], length, IfOk, OnOk};
+ghost use Rattle.std.specs.Prelude.{◌≡◌, ◌≤◌, [], length, IfOk, OnOk, IfSome};
 ghost use Rattle.std.specs.List.{All};
+ghost use Rattle.net_model.specs.Limits.{most_moment};
 ghost use Rattle.net_model.specs.Network.{IsPoint};
+ghost use Rattle.desk_feeding.specs.Fed.{most_feeders};
 ghost use Rattle.execution_model.specs.Feeding.{started, IsDueAnswer};
 ghost use Rattle.live_executor.specs.Sound.{IsDispatchOf};
 ghost use Rattle.event_stream.specs.EventText.{completed, done, said, HasPoints};
 ghost use Rattle.command_engine.specs.declared.machines.Onward.TheVariants.{Ends};
-ghost use Rattle.event_execution.specs.Executing.{executing_machine, answer_room, AnswersEnd, AnswersEvent, EndsAmong, FeedsAmong, GoesWith, PutsFed};
-ghost use Rattle.event_execution.specs.Course.{IsCourse, course_of};
+ghost use Rattle.event_execution.specs.Executing.{executing_machine, answer_room, AnswersEnd, AnswersEvent, AnswersRead, EndsAmong, FeedsAmong, FeedsNamed, GoesWith, IsWithin, PutsFed};
+ghost use Rattle.event_execution.specs.Course.{AreParts, IsDeskOf, course_by, course_in};
+ghost use Rattle.event_execution.specs.Handing.{handing_where};
 
 use crate::event_answers::{
     MOST_ACT, put_acts, put_complete, put_due, refuse_end, refuse_event, refuse_line,
 };
 use command_engine::{Answer, Command, End, LEAST_ROOM, Onward, Refusal, Stop};
 use common_answers::stop_fault;
+use desk_feeding::Feeding;
 use dispatch_net::Dispatch;
 use event_stream::{Event, EventReader};
 use execution_model::{Act, Fed, Finished};
@@ -28,40 +32,53 @@ use std::thread::Threads;
 /// The execution of a network over lines of events, as it stands.
 #[derive(Drop)]
 pub struct Executing {
+    parts: Parts,
+}
+
+/// What the execution of a network over lines of events consists of: beside the network its executor, the reader of the lines, and the desk
+/// from which it is fed, where there are feeders.
+#[derive(Drop)]
+struct Parts {
     net: Network,
     executor: Executor,
     events: EventReader,
+    feeding: Option<Feeding>,
 }
 
 impl Model for Executing {
-    ghost use Rattle.event_execution.specs.Course.{Course, IsCourse, course_of};
+    ghost use Rattle.event_execution.specs.Course.{AreParts, Course, course_in};
 
     ghost Value = { Course };
 
-    ghost view = { λ executing. course_of executing.net executing.executor };
+    ghost view = { λ executing. course_in executing.parts };
 
-    ghost invariant = { λ executing. IsCourse (course_of executing.net executing.executor) };
+    ghost invariant = { λ executing. AreParts executing.parts };
 }
 
 impl Executing {
-    /// Begins the execution of a network on a dispatchable network of it: no point has come, and no feed was made. `AllocError` comes only
-    /// for want of memory.
+    /// Begins the execution of a network on a dispatchable network of it: no point has come, and no feed was made. Where there is a number of
+    /// feeders, it is fed from a desk. `AllocError` comes only for want of memory.
     pub(crate) fn start(
         alloc: Global,
         net: Network,
         dispatch: Dispatch,
+        feeders: Option<u32>,
     ) -> Result<Executing, AllocError>
         requires dispatch { IsDispatchOf net dispatch }
         requires points { length dispatch.made ≡ length net.points }
-        ensures { IfOk result (λ state. state ≡ course_of net (started (record { links = net.links; dispatch = dispatch.made }))) }
+        requires feeders { IfSome feeders (λ count. (1 ≤ count) × (count ≤ most_feeders)) }
+        ensures { IfOk result (λ state. state ≡ course_by (handing_where feeders) net (started (record { links = net.links; dispatch = dispatch.made }))) }
     {
+        let feeding = feeding_by(alloc, &net, feeders)?;
         let executor = Executor::start(alloc, &net, dispatch)?;
         let events = EventReader::new(alloc)?;
-        Ok(Executing {
+        let parts = Parts {
             net,
             executor,
             events,
-        })
+            feeding,
+        };
+        Ok(Executing { parts })
     }
 
     /// Reserves the room that the answers to events need.
@@ -70,14 +87,30 @@ impl Executing {
         ensures room { OnOk result (answer_room self.now.net ≤ answer.new.capacity) }
         ensures capacity { answer.old.capacity ≤ answer.new.capacity }
     {
-        answer.reserve(MOST_ACT * self.net.points().len() + LEAST_ROOM)
+        answer.reserve(MOST_ACT * self.parts.net.points().len() + LEAST_ROOM)
     }
 
     /// The next moment at which a point will be executed if nothing completes before, or `None` where there is none.
     pub(crate) fn next_due(&self) -> Option<u64>
         ensures { IsDueAnswer self.now.execution result }
     {
-        self.executor.next_due()
+        self.parts.executor.next_due()
+    }
+}
+
+/// The feeding of an execution of a network by so many feeders, or none.
+fn feeding_by(
+    alloc: Global,
+    net: &Network,
+    feeders: Option<u32>,
+) -> Result<Option<Feeding>, AllocError>
+    requires { IfSome feeders (λ count. (1 ≤ count) × (count ≤ most_feeders)) }
+    ensures handing { IfOk result (λ feeding. handing_where feeding ≡ handing_where feeders) }
+    ensures desk { IfOk result (IsDeskOf net.now) }
+{
+    match feeders {
+        None => Ok(None),
+        Some(count) => Ok(Some(Feeding::new(alloc, net, count)?)),
     }
 }
 
@@ -90,20 +123,16 @@ impl Command for Executing {
 
     fn take_line<R: Threads + Sync>(
         self,
-        _rt: &R,
+        rt: &R,
         _alloc: Global,
         answer: &mut Answer,
         number: u32,
         line: &[u8],
     ) -> Result<Onward<Executing>, AllocError> {
-        let Executing {
-            net,
-            executor,
-            mut events,
-        } = self;
-        let told = events.read(line, &net);
+        let Executing { mut parts } = self;
+        let told = parts.events.read(line, &parts.net);
         match told {
-            Ok(event) => Ok(answer_event(net, executor, events, answer, number, event)),
+            Ok(event) => Ok(answer_event(rt, parts, answer, number, event)),
             Err(kind) => Ok(Onward::Ends(refuse_line(answer, number, kind))),
         }
     }
@@ -116,78 +145,89 @@ impl Command for Executing {
 }
 
 /// Answers what a line of events told, of which the reader has the points that it names.
-fn answer_event(
-    net: Network,
-    executor: Executor,
-    events: EventReader,
+fn answer_event<R: Threads + Sync>(
+    rt: &R,
+    parts: Parts,
     answer: &mut Answer,
     number: u32,
     event: Event,
 ) -> Onward<Executing>
     requires empty { answer.old.text ≡ [] }
-    requires room { answer_room net ≤ answer.old.capacity }
-    requires course { IsCourse (course_of net executor) }
-    requires points { HasPoints net event events }
-    ensures answers { AnswersEvent (course_of net executor) number (said event events) answer.new.text result }
+    requires room { answer_room parts.net ≤ answer.old.capacity }
+    requires parts { AreParts parts }
+    requires points { HasPoints parts.net event parts.events }
+    requires within { IsWithin (said event parts.events) }
+    ensures answers { AnswersRead (course_in parts) number (said event parts.events) answer.new.text result }
     ensures capacity { answer.old.capacity ≤ answer.new.capacity }
-    ensures kept { GoesWith net result }
+    ensures kept { GoesWith parts.net result }
 {
     match event {
-        Event::Blank => Onward::Goes(Executing {
-            net,
-            executor,
-            events,
-        }),
-        Event::At(moment) => feed(net, executor, events, answer, number, moment),
-        Event::Done => Onward::Ends(finish(&net, executor, answer, number)),
+        Event::Blank => Onward::Goes(Executing { parts }),
+        Event::At(moment) => feed(rt, parts, answer, number, moment),
+        Event::Done => Onward::Ends(finish(parts, answer, number)),
     }
 }
 
 /// Feeds the points that the reader has, at a moment, and puts the acts and the next due moment, or why the feed is refused.
-fn feed(
-    net: Network,
-    mut executor: Executor,
-    events: EventReader,
+fn feed<R: Threads + Sync>(
+    rt: &R,
+    mut parts: Parts,
     answer: &mut Answer,
     number: u32,
     moment: u64,
 ) -> Onward<Executing>
     requires empty { answer.old.text ≡ [] }
-    requires room { answer_room net ≤ answer.old.capacity }
-    requires course { IsCourse (course_of net executor) }
-    requires points { All (IsPoint net) events }
-    ensures answers { AnswersEvent (course_of net executor) number (completed moment events) answer.new.text result }
+    requires room { answer_room parts.net ≤ answer.old.capacity }
+    requires parts { AreParts parts }
+    requires points { All (IsPoint parts.net) parts.events }
+    requires within { moment ≤ most_moment }
+    ensures answers { AnswersRead (course_in parts) number (completed moment parts.events) answer.new.text result }
     ensures capacity { answer.old.capacity ≤ answer.new.capacity }
-    ensures kept { GoesWith net result }
+    ensures kept { GoesWith parts.net result }
 {
-    let fed = executor.feed(moment, events.completions());
-    match put_fed(
-        answer,
-        &net,
-        number,
-        fed,
-        executor.acts(),
-        executor.next_due(),
-    ) {
-        None => Onward::Goes(Executing {
-            net,
-            executor,
-            events,
-        }),
+    let fed = feed_named(rt, &mut parts, moment);
+    let due = parts.executor.next_due();
+    match put_fed(answer, &parts.net, number, fed, parts.executor.acts(), due) {
+        None => Onward::Goes(Executing { parts }),
         Some(end) => Onward::Ends(end),
     }
 }
 
+/// Feeds the points that the reader has, at a moment: by a desk, where there are feeders, else as the line names them.
+fn feed_named<R: Threads + Sync>(rt: &R, parts: &mut Parts, moment: u64) -> Fed
+    requires parts { AreParts parts.old }
+    requires points { All (IsPoint parts.old.net) parts.old.events }
+    requires within { moment ≤ most_moment }
+    ensures { FeedsNamed parts.old moment result parts.new }
+{
+    let Parts {
+        net,
+        executor,
+        events,
+        feeding,
+    } = parts;
+    let named = events.completions();
+    match feeding {
+        None => executor.feed(moment, named),
+        Some(feeding) => feeding.feed(rt, net, executor, moment, named),
+    }
+}
+
 /// Ends the execution, and puts the acts that remain, or why it can't end.
-fn finish(net: &Network, mut executor: Executor, answer: &mut Answer, number: u32) -> End
+fn finish(parts: Parts, answer: &mut Answer, number: u32) -> End
     requires empty { answer.old.text ≡ [] }
-    requires room { answer_room net.now ≤ answer.old.capacity }
-    requires course { IsCourse (course_of net.now executor) }
-    ensures answers { AnswersEvent (course_of net.now executor) number done answer.new.text (Ends result) }
+    requires room { answer_room parts.net ≤ answer.old.capacity }
+    requires parts { AreParts parts }
+    ensures answers { AnswersEvent (course_in parts) number done answer.new.text (Ends result) }
     ensures capacity { answer.old.capacity ≤ answer.new.capacity }
 {
+    let Parts {
+        net,
+        mut executor,
+        ..
+    } = parts;
     let finished = executor.finish();
-    put_end(answer, net, number, finished, executor.acts())
+    put_end(answer, &net, number, finished, executor.acts())
 }
 
 /// Puts the answer to a feed of an execution into the buffer, which is empty: its acts and the next due moment after it, or why it is
@@ -204,6 +244,7 @@ pub fn put_fed(
     requires room { answer_room net.now ≤ answer.old.capacity }
     requires points { FeedsAmong net.now fed acts.now }
     ensures answers { PutsFed net.now number fed acts.now due answer.new.text result }
+    ensures size { length answer.new.text ≤ answer_room net.now }
     ensures capacity { answer.old.capacity ≤ answer.new.capacity }
 {
     match fed {
@@ -229,6 +270,7 @@ pub fn put_end(
     requires room { answer_room net.now ≤ answer.old.capacity }
     requires points { EndsAmong net.now finished acts.now }
     ensures answers { AnswersEnd net.now number finished acts.now answer.new.text (Ends result) }
+    ensures size { length answer.new.text ≤ answer_room net.now }
     ensures capacity { answer.old.capacity ≤ answer.new.capacity }
 {
     match finished {

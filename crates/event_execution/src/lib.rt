@@ -5,5 +5,6 @@ mod begin;
 mod event_answers;
 mod executing;
 
-pub use begin::begin_dispatched;
+pub use begin::{begin_dispatched, begin_with_feeders};
+pub use event_answers::{put_due, refuse_line};
 pub use executing::{Executing, put_end, put_fed};

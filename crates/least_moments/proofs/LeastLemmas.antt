@@ -1,20 +1,19 @@
 -- The loop over the rounds.
-use Rattle.std.proofs.Common.{◌≡◌, ◌≢◌, ◌⊎◌, ℕ, zero, suc, ◌+◌, ◌-◌, ◌*◌, ◌<◌, ◌≤◌, ◌^◌, ℤ, pos, Bool, true, false, List, [], ◌∷◌, ◌++◌, Option, Some, None, length, get_or, replicate, is_some, is_none, refl, ap, sym, subst, ◌∙◌, inl, inr, arith}
-use Rattle.std.specs.List.{All, position, slice_index_or}
+use Rattle.std.proofs.Common.{◌≡◌, ◌≢◌, ℕ, ◌+◌, ◌-◌, ◌<◌, ◌≤◌, ◌^◌, true, false, List, [], ◌∷◌, ◌++◌, Option, Some, None, length, get_or, replicate, is_some, refl, ap, sym, subst, ◌∙◌, inl, inr, arith}
+use Rattle.std.specs.List.{All, position}
 use Rattle.std.specs.Option.{IsSome}
 use Rattle.std.specs.Prelude.{unsigned_abs}
 use Rattle.std.proofs.lemmas.Bool.{cases_lt, true≢false}
 use Rattle.std.proofs.lemmas.List.{length-append, get_or_append_left, get_or_at, get_or_default}
 use Rattle.std.proofs.lemmas.List.Quantifiers.{position-Some}
 use Rattle.net_model.proofs.Positions.{fails_from_None}
-use Rattle.net_model.specs.declared.ids.PointId.{PointId}
 use Rattle.net_model.specs.declared.part.Edge.{Edge}
 use Rattle.strategy_model.specs.Situations.{moment_in}
 use Rattle.strategy_model.specs.Edges.{HoldsIn}
 use Rattle.least_moments.specs.Rounds.{no_edge, edge_at, Became, IsRoundOver}
 use Rattle.least_moments.specs.History.{IsHistory, AreWithin}
 use Rattle.least_moments.specs.Least.{AreLeast}
-use Rattle.least_moments.proofs.HistoryLemmas.{back_holds, history_begins, history_more, history_least, history_small, table_length, raised_at}
+use Rattle.least_moments.proofs.HistoryLemmas.{back_holds, history_begins, history_more, history_least, history_small, table_length}
 
 -- so many rounds were made, each of which raised a point
 pub record IsUnderWay (edges : List Edge) (points count : ℕ) (levels : List (List (Option ℕ))) (now : List ℕ) : Type 0 where

@@ -1,20 +1,19 @@
 -- The points that were raised, traced back level by level, come to a loop.
-use Rattle.std.proofs.Common.{◌≡◌, ◌≢◌, ◌⊎◌, ℕ, zero, suc, ◌+◌, ◌-◌, ◌*◌, ◌<◌, ◌≤◌, ℤ, pos, negsuc, ◌+ℤ◌, ◌-ℤ◌, ◌≤ℤ◌, ◌<ℤ◌, Bool, true, false, List, [], ◌∷◌, ◌++◌, Option, Some, None, map, length, get_or, drop, is_some, eqb, refl, ap, sym, subst, ◌∙◌, inl, inr, arith}
-use Rattle.std.specs.List.{All, AllByRecursion, AllPairs, IsDistinct, list_any, position, slice_index_or}
+use Rattle.std.proofs.Common.{◌≡◌, ◌≢◌, ℕ, suc, ◌+◌, ◌-◌, ◌<◌, ◌≤◌, ℤ, pos, ◌+ℤ◌, ◌<ℤ◌, true, false, List, [], ◌∷◌, ◌++◌, Option, Some, None, map, length, get_or, drop, eqb, refl, ap, sym, subst, ◌∙◌, inl, inr, arith}
+use Rattle.std.specs.List.{All, AllByRecursion, IsDistinct, list_any, position}
 use Rattle.std.specs.Option.{IsSome}
 use Rattle.std.specs.Prelude.{◌==◌}
-use Rattle.std.proofs.lemmas.Bool.{cases_lt, cases_eq, eqb-true, eqb-false, ne_eqb, or_cases, true≢false}
+use Rattle.std.proofs.lemmas.Bool.{cases_lt, eqb-true, eqb-false, ne_eqb, or_cases, true≢false}
 use Rattle.std.proofs.lemmas.Int.{ints}
-use Rattle.std.proofs.lemmas.Option.{none-some, same_Some}
-use Rattle.std.proofs.lemmas.List.{length-append, length-map, length-drop, get_or_append_left, get_or_at, get_or-drop, get_or-map, drop-append-le, map-append, drop_at, get_or_default, drop_more}
+use Rattle.std.proofs.lemmas.List.{length-append, length-map, length-drop, get_or_append_left, get_or_at, get_or-drop, drop-append-le, map-append, drop_at, get_or_default}
 use Rattle.std.proofs.lemmas.List.Quantifiers.{position-Some}
 use Rattle.std.proofs.lemmas.Map.Steps.{length-le_from_distinct_below}
 use Rattle.net_model.proofs.Positions.{fails_from_None}
 use Rattle.net_model.specs.declared.ids.PointId.{PointId}
 use Rattle.net_model.specs.declared.part.Edge.{Edge}
-use Rattle.strategy_model.specs.Edges.{IsWalk, total, IsNegativeLoop}
+use Rattle.strategy_model.specs.Edges.{IsWalk, total}
 use Rattle.strategy_model.proofs.MomentLemmas.{same_from_number}
-use Rattle.least_moments.specs.Rounds.{no_edge, edge_at, IsRaisedBy, IsRoundOver}
+use Rattle.least_moments.specs.Rounds.{no_edge, edge_at, IsRaisedBy}
 use Rattle.least_moments.specs.History.{IsHistory, AreWithin}
 use Rattle.least_moments.specs.Least.{IsLoop}
 use Rattle.least_moments.proofs.HistoryLemmas.{table_length, raised_at, raised_before, raised_value, history_rises}

@@ -10,7 +10,7 @@ use Rattle.command_engine.specs.Machine.{Machine}
 use Rattle.command_engine.specs.Runs.{Here, after_line, Answers}
 use Rattle.command_engine.specs.declared.machines.Onward.TheVariants.{Goes}
 use Rattle.command_engine.proofs.RunLemmas.{goes_only_on_lines}
-use Rattle.merged_runs.specs.Alone.{Stands, Runs, Idle, Says, SaysTo, idle_said}
+use Rattle.merged_runs.specs.Alone.{Stands, Runs, Idle, SaysLineAlone, SaysTo, idle_said}
 use Rattle.merged_runs.specs.Merged.{Around, Member, AreMembers, IsAnswered, TakesWords, TakesNamed, after_own, own_number, closes, merged_machine}
 use Rattle.merged_runs.specs.Naming.{after_first, comes_first, is_of, named, of_name, IsNaming, IsWhole}
 use Rattle.merged_runs.specs.Projection.{own_lines, AreProjected, IsProjected, SaysWholeLines}
@@ -56,7 +56,7 @@ own_is {C} member number stands within =
     ap with_count (own_next member.count number within)
 
 module _ {C : Type 0} (inner : Machine C) (whole_lines_said : SaysWholeLines inner) (around : Around) (room : List (Member C) → ℕ) where
-  says_whole : (stands : Stands C) (number : ℕ) (line said : List ℕ) (after : Stands C) → Says inner stands number line said after → IsWhole said
+  says_whole : (stands : Stands C) (number : ℕ) (line said : List ℕ) (after : Stands C) → SaysLineAlone inner stands number line said after → IsWhole said
   says_whole (Runs state) number line said after (onward, takes, is) = whole_lines_said state number line said onward takes
   says_whole Idle number line said after (is, stands) = subst IsWhole (sym is) (idle_whole (are_passed_over (words line)))
 
@@ -66,7 +66,7 @@ module _ {C : Type 0} (inner : Machine C) (whole_lines_said : SaysWholeLines inn
     pub said : List ℕ
     pub stands : Stands C
     pub own : is_of member.name line ≡ true
-    pub says : Says inner member.stands (member.count + 1) (after_first line) said stands
+    pub says : SaysLineAlone inner member.stands (member.count + 1) (after_first line) said stands
     pub put : answer ≡ named member.name said
     pub is : next ≡ one_more member stands
 
@@ -145,15 +145,15 @@ module _ {C : Type 0} (inner : Machine C) (whole_lines_said : SaysWholeLines inn
       let within = are.counted one.place one.member one.here in
       let goes : after ≡ slice_set members one.place (one_more one.member one.stands) = cc (one.goes) ∙ ap (slice_set members one.place) (own_is one.member number one.stands within) in
       let naming : IsNaming first = subst IsNaming one.is (are.names one.place one.member one.here) in
-      let says : Says inner one.member.stands (one.member.count + 1) (after_first line) one.said one.stands =
-      subst (λ (n : ℕ). Says inner one.member.stands n (after_first line) one.said one.stands) (own_next one.member.count number within) one.says in
+      let says : SaysLineAlone inner one.member.stands (one.member.count + 1) (after_first line) one.said one.stands =
+      subst (λ (n : ℕ). SaysLineAlone inner one.member.stands n (after_first line) one.said one.stands) (own_next one.member.count number within) one.says in
       record {
         still = subst (λ (ms : List (Member C)). AreMembers (number + 1) ms) (sym goes) (kept number members one.place one.member one.stands are one.here);
         whole = subst IsWhole (sym one.put) (named_whole first one.said naming);
         each = λ place member here. by place member here goes naming says (place == one.place) refl;
       }
     where
-      by : (place : ℕ) (member : Member C) → slice_get members place ≡ Some member → after ≡ slice_set members one.place (one_more one.member one.stands) → IsNaming first → Says inner one.member.stands (one.member.count + 1) (after_first line) one.said one.stands → (same : Bool) → (place == one.place) ≡ same
+      by : (place : ℕ) (member : Member C) → slice_get members place ≡ Some member → after ≡ slice_set members one.place (one_more one.member one.stands) → IsNaming first → SaysLineAlone inner one.member.stands (one.member.count + 1) (after_first line) one.said one.stands → (same : Bool) → (place == one.place) ≡ same
           → (next : Member C) × (slice_get after place ≡ Some next) × Step member line answer next
       by place member here goes naming says true same =
           let equal : place ≡ one.place = eqb-true place one.place same in
@@ -168,7 +168,7 @@ module _ {C : Type 0} (inner : Machine C) (whole_lines_said : SaysWholeLines inn
               said = one.said;
               stands = one.stands;
               own = ap (comes_first member.name) spelled ∙ same_name first member.name its;
-              says = subst (λ (m : Member C). Says inner m.stands (m.count + 1) (after_first line) one.said one.stands) is says;
+              says = subst (λ (m : Member C). SaysLineAlone inner m.stands (m.count + 1) (after_first line) one.said one.stands) is says;
               put = one.put ∙ ap (λ (n : List ℕ). named n one.said) its;
               is = refl;
             }),

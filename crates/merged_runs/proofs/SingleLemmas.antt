@@ -6,7 +6,7 @@ use Rattle.command_engine.specs.Machine.{Machine}
 use Rattle.command_engine.specs.Single.{IsSingle}
 use Rattle.command_engine.specs.declared.machines.Onward.{Onward}
 use Rattle.command_engine.specs.declared.machines.Onward.TheVariants.{Goes}
-use Rattle.merged_runs.specs.Alone.{Stands, Runs, Idle, Says, stands_after}
+use Rattle.merged_runs.specs.Alone.{Stands, Runs, Idle, SaysLineAlone, stands_after}
 use Rattle.merged_runs.specs.Merged.{Around, Member, IsAnswered, TakesWords, TakesNamed, after_own, own_number, closes, merged_machine}
 use Rattle.merged_runs.specs.Naming.{after_first, named}
 
@@ -14,7 +14,7 @@ module _ {C : Type 0} (inner : Machine C) (single : IsSingle inner) (around : Ar
   abbrev Members : Type 0
   Members = List (Member C)
 
-  says_same : (stands : Stands C) (number : ℕ) (line a b : List ℕ) (x y : Stands C) → Says inner stands number line a x → Says inner stands number line b y → (a ≡ b) × (x ≡ y)
+  says_same : (stands : Stands C) (number : ℕ) (line a b : List ℕ) (x y : Stands C) → SaysLineAlone inner stands number line a x → SaysLineAlone inner stands number line b y → (a ≡ b) × (x ≡ y)
   says_same (Runs state) number line a b x y (onward, takes, is) (other, also, same) =
       let one = single.takes state number line a b onward other takes also in
       (one.0, is ∙ (ap stands_after one.1 ∙ sym same))
@@ -31,7 +31,7 @@ module _ {C : Type 0} (inner : Machine C) (single : IsSingle inner) (around : Ar
       let places : one.place ≡ other.place = same_place one.place other.place (not_before members number name line a b x y one other) (not_before members number name line b a y x other one) in
       let there : slice_get members one.place ≡ Some other.member = subst (λ (p : ℕ). slice_get members p ≡ Some other.member) (sym places) other.here in
       let is : other.member ≡ one.member = cc (there, one.here) in
-      let says : Says inner one.member.stands (own_number one.member.count number) (after_first line) other.said other.stands = subst (λ (m : Member C). Says inner m.stands (own_number m.count number) (after_first line) other.said other.stands) is other.says in
+      let says : SaysLineAlone inner one.member.stands (own_number one.member.count number) (after_first line) other.said other.stands = subst (λ (m : Member C). SaysLineAlone inner m.stands (own_number m.count number) (after_first line) other.said other.stands) is other.says in
       let same = says_same one.member.stands (own_number one.member.count number) (after_first line) one.said other.said one.stands other.stands one.says says in (
         one.put ∙ (ap (named name) same.0 ∙ sym other.put),
         one.goes ∙ (ap (λ (s : Stands C). Goes (slice_set members one.place (after_own one.member number s))) same.1

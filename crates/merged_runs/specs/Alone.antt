@@ -22,14 +22,14 @@ stands_after (Ends end) = Idle
 
 module _ {C : Type 0} (inner : Machine C) where
   -- to a line of its own, by its number among these, it says this, and stands so after that
-  abbrev pub Says : Stands C → ℕ → List ℕ → List ℕ → Stands C → Type 0
-  Says (Runs state) number line said after =
+  abbrev pub SaysLineAlone : Stands C → ℕ → List ℕ → List ℕ → Stands C → Type 0
+  SaysLineAlone (Runs state) number line said after =
       (onward : Onward C) × inner.takes state number line said onward × (after ≡ stands_after onward)
-  Says Idle number line said after = (said ≡ idle_said (are_passed_over (words line))) × (after ≡ Idle)
+  SaysLineAlone Idle number line said after = (said ≡ idle_said (are_passed_over (words line))) × (after ≡ Idle)
 
   -- to lines of its own, after so many
   abbrev pub SaysTo : Stands C → ℕ → List (List ℕ) → List ℕ → Stands C → Type 0
   SaysTo stands number [] said last = (said ≡ []) × (stands ≡ last)
   SaysTo stands number (line ∷ lines) said last =
-      (answer : List ℕ) × (more : List ℕ) × (next : Stands C) × Says stands (number + 1) line answer next × (said ≡ answer ++ more)
+      (answer : List ℕ) × (more : List ℕ) × (next : Stands C) × SaysLineAlone stands (number + 1) line answer next × (said ≡ answer ++ more)
       × SaysTo next (number + 1) lines more last

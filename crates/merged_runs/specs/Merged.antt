@@ -10,7 +10,7 @@ use Rattle.command_engine.specs.declared.endings.End.TheVariants.{Done, Fault}
 use Rattle.command_engine.specs.declared.machines.Onward.{Onward}
 use Rattle.command_engine.specs.declared.machines.Onward.TheVariants.{Goes, Ends}
 use Rattle.command_engine.specs.declared.machines.Stop.{Stop}
-use Rattle.merged_runs.specs.Alone.{Stands, Says}
+use Rattle.merged_runs.specs.Alone.{Stands, SaysLineAlone}
 use Rattle.merged_runs.specs.Naming.{named, after_first, IsNaming}
 
 -- one of them: its name, how many of its lines came, and how it stands
@@ -61,7 +61,7 @@ module _ {C : Type 0} (inner : Machine C) (around : Around) where
     pub here : slice_get members place ≡ Some member
     pub is : member.name ≡ name
     pub first : (other : ℕ) (one : Member C) → other < place → slice_get members other ≡ Some one → one.name ≢ name
-    pub says : Says inner member.stands (own_number member.count number) (after_first line) said stands
+    pub says : SaysLineAlone inner member.stands (own_number member.count number) (after_first line) said stands
     pub put : answer ≡ named name said
     pub goes : onward ≡ Goes (slice_set members place (after_own member number stands))
 

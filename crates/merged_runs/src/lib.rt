@@ -6,4 +6,4 @@
 pub mod laws;
 mod naming;
 
-pub use naming::put_named;
+pub use naming::{after_first, push_named, put_named};

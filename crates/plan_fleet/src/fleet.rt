@@ -4,7 +4,7 @@ ghost use Rattle.std.specs.Prelude.{◌≡◌, ◌↔◌, ◌<◌, ◌≤◌, le
 ghost use Rattle.std.specs.List.{All};
 ghost use Rattle.net_model.specs.Network.{IsPoint};
 ghost use Rattle.execution_model.specs.Feeding.{Execution, IsDueAnswer};
-ghost use Rattle.plan_fleet.specs.FleetPlans.{FleetPlan, FeedsPlan, FinishesPlan, EndsPlan};
+ghost use Rattle.plan_fleet.specs.FleetPlans.{FleetPlan, FeedsPlan, FinishesPlan, EndsPlan, IsFleetPlan};
 ghost use Rattle.plan_fleet.specs.Fleets.{AreOpened, AtPlan, ChangesOne, IsStarted};
 ghost use Rattle.plan_fleet.specs.Limits.{most_plans};
 ghost use Rattle.plan_fleet.specs.Openings.{nets_given};
@@ -105,7 +105,8 @@ impl Fleet {
     pub fn acts(&self, plan: u32) -> &[Act]
         requires plan { plan < length self.now }
         requires started { IsStarted self.now plan }
-        ensures { AtPlan self.now plan (λ member. (execution : Execution) → member.execution ≡ Some execution → result.now ≡ execution.acts) }
+        ensures value { AtPlan self.now plan (λ member. (execution : Execution) → member.execution ≡ Some execution → result.now ≡ execution.acts) }
+        ensures few { AtPlan self.now plan (λ member. length result.now ≤ length member.net.points) }
     {
         self.members[plan as usize].acts()
     }
@@ -122,7 +123,8 @@ impl Fleet {
     /// The network that was given for a plan, as it was stated, whatever became of the plan.
     pub fn network(&self, plan: u32) -> &Network
         requires { plan < length self.now }
-        ensures { AtPlan self.now plan (λ member. result.now ≡ member.net) }
+        ensures value { AtPlan self.now plan (λ member. result.now ≡ member.net) }
+        ensures sound { AtPlan self.now plan IsFleetPlan }
     {
         &self.members[plan as usize].net
     }

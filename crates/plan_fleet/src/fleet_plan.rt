@@ -1,6 +1,6 @@
 //! One plan of a fleet.
 
-ghost use Rattle.std.specs.Prelude.{◌≡◌, ◌↔◌, Some, IsSome, IsTrue};
+ghost use Rattle.std.specs.Prelude.{◌≡◌, ◌↔◌, ◌≤◌, length, Some, IsSome, IsTrue};
 ghost use Rattle.std.specs.List.{All};
 ghost use Rattle.net_model.specs.Network.{IsPoint};
 ghost use Rattle.execution_model.specs.Feeding.{Execution, IsDueAnswer};
@@ -88,7 +88,8 @@ impl FleetPlan {
     /// The acts of its executor.
     pub(crate) fn acts(&self) -> &[Act]
         requires { IsSome self.now.execution }
-        ensures { (execution : Execution) → self.now.execution ≡ Some execution → result.now ≡ execution.acts }
+        ensures value { (execution : Execution) → self.now.execution ≡ Some execution → result.now ≡ execution.acts }
+        ensures few { length result.now ≤ length self.now.net.points }
     {
         match &self.executor {
             Some(executor) => executor.acts(),

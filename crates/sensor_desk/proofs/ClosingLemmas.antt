@@ -21,7 +21,7 @@ use Rattle.execution_model.proofs.PlaceLemmas.{ending_point}
 use Rattle.sensor_desk.specs.Closing.{Agrees, IsAgreed, IsClosing, AreCompared, stream_of, ExecutesWhole, Closes}
 use Rattle.sensor_desk.specs.DeskHistory.{Entries, moment_at}
 use Rattle.sensor_desk.specs.DeskRule.{IsLed, IsLeft}
-use Rattle.sensor_desk.specs.Words.{held, place_of}
+use Rattle.sensor_desk.specs.Words.{held, place_of_word}
 use Rattle.sensor_desk.specs.declared.end.Closing.{Closing}
 use Rattle.sensor_desk.specs.declared.end.Closing.TheVariants.{Agreed, Differs}
 use Rattle.sensor_desk.specs.declared.view.About.{About}
@@ -66,9 +66,9 @@ module _ (net : Plan) (plan : IsPlan net) (entries : Entries) (execution : Execu
 
 -- ---- the words at the end
 module _ (about : About) (words : List ℕ) (s : State (Unit {0}) Standing) (led : IsLed about s) (last : s.words ≡ words) where
-  word_is : (name : LinkId) → held (get_or words (place_of name) 0) ≡ moment_at led.entries name
+  word_is : (name : LinkId) → held (get_or words (place_of_word name) 0) ≡ moment_at led.entries name
   word_is name =
-      ap (λ (ws : List ℕ). held (get_or ws (place_of name) 0)) (sym last ∙ led.words)
+      ap (λ (ws : List ℕ). held (get_or ws (place_of_word name) 0)) (sym last ∙ led.words)
       ∙ (ap held (word_at led.entries name) ∙ held_word (moment_at led.entries name))
 
   pub closing_of : (net : Plan) (moments : Moments) (closing : Closing) → AreCompared net moments words closing → IsClosing net moments (moment_at led.entries) closing
@@ -91,7 +91,7 @@ closes about words view left net plan execution closing compared count law =
 -- ---- one link after another
 module _ (net : Plan) (moments : Moments) (words : List ℕ) where
   abbrev word_shows : LinkId → Option ℕ
-  word_shows name = held (get_or words (place_of name) 0)
+  word_shows name = held (get_or words (place_of_word name) 0)
 
   abbrev pub AgreeBelow : ℕ → Type 0
   AgreeBelow n = (name : LinkId) → name.0 < n → Agrees net moments word_shows name

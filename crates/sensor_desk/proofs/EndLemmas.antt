@@ -13,7 +13,7 @@ use Rattle.sensor_desk.specs.Seats.{view_of, seen_at}
 use Rattle.sensor_desk.specs.Desks.{SeatSeen, Steps, Posts, posted_answer}
 use Rattle.sensor_desk.specs.Steps.{IsFound, Told, posting, reading, looking}
 use Rattle.sensor_desk.specs.Views.{posted, first_view}
-use Rattle.sensor_desk.specs.Words.{held, words_of, word_of, place_of}
+use Rattle.sensor_desk.specs.Words.{held, words_of, word_of, place_of_word}
 use Rattle.sensor_desk.specs.declared.posted.Posted.{Posted}
 use Rattle.sensor_desk.specs.declared.view.About.{About}
 use Rattle.sensor_desk.specs.declared.view.Standing.{Standing}
@@ -43,7 +43,7 @@ opens_empty about words are = record {
 
 -- ---- a step of a seat
 module _ (seen : About) (seat : SeatSeen) (about_is : seat.view.about ≡ seen) (old : Place (Unit {0}) Standing) (view_is : seen_at old ≡ seat) (live : old.me ≡ (Live (view_of old.me.0), []))
-    (link : LinkId) (is : link.0 < length seen.net.value.links) (place : ℕ) (at : place ≡ place_of link) where
+    (link : LinkId) (is : link.0 < length seen.net.value.links) (place : ℕ) (at : place ≡ place_of_word link) where
   abbrev Mine : Type 0
   Mine = Me (Unit {0}) Standing
 

@@ -14,7 +14,7 @@ use Rattle.net_model.specs.declared.ids.LinkId.{LinkId}
 use Rattle.sensor_desk.specs.DeskHistory.{Entries, DeskStep, DeskHistory, steps, moment_at, stands_after, told_by, stepped}
 use Rattle.sensor_desk.specs.DeskRule.{Stands, IsPast, IsKnown, OfLive, IsLed}
 use Rattle.sensor_desk.specs.Views.{notes_of}
-use Rattle.sensor_desk.specs.Words.{word_of, held, words_of, place_of}
+use Rattle.sensor_desk.specs.Words.{word_of, held, words_of, place_of_word}
 use Rattle.sensor_desk.specs.declared.view.About.{About}
 use Rattle.sensor_desk.specs.declared.view.Note.{Note}
 use Rattle.sensor_desk.specs.declared.view.Standing.{Standing}
@@ -51,10 +51,10 @@ word_held word = by (cases_eq word 0)
     by (inr other) = ap word_of (held_some word other) ∙ back word other
 
 -- the word of a link
-pub word_at : (entries : Entries) (link : LinkId) → get_or (words_of entries) (place_of link) 0 ≡ word_of (moment_at entries link)
+pub word_at : (entries : Entries) (link : LinkId) → get_or (words_of entries) (place_of_word link) 0 ≡ word_of (moment_at entries link)
 word_at entries link = lists.get_or-map word_of entries link.0 None
 
-pub words_after : (entries : Entries) (step : DeskStep) (word : ℕ) → word ≡ word_of (told_by step) → set (words_of entries) (place_of step.link) word ≡ words_of (stepped entries step)
+pub words_after : (entries : Entries) (step : DeskStep) (word : ℕ) → word ≡ word_of (told_by step) → set (words_of entries) (place_of_word step.link) word ≡ words_of (stepped entries step)
 words_after entries step word is = ap (λ (n : ℕ). 0 ∷ set (map word_of entries) step.link.0 n) is ∙ ap (λ (l : List ℕ). 0 ∷ l) (sym (map-set word_of entries step.link.0 (told_by step)))
 
 -- the word after a post, and after a load
@@ -71,10 +71,10 @@ stands_still (Some moment) = refl
 -- ---- a step at the word of a link
 module _ (about : About) (s : State (Unit {0}) Standing) (led : IsLed about s) (id : ℕ) (link : LinkId) (is : link.0 < length about.net.value.links) where
   abbrev pub found : ℕ
-  found = get_or s.words (place_of link) 0
+  found = get_or s.words (place_of_word link) 0
 
   pub finds : held found ≡ moment_at led.entries link
-  finds = ap (λ (ws : List ℕ). held (get_or ws (place_of link) 0)) led.words ∙ (ap held (word_at led.entries link) ∙ held_word (moment_at led.entries link))
+  finds = ap (λ (ws : List ℕ). held (get_or ws (place_of_word link) 0)) led.words ∙ (ap held (word_at led.entries link) ∙ held_word (moment_at led.entries link))
 
   module _ (offered : Option ℕ) where
     abbrev pub step : DeskStep
@@ -97,12 +97,12 @@ module _ (about : About) (s : State (Unit {0}) Standing) (led : IsLed about s) (
         All-push (Stands (stepped led.entries step)) [] (record { link = link; moment = moment }) (All-nil (Stands (stepped led.entries step))) (here led.entries step within ∙ is_some)
 
     pub led_after : (word : ℕ) → word ≡ word_of (told_by step) → (standing : Standing) → OfLive (IsKnown about (stepped led.entries step)) standing
-        → IsLed about record { words = set s.words (place_of link) word; homes = s.homes; views = set s.views id standing }
+        → IsLed about record { words = set s.words (place_of_word link) word; homes = s.homes; views = set s.views id standing }
     led_after word told standing known = record {
       steps = led.steps ++ step ∷ [];
       entries = stepped led.entries step;
       history = steps led.steps (led.steps ++ step ∷ []) led.entries (stepped led.entries step) step led.history is finds refl refl;
-      words = ap (λ (ws : List ℕ). set ws (place_of link) word) led.words ∙ words_after led.entries step word told;
+      words = ap (λ (ws : List ℕ). set ws (place_of_word link) word) led.words ∙ words_after led.entries step word told;
       seats = All-set (OfLive (IsKnown about (stepped led.entries step))) s.views id standing known (λ k d lt. standing_on (get_or s.views k d) (led.seats k d lt));
     }
 

@@ -12,7 +12,7 @@ use Rattle.sensor_desk.specs.DeskHistory.{Entries, stands_after, stepped}
 use Rattle.sensor_desk.specs.DeskRule.{Stands, IsKnown, OfLive, IsLed}
 use Rattle.sensor_desk.specs.Steps.{Told, posting, reading, looking, left_of, right_of, both_of}
 use Rattle.sensor_desk.specs.Views.{posted, read, looked, notes_of, split_from, split_off, joined_with}
-use Rattle.sensor_desk.specs.Words.{held, word_of, place_of}
+use Rattle.sensor_desk.specs.Words.{held, word_of, place_of_word}
 use Rattle.sensor_desk.specs.declared.view.About.{About}
 use Rattle.sensor_desk.specs.declared.view.Note.{Note}
 use Rattle.sensor_desk.specs.declared.view.Standing.{Standing}
@@ -42,7 +42,7 @@ module _ (about : About) where
         let now : Entries = stepped led.entries (rule.step about s led id link is offered) in
         subst (All (Stands now)) (sym (one_added word)) (told_note about s led id link is offered (stands_after (held word) offered) refl)
 
-    allowed : Allows (IsLed about) slots id (Live view, []) (place_of link) word_after (λ word after. Told (λ v l. after_of v l word) (place_of link) (Live view, []) word after)
+    allowed : Allows (IsLed about) slots id (Live view, []) (place_of_word link) word_after (λ word after. Told (λ v l. after_of v l word) (place_of_word link) (Live view, []) word after)
     allowed s led _ at small =
         let word : ℕ = found about s led id link is in (
           Live (after_of view link word),
@@ -60,12 +60,12 @@ module _ (about : About) where
           },
         )
 
-    pub allows : (me : Mine) → me ≡ (Live view, []) → (place : ℕ) → place ≡ place_of link → Allows (IsLed about) slots id me place word_after (λ word after. Told (λ v l. after_of v l word) place me word after)
+    pub allows : (me : Mine) → me ≡ (Live view, []) → (place : ℕ) → place ≡ place_of_word link → Allows (IsLed about) slots id me place word_after (λ word after. Told (λ v l. after_of v l word) place me word after)
     allows me live place at =
         subst (λ (m : Mine). Allows (IsLed about) slots id m place word_after (λ word after. Told (λ v l. after_of v l word) place m word after)) (sym live)
         (subst (λ (p : ℕ). Allows (IsLed about) slots id (Live view, []) p word_after (λ word after. Told (λ v l. after_of v l word) p (Live view, []) word after)) (sym at) allowed)
 
-  module _ (slots id : ℕ) (me : Mine) (view : View) (live : me ≡ (Live view, [])) (here : view.about ≡ about) (link : LinkId) (is : link.0 < length about.net.value.links) (place : ℕ) (at : place ≡ place_of link) where
+  module _ (slots id : ℕ) (me : Mine) (view : View) (live : me ≡ (Live view, [])) (here : view.about ≡ about) (link : LinkId) (is : link.0 < length about.net.value.links) (place : ℕ) (at : place ≡ place_of_word link) where
     pub posts : (moment : ℕ) → Allows (IsLed about) slots id me place (λ n. either (eqb n 0) (moment + 1) n) (posting (step slots place 0 (moment + 1) none) me)
     posts moment =
         let given : ℕ = moment + 1 - 1 in

@@ -17,7 +17,7 @@ use Rattle.execution_model.specs.declared.feeding.Finished.TheVariants as finish
 use Rattle.sensor_desk.specs.DeskHistory.{Entries, moment_at}
 use Rattle.sensor_desk.specs.DeskRule.{IsPast}
 use Rattle.sensor_desk.specs.Following.{is_now}
-use Rattle.sensor_desk.specs.Words.{held, word_of, place_of}
+use Rattle.sensor_desk.specs.Words.{held, word_of, place_of_word}
 use Rattle.sensor_desk.specs.declared.end.Closing.{Closing}
 use Rattle.sensor_desk.specs.declared.end.Closing.TheVariants.{Agreed, Differs}
 use Rattle.sensor_desk.specs.declared.view.View.{View}
@@ -46,7 +46,7 @@ IsClosing net moments posted (Differs first) =
 
 -- the same, by the words of a desk
 abbrev pub AreCompared : Plan → Moments → List ℕ → Closing → Type 0
-AreCompared net moments words closing = IsClosing net moments (λ name. held (slice_index words (place_of name))) closing
+AreCompared net moments words closing = IsClosing net moments (λ name. held (slice_index words (place_of_word name))) closing
 
 -- what a test says of one of them
 abbrev pub IsAgreed : Plan → Moments → List ℕ → (number : ℕ) → Bool → Type 0

@@ -5,7 +5,7 @@ use Rattle.net_model.specs.declared.ids.LinkId.{LinkId}
 use Rattle.sensor_desk.specs.DeskHistory.{Entries, moment_at}
 use Rattle.sensor_desk.specs.DeskRule.{IsPast}
 use Rattle.sensor_desk.specs.Views.{posted, read, looked, split_from, split_off, joined_with}
-use Rattle.sensor_desk.specs.Words.{held, place_of}
+use Rattle.sensor_desk.specs.Words.{held, place_of_word}
 use Rattle.sensor_desk.specs.declared.view.Standing.{Standing}
 use Rattle.sensor_desk.specs.declared.view.Standing.TheVariants.{Live, Spent}
 use Rattle.sensor_desk.specs.declared.view.View.{View}
@@ -22,7 +22,7 @@ pub record Told (after_of : View → LinkId → View) (place : ℕ) (me : Me (Un
   pub view : View
   pub was : me.0 ≡ Live view
   pub link : LinkId
-  pub at : place_of link ≡ place
+  pub at : place_of_word link ≡ place
   pub found : IsFound view link word
   pub is : after ≡ (Live (after_of view link), [])
 

@@ -16,5 +16,5 @@ abbrev pub words_of : Entries → List ℕ
 words_of entries = 0 ∷ map word_of entries
 
 -- where the word of a link is
-abbrev pub place_of : LinkId → ℕ
-place_of link = suc link.0
+abbrev pub place_of_word : LinkId → ℕ
+place_of_word link = suc link.0

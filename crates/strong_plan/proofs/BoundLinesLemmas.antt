@@ -1,13 +1,13 @@
 -- The certificate of a loop of reduced edges is accepted.
-use Rattle.std.proofs.Common.{◌≡◌, ◌≢◌, ℕ, ◌+◌, ◌<◌, ◌≤◌, ℤ, pos, ◌+ℤ◌, ◌<ℤ◌, ◌≤ℤ◌, Bool, true, List, [], ◌∷◌, Option, Some, None, Ok, map, length, get_or, is_some, refl, ap, sym, subst, ◌∙◌, arith}
-use Rattle.std.specs.List.{All, AllByRecursion}
+use Rattle.std.proofs.Common.{◌≡◌, ℕ, ◌+◌, ◌<◌, ℤ, pos, ◌+ℤ◌, ◌<ℤ◌, Bool, true, List, [], ◌∷◌, Some, Ok, map, length, get_or, is_some, refl, ap, sym, subst, ◌∙◌, arith}
+use Rattle.std.specs.List.{AllByRecursion}
 use Rattle.std.specs.Prelude.{slice_get, nat_le, int_le, int_lt, unsigned_abs}
 use Rattle.std.specs.Str.{bytes_eq}
 use Rattle.std.proofs.lemmas.Int.{ints}
 use Rattle.std.proofs.lemmas.Bool.{le-leb}
 use Rattle.std.proofs.lemmas.Option.{slice_get-get_or}
 use Rattle.net_model.specs.Limits.{most_weight}
-use Rattle.net_model.specs.Network.{Plan, IsPlan, IsPoint, HasPlanNumbers, point_named}
+use Rattle.net_model.specs.Network.{Plan, IsPlan, HasPlanNumbers, point_named}
 use Rattle.net_model.specs.NetworkParts.{point_name}
 use Rattle.net_model.specs.declared.ids.PointId.{PointId}
 use Rattle.net_model.specs.declared.part.Bound.{Bound}
@@ -19,10 +19,9 @@ use Rattle.cert_checker.specs.Lines.{Passes, bound_of, names_point}
 use Rattle.cert_checker.specs.declared.judgement.CertFault.TheVariants.{WalkBroken, WalkNotNegative}
 use Rattle.cert_checker.proofs.Naming.{bytes_same}
 use Rattle.least_moments.specs.Rounds.{edge_at, no_edge}
-use Rattle.strong_plan.specs.Chains.{IsReduced}
 use Rattle.strong_plan.specs.Reducing.{reduced_edge}
 use Rattle.strong_plan.specs.Judgement.{AllPass, refusal, at_place, line_passes, lines_pass, returns_to, total_of, walk_passes, cert_passes}
-use Rattle.strong_plan.specs.Answers.{AreReduced, line_of, lines_at}
+use Rattle.strong_plan.specs.Answers.{AreReduced, reduced_line, lines_at}
 use Rattle.strong_plan.proofs.StrongLemmas.{root_executable}
 use Rattle.strong_plan.proofs.SizeLemmas.{reduced_size}
 use Rattle.strong_plan.proofs.EdgesLemmas.{count, at, reduced_at}
@@ -46,7 +45,7 @@ module _ (net : Plan) (plan : IsPlan net) (numbers : HasPlanNumbers net) (edges 
   name_of point = point_name net.points point
 
   abbrev line_at : ℕ → StrongLine
-  line_at place = line_of net place (edge_at edges place)
+  line_at place = reduced_line net place (edge_at edges place)
 
   pub passes_at : (place : ℕ) → place < length edges → line_passes net (line_at place) ≡ Ok tt
   passes_at place inside =

@@ -1,6 +1,6 @@
 -- The certificates of loops are refutations.
-use Rattle.std.proofs.Common.{◌≡◌, ◌≢◌, ℕ, ◌+◌, ◌<◌, ◌≤◌, List, [], ◌∷◌, ◌++◌, Ok, map, length, get_or, refl, ap, sym, subst, ◌∙◌, inl, inr, arith}
-use Rattle.std.specs.List.{All, AllPairs, AllByRecursion}
+use Rattle.std.proofs.Common.{◌≡◌, ◌≢◌, ℕ, ◌<◌, ◌≤◌, List, [], ◌∷◌, Ok, map, length, get_or, refl, ap, sym, ◌∙◌, inl, inr, arith}
+use Rattle.std.specs.List.{All, AllByRecursion}
 use Rattle.std.specs.Prelude.{unsigned_abs}
 use Rattle.std.proofs.lemmas.List.{append-nil, length-map, get_or-map}
 use Rattle.std.proofs.lemmas.List.Elements.{recursion_from_All, All-from_recursion}
@@ -8,17 +8,14 @@ use Rattle.net_model.specs.Network.{Plan, IsPlan, HasPlanNumbers}
 use Rattle.net_model.specs.NetworkParts.{point_name}
 use Rattle.net_model.specs.declared.ids.PointId.{PointId}
 use Rattle.net_model.specs.declared.part.Edge.{Edge}
-use Rattle.net_model.specs.declared.part.Link.{Link}
 use Rattle.cert_format.specs.StrongWords.{HasStrongWeight}
 use Rattle.cert_format.specs.declared.strong_cert.StrongCert.{StrongCert}
 use Rattle.cert_format.specs.declared.strong_cert.StrongLine.{StrongLine}
 use Rattle.least_moments.specs.Rounds.{edge_at, no_edge}
-use Rattle.least_moments.specs.Least.{begins, IsLoop, IsLoopFromLowest}
+use Rattle.least_moments.specs.Least.{IsLoop, IsLoopFromLowest}
 use Rattle.least_moments.proofs.TurnLemmas.{loop_some}
-use Rattle.strong_plan.specs.Strong.{IsStronglyControllable}
-use Rattle.strong_plan.specs.Chains.{IsRing}
 use Rattle.strong_plan.specs.Judgement.{AllPass, cert_passes, judged, judgement_of}
-use Rattle.strong_plan.specs.Answers.{down_edge, AreReduced, HasNoRing, points_at, names_at, line_of, lines_at, names_of, IsFromLowest, IsRefutation}
+use Rattle.strong_plan.specs.Answers.{down_edge, AreReduced, HasNoRing, points_at, names_at, lines_at, IsFromLowest, IsRefutation}
 use Rattle.strong_plan.specs.declared.judgement.StrongJudgement.TheVariants.{Accepted}
 use Rattle.strong_plan.proofs.JudgeLemmas.{accepted_excludes}
 use Rattle.strong_plan.proofs.SizeLemmas.{reduced_size}

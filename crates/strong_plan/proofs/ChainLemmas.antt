@@ -1,17 +1,16 @@
 -- Chains of links: a point has one, and two of them meet.
-use Rattle.std.proofs.Common.{◌≡◌, ◌≢◌, ◌⊎◌, ℕ, zero, suc, ◌+◌, ◌<◌, ◌≤◌, Bool, true, false, List, [], ◌∷◌, Some, length, slice_get, refl, ap, sym, subst, ◌∙◌, inl, inr, arith}
+use Rattle.std.proofs.Common.{◌≡◌, ◌≢◌, ◌⊎◌, ℕ, zero, suc, ◌+◌, ◌<◌, ◌≤◌, true, false, List, [], ◌∷◌, length, slice_get, refl, ap, sym, subst, ◌∙◌, inl, inr, arith}
 use Rattle.std.specs.List.{list_any}
-use Rattle.std.specs.Prelude.{◌==◌}
-use Rattle.std.proofs.lemmas.Bool.{cases_eq, cases_lt, cases_Bool, or_cases, eqb-true, true≢false, false≢true}
+use Rattle.std.proofs.lemmas.Bool.{cases_eq, cases_lt, cases_Bool, or_cases, eqb-true, false≢true}
 use Rattle.std.proofs.lemmas.Option.{same_Some}
-use Rattle.net_model.specs.Network.{Plan, IsPlan, IsExecutable}
+use Rattle.net_model.specs.Network.{Plan, IsPlan}
 use Rattle.net_model.specs.Edges.{IsLinkOf}
 use Rattle.net_model.specs.declared.ids.PointId.{PointId}
 use Rattle.net_model.specs.declared.ids.LinkId.{LinkId}
 use Rattle.net_model.specs.declared.part.Link.{Link}
 use Rattle.strategy_model.proofs.MomentLemmas.{same_from_number}
 use Rattle.strategy_model.proofs.PlayLemmas.{one_link}
-use Rattle.strategy_model.proofs.KindLemmas.{Ending, not_ending}
+use Rattle.strategy_model.proofs.KindLemmas.{not_ending}
 use Rattle.strong_plan.specs.Chains.{IsChain, ends, goes_on, same_end}
 
 -- no two links end in one point

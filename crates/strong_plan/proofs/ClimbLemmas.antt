@@ -1,9 +1,9 @@
 -- Climbing two chains: the weight that is left to be reduced.
-use Rattle.std.proofs.Common.{◌≡◌, ◌≢◌, ◌⊎◌, ℕ, zero, suc, ◌+◌, ◌-◌, ◌*◌, ◌<◌, ◌≤◌, ℤ, pos, neg_ℤ, ◌+ℤ◌, ◌-ℤ◌, ◌≤ℤ◌, Bool, true, false, cond, not, List, [], ◌∷◌, Option, Some, None, length, is_some, w64, refl, ap, sym, subst, ◌∙◌, inl, inr, arith}
-use Rattle.std.specs.List.{list_any, filter, AllByRecursion}
+use Rattle.std.proofs.Common.{◌≡◌, ◌≢◌, ℕ, suc, ◌+◌, ◌-◌, ◌*◌, ◌<◌, ◌≤◌, ℤ, pos, neg_ℤ, ◌+ℤ◌, ◌-ℤ◌, ◌≤ℤ◌, Bool, true, false, cond, not, List, [], ◌∷◌, Option, Some, None, length, is_some, w64, refl, ap, sym, subst, ◌∙◌, arith}
+use Rattle.std.specs.List.{list_any, AllByRecursion}
 use Rattle.std.specs.Option.{option_map, unwrap_or, IsSome}
 use Rattle.std.specs.Prelude.{unsigned_abs, FitsSigned}
-use Rattle.std.proofs.lemmas.Bool.{cases_eq, leb-true}
+use Rattle.std.proofs.lemmas.Bool.{leb-true}
 use Rattle.std.proofs.lemmas.Int.{ints, fits_signed_from_abs}
 use Rattle.std.proofs.lemmas.Option.{none-some, same_Some}
 use Rattle.std.proofs.lemmas.List.{nil_from_length}
@@ -13,7 +13,6 @@ use Rattle.net_model.specs.declared.part.Bound.{Bound}
 use Rattle.net_model.specs.declared.part.Link.{Link}
 use Rattle.strategy_model.proofs.PlayLemmas.{link_sound}
 use Rattle.strategy_model.proofs.MomentLemmas.{same_from_number}
-use Rattle.strategy_model.proofs.CompareLemmas.{own_size}
 use Rattle.strong_plan.specs.Chains.{IsChain, ends, goes_on, same_end, apart, sum_of, reduced_weight}
 use Rattle.strong_plan.specs.Reducing.{link_into, chain_of, links_of, root_of}
 use Rattle.strong_plan.proofs.ChainLemmas.{one_chain, not_within}

@@ -1,6 +1,6 @@
 -- A strong schedule of a network with a delay: in the shown form it has the same moments of the executable points, and every contingent point
 -- comes the delay later.
-use Rattle.std.proofs.Common.{◌≡◌, ℕ, zero, suc, ◌+◌, ◌<◌, Bool, true, false, cond, List, [], ◌∷◌, Option, Some, None, map, length, slice_get, is_some, is_none, refl, ap, sym, subst, ◌∙◌, arith}
+use Rattle.std.proofs.Common.{◌≡◌, ℕ, zero, suc, ◌+◌, Bool, true, false, cond, List, [], ◌∷◌, Option, Some, None, map, length, slice_get, is_some, is_none, refl, ap, sym, subst, ◌∙◌, arith}
 use Rattle.std.specs.List.{AllByRecursion, filter}
 use Rattle.std.specs.Option.{option_map}
 use Rattle.std.specs.Prelude.{nat_lt}
@@ -12,15 +12,14 @@ use Rattle.net_model.specs.ShownForm.{lag, gain, shown_link, shown_form, shown_d
 use Rattle.net_model.specs.declared.ids.PointId.{PointId}
 use Rattle.net_model.specs.declared.ids.LinkId.{LinkId}
 use Rattle.net_model.specs.declared.part.Link.{Link}
-use Rattle.strategy_model.specs.Situations.{IsSituation, moment_in}
+use Rattle.strategy_model.specs.Situations.{moment_in}
 use Rattle.strategy_model.specs.Plays.{points_of}
-use Rattle.strategy_model.specs.Control.{IsControllable}
 use Rattle.strategy_model.specs.DispatchLaws.{DynamicStrategiesAreTrees}
 use Rattle.strategy_model.specs.ShownSchedules.{shown_schedule}
 use Rattle.strategy_model.proofs.PlayLemmas.{link_sound}
 use Rattle.strategy_model.proofs.ShownFormLemmas.{moment_in_shown, satisfies_shown, situation_stated, controllable_is_shown, shown_form_is_instant}
 use Rattle.strategy_model.proofs.ShownPlayLemmas.{activation_shown}
-use Rattle.strong_plan.specs.Strong.{executed_in, IsRightIn, IsStrongSchedule, IsStronglyControllable}
+use Rattle.strong_plan.specs.Strong.{IsRightIn, IsStrongSchedule}
 use Rattle.strong_plan.specs.Laws.{StrongIsControllable}
 use Rattle.strong_plan.proofs.StrongLemmas.{each_point, none_false, place_of, instant_is_controllable}
 

@@ -1,5 +1,5 @@
 -- What the reduced edges of all bounds say of strong schedules.
-use Rattle.std.proofs.Common.{◌≡◌, ℕ, ◌<◌, ◌≤◌, ℤ, pos, List, [], Option, Some, None, map, length, get_or, is_some, refl, ap, sym, subst, ◌∙◌, arith}
+use Rattle.std.proofs.Common.{◌≡◌, ℕ, ◌<◌, pos, List, [], Option, Some, None, map, length, get_or, is_some, refl, ap, sym, subst, ◌∙◌, arith}
 use Rattle.std.specs.List.{All, Contains}
 use Rattle.std.specs.Option.{option_map, option_and_then, IsSome}
 use Rattle.std.proofs.lemmas.List.{length-map, get_or-map, get_or_default}
@@ -13,7 +13,7 @@ use Rattle.least_moments.specs.History.{AreWithin}
 use Rattle.least_moments.specs.Least.{AreLeast}
 use Rattle.strong_plan.specs.Strong.{executed_in, IsLeastStrongSchedule}
 use Rattle.strong_plan.specs.Chains.{IsReduced, reduced_weight}
-use Rattle.strong_plan.specs.Reducing.{chain_of, root_of, edge_between, reduced_edge}
+use Rattle.strong_plan.specs.Reducing.{edge_between, reduced_edge}
 use Rattle.strong_plan.specs.Answers.{AreReduced}
 use Rattle.strong_plan.specs.Laws.{HasRoots, KeepsReduced}
 use Rattle.strong_plan.proofs.StrongLemmas.{root_executable}

@@ -1,11 +1,9 @@
 -- What excludes strong schedules, and which is the least.
-use Rattle.std.proofs.Common.{◌≡◌, ◌≢◌, ℕ, zero, suc, ◌+◌, ◌<◌, ◌≤◌, pos, ◌-ℤ◌, ◌≤ℤ◌, Bool, true, false, cond, List, [], ◌∷◌, map, length, is_none, is_some, refl, ap, sym, subst, ◌∙◌, arith}
-use Rattle.std.specs.List.{AllByRecursion, AllZip, Contains, filter}
-use Rattle.std.proofs.lemmas.Bool.{true≢false}
+use Rattle.std.proofs.Common.{◌≡◌, ◌≢◌, ℕ, ◌+◌, ◌≤◌, Bool, true, false, cond, List, [], ◌∷◌, map, length, is_none, refl, ap, subst, arith}
+use Rattle.std.specs.List.{AllByRecursion, AllZip, filter}
 use Rattle.std.proofs.lemmas.Int.{ints}
-use Rattle.net_model.specs.Network.{Plan, IsPlan, IsPoint, IsExecutable, activation}
+use Rattle.net_model.specs.Network.{Plan, IsPlan, activation}
 use Rattle.net_model.specs.declared.ids.PointId.{PointId}
-use Rattle.net_model.specs.declared.part.Bound.{Bound}
 use Rattle.net_model.specs.declared.part.Edge.{Edge}
 use Rattle.net_model.specs.declared.part.Link.{Link}
 use Rattle.strategy_model.specs.Situations.{moment_in}
@@ -15,9 +13,9 @@ use Rattle.strategy_model.proofs.WalkLemmas.{loops_exclude}
 use Rattle.strategy_model.proofs.LongestLemmas.{longest_of, longest_situation}
 use Rattle.strategy_model.proofs.PlayLemmas.{link_sound}
 use Rattle.strategy_model.proofs.CompareLemmas.{duration_of, at_least_1}
-use Rattle.strong_plan.specs.Strong.{executable_points, executed_in, IsRightIn, IsStrongSchedule}
-use Rattle.strong_plan.specs.Chains.{IsReduced, IsAllowed, IsLinkWalk}
-use Rattle.strong_plan.specs.Laws.{HasRoots, KeepsReduced, LoopsExcludeStrong, RingsExcludeStrong, LeastKeptIsLeast}
+use Rattle.strong_plan.specs.Strong.{executed_in, IsRightIn}
+use Rattle.strong_plan.specs.Chains.{IsAllowed, IsLinkWalk}
+use Rattle.strong_plan.specs.Laws.{KeepsReduced, LoopsExcludeStrong, RingsExcludeStrong, LeastKeptIsLeast}
 use Rattle.strong_plan.proofs.StrongLemmas.{reduced_kept, reduced_edges_suffice, each_point, none_false}
 
 allowed_holds : (net : Plan) (schedule : List ℕ) → KeepsReduced net schedule → (edge : Edge) → IsAllowed net edge → HoldsIn schedule edge

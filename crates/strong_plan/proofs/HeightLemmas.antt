@@ -1,7 +1,7 @@
 -- Heights fall along the links: then each point has a root and the links have no ring.
-use Rattle.std.proofs.Common.{◌≡◌, ◌≢◌, ℕ, zero, suc, ◌+◌, ◌-◌, ◌<◌, ◌≤◌, ℤ, pos, negsuc, List, [], ◌∷◌, None, map, length, get_or, refl, ap, sym, subst, ◌∙◌, inl, inr, arith}
-use Rattle.std.specs.List.{All, AllByRecursion}
-use Rattle.std.specs.Prelude.{unsigned_abs, slice_get}
+use Rattle.std.proofs.Common.{◌≡◌, ◌≢◌, ℕ, zero, suc, ◌+◌, ◌-◌, ◌<◌, ◌≤◌, pos, List, [], ◌∷◌, map, length, get_or, refl, ap, sym, subst, ◌∙◌, inl, inr, arith}
+use Rattle.std.specs.List.{All}
+use Rattle.std.specs.Prelude.{unsigned_abs}
 use Rattle.std.proofs.lemmas.Int.{ints}
 use Rattle.std.proofs.lemmas.List.{length-map, get_or-map}
 use Rattle.std.proofs.lemmas.Option.{slice_get_within, get_or_from_slice_get}
@@ -17,7 +17,7 @@ use Rattle.strategy_model.proofs.PlayLemmas.{link_sound}
 use Rattle.strategy_model.proofs.KindLemmas.{kind}
 use Rattle.least_moments.specs.Rounds.{no_edge}
 use Rattle.least_moments.specs.History.{AreWithin}
-use Rattle.strong_plan.specs.Chains.{IsChain, ends, goes_on, IsLinkWalk, IsRing}
+use Rattle.strong_plan.specs.Chains.{ends, goes_on, IsLinkWalk}
 use Rattle.strong_plan.specs.Answers.{down_edge, HasNoRing}
 use Rattle.strong_plan.specs.Laws.{HasRoots}
 use Rattle.strong_plan.proofs.StrongLemmas.{Rooted}

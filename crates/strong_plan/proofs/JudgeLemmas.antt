@@ -1,6 +1,6 @@
 -- An accepted certificate excludes every strong schedule.
-use Rattle.std.proofs.Common.{◌≡◌, ◌≢◌, ℕ, zero, suc, ◌+◌, ◌<◌, ◌≤◌, ℤ, pos, ◌+ℤ◌, ◌-ℤ◌, ◌≤ℤ◌, ◌<ℤ◌, Bool, true, false, List, [], ◌∷◌, Option, Some, None, Ok, Err, length, slice_get, is_some, refl, ap, sym, subst, ◌∙◌, arith}
-use Rattle.std.specs.List.{AllByRecursion, Contains}
+use Rattle.std.proofs.Common.{◌≡◌, ◌≢◌, ℕ, ◌+◌, ◌<◌, ◌≤◌, ℤ, pos, ◌+ℤ◌, ◌≤ℤ◌, ◌<ℤ◌, Bool, true, false, List, [], ◌∷◌, Option, Some, None, Ok, Err, length, slice_get, is_some, refl, ap, sym, subst, ◌∙◌, arith}
+use Rattle.std.specs.List.{AllByRecursion}
 use Rattle.std.specs.Option.{option_and_then, option_map, option_map_or}
 use Rattle.std.specs.Prelude.{◌&&◌, ◌==◌, Result, int_le, int_lt, nat_le, unsigned_abs}
 use Rattle.std.specs.Str.{bytes_eq}
@@ -9,7 +9,7 @@ use Rattle.std.proofs.lemmas.Slice.Eq.{bytes_eq-Decides}
 use Rattle.std.proofs.lemmas.Int.{ints}
 use Rattle.std.proofs.lemmas.Option.{none-some, same_Some, slice_get_within, get_or_from_slice_get}
 use Rattle.net_model.specs.Limits.{most_weight}
-use Rattle.net_model.specs.Network.{Plan, IsPlan, IsPoint, IsBound, point_named, bound_named}
+use Rattle.net_model.specs.Network.{Plan, IsPlan, IsBound, point_named, bound_named}
 use Rattle.net_model.specs.Edges.{IsLinkOf}
 use Rattle.net_model.specs.declared.ids.PointId.{PointId}
 use Rattle.net_model.specs.declared.ids.BoundId.{BoundId}
@@ -19,19 +19,15 @@ use Rattle.net_model.specs.declared.part.Edge.{Edge}
 use Rattle.net_model.specs.declared.part.Link.{Link}
 use Rattle.strategy_model.specs.Edges.{IsWalk, total, IsNegativeLoop}
 use Rattle.strategy_model.proofs.MomentLemmas.{same_from_number}
-use Rattle.strong_plan.specs.Chains.{IsChain, IsReduced, IsAllowed, IsLinkWalk, IsRing}
-use Rattle.strong_plan.specs.Reducing.{link_into, chain_of, root_of, edge_between, reduced_edge}
+use Rattle.strong_plan.specs.Chains.{IsReduced, IsAllowed, IsLinkWalk}
+use Rattle.strong_plan.specs.Reducing.{link_into, chain_of, edge_between, reduced_edge}
 use Rattle.cert_format.specs.JudgementForms.{◌>>=◌, unless, there}
-use Rattle.cert_format.specs.declared.strong_cert.StrongCert.{StrongCert}
 use Rattle.cert_format.specs.declared.strong_cert.StrongLine.{StrongLine}
 use Rattle.cert_checker.specs.Lines.{Passes, bound_of, names_point, link_named}
-use Rattle.cert_checker.specs.declared.judgement.CertFault.{CertFault}
 use Rattle.cert_checker.specs.declared.judgement.CertFault.TheVariants.{UnknownItem, WeightRange, Ends, TooLow, WalkBroken, WalkNotNegative}
-use Rattle.strong_plan.specs.Judgement.{AllPass, refusal, at_place, line_passes, lines_pass, returns_to, total_of, walk_passes, points_pass, begins_in, follows, last_name, cert_passes, judged, judgement_of}
+use Rattle.strong_plan.specs.Judgement.{AllPass, refusal, at_place, line_passes, lines_pass, returns_to, total_of, walk_passes, points_pass, begins_in, follows, last_name, cert_passes, judged}
 use Rattle.strong_plan.specs.Laws.{AcceptedExcludes}
-use Rattle.strong_plan.specs.declared.judgement.Refusal.{Refusal}
-use Rattle.strong_plan.specs.declared.judgement.StrongJudgement.{StrongJudgement}
-use Rattle.strong_plan.specs.declared.judgement.StrongJudgement.TheVariants.{Accepted, Refused}
+use Rattle.strong_plan.specs.declared.judgement.StrongJudgement.TheVariants.{Accepted}
 use Rattle.strong_plan.proofs.ReducingLemmas.{chain_sound, into_some}
 use Rattle.strong_plan.proofs.ExcludeLemmas.{loops_exclude_strong, rings_exclude_strong}
 

@@ -1,20 +1,19 @@
 -- The chain of a point as a function is its chain.
-use Rattle.std.proofs.Common.{◌≡◌, ◌≢◌, ◌⊎◌, ℕ, zero, suc, ◌+◌, ◌<◌, ◌≤◌, Bool, true, false, List, [], ◌∷◌, Option, Some, None, map, length, slice_get, get_or, is_some, is_none, eqb, refl, ap, sym, subst, ◌∙◌, inl, inr, arith}
+use Rattle.std.proofs.Common.{◌≡◌, ◌≢◌, ℕ, zero, suc, ◌<◌, ◌≤◌, true, false, List, [], ◌∷◌, Option, Some, None, map, length, slice_get, is_some, eqb, refl, ap, sym, subst, ◌∙◌, inl, inr, arith}
 use Rattle.std.specs.Prelude.{nat_lt}
-use Rattle.std.specs.List.{position_or_len, list_any, IsDistinct, AllByRecursion}
+use Rattle.std.specs.List.{list_any, IsDistinct, AllByRecursion}
 use Rattle.std.specs.Option.{option_map, option_and_then}
 use Rattle.std.proofs.lemmas.Option.{same_Some, slice_get_within, none-some}
 use Rattle.std.proofs.lemmas.Bool.{lt-ltb, true≢false, cases_Bool, or_cases, eqb-true}
-use Rattle.std.proofs.lemmas.List.Quantifiers.{position-Some}
 use Rattle.std.proofs.lemmas.List.{length-map}
 use Rattle.std.proofs.lemmas.Map.Steps.{length-le_from_distinct_below}
-use Rattle.net_model.specs.Network.{Plan, IsPlan, IsPoint, IsLink, IsExecutable, activation}
+use Rattle.net_model.specs.Network.{Plan, IsPlan, IsPoint, IsExecutable, activation}
 use Rattle.net_model.specs.Edges.{IsLinkOf}
 use Rattle.net_model.specs.declared.ids.PointId.{PointId}
 use Rattle.net_model.specs.declared.ids.LinkId.{LinkId}
 use Rattle.net_model.specs.declared.part.Link.{Link}
 use Rattle.strategy_model.proofs.PlayLemmas.{link_sound}
-use Rattle.strategy_model.proofs.KindLemmas.{Ending, kind_of_any, not_ending}
+use Rattle.strategy_model.proofs.KindLemmas.{kind_of_any}
 use Rattle.strong_plan.specs.Chains.{IsChain, ends, goes_on, same_end}
 use Rattle.strong_plan.specs.Reducing.{link_into, chain_within, chain_of, root_of}
 use Rattle.strong_plan.proofs.ChainLemmas.{one_chain, within}

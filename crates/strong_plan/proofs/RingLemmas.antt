@@ -1,11 +1,11 @@
 -- The certificate of a loop of the edges of links is accepted.
-use Rattle.std.proofs.Common.{◌≡◌, ℕ, suc, ◌+◌, ◌<◌, ◌≤◌, pos, Bool, true, false, List, [], ◌∷◌, Option, Some, None, Ok, map, length, get_or, is_some, refl, ap, sym, subst, ◌∙◌, arith}
+use Rattle.std.proofs.Common.{◌≡◌, ℕ, suc, ◌+◌, ◌<◌, pos, Bool, true, false, List, [], ◌∷◌, Option, Some, Ok, map, length, get_or, is_some, refl, ap, sym, subst, ◌∙◌, arith}
 use Rattle.std.specs.List.{All, AllByRecursion}
 use Rattle.std.specs.Prelude.{slice_get}
 use Rattle.std.specs.Option.{option_map_or, option_and_then}
 use Rattle.std.proofs.lemmas.List.{length-map, get_or-map}
 use Rattle.std.proofs.lemmas.Option.{slice_get-get_or}
-use Rattle.net_model.specs.Network.{Plan, IsPlan, IsPoint, point_named}
+use Rattle.net_model.specs.Network.{Plan, IsPlan, IsPoint}
 use Rattle.net_model.specs.NetworkParts.{point_name}
 use Rattle.net_model.specs.Edges.{IsLinkOf}
 use Rattle.net_model.specs.declared.ids.PointId.{PointId}
@@ -20,7 +20,7 @@ use Rattle.cert_checker.specs.declared.judgement.CertFault.TheVariants.{UnknownI
 use Rattle.least_moments.specs.Rounds.{edge_at}
 use Rattle.strong_plan.specs.Reducing.{link_into}
 use Rattle.strong_plan.specs.Judgement.{AllPass, refusal, points_pass, begins_in, follows, last_name, cert_passes}
-use Rattle.strong_plan.specs.Answers.{down_edge, names_at, points_at}
+use Rattle.strong_plan.specs.Answers.{down_edge, names_at}
 use Rattle.strong_plan.proofs.ReducingLemmas.{into_link}
 use Rattle.strong_plan.proofs.NameLemmas.{named_point, has_name}
 

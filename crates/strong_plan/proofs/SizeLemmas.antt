@@ -1,5 +1,5 @@
 -- The weights of reduced edges are small: their links are links of the network, and none counts twice.
-use Rattle.std.proofs.Common.{◌≡◌, ℕ, ◌+◌, ◌*◌, ◌<◌, ◌≤◌, ℤ, pos, neg_ℤ, ◌+ℤ◌, ◌-ℤ◌, ◌≤ℤ◌, Bool, true, false, cond, not, List, [], ◌∷◌, ◌++◌, map, length, slice_get, eqb, refl, ap, sym, subst, ◌∙◌, inl, inr, arith}
+use Rattle.std.proofs.Common.{◌≡◌, ℕ, ◌+◌, ◌*◌, ◌<◌, ◌≤◌, ℤ, pos, ◌≤ℤ◌, Bool, true, false, cond, not, List, [], ◌∷◌, ◌++◌, length, slice_get, eqb, refl, ap, sym, subst, ◌∙◌, inl, inr, arith}
 use Rattle.std.specs.List.{All, AllByRecursion, Contains, IsDistinct, filter, list_any}
 use Rattle.std.specs.Prelude.{unsigned_abs}
 use Rattle.std.proofs.lemmas.Bool.{leb-true, eqb-true, eqb-false, ne_eqb, or_cases, true≢false}
@@ -10,12 +10,11 @@ use Rattle.std.proofs.lemmas.Option.{same_Some, slice_get_within, get_or_from_sl
 use Rattle.std.proofs.lemmas.Map.Steps.{length-le_from_distinct_below}
 use Rattle.net_model.specs.Limits.{within_limit}
 use Rattle.net_model.specs.Network.{Plan, IsPlan, HasPlanNumbers}
-use Rattle.net_model.specs.Edges.{IsLinkOf}
 use Rattle.net_model.specs.declared.part.Bound.{Bound}
 use Rattle.net_model.specs.declared.part.Edge.{Edge}
 use Rattle.net_model.specs.declared.part.Link.{Link}
 use Rattle.strategy_model.proofs.PlayLemmas.{link_sound}
-use Rattle.strong_plan.specs.Chains.{IsChain, same_end, apart, sum_of, reduced_weight, IsReduced}
+use Rattle.strong_plan.specs.Chains.{same_end, apart, sum_of, IsReduced}
 use Rattle.strong_plan.proofs.StrongLemmas.{IsNetLink, chain_links}
 use Rattle.strong_plan.proofs.SumLemmas.{kept_all, test_fails}
 use Rattle.strong_plan.proofs.ReducingLemmas.{ends_of, each_other, distinct}

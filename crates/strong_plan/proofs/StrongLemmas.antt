@@ -1,15 +1,15 @@
 -- Strong schedules and reduced edges.
-use Rattle.std.proofs.Common.{◌≡◌, ◌≢◌, ◌⊎◌, ℕ, zero, suc, ◌+◌, ◌<◌, ◌≤◌, ℤ, pos, ◌+ℤ◌, ◌-ℤ◌, ◌≤ℤ◌, Bool, true, false, cond, not, List, [], ◌∷◌, Option, Some, None, map, length, get_or, slice_get, nat_abs, is_none, is_some, refl, ap, sym, subst, ◌∙◌, inl, inr, arith}
+use Rattle.std.proofs.Common.{◌≡◌, ◌≢◌, ◌⊎◌, ℕ, zero, suc, ◌+◌, ◌<◌, ◌≤◌, ℤ, pos, ◌+ℤ◌, ◌≤ℤ◌, Bool, true, false, cond, not, List, [], ◌∷◌, Option, Some, None, map, length, get_or, slice_get, nat_abs, is_none, is_some, refl, ap, sym, subst, ◌∙◌, inl, inr, arith}
 use Rattle.std.specs.List.{list_any, filter, All, AllByRecursion, AllZip, Contains, position_or_len, slice_index}
 use Rattle.std.specs.Option.{option_map}
 use Rattle.std.specs.Prelude.{◌==◌}
-use Rattle.std.proofs.lemmas.Bool.{cases_lt, cases_eq, cases_Bool, true≢false, eq-eqb}
+use Rattle.std.proofs.lemmas.Bool.{cases_lt, cases_Bool, true≢false, eq-eqb}
 use Rattle.std.proofs.lemmas.Bool.Decides.{nat_tests}
 use Rattle.std.proofs.lemmas.Int.{ints}
 use Rattle.std.proofs.lemmas.List.{length-map, get_or-map}
 use Rattle.std.proofs.lemmas.List.Sums.{position_or_len_is}
 use Rattle.std.proofs.lemmas.List.Elements.{recursion_from_All, All-contains, Contains-get_or, All-from_recursion}
-use Rattle.std.proofs.lemmas.Option.{same_Some, slice_get-map, slice_get_within, get_or_from_slice_get}
+use Rattle.std.proofs.lemmas.Option.{slice_get-map, slice_get_within, get_or_from_slice_get}
 use Rattle.net_model.specs.Network.{Plan, IsPlan, IsPoint, IsLink, IsBound, IsExecutable, activation}
 use Rattle.net_model.specs.Edges.{IsLinkOf}
 use Rattle.net_model.specs.declared.ids.PointId.{PointId}
@@ -18,7 +18,7 @@ use Rattle.net_model.specs.declared.part.Bound.{Bound}
 use Rattle.net_model.specs.declared.part.Edge.{Edge}
 use Rattle.net_model.specs.declared.part.Link.{Link}
 use Rattle.strategy_model.specs.Situations.{IsSituation, IsDuration, Satisfies, Keeps, moment_in}
-use Rattle.strategy_model.specs.Plays.{IsInstant, play, points_of}
+use Rattle.strategy_model.specs.Plays.{IsInstant, points_of}
 use Rattle.strategy_model.specs.Control.{IsControllable}
 use Rattle.strategy_model.specs.Edges.{HoldsIn}
 use Rattle.strategy_model.specs.Dispatch.{IsDynamic}
@@ -29,7 +29,7 @@ use Rattle.strategy_model.proofs.StepLemmas.{points_length}
 use Rattle.strategy_model.proofs.PlayLemmas.{link_sound}
 use Rattle.strategy_model.proofs.CompareLemmas.{own_size, duration_of, at_least_1}
 use Rattle.strategy_model.proofs.KindLemmas.{kind}
-use Rattle.strong_plan.specs.Strong.{executable_points, executed_in, IsRightIn, IsStrongSchedule, IsStronglyControllable}
+use Rattle.strong_plan.specs.Strong.{executed_in, IsRightIn, IsStrongSchedule, IsStronglyControllable}
 use Rattle.strong_plan.specs.Chains.{IsChain, ends, goes_on, same_end, apart, sum_of, reduced_weight, IsReduced}
 use Rattle.strong_plan.specs.Laws.{HasRoots, KeepsReduced, ReducedEdgesSuffice, ReducedEdgesHold}
 use Rattle.strong_plan.proofs.ChainLemmas.{one_chain, chains_meet}

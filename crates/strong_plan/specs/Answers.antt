@@ -42,8 +42,8 @@ abbrev pub names_at : Plan → List Edge → List ℕ → List (List ℕ)
 names_at net edges places = map (point_name net.points) (points_at edges places)
 
 -- the line of a certificate for the bound at a place, of which this is the reduced edge
-abbrev pub line_of : Plan → ℕ → Edge → StrongLine
-line_of net place edge = record {
+abbrev pub reduced_line : Plan → ℕ → Edge → StrongLine
+reduced_line net place edge = record {
   bound = option_map_or (λ (bound : Bound). bound.name) (slice_get net.bounds place) [];
   from = point_name net.points edge.from;
   to = point_name net.points edge.to;
@@ -52,7 +52,7 @@ line_of net place edge = record {
 
 -- the lines for the bounds at these places
 abbrev pub lines_at : Plan → List Edge → List ℕ → List StrongLine
-lines_at net edges places = map (λ place. line_of net place (edge_at edges place)) places
+lines_at net edges places = map (λ place. reduced_line net place (edge_at edges place)) places
 
 -- the names of the points of the walk that a certificate tells, line by line
 abbrev pub names_of : StrongCert → List (List ℕ)

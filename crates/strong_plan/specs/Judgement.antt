@@ -1,6 +1,6 @@
 -- The judgement of a strong certificate: it is accepted, or the first line that does not pass, and why. It goes over the text of the
 -- certificate alone.
-use Rattle.std.specs.Prelude.{ℕ, ℤ, pos, ◌+ℤ◌, ◌+◌, ◌&&◌, Bool, true, false, List, [], ◌∷◌, ◌++◌, length, codes, is_some, Result, Ok, Err, nat_le, int_lt, int_le, unsigned_abs}
+use Rattle.std.specs.Prelude.{ℕ, ℤ, pos, ◌+ℤ◌, ◌+◌, ◌&&◌, Bool, false, List, [], ◌∷◌, ◌++◌, length, codes, is_some, Result, Ok, Err, nat_le, int_lt, int_le, unsigned_abs}
 use Rattle.std.specs.Option.{option_map_or}
 use Rattle.std.specs.Str.{bytes_eq}
 use Rattle.std.specs.Fmt.{decimal}

@@ -1,5 +1,5 @@
 -- What holds of strong schedules.
-use Rattle.std.specs.Prelude.{◌≡◌, ◌≤◌, ℕ, List, length}
+use Rattle.std.specs.Prelude.{◌≡◌, ◌≤◌, ℕ, List}
 use Rattle.std.specs.List.{AllByRecursion, Contains}
 use Rattle.net_model.specs.Network.{Plan, IsPlan, IsPoint, IsExecutable}
 use Rattle.net_model.specs.declared.ids.PointId.{PointId}

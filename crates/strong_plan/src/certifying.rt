@@ -5,7 +5,7 @@ ghost use Rattle.std.specs.List.{All};
 ghost use Rattle.net_model.specs.Network.{IsPoint, HasPlanNumbers};
 ghost use Rattle.least_moments.specs.History.{AreWithin};
 ghost use Rattle.least_moments.specs.Least.{IsLoopFromLowest};
-ghost use Rattle.strong_plan.specs.Answers.{down_edge, line_of, lines_at, names_at, AreReduced, HasNoRing, IsRefutation};
+ghost use Rattle.strong_plan.specs.Answers.{down_edge, reduced_line, lines_at, names_at, AreReduced, HasNoRing, IsRefutation};
 
 use crate::lookup::point_name;
 use cert_format::{StrongCert, StrongLine};
@@ -96,7 +96,7 @@ fn line_of(net: &Network, place: usize, edge: &Edge) -> StrongLine
     requires bound { place < length net.now.bounds }
     requires from { IsPoint net.now edge.now.from }
     requires to { IsPoint net.now edge.now.to }
-    ensures { result ≡ line_of net.now place edge.now }
+    ensures { result ≡ reduced_line net.now place edge.now }
 {
     StrongLine {
         bound: net.bounds()[place].name,

@@ -7,15 +7,15 @@ use Rattle.event_execution.proofs.executing.finish.Goals as goal
 
 pub put_end-requires-clause-points : goal.put_end-requires-clause-points
 put_end-requires-clause-points c =
-    let course = c.requires.course in
+    let course = c.requires.parts.course in
     let few = subst (λ (n : ℕ). length c.finish-finished.new.self.acts ≤ n) c.acts.ensures.count c.acts.ensures.few in
-    subst (EndsAmong c.args.net.now c.finish-finished.result) (sym c.acts.ensures.value)
-    (ends_among c.args.net.now c.args.executor c.finish-finished.result c.finish-finished.new.self course.goes_on course.dispatch c.finish-finished.ensures.finished few)
+    subst (EndsAmong c.args.parts.net c.finish-finished.result) (sym c.acts.ensures.value)
+    (ends_among c.args.parts.net c.args.parts.executor c.finish-finished.result c.finish-finished.new.self course.goes_on course.dispatch c.finish-finished.ensures.finished few)
 
 pub returns-clause-answers : goal.returns-clause-answers
 returns-clause-answers c = (
   c.finish-finished.result,
   c.finish-finished.new.self,
   c.finish-finished.ensures.finished,
-  subst (λ (acts : List Act). AnswersEnd c.args.net.now c.args.number c.finish-finished.result acts c.put_end.new.answer.text (Ends c.put_end.result)) c.acts.ensures.value c.put_end.ensures.answers,
+  subst (λ (acts : List Act). AnswersEnd c.args.parts.net c.args.number c.finish-finished.result acts c.put_end.new.answer.text (Ends c.put_end.result)) c.acts.ensures.value c.put_end.ensures.answers,
 )

@@ -8,7 +8,7 @@ use Rattle.net_model.specs.declared.part.Edge.{Edge}
 use Rattle.least_moments.specs.Rounds.{IsRoundOver}
 use Rattle.least_moments.specs.History.{IsHistory, AreWithin}
 use Rattle.least_moments.specs.Least.{AreLeast, IsLoop, IsLoopFromLowest}
-use Rattle.least_moments.proofs.LeastLemmas.{IsUnderWay, way_begins, way_on, way_length, way_small, way_ends, way_row, way_start, none_is}
+use Rattle.least_moments.proofs.LeastLemmas.{IsUnderWay, way_begins, way_on, way_length, way_small, way_ends, way_start, none_is}
 use Rattle.least_moments.proofs.least.least_moments.Goals as goal
 
 pub loop-init : goal.loop-init

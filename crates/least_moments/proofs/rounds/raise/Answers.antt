@@ -1,6 +1,5 @@
-use Rattle.std.proofs.Common.{◌≡◌, ◌≤◌, ◌<◌, ◌+◌, ℕ, List, Option, None, Some, get_or, set, length, sym, ap, subst, refl, ◌∙◌, arith}
+use Rattle.std.proofs.Common.{◌≡◌, ◌≤◌, ◌<◌, ◌+◌, ℕ, List, Some, get_or, set, sym, ap, subst, ◌∙◌, arith}
 use Rattle.std.proofs.lemmas.List.{get_or_read}
-use Rattle.net_model.specs.declared.part.Edge.{Edge}
 use Rattle.least_moments.specs.Rounds.{no_edge, edge_at, asked, IsRoundOver}
 use Rattle.least_moments.proofs.RoundLemmas.{round_stays, round_raises}
 use Rattle.least_moments.proofs.rounds.raise.Goals.{then-index-asked, else-index-asked}

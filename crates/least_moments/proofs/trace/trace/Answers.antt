@@ -1,4 +1,4 @@
-use Rattle.std.proofs.Common.{◌≡◌, ◌≤◌, ◌+◌, ◌-◌, ◌<◌, ◌++◌, ◌∷◌, [], ℕ, List, Option, Some, None, length, get_or, drop, sym, ap, subst, ◌∙◌, arith, rules}
+use Rattle.std.proofs.Common.{◌≡◌, ◌-◌, ◌<◌, [], ℕ, List, Option, Some, None, length, get_or, drop, sym, ap, subst, ◌∙◌, arith, rules}
 use Rattle.std.specs.List.{All, position}
 use Rattle.std.specs.Option.{IsSome}
 use Rattle.std.specs.Prelude.{◌==◌}

@@ -3,7 +3,7 @@ use Rattle.std.specs.List.{All}
 use Rattle.std.specs.Prelude.{unsigned_abs}
 use Rattle.net_model.specs.declared.part.Edge.{Edge}
 use Rattle.least_moments.specs.History.{AreWithin}
-use Rattle.least_moments.specs.Least.{AreLeast, IsLoopFromLowest}
+use Rattle.least_moments.specs.Least.{AreLeast}
 use Rattle.strong_plan.specs.Strong.{executed_in, IsLeastStrongSchedule}
 use Rattle.strong_plan.proofs.EdgesLemmas.{edges_within, moments_least}
 use Rattle.strong_plan.proofs.CertificateLemmas.{edges_small}

@@ -1,11 +1,10 @@
-use Rattle.std.proofs.Common.{◌≡◌, ◌≤◌, ℕ, List, map, length, sym, ap, subst, ◌∙◌, rules}
+use Rattle.std.proofs.Common.{◌≡◌, ◌≤◌, ℕ, map, length, sym, ap, subst, ◌∙◌, rules}
 use Rattle.std.specs.List.{All}
 use Rattle.std.specs.Prelude.{unsigned_abs}
 use Rattle.net_model.specs.declared.part.Edge.{Edge}
-use Rattle.net_model.specs.declared.part.Link.{Link}
 use Rattle.strategy_model.specs.Edges.{HoldsIn}
 use Rattle.least_moments.specs.History.{AreWithin}
-use Rattle.least_moments.specs.Least.{AreLeast, IsLoopFromLowest}
+use Rattle.least_moments.specs.Least.{AreLeast}
 use Rattle.strong_plan.specs.Answers.{down_edge}
 use Rattle.strong_plan.proofs.HeightLemmas.{down_within, down_small, rooted, no_ring}
 use Rattle.strong_plan.proofs.searching.strong.Goals as goal

@@ -2,7 +2,8 @@ use Rattle.std.proofs.Common.{◌∙◌}
 use Rattle.execution_model.proofs.OfClosureLemmas.{by_closure}
 use Rattle.live_executor.proofs.OfClosureLemmas.{dispatch_of}
 use Rattle.event_execution.proofs.BeginLemmas.{begins_so}
-use Rattle.event_execution.proofs.begin.begin_dispatched.Goals as goal
+use Rattle.event_execution.specs.Handing.{handing_where}
+use Rattle.event_execution.proofs.begin.begin_with_feeders.Goals as goal
 
 pub start-requires-clause-dispatch : goal.start-requires-clause-dispatch
 start-requires-clause-dispatch c =
@@ -12,5 +13,5 @@ start-requires-clause-dispatch c =
 pub returns-clause-begins : goal.returns-clause-begins
 returns-clause-begins c =
     let is = c.requires.dispatch in
-    begins_so c.args.net is.table is.order (by_closure c.args.net c.args.dispatch (record { sound = c.points.ensures.sound; no_delay = c.requires.no_delay }) is) c.slim.result (c.slim.ensures.made ∙ is.by.made)
+    begins_so (handing_where c.args.feeders) c.args.net is.table is.order (by_closure c.args.net c.args.dispatch (record { sound = c.points.ensures.sound; no_delay = c.requires.no_delay }) is) c.slim.result (c.slim.ensures.made ∙ is.by.made)
     c.in_ok-state.state c.in_ok-state.ensures c.put_begun.new.answer.text c.in_ok-put_begun.ensures.put
