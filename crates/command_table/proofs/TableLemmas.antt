@@ -5,11 +5,11 @@ use Rattle.command_engine.specs.Endings.{end_number}
 use Rattle.command_engine.specs.declared.endings.End.{End}
 use Rattle.command_engine.specs.declared.endings.End.TheVariants.{Done, Refused, Fault, Limit, EventRefused}
 use Rattle.stnu_run.specs.DefinedRuns.{program_named, program_of}
-use Rattle.stnu_run.specs.Forging.{TellsVerdict, forge_program}
+use Rattle.play_command.specs.Forging.{TellsVerdict, forge_program}
 use Rattle.command_frame.specs.Programs.{Program, serves, tells, told_number, when◌run◌else◌}
 use Rattle.command_frame.specs.Requests.{program_asked, refuses_words}
 use Rattle.command_frame.specs.Statuses.{IsRefusal}
-use Rattle.stnu_run.specs.declared.forging.ForgeWords.{ForgeWords}
+use Rattle.play_command.specs.declared.forging.ForgeWords.{ForgeWords}
 use Rattle.command_frame.specs.declared.status.Status.{Status}
 use Rattle.command_frame.specs.declared.telling.TellingEnd.TheVariants.{WordsRefused}
 use Rattle.command_table.specs.Table.{AreInTable, AreOfCommand, when◌these◌else◌}

@@ -1,27 +1,35 @@
 -- The table of the program's commands, and what it means that words are refused.
-use Rattle.std.specs.Prelude.{◌≡◌, ◌⊎◌, ◌↔◌, ◌∷◌, codes, ℕ, List, Bool, true, false}
+use Rattle.std.specs.Prelude.{◌≡◌, ◌⊎◌, ◌↔◌, [], ◌∷◌, codes, ℕ, List, Bool, true, false}
 use Rattle.std.specs.Str.{bytes_eq}
 use Rattle.plan_port.specs.Talk.{Seen}
-use Rattle.stnu_run.specs.Checking.{check_syntax}
+use Rattle.check_command.specs.Checking.{check_syntax}
 use Rattle.stnu_run.specs.DefinedRuns.{program_of, strong_word}
-use Rattle.stnu_run.specs.Forging.{forge_syntax}
-use Rattle.stnu_run.specs.Judging.{judge_syntax}
-use Rattle.stnu_run.specs.Playing.{play_syntax}
-use Rattle.stnu_run.specs.Running.{run_syntax}
+use Rattle.play_command.specs.Forging.{forge_syntax}
+use Rattle.judge_command.specs.Judging.{judge_syntax}
+use Rattle.play_command.specs.Playing.{play_syntax}
+use Rattle.run_command.specs.Running.{RunForm, run_syntax}
+use Rattle.run_command.specs.Words.{SayRun}
 use Rattle.session_command.specs.Sessions.{session_syntax}
-use Rattle.stnu_run.specs.Showing.{show_syntax}
+use Rattle.show_command.specs.Showing.{show_syntax}
 use Rattle.command_frame.specs.Statuses.{IsRefusal, StatusHasCause}
 use Rattle.command_frame.specs.PlanWords.{SayFormAndWorkers}
-use Rattle.stnu_run.specs.WordLaws.{SayCheckFlags, SayForge, SayForms, SayJudge, SayPlay}
-use Rattle.stnu_run.specs.declared.checking.CheckFlags.{CheckFlags}
-use Rattle.stnu_run.specs.declared.forging.ForgeWords.{ForgeWords}
-use Rattle.stnu_run.specs.declared.judging.Judge.{Judge}
+use Rattle.check_command.specs.Words.{SayCheckFlags}
+use Rattle.play_command.specs.Words.{SayForge, SayPlay}
+use Rattle.show_command.specs.Words.{SayForms}
+use Rattle.judge_command.specs.Words.{SayJudge}
+use Rattle.check_command.specs.declared.checking.CheckFlags.{CheckFlags}
+use Rattle.play_command.specs.declared.forging.ForgeWords.{ForgeWords}
+use Rattle.judge_command.specs.declared.judging.Judge.{Judge}
 use Rattle.plan_inputs.specs.declared.plan_input.PlanForm.{PlanForm}
-use Rattle.stnu_run.specs.declared.playing.PlayWords.{PlayWords}
-use Rattle.stnu_run.specs.declared.showing.Show.{Show}
+use Rattle.play_command.specs.declared.playing.PlayWords.{PlayWords}
+use Rattle.show_command.specs.declared.showing.Show.{Show}
 use Rattle.command_frame.specs.declared.status.Status.{Status}
+use Rattle.fleet_command.specs.declared.beginning.AskFleet.{AskFleet}
 use Rattle.strong_command.specs.Asking.{SayStrong}
 use Rattle.strong_command.specs.declared.asking.AskStrong.{AskStrong}
+use Rattle.deadline_command.specs.Asking.{deadline_syntax}
+use Rattle.deadline_command.specs.Words.{SayDeadline}
+use Rattle.deadline_command.specs.declared.points.DeadlineWords.{DeadlineWords}
 
 -- the one where this is so, else the other
 infixr 5 when◌these◌else◌
@@ -35,11 +43,13 @@ abbrev pub AreOfCommand : (command : List ℕ) (words : List (List ℕ)) → Typ
 AreOfCommand command words =
     when bytes_eq command (codes "judge") these ((judge : Judge) × SayJudge judge_syntax judge words)
     else when bytes_eq command (codes "check") these ((flags : CheckFlags) × SayCheckFlags check_syntax flags words)
-    else when bytes_eq command (codes "run") these ((form : PlanForm) × SayFormAndWorkers run_syntax form words)
+    else when bytes_eq command (codes "run") these ((asked : RunForm) × SayRun run_syntax asked words)
     else when bytes_eq command (codes "session") these ((form : PlanForm) × SayFormAndWorkers session_syntax form words)
     else when bytes_eq command (codes "show") these ((show : Show) × SayForms show_syntax show words)
     else when bytes_eq command (codes "play") these ((said : PlayWords) × SayPlay play_syntax said words)
     else when bytes_eq command strong_word these ((asked : AskStrong) × SayStrong asked words)
+    else when bytes_eq command (codes "deadline") these ((said : DeadlineWords) × SayDeadline deadline_syntax said words)
+    else when bytes_eq command (codes "fleet") these ((asked : AskFleet) × (words ≡ []))
     else when bytes_eq command (codes "forge") these ((said : ForgeWords) × SayForge forge_syntax said words)
     else ⊥
 

@@ -7,14 +7,14 @@ use Rattle.closure_model.specs.Tables.{Graph, IsGraph}
 use Rattle.closure_model.proofs.RoundClosing.{standing_sound}
 use Rattle.dispatch_net.specs.Dispatchable.{MayDispatch}
 use Rattle.dispatch_net.proofs.EarliestLemmas.{closures_may_dispatch}
-use Rattle.parallel_rounds.specs.Propagated.{Says}
+use Rattle.parallel_rounds.specs.Propagated.{OutcomeHolds}
 use Rattle.parallel_rounds.specs.declared.outcome.Outcome.{Outcome}
 use Rattle.parallel_rounds.specs.declared.outcome.Outcome.TheVariants.{Closed}
 
-pub may_be : (net : Plan) (after : Support) (outcome : Outcome) (rounds : ℕ) (order list : List PointId) (table : Graph) → IsPlan net → Says net after outcome → outcome ≡ Closed rounds order
+pub may_be : (net : Plan) (after : Support) (outcome : Outcome) (rounds : ℕ) (order list : List PointId) (table : Graph) → IsPlan net → OutcomeHolds net after outcome → outcome ≡ Closed rounds order
     → table ≡ after.table → list ≡ order → MayDispatch net table list
 may_be net after outcome rounds order list table plan told is same listed =
-    let says : Says net after (Closed rounds order) = subst (Says net after) is told in
+    let says : OutcomeHolds net after (Closed rounds order) = subst (OutcomeHolds net after) is told in
     subst (λ (o : List PointId). MayDispatch net table o) (sym listed) (subst (λ (t : Graph). MayDispatch net t order) (sym same) (closures_may_dispatch net after.table order plan says.0 says.1))
 
 pub sound_graph : (net : Plan) (after : Support) (table : Graph) → IsPlan net → StandsOn net after → table ≡ after.table → IsGraph table

@@ -17,7 +17,7 @@ use Rattle.derivation_edits.specs.Following.{Renumbering, Following, none_follow
 use Rattle.derivation_edits.proofs.Keeping.{with_rule}
 use Rattle.derivation_edits.proofs.MovedPremises.{place_before, place_last}
 use Rattle.derivation_edits.proofs.Prefixes.{one_more}
-use Rattle.example_references.specs.Marks.{mark_at, kept_before, place_of, rule_after, node_after, with_some}
+use Rattle.example_references.specs.Marks.{mark_at, kept_before, kept_place, rule_after, node_after, with_some}
 
 abbrev marks_of : List (Option NodeId) → List Bool
 marks_of places = map (λ (o : Option NodeId). is_none o) places
@@ -28,7 +28,7 @@ count marks = count_by (λ (mark : Bool). not mark) marks
 -- the places are the counted ones
 pub record AreCounted (so_far : Following) : Type 0 where
   pub number : count (marks_of so_far.places) ≡ length so_far.kept
-  pub each : (id : NodeId) → place_of (marks_of so_far.places) id ≡ place_at so_far.places id
+  pub each : (id : NodeId) → kept_place (marks_of so_far.places) id ≡ place_at so_far.places id
 
 -- ---- one more
 mark_is : (places : List (Option NodeId)) (id : NodeId) → mark_at (marks_of places) id ≡ is_none (place_at places id)
@@ -40,10 +40,10 @@ mark_is places id = by (cases_lt id.0 (length places))
         let size : length (marks_of places) ≡ length places = length-map places (λ (o : Option NodeId). is_none o) in
         get_or_past (marks_of places) id.0 true (omega arith) ∙ ap (λ (o : Option NodeId). is_none o) (sym (get_or_past places id.0 None past))
 
-no_place : (marks : List Bool) (id : NodeId) → mark_at marks id ≡ true → place_of marks id ≡ None
+no_place : (marks : List Bool) (id : NodeId) → mark_at marks id ≡ true → kept_place marks id ≡ None
 no_place marks id is = ap (λ (b : Bool). if b then None else Some (kept_before marks id)) is
 
-module _ (places : List (Option NodeId)) (last : Option NodeId) (each : (id : NodeId) → place_of (marks_of places) id ≡ place_at places id)
+module _ (places : List (Option NodeId)) (last : Option NodeId) (each : (id : NodeId) → kept_place (marks_of places) id ≡ place_at places id)
     (new : (last ≡ None) ⊎ (last ≡ Some (record { 0 = count (marks_of places) }))) where
   marks_more : marks_of (places ++ last ∷ []) ≡ marks_of places ++ is_none last ∷ []
   marks_more = map-append (λ (o : Option NodeId). is_none o) places (last ∷ [])
@@ -56,13 +56,13 @@ module _ (places : List (Option NodeId)) (last : Option NodeId) (each : (id : No
       ap (λ (ms : List Bool). kept_before ms id) marks_more
       ∙ ap (λ (ms : List Bool). let n : NodeId = record { 0 = count ms } in n) (take-append-le id.0 (marks_of places) (is_none last ∷ []) (let s = size in omega arith))
 
-  pub each_more : (id : NodeId) → place_of (marks_of (places ++ last ∷ [])) id ≡ place_at (places ++ last ∷ []) id
+  pub each_more : (id : NodeId) → kept_place (marks_of (places ++ last ∷ [])) id ≡ place_at (places ++ last ∷ []) id
   each_more id = by (cases_lt id.0 (length places))
     where
       mark : mark_at (marks_of (places ++ last ∷ [])) id ≡ is_none (place_at (places ++ last ∷ []) id)
       mark = mark_is (places ++ last ∷ []) id
 
-      at_end : (id.0 ≡ length places) → (last ≡ None) ⊎ (last ≡ Some (record { 0 = count (marks_of places) })) → place_of (marks_of (places ++ last ∷ [])) id ≡ place_at (places ++ last ∷ []) id
+      at_end : (id.0 ≡ length places) → (last ≡ None) ⊎ (last ≡ Some (record { 0 = count (marks_of places) })) → kept_place (marks_of (places ++ last ∷ [])) id ≡ place_at (places ++ last ∷ []) id
       at_end is (inl none) =
           let here : place_at (places ++ last ∷ []) id ≡ None = place_last places last id is ∙ none in
           no_place (marks_of (places ++ last ∷ [])) id (mark ∙ ap (λ (o : Option NodeId). is_none o) here) ∙ sym here
@@ -73,24 +73,24 @@ module _ (places : List (Option NodeId)) (last : Option NodeId) (each : (id : No
           ap (λ (b : Bool). if b then None else Some (kept_before (marks_of (places ++ last ∷ [])) id)) unmarked
           ∙ (ap (λ (n : NodeId). Some n) (same_count id (omega arith)) ∙ (ap (λ (ms : List Bool). Some (let n : NodeId = record { 0 = count ms } in n)) all ∙ sym here))
 
-      past_end : length places < id.0 → place_of (marks_of (places ++ last ∷ [])) id ≡ place_at (places ++ last ∷ []) id
+      past_end : length places < id.0 → kept_place (marks_of (places ++ last ∷ [])) id ≡ place_at (places ++ last ∷ []) id
       past_end past =
           let long : length (places ++ last ∷ []) ≡ length places + 1 = length-append places (last ∷ []) in
           let here : place_at (places ++ last ∷ []) id ≡ None = get_or_past (places ++ last ∷ []) id.0 None (omega arith) in
           no_place (marks_of (places ++ last ∷ [])) id (mark ∙ ap (λ (o : Option NodeId). is_none o) here) ∙ sym here
 
-      inside : id.0 < length places → place_of (marks_of (places ++ last ∷ [])) id ≡ place_at (places ++ last ∷ []) id
+      inside : id.0 < length places → kept_place (marks_of (places ++ last ∷ [])) id ≡ place_at (places ++ last ∷ []) id
       inside less =
           let same_mark : mark_at (marks_of (places ++ last ∷ [])) id ≡ mark_at (marks_of places) id =
           ap (λ (ms : List Bool). mark_at ms id) marks_more ∙ get_or-append (marks_of places) (is_none last ∷ []) true id.0 (let s = size in omega arith) in
           ap (λ (b : Bool). if b then None else Some (kept_before (marks_of (places ++ last ∷ [])) id)) same_mark
           ∙ (ap (λ (n : NodeId). if mark_at (marks_of places) id then None else Some n) (same_count id (omega arith)) ∙ (each id ∙ sym (place_before places last id less)))
 
-      further : (id.0 < length places + 1) ⊎ (length places + 1 ≤ id.0) → length places ≤ id.0 → place_of (marks_of (places ++ last ∷ [])) id ≡ place_at (places ++ last ∷ []) id
+      further : (id.0 < length places + 1) ⊎ (length places + 1 ≤ id.0) → length places ≤ id.0 → kept_place (marks_of (places ++ last ∷ [])) id ≡ place_at (places ++ last ∷ []) id
       further (inl near) least = at_end (omega arith) new
       further (inr far) least = past_end (omega arith)
 
-      by : (id.0 < length places) ⊎ (length places ≤ id.0) → place_of (marks_of (places ++ last ∷ [])) id ≡ place_at (places ++ last ∷ []) id
+      by : (id.0 < length places) ⊎ (length places ≤ id.0) → kept_place (marks_of (places ++ last ∷ [])) id ≡ place_at (places ++ last ∷ []) id
       by (inl less) = inside less
       by (inr least) = further (cases_lt id.0 (length places + 1)) least
 

@@ -41,18 +41,18 @@ abbrev pub kept_before : List Bool → NodeId → NodeId
 kept_before marks id = record { 0 = count_by (λ (mark : Bool). not mark) (take id.0 marks) }
 
 -- the number of a node among the kept ones, if it is kept
-abbrev pub place_of : List Bool → NodeId → Option NodeId
-place_of marks id = if mark_at marks id then None else Some (kept_before marks id)
+abbrev pub kept_place : List Bool → NodeId → Option NodeId
+kept_place marks id = if mark_at marks id then None else Some (kept_before marks id)
 
 -- a rule with its new numbers, if it has them
 abbrev pub rule_after : Renumbering → List Bool → Rule → Option Rule
 rule_after moves marks (by_rule.Bound name) = option_map by_rule.Bound (moves.bounds name)
 rule_after moves marks (by_rule.Link name) = option_map by_rule.Link (moves.links name)
-rule_after moves marks (by_rule.No first second) = option_and_then (λ one. option_map (by_rule.No one) (place_of marks second)) (place_of marks first)
-rule_after moves marks (by_rule.Up first second) = option_and_then (λ one. option_map (by_rule.Up one) (place_of marks second)) (place_of marks first)
-rule_after moves marks (by_rule.Low name second) = option_and_then (λ link. option_map (by_rule.Low link) (place_of marks second)) (moves.links name)
-rule_after moves marks (by_rule.Cross name second) = option_and_then (λ link. option_map (by_rule.Cross link) (place_of marks second)) (moves.links name)
-rule_after moves marks (by_rule.Drop premise) = option_map by_rule.Drop (place_of marks premise)
+rule_after moves marks (by_rule.No first second) = option_and_then (λ one. option_map (by_rule.No one) (kept_place marks second)) (kept_place marks first)
+rule_after moves marks (by_rule.Up first second) = option_and_then (λ one. option_map (by_rule.Up one) (kept_place marks second)) (kept_place marks first)
+rule_after moves marks (by_rule.Low name second) = option_and_then (λ link. option_map (by_rule.Low link) (kept_place marks second)) (moves.links name)
+rule_after moves marks (by_rule.Cross name second) = option_and_then (λ link. option_map (by_rule.Cross link) (kept_place marks second)) (moves.links name)
+rule_after moves marks (by_rule.Drop premise) = option_map by_rule.Drop (kept_place marks premise)
 
 -- a node with its new numbers, if its rule has them
 abbrev pub node_after : Renumbering → List Bool → Node → Option Node

@@ -4,7 +4,7 @@ ghost use Rattle.std.specs.Prelude.{◌≡◌, ◌++◌, ◌∷◌, [], filter, 
 ghost use Rattle.std.specs.List.{count_by};
 ghost use Rattle.derivation_edits.specs.Following.{followed};
 ghost use Rattle.derivation_edits.specs.Taken.{new_base_nodes};
-ghost use Rattle.example_references.specs.Marks.{numbers, mark_at, place_of, rule_after, node_after, is_new_base, with_some};
+ghost use Rattle.example_references.specs.Marks.{numbers, mark_at, kept_place, rule_after, node_after, is_new_base, with_some};
 
 use crate::edited::Edited;
 use crate::rounds::base_nodes;
@@ -91,7 +91,7 @@ fn rule_after(edited: &Edited, marks: &[bool], rule: &Rule) -> Option<Rule>
 
 /// The number of a node among the kept ones, where it is kept: how many before it are.
 fn place_of(marks: &[bool], id: NodeId) -> Option<NodeId>
-    ensures { result ≡ place_of marks.now id }
+    ensures { result ≡ kept_place marks.now id }
 {
     if mark_at(marks, id) {
         None

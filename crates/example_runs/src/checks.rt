@@ -162,8 +162,8 @@ fn plans_are_checked(rt: HostRuntime) -> Result<(), Fail> {
     Ok(())
 }
 
-/// Some numbers of workers, in both spellings.
-const WORKERS: [&str; 8] = [
+/// Some numbers of workers and engines, in both spellings.
+const OPTIONS: [&str; 13] = [
     "--workers 1",
     "--workers=1",
     "--workers 2",
@@ -172,16 +172,21 @@ const WORKERS: [&str; 8] = [
     "--workers=7",
     "--workers 64",
     "--workers=64",
+    "--engine rounds",
+    "--engine=rounds --workers 2",
+    "--engine cells",
+    "--engine=cells --workers 2",
+    "--workers=7 --engine cells",
 ];
 
-/// The places of the rows that are tried with each number of workers: a plan without foresight, and two waits that cross.
-const WITH_WORKERS: [usize; 2] = [4, 9];
+/// The places of the rows that are tried with each of these: a plan without foresight, and two waits that cross.
+const WITH_OPTIONS: [usize; 2] = [4, 9];
 
-fn try_with_workers<R: Abort + AllocGlobal + Threads + Sync>(
+fn try_with_options<R: Abort + AllocGlobal + Threads + Sync>(
     rt: &R,
     words: &Vec<String>,
 ) -> Result<(), AllocError> {
-    for place in WITH_WORKERS {
+    for place in WITH_OPTIONS {
         let row = ROWS.split('\n').nth(place).unwrap_or("");
         try_row(rt, words, row)?;
     }
@@ -189,10 +194,10 @@ fn try_with_workers<R: Abort + AllocGlobal + Threads + Sync>(
 }
 
 #[test]
-fn workers_change_no_byte(rt: HostRuntime) -> Result<(), Fail> {
-    for options in WORKERS {
+fn workers_and_engines_change_no_byte(rt: HostRuntime) -> Result<(), Fail> {
+    for options in OPTIONS {
         let words = check_words(rt.alloc(), options)?;
-        try_with_workers(&rt, &words)?;
+        try_with_options(&rt, &words)?;
     }
     Ok(())
 }

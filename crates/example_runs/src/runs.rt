@@ -17,6 +17,24 @@ stnu judge => stnu 1|point A|point C|point D|bound b1 D C 1|bound b2 C D -1|link
 stnu judge => stnu 1|point A|point C|point D|bound b1 D C 1|bound b2 C D -1|link A 3 8 C|end|certificate 1|refutation|bound b1 D C 1|bound b2 C D -1|link C C A -8|low C 2 A D 3|up 1 3 D A C -7|drop 5 D A -3|no 4 6 A A 0|walk 7|end| => refused 8 walk-not-negative 0| => 1
 stnu judge => stnu 1|point A|point C|point D|bound b1 D C 1|bound b2 C D -1|link A 3 8 C|end|certificate 1|refutation|bound b1 D C 1|bound b2 C D -1|link C C A -8|low C 2 A D 2|up 1 3 D A C -7|drop 5 D A -3|no 4 7 A A -1|walk 7|end| => refused 7 premise| => 1
 stnu judge => stnu 1|end|certificate 1|refutation|end| => refused 1 walk-broken| => 1
+stnu deadline A D => stnu 1|point A|point C|point D|bound b1 D C 4|link A 3 8 C|end| => controllable|deadline A D 4|certificate 1|table|order A|order C|order D|edge A A 0|upper A C 0|edge C A -3|upper C C -8|edge D A -3|upper D C -4|edge D C 4|edge A D 4|end|certificate 1|refutation|bound b1 D C 4|bound goal A D 3|link C C A -8|up 1 3 D A C -4|up 2 4 A A C -1|drop 5 A A -1|walk 6|end| => 0
+stnu deadline A C => stnu 1|point A|point C|point D|bound b1 D C 4|link A 3 8 C|end| => controllable|deadline A C 8|certificate 1|table|order A|order C|order D|edge A A 0|upper A C 0|edge C A -3|upper C C -8|edge D A -3|upper D C -4|edge A C 8|edge D C 4|end|certificate 1|refutation|bound goal A C 7|link C C A -8|up 1 2 A A C -1|drop 3 A A -1|walk 4|end| => 0
+stnu deadline --workers=2 D D => stnu 1|point A|point C|point D|bound b1 D C 4|link A 3 8 C|end| => controllable|deadline D D 0|certificate 1|table|order A|order C|order D|edge A A 0|edge C A -3|upper C C -8|edge D A -3|upper D C -4|edge D C 4|edge D D 0|end|certificate 1|refutation|bound goal D D -1|walk 1|end| => 0
+stnu deadline A B => stnu 1|point A|point B|end| => controllable|deadline A B at-most -1000000000|certificate 1|table|order B|order A|edge A B -1000000000|end| => 0
+stnu deadline A C => stnu 1|point A|point B|point C|bound p B A -1000000000|bound q C B -1|end| => controllable|deadline A C none|certificate 1|refutation|bound p B A -1000000000|bound q C B -1|bound goal A C 1000000000|no 3 2 A B 999999999|no 4 1 A A -1|walk 5|end| => 0
+stnu deadline A B --workers 7 => stnu 1|point A|point B|bound goal B A -2|bound goal.1 A B 9|end| => controllable|deadline A B 2|certificate 1|table|order A|order B|edge A A 0|edge B A -2|edge A B 2|end|certificate 1|refutation|bound goal B A -2|bound goal.2 A B 1|no 2 1 A A -1|walk 3|end| => 0
+stnu deadline C D => stnu 2|delay 1|point A|point C|point D|bound b1 D C 4|link A 3 8 C|end| => controllable|deadline C D 1|certificate 1|table|order A|order C|order D|edge A A 0|edge C A -4|upper C C -9|edge D A -4|upper D C -4|edge D C 5|edge C D 0|end|certificate 1|refutation|bound b1 D C 5|bound goal C D -1|link C C A -9|up 1 3 D A C -4|drop 4 D A -4|low C 2 A D 3|no 6 5 A A -1|walk 7|end| => 0
+stnu deadline D C => stnu 1|point A|point C|point D|bound b1 D C 1|bound b2 C D -1|link A 3 8 C|end| => not controllable|certificate 1|refutation|bound b1 D C 1|bound b2 C D -1|link C C A -8|up 1 3 D A C -7|low C 2 A D 2|up 5 4 A A C -5|drop 6 A A -3|walk 7|end| => 1
+stnu deadline A --json B => {\"stnu\":1,\"points\":[\"A\",\"B\"],\"bounds\":[|{\"name\":\"b2\",\"from\":\"B\",\"to\":\"A\",\"most\":-5}]}|end| => controllable|deadline A B 5|certificate 1|table|order A|order B|edge A A 0|edge B A -5|edge A B 5|end|certificate 1|refutation|bound b2 B A -5|bound goal A B 4|no 2 1 A A -1|walk 3|end| => 0
+stnu deadline A Q => stnu 1|point A|point C|point D|bound b1 D C 4|link A 3 8 C|end| => error plan 7 unknown-name| => 3
+stnu deadline Q A => stnu 1|point A|point C|point D|bound b1 D C 1|bound b2 C D -1|link A 3 8 C|end| => error plan 8 unknown-name| => 3
+stnu deadline A Q --json => {\"stnu\":1,\"points\":[\"A\",\"B\"],\"bounds\":[|{\"name\":\"b2\",\"from\":\"B\",\"to\":\"A\",\"most\":-5}]}|end| => error plan 0 unknown-name| => 3
+stnu deadline A Q => stnu 1|point A|point A|end| => error plan 3 duplicate-name| => 3
+stnu deadline A => stnu 1|point A|point C|point D|bound b1 D C 4|link A 3 8 C|end| => error words| => 2
+stnu deadline A 1D => stnu 1|point A|point C|point D|bound b1 D C 4|link A 3 8 C|end| => error words| => 2
+stnu deadline A D D => stnu 1|point A|point C|point D|bound b1 D C 4|link A 3 8 C|end| => error words| => 2
+stnu deadline A D --delay 0 => stnu 1|point A|point C|point D|bound b1 D C 4|link A 3 8 C|end| => error words| => 2
+stnu deadline A D --workers 0 => stnu 1|point A|point C|point D|bound b1 D C 4|link A 3 8 C|end| => error words| => 2
 stnu strong => stnu 1|point A|point B|bound b1 A B 5|bound b2 B A -2|end| => strongly controllable|time A 0|time B 2| => 0
 stnu strong => stnu 1|point A|point C|point D|bound b1 D C 4|link A 3 8 C|end| => strongly controllable|time A 0|time D 4| => 0
 stnu strong => stnu 1|point A|point C|point D|bound e1 C D 0|bound e2 D C 0|link A 3 8 C|end| => not strongly controllable|strong 1|by e1 A D 3|by e2 D A -8|end| => 1
@@ -36,6 +54,30 @@ stnu judge --strong => stnu 1|point A|point C|point D|bound e1 C D 0|bound e2 D 
 stnu judge --strong => stnu 1|point A|point C|point D|bound e1 C D 0|bound e2 D C 0|link A 3 8 C|end| => error format 9 no-header| => 3
 stnu judge => stnu 1|point A|point C|point D|bound e1 C D 0|bound e2 D C 0|link A 3 8 C|end|strong 1|by e1 A D 3|by e2 D A -8|end| => error format 9 no-header| => 3
 stnu judge --strong --delay 0 => stnu 1|point A|point C|point D|bound e1 C D 0|bound e2 D C 0|link A 3 8 C|end|strong 1|by e1 A D 3|by e2 D A -8|end| => error words| => 2
+stnu fleet => fleet 1|plan x|stnu 1|point A|point B|bound b1 A B 5|bound b2 B A -2|end|plan y|stnu 1|point A|point C|point D|bound b1 D C 4|link A 3 8 C|end|go|x at 0|y at 0|y at 2 C|x at 2|x done|y done|end| => x controllable|x due 0|y controllable|y due 0|x act 0 A|x due 2|y act 0 A|y due 4|y error event 2 too-soon C 3|x act 2 B|x due none|x complete|y idle| => 0
+stnu fleet => fleet 1|plan z|stnu 1|point A|point A|end|go|z done|end| => z refused plan 2 duplicate-name|z idle| => 0
+stnu fleet => fleet 1|go|q done| => error format 3 unknown-name| => 3
+stnu fleet => # two plans||fleet 1|plan end|stnu 1|point A|point B|bound b1 A B 5|bound b2 B A -2|end|plan y|stnu 2|delay 1|point A|point C|link A 3 8 C|end|go|end at 0|end # x||y|y at 0|y at 9 C|y done|end # y|end at 2|end x|end|nothing here|is looked at => end controllable|end due 0|y controllable|y due 0|end act 0 A|end due 2|y act 0 A|y due none|y due none|y complete|end act 2 B|end due none|end error format 5 unknown-word| => 0
+stnu fleet => fleet 1|plan n|stnu 1|point A|point B|bound b1 A B 3|bound b2 B A -5|end|plan w|stnu 2|point A|between w A 1 2 B|point B|end|plan f|stnu 1|point A|link A 1 2 A|end|go|n at 0|n|n x|w done|f # x|end| => n not controllable|w refused plan 2 unknown-name|f refused plan 2 link-to-itself|n idle|n idle|w idle| => 0
+stnu fleet => fleet 1|plan x|stnu 1|point A|end|go|x at 0|x at 0|x at 4000000000001|end| => x controllable|x due 0|x act 0 A|x due none|x error event 2 not-later 0|x idle| => 0
+stnu fleet => fleet 1|plan x|stnu 1|point A|end|go|x|x at|x done|end| => x controllable|x due 0|x error format 2 word-count|x idle| => 0
+stnu fleet => fleet 1|plan x|stnu 1|point A|end|go|x at 4000000000001|end| => x controllable|x due 0|x error limit 1 moment| => 0
+stnu fleet => fleet 1|plan x|stnu 1|point A|end|plan x| => error format 6 duplicate-plan| => 3
+stnu fleet => fleet 1|plan x|stnu 1|point A|end|plan 1| => error format 6 bad-name| => 3
+stnu fleet => fleet 1|plan x|stnu 1|point A|end|plan x y| => error format 6 word-count| => 3
+stnu fleet => fleet 1|plan x| => error format 3 no-header| => 3
+stnu fleet => fleet 1|plan x|stnu 1|point A|end| => error format 6 no-end| => 3
+stnu fleet => fleet 1|go now| => error format 2 word-count| => 3
+stnu fleet => fleet 1|point A| => error format 2 unknown-word| => 3
+stnu fleet => fleet 2|go| => error format 1 no-header| => 3
+stnu fleet =>  => error format 1 no-header| => 3
+stnu fleet => fleet 1|go| => error format 3 no-end| => 3
+stnu fleet => fleet 1|go|end x| => error format 3 unknown-name| => 3
+stnu fleet => fleet 1|plan x|stnu 1|point A|end|go|x at 0 => x controllable|x due 0|x act 0 A|x due none|error format 8 no-end| => 3
+stnu fleet => fleet 1|go|end =>  => 0
+stnu fleet --json => fleet 1|go|end| => error words| => 2
+stnu fleet --delay 0 => fleet 1|go|end| => error words| => 2
+stnu fleet --workers 2 => fleet 1|go|end| => error words| => 2
 stnu judge => stnu 1|point A|point B|bound b1 A B 5|bound b2 B A -2|end|certificate 1|table|order A|order B|edge A A 3|edge B A -2|edge A B 5|end| => accepted controllable| => 0
 stnu judge => stnu 1|point A|point B|bound b1 A B 5|bound b2 B A -2|end|certificate 1|table|order A|order B|edge B A -2|edge A B 5|end| => refused 3 not-closed| => 1
 stnu judge => stnu 1|point A|point B|bound b1 A B 5|bound b2 B A -2|end|certificate 1|table|order B|order A|edge A A 3|edge B A -2|edge A B 5|end| => refused 4 order-broken| => 1
@@ -45,6 +87,22 @@ stnu judge => stnu 1|point A|point C|point D|bound b1 D C 4|link A 3 8 C|end|cer
 stnu judge => stnu 1|point A|point B|bound b1 A B 5|bound b2 B A -2|end|certificate 1|table|order A|order B|edge A A 2|edge B A -2|edge A B 5|end| => accepted controllable| => 0
 stnu check --proof => stnu 1|point A|point B|bound b1 A B 5|bound b2 B A -2|end| => controllable|certificate 1|table|order A|order B|edge A A 3|edge B A -2|edge A B 5|end| => 0
 stnu check --workers 2 --proof => stnu 1|point A|point C|point D|bound b1 D C 4|link A 3 8 C|end| => controllable|certificate 1|table|order A|order C|order D|edge A A 0|edge C A -3|upper C C -8|edge D A -3|upper D C -4|edge D C 4|end| => 0
+stnu check --engine cells --proof --workers 2 => stnu 1|point A|point B|bound b1 A B 5|bound b2 B A -2|end| => controllable|certificate 1|table|order A|order B|edge A A 3|edge B A -2|edge A B 5|end| => 0
+stnu check --engine cells --proof --workers 2 => stnu 1|point A|point C|point D|bound b1 D C 1|bound b2 C D -1|link A 3 8 C|end| => not controllable|certificate 1|refutation|bound b1 D C 1|bound b2 C D -1|link C C A -8|up 1 3 D A C -7|low C 2 A D 2|up 5 4 A A C -5|drop 6 A A -3|walk 7|end| => 1
+stnu check --engine cells --proof --workers 2 => stnu 1|point A|point C|point D|bound b1 D C 4|link A 3 8 C|end| => controllable|certificate 1|table|order A|order C|order D|edge A A 0|edge C A -3|upper C C -8|edge D A -3|upper D C -4|edge D C 4|end| => 0
+stnu check --engine cells --proof --workers 2 => stnu 1|point A1|point C1|point A2|point C2|bound p A1 C2 2|bound q A2 C1 2|link A1 1 10 C1|link A2 1 10 C2|end| => not controllable|certificate 1|refutation|bound p A1 C2 2|bound q A2 C1 2|link C1 C1 A1 -10|link C2 C2 A2 -10|up 2 3 A2 A1 C1 -8|drop 5 A2 A1 -1|up 1 4 A1 A2 C2 -8|drop 7 A1 A2 -1|walk 8|walk 6|end| => 1
+stnu check --engine=cells --delay 1 => stnu 1|point A|point C|point D|bound e1 C D 0|bound e2 D C 0|link A 3 8 C|end| => not controllable|certificate 1|refutation|bound e1 C D -1|bound e2 D C 1|link C C A -9|up 2 3 D A C -8|low C 1 A D 3|up 5 4 A A C -5|drop 6 A A -4|walk 7|end| => 1
+stnu check --engine=rounds => stnu 1|end| => controllable| => 0
+stnu check --engine => stnu 1|end| => error words| => 2
+stnu check --engine= => stnu 1|end| => error words| => 2
+stnu check --engine Cells => stnu 1|end| => error words| => 2
+stnu check --engine cell => stnu 1|end| => error words| => 2
+stnu check --engine rounds --engine=cells => stnu 1|end| => error words| => 2
+stnu judge --engine cells => stnu 1|end| => error words| => 2
+stnu run --engine cells => stnu 1|end| => error words| => 2
+stnu session --engine cells => stnu 1|end| => error words| => 2
+stnu strong --engine cells => stnu 1|end| => error words| => 2
+stnu show --engine cells => stnu 1|end| => error words| => 2
 stnu check --proof => stnu 1|end| => controllable|certificate 1|table|end| => 0
 stnu check --proof => stnu 1|point A|point B|bound b1 A B 3|bound b2 B A -5|end| => not controllable|certificate 1|refutation|bound b1 A B 3|bound b2 B A -5|no 1 2 A A -2|walk 3|end| => 1
 stnu check --proof --proof => stnu 1|end| => error words| => 2
@@ -112,6 +170,20 @@ stnu judge => stnu 1|point A|point C|point D|bound e1 C D 0|bound e2 D C 0|link 
 stnu run --delay 1 => stnu 1|point A|point C|point D|bound b1 D C 4|link A 3 8 C|end|at 0|at 4 C|done| => controllable|due 0|act 0 A|due 4|act 4 D|due none|complete| => 0
 stnu run --delay=1 --workers 2 => stnu 1|point A|point C|point D|bound b1 D C 4|link A 3 8 C|end|at 0|at 3 C| => controllable|due 0|act 0 A|due 4|error event 9 too-soon C 4| => 7
 stnu run --delay 1 => stnu 1|point A|point C|point D|bound b1 D C 4|link A 3 8 C|end|at 0|at 9| => controllable|due 0|act 0 A|due 4|error event 9 overdue C 9| => 7
+stnu run --feeders 2 => stnu 1|point A1|point C1|point A2|point C2|bound b1 C1 C2 2|link A1 1 3 C1|link A2 2 6 C2|end|at 0|at 2 C2|at 3 C1|done| => controllable|due 0|act 0 A2|due 3|act 2 A1|due none|due none|complete| => 0
+stnu run --feeders 2 => stnu 1|point A|point C|point D|bound b1 D C 4|link A 3 8 C|end|at 0|at 4 C C| => controllable|due 0|act 0 A|due 4|error event 9 twice C 4| => 7
+stnu run --feeders 2 => stnu 1|point A|point C|point D|bound e1 C D 0|bound e2 D C 0|link A 3 8 C|end|at 0|at 5 C|done| => controllable|due 0|act 0 A|due 8|act 5 D|due none|complete| => 0
+stnu run --feeders 2 => stnu 1|point A|point C|point D|bound b1 D C 4|link A 3 8 C|end|at 0|at 3 C|done| => controllable|due 0|act 0 A|due 4|act 3 D|due none|complete| => 0
+stnu run --feeders=2 --workers 2 => stnu 1|point A|point C|point D|bound b1 D C 4|link A 3 8 C|end|at 0|at 4|at 8 C|done| => controllable|due 0|act 0 A|due 4|act 4 D|due none|due none|complete| => 0
+stnu run => stnu 1|point A|point C|point D|bound b1 D C 4|link A 3 8 C|end|at 0|at 4 D A| => controllable|due 0|act 0 A|due 4|error event 9 not-contingent D| => 7
+stnu run --feeders 1 => stnu 1|point A|point C|point D|bound b1 D C 4|link A 3 8 C|end|at 0|at 4 D A| => controllable|due 0|act 0 A|due 4|error event 9 not-contingent A| => 7
+stnu run --feeders 64 --delay 1 => stnu 1|point A|point C|point D|bound b1 D C 4|link A 3 8 C|end|at 0|at 4 C|done| => controllable|due 0|act 0 A|due 4|act 4 D|due none|complete| => 0
+stnu run --feeders 7 => stnu 1|point A|point C|point D|bound b1 D C 4|link A 3 8 C|end|at 0|at 4 Q C| => controllable|due 0|act 0 A|due 4|error format 9 unknown-name| => 3
+stnu run --feeders 2 => stnu 1|end|at 0|done| => controllable|due none|due none|complete| => 0
+stnu run --feeders 0 => stnu 1|end| => error words| => 2
+stnu run --feeders=65 => stnu 1|end| => error words| => 2
+stnu run --feeders => stnu 1|end| => error words| => 2
+stnu check --feeders 2 => stnu 1|end| => error words| => 2
 stnu play shortest --delay 1 => stnu 1|point A|point C|point D|bound b1 D C 4|link A 3 8 C|end| => controllable|time A 0|time C 3|time D 4| => 0
 stnu play longest --delay 1 => stnu 1|point A|point C|point D|bound b1 D C 4|link A 3 8 C|end| => controllable|time A 0|time C 8|time D 4| => 0
 stnu session --delay 1 => stnu 1|point A|point C|point D|bound b1 D C 4|end|add link A 3 8 C|report|table|proof|plan|end| => ready|ok|report 0 1 2|after D A 4|wait D C 4|table end|certificate 1|table|order A|order C|order D|edge A A 0|edge C A -4|upper C C -9|edge D A -4|upper D C -4|edge D C 5|end|stnu 2|delay 1|point A|point C|point D|bound b1 D C 4|link A 3 8 C|end| => 0

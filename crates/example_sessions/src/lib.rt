@@ -5,3 +5,5 @@
 mod refusals;
 #[cfg(test)]
 mod sessions;
+#[cfg(test)]
+mod workers;

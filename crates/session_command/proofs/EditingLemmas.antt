@@ -1,5 +1,6 @@
 -- How a session stands after an edit, and the table that it puts.
-use Rattle.std.proofs.Common.{◌≡◌, ℕ, List, Some, Result, inl, refl, sym, ap, ◌∙◌, subst}
+use Rattle.std.proofs.Common.{◌≡◌, ℕ, List, Some, Result, Ok, Err, inl, refl, sym, ap, ◌∙◌, subst}
+use Rattle.net_model.specs.Editing.{edited}
 use Rattle.net_model.specs.Network.{Plan}
 use Rattle.net_model.specs.ShownForm.{shown_form}
 use Rattle.net_model.specs.declared.edit.Edit.{Edit}
@@ -10,9 +11,16 @@ use Rattle.edit_script.specs.declared.step.Step.TheVariants as step
 use Rattle.dispatch_net.specs.OfClosure.{IsDispatchOfClosure}
 use Rattle.plan_session.specs.Sessions.{State, Accepts}
 use Rattle.plan_session.specs.declared.answers.Report.{Report}
-use Rattle.session_command.specs.SessionAnswers.{table_text}
-use Rattle.session_command.specs.Sessions.{SaysTable, StandsAfterEdit, StandsAfter}
+use Rattle.session_command.specs.SessionAnswers.{table_text, ok_line, refused_line}
+use Rattle.session_command.specs.Sessions.{SaysEdit, SaysTable, StandsAfterEdit, StandsAfter}
 use Rattle.session_command.specs.Standing.{Standing}
+
+-- what is put of an edit that is accepted, and of one that is refused
+pub accepted_says : (net new : Plan) (edit : Edit) (put : List ℕ) → edited net edit ≡ Ok new → put ≡ ok_line → SaysEdit net (edited net edit) put
+accepted_says net new edit put made puts = subst (λ (r : Result Plan EditFault). SaysEdit net r put) (sym made) puts
+
+pub refused_says : (net : Plan) (edit : Edit) (cause : EditFault) (put : List ℕ) → edited net edit ≡ Err cause → put ≡ refused_line net cause → SaysEdit net (edited net edit) put
+refused_says net edit cause put refused puts = subst (λ (r : Result Plan EditFault). SaysEdit net r put) (sym refused) puts
 
 -- after an edit that is accepted
 pub accepted_stands : (standing : Standing) (edit : Edit) (report : Report) (after : State) → Accepts standing.session edit report after → StandsAfter standing (step.Edit edit) (record { session = after; report = Some report })

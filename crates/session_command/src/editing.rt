@@ -17,7 +17,7 @@ use edit_script::Step;
 use net_model::{Edit, Network};
 use parallel_rounds::NoGate;
 use plan_format::print_plan;
-use plan_session::{AskFault, Report, Session, SessionFault, Verdict};
+use plan_session::{OpenSession, Report};
 use std::alloc::{AllocError, Global};
 use std::marker::Model;
 use std::thread::Threads;
@@ -25,12 +25,11 @@ use std::thread::Threads;
 /// A session while its network is edited: the plan under edits, and the numbers of the last accepted one.
 #[derive(Drop)]
 pub struct Editing {
-    session: Session,
+    session: OpenSession,
     report: Option<Report>,
 }
 
 impl Model for Editing {
-    ghost use Rattle.plan_session.specs.Sessions.{IsOpen};
     ghost use Rattle.session_command.specs.Standing.{Standing};
     ghost use Rattle.session_command.specs.StandingCode.{standing_code};
 
@@ -39,8 +38,6 @@ impl Model for Editing {
     ghost coded = { standing_code };
 
     ghost view = { λ editing. record { session = editing.session.state; report = editing.report } };
-
-    ghost invariant = { λ editing. IsOpen editing.session.state };
 }
 
 impl Editing {
@@ -72,22 +69,18 @@ impl Editing {
         ensures says { IfOk result (λ after. SaysStep self (step.Edit edit.now) answer.new.text) }
         ensures stands { IfOk result (StandsAfter self (step.Edit edit.now)) }
     {
-        let Editing {
-            mut session,
-            report,
-        } = self;
-        match session.apply(rt, alloc, edit, &NoGate) {
+        let Editing { session, report } = self;
+        let (session, followed) = session.apply(rt, alloc, edit, &NoGate)?;
+        match followed {
             Ok(report) => {
                 answer.push_line(&[Word::Text("ok")])?;
                 let report = Some(report);
                 Ok(Editing { session, report })
             }
-            Err(SessionFault::Edit(cause)) => {
+            Err(cause) => {
                 push_refused(answer, session.network(), cause)?;
                 Ok(Editing { session, report })
             }
-            Err(SessionFault::OutOfMemory) => Err(AllocError),
-            Err(SessionFault::Broken) => unreachable!(),
         }
     }
 
@@ -122,11 +115,7 @@ impl Editing {
         ensures yes { result ≡ true → IsControllable (net_of self.now) }
         ensures no { result ≡ false → ¬ IsControllable (net_of self.now) }
     {
-        match self.session.verdict() {
-            Verdict::Controllable => true,
-            Verdict::NotControllable => false,
-            Verdict::Broken => unreachable!(),
-        }
+        self.session.is_controllable()
     }
 
     /// The shown form of the network as it stands, which is controllable, with the dispatchable network of its closure. `AllocError` comes only
@@ -151,14 +140,9 @@ impl Editing {
         requires { answer.old.text ≡ [] }
         ensures { OnOk result (SaysProof (net_of self.now) answer.new.text) }
     {
-        match self.session.certificate(rt, alloc) {
-            Ok(certificate) => {
-                let text = print_certificate(alloc, &certificate)?;
-                answer.push_text(text.as_slice())
-            }
-            Err(AskFault::OutOfMemory) => Err(AllocError),
-            Err(AskFault::Broken) => unreachable!(),
-        }
+        let certificate = self.session.certificate(rt, alloc)?;
+        let text = print_certificate(alloc, &certificate)?;
+        answer.push_text(text.as_slice())
     }
 
     /// Puts by what each point is executed.

@@ -1,15 +1,1 @@
-pub mod JudgeLemmas
-pub mod CheckOnceLemmas
-pub mod CheckLemmas
-pub mod ShowLemmas
 pub mod NamedLemmas
-pub mod EndLemmas
-pub mod RunOnceLemmas
-pub mod RunLemmas
-pub mod PlayLemmas
-pub mod ForgeLemmas
-pub mod JudgeWordLemmas
-pub mod CheckWordLemmas
-pub mod ShowWordLemmas
-pub mod PlayWordLemmas
-pub mod ForgeWordLemmas

@@ -1,22 +1,26 @@
 -- The commands of the program by their words, and the defined run: what the program puts for words and an input.
 use Rattle.std.specs.Prelude.{◌≡◌, ℕ, List, ◌∷◌, codes, Option, Some, None, false}
 use Rattle.std.specs.Str.{bytes_eq}
-use Rattle.stnu_run.specs.CheckPromise.{check_program}
-use Rattle.stnu_run.specs.Checking.{check_asked, check_syntax}
-use Rattle.stnu_run.specs.Forging.{forge_asked, forge_program, forge_syntax}
-use Rattle.stnu_run.specs.JudgePromise.{judge_program}
-use Rattle.stnu_run.specs.Judging.{judge_asked, judge_syntax}
-use Rattle.stnu_run.specs.PlayPromise.{play_program}
-use Rattle.stnu_run.specs.Playing.{play_asked, play_syntax}
-use Rattle.stnu_run.specs.RunPromise.{run_program}
-use Rattle.stnu_run.specs.Running.{run_asked, run_syntax}
-use Rattle.stnu_run.specs.Showing.{show_asked, show_program, show_syntax}
+use Rattle.check_command.specs.CheckPromise.{check_program}
+use Rattle.check_command.specs.Checking.{check_asked, check_syntax}
+use Rattle.play_command.specs.Forging.{forge_asked, forge_program, forge_syntax}
+use Rattle.judge_command.specs.JudgePromise.{judge_program}
+use Rattle.judge_command.specs.Judging.{judge_asked, judge_syntax}
+use Rattle.play_command.specs.PlayPromise.{play_program}
+use Rattle.play_command.specs.Playing.{play_asked, play_syntax}
+use Rattle.run_command.specs.RunPromise.{run_program}
+use Rattle.run_command.specs.Running.{run_asked, run_syntax}
+use Rattle.show_command.specs.Showing.{show_asked, show_program, show_syntax}
 use Rattle.command_frame.specs.Programs.{Program, Defines, when◌run◌else◌}
+use Rattle.fleet_command.specs.FleetCommand.{fleet_asked, fleet_syntax}
+use Rattle.fleet_command.specs.FleetPromise.{fleet_program}
 use Rattle.command_frame.specs.Requests.{program_by, refuses_words}
 use Rattle.session_command.specs.SessionPromise.{session_program}
 use Rattle.session_command.specs.Sessions.{session_asked, session_syntax}
 use Rattle.command_frame.specs.declared.status.Status.{Status}
 use Rattle.strong_command.specs.Asking.{strong_asked, strong_program, strong_syntax}
+use Rattle.deadline_command.specs.Asking.{deadline_asked, deadline_syntax}
+use Rattle.deadline_command.specs.DeadlinePromise.{deadline_program}
 
 -- the word of the command whose certificate of a refusal is left open
 abbrev pub strong_word : List ℕ
@@ -32,6 +36,8 @@ program_named command words =
     else when bytes_eq command (codes "show") run program_by show_syntax show_asked show_program words
     else when bytes_eq command (codes "play") run program_by play_syntax play_asked play_program words
     else when bytes_eq command strong_word run program_by strong_syntax strong_asked strong_program words
+    else when bytes_eq command (codes "deadline") run program_by deadline_syntax deadline_asked deadline_program words
+    else when bytes_eq command (codes "fleet") run program_by fleet_syntax fleet_asked fleet_program words
     else when bytes_eq command (codes "forge") run program_by forge_syntax forge_asked forge_program words
     else refuses_words
 

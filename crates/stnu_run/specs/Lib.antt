@@ -1,14 +1,2 @@
-pub mod Judging
-pub mod ToJudge
-pub mod JudgePromise
-pub mod Checking
-pub mod CheckPromise
-pub mod Showing
-pub mod Which
-pub mod Playing
-pub mod PlayPromise
-pub mod Forging
 pub mod DefinedRuns
-pub mod Running
-pub mod RunPromise
 pub mod WordLaws

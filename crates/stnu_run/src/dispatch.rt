@@ -6,27 +6,32 @@ ghost use Rattle.command_frame.specs.ExactBytes.{BytesAreExact};
 ghost use Rattle.command_frame.specs.Programs.{ServesProgram, KeepsPromise, HasCauses, KeepsWithoutMemory, RunsAs};
 ghost use Rattle.command_frame.specs.Statuses.{StatusHasCause};
 
-use crate::checking::Check;
-use crate::forging::Forge;
-use crate::judging::Judge;
 use crate::laws::words_are_lawful;
-use crate::playing::Play;
-use crate::running::Run;
-use crate::showing::Show;
+use check_command::Check;
 use command_frame::{RefusedWords, Status, serve_asked, tell, tell_asked};
+use deadline_command::AskDeadline;
+use fleet_command::AskFleet;
+use judge_command::Judge;
 use plan_port::Port;
+use play_command::{Forge, Play};
+use run_command::Run;
 use session_command::OpenSession;
+use show_command::Show;
 use std::alloc::Global;
 use std::thread::Threads;
 use strong_command::AskStrong;
 
 /// Does all that the program does: reads the input of the command that the words name over a port, and puts its answers. The first word is
 /// the program's name; the second is the word of a command. The words that it takes stand after it, in any order and each at most once: all
-/// but `forge` take `--json`, by which the plan is a JSON document, ended by a line `end`; `check` takes `--proof`, by which it puts a
+/// but `forge` and `fleet`, which takes none, take `--json`, by which the plan is a JSON document, ended by a line `end`; `check` takes `--proof`, by which it puts a
 /// certificate also where the plan can be kept; `show` takes `--print-json`, by which it puts a document; `play` takes which situation it
-/// plays, `forge` a number and a count of tasks; `judge` takes `--strong`, by which the certificate is one about strong schedules; `check`, `play`, `run`, `session` and `forge` take `--workers N`, or `--workers=N`, with N
+/// plays, `forge` a number and a count of tasks; `judge` takes `--strong`, by which the certificate is one about strong schedules;
+/// `deadline` takes the names of two points; `check`, `play`, `run`, `session`, `deadline` and `forge` take `--workers N`, or `--workers=N`, with N
 /// from 1 to 64. So many workers, by default 1, make the rows of each round; how many decides nothing of what is put. `judge`, `check`, `run`,
-/// `session` and `play` take `--delay N`, with N from 0 to 1,000,000: a completion is shown so many moments after it happened. Each line is
+/// `session` and `play` take `--delay N`, with N from 0 to 1,000,000: a completion is shown so many moments after it happened. `check` takes
+/// `--engine cells`, or `rounds`, which is the default: by cells all workers close one table at once, which decides nothing of what is put, but
+/// that a network with more keys than cells hold is refused. `run` takes `--feeders N`, with N from 1 to 64: so many feeders post the
+/// completions of each line, and its points are executed in the order of their numbers; how many decides nothing of what is put. Each line is
 /// answered before more of the input is taken, and nothing after the line that ends the command's input is looked at. What a command reads
 /// and puts is told beside it.
 ///
@@ -102,6 +107,8 @@ fn run_command<R: Threads + Sync, P: Port>(
         "show" => serve_asked::<R, Show, P>(rt, alloc, words, port),
         "play" => serve_asked::<R, Play, P>(rt, alloc, words, port),
         "strong" => serve_asked::<R, AskStrong, P>(rt, alloc, words, port),
+        "deadline" => serve_asked::<R, AskDeadline, P>(rt, alloc, words, port),
+        "fleet" => serve_asked::<R, AskFleet, P>(rt, alloc, words, port),
         "forge" => tell_asked::<R, Forge, P>(rt, alloc, words, port),
         _ => tell(rt, alloc, RefusedWords, port),
     }

@@ -1,5 +1,5 @@
 -- What is answered of a strong schedule ends the run, and the words of `strong` say the form of the plan.
-use Rattle.std.proofs.Common.{◌≡◌, ◌↔◌, ℕ, List, ◌⊎◌, inl, inr, Option, Some, refl, sym, ap, ◌∙◌, subst}
+use Rattle.std.proofs.Common.{◌≡◌, ◌↔◌, ℕ, List, inl, inr, Option, Some, refl, sym, ap, ◌∙◌, subst}
 use Rattle.command_words.specs.Syntax.{Text}
 use Rattle.net_model.specs.Network.{Plan}
 use Rattle.command_engine.specs.declared.endings.End.{End}

@@ -4,5 +4,5 @@ use Rattle.session_command.specs.Sessions.{net_of}
 use Rattle.session_command.specs.Standing.{Standing}
 use Rattle.session_command.proofs.editing.Editing.into_dispatched.Goals as goal
 
-pub dispatch-requires-clause-controllable : goal.dispatch-requires-clause-controllable
-dispatch-requires-clause-controllable c = subst (λ (s : Standing). IsControllable (net_of s)) (sym c.self.view_is) c.requires
+pub dispatch-requires : goal.dispatch-requires
+dispatch-requires c = subst (λ (s : Standing). IsControllable (net_of s)) (sym c.self.view_is) c.requires

@@ -1,0 +1,133 @@
+//! The engine by which a network is decided.
+
+ghost use Rattle.std.specs.Prelude.{◌≡◌, option_map, IfOk};
+ghost use Rattle.check_command.specs.Engines.{engine_given, engine_of, engine_tests, takes, told_line};
+ghost use Rattle.verdicts.specs.Verdict.{IsVerdict};
+
+use cell_table::fits;
+use command_engine::Test;
+use command_frame::Workers;
+use common_answers::Fault;
+use net_model::Network;
+use plan_inputs::{Notation, PlanNetwork};
+use std::alloc::{AllocError, Global};
+use std::marker::Model;
+use std::thread::Threads;
+use verdicts::Verdict;
+
+/// The engine by which a network is decided. Both come to the same verdict, and a refutation is made of rounds by either.
+#[derive(Clone, Copy, Debug, PartialEq, Eq)]
+pub enum Engine {
+    /// Its table is closed by one worker, and tested by all.
+    Rounds,
+    /// Its table is closed by all workers at once, in shared cells, which hold 1,000,000 keys: points times (points + links).
+    Cells,
+}
+
+impl Engine {
+    /// The engine that the value of the option `--engine` names, or that of rounds where it is not given; `None` where the value is neither
+    /// `rounds` nor `cells`.
+    pub fn given(value: Option<&str>) -> Option<Engine>
+        ensures { result ≡ engine_given (option_map (λ text. text.now) value.entry) }
+    {
+        match value {
+            None => Some(Engine::Rounds),
+            Some(word) => Engine::of(word),
+        }
+    }
+
+    fn of(word: &str) -> Option<Engine>
+        ensures { result ≡ engine_of word.now }
+    {
+        match word {
+            "rounds" => Some(Engine::Rounds),
+            "cells" => Some(Engine::Cells),
+            _ => None,
+        }
+    }
+
+    /// Whether it takes a network: that of cells takes one whose keys cells hold, that of rounds any.
+    fn takes(self, net: &Network) -> bool
+        ensures { result ≡ takes self net.now }
+    {
+        match self {
+            Engine::Rounds => true,
+            Engine::Cells => fits(net),
+        }
+    }
+}
+
+/// Whether an engine takes the network of a plan in this notation. As a test it refuses one that has more keys than cells hold, where these
+/// are the engine: by the number of the line that ends the plan, or of a document by 0.
+#[derive(Clone, Copy, Debug, PartialEq, Eq)]
+pub struct EngineTest {
+    pub engine: Engine,
+    pub notation: Notation,
+}
+
+impl Test<PlanNetwork, Fault> for EngineTest {
+    type Value = EnginePlan;
+
+    ghost tests = { engine_tests };
+
+    fn test(
+        &self,
+        _alloc: Global,
+        value: PlanNetwork,
+        number: u32,
+    ) -> Result<Result<EnginePlan, Fault>, AllocError> {
+        let engine = self.engine;
+        let net = value.into_network();
+        if engine.takes(&net) {
+            Ok(Ok(EnginePlan { net, engine }))
+        } else {
+            Ok(Err(Fault::Cells(told_line(self.notation, number))))
+        }
+    }
+}
+
+fn told_line(notation: Notation, number: u32) -> u32
+    ensures { result ≡ told_line notation number }
+{
+    match notation {
+        Notation::Text => number,
+        Notation::Json => 0,
+    }
+}
+
+/// The network of a plan, and an engine that takes it. Contracts see it as the network: the engine decides nothing of what is put.
+#[derive(Debug, Drop)]
+pub struct EnginePlan {
+    net: Network,
+    engine: Engine,
+}
+
+impl Model for EnginePlan {
+    ghost use Rattle.std.specs.Prelude.{◌≡◌, true};
+    ghost use Rattle.net_model.specs.Network.{Plan};
+    ghost use Rattle.check_command.specs.Engines.{takes};
+
+    ghost Value = { Plan };
+
+    ghost view = { λ planned. planned.net };
+
+    ghost invariant = { λ planned. takes planned.engine planned.net ≡ true };
+}
+
+impl EnginePlan {
+    /// Decides whether the network is controllable, by its engine and these workers. `AllocError` comes only for want of memory.
+    pub fn decide<R: Threads + Sync>(
+        self,
+        rt: &R,
+        alloc: Global,
+        workers: &Workers,
+    ) -> Result<Verdict, AllocError>
+        ensures { IfOk result (IsVerdict self) }
+    {
+        let EnginePlan { net, engine } = self;
+        match engine {
+            Engine::Rounds => workers.decide(rt, alloc, net),
+            Engine::Cells => workers.decide_by_cells(rt, alloc, net),
+        }
+    }
+}

@@ -1,0 +1,60 @@
+-- What `deadline` promises of what it puts for an input, and the causes by which it ends.
+use Rattle.std.specs.Prelude.{◌≡◌, ◌⊎◌, ℕ, ◌≤◌, ℤ, List, ◌++◌, length, unsigned_abs}
+use Rattle.std.specs.Fmt.{signed_decimal}
+use Rattle.texts.specs.Lines.{input_lines, lines}
+use Rattle.net_model.specs.Limits.{most_number}
+use Rattle.strategy_model.specs.Control.{IsControllable}
+use Rattle.command_engine.specs.Inputs.{AnswersLine, DeclaresWithinLimits}
+use Rattle.command_engine.specs.declared.endings.End.{End}
+use Rattle.common_answers.specs.Faults.{fault_end, fault_line, refusing}
+use Rattle.command_frame.specs.Causes.{Causes, IsTextRefused}
+use Rattle.command_frame.specs.Programs.{Program, or_nothing, serves}
+use Rattle.common_answers.specs.VerdictLines.{controllable_line, refuted_line}
+use Rattle.deadline_search.specs.Deadlines.{IsFull, IsTightest}
+use Rattle.deadline_search.specs.Goals.{IsGoalName}
+use Rattle.deadline_command.specs.Asking.{deadline_answers, deadline_machine, deadline_start, kept_text}
+use Rattle.deadline_command.specs.Points.{PlanPoints, goal_number, no_room, points_in}
+use Rattle.deadline_command.specs.declared.points.DeadlineWords.{DeadlineWords}
+
+-- the plan of an input is controllable, has points of both names, and no room for one bound more: its run ends so, told by this line
+pub record IsFullRefused (words : DeadlineWords) (input : List ℕ) (end : End) (line : List ℕ) : Type 0 where
+  pub asked : PlanPoints
+  pub declared : DeclaresWithinLimits (points_in words) (input_lines input) asked
+  pub full : IsFull asked.net
+  pub ends_so : end ≡ fault_end (no_room (goal_number words.notation (length declared.used)))
+  pub told : line ≡ fault_line (no_room (goal_number words.notation (length declared.used)))
+
+-- an input is a plan that has points of both names, and, where it is controllable, room for one bound more
+pub record IsWholeInput (words : DeadlineWords) (input : List ℕ) : Type 0 where
+  pub asked : PlanPoints
+  pub declared : DeclaresWithinLimits (points_in words) (input_lines input) asked
+  pub room : ¬ IsFull asked.net
+
+-- what in an input a run of `deadline` ends by: the first refusal of the plan or of a name, or, after the verdict, that there is no room
+abbrev pub deadline_causes : DeadlineWords → Causes
+deadline_causes words = record {
+  refused = λ input end line. IsTextRefused (points_in words) input end line ⊎ IsFullRefused words input end line;
+  whole = IsWholeInput words;
+}
+
+-- a number is the tightest deadline from one point of a network to another: with it as the bound of the goal some strategy controls the
+-- network, and with no lower one
+pub record IsPromised (asked : PlanPoints) (most : ℤ) : Type 0 where
+  pub name : List ℕ
+  pub named : IsGoalName asked.net name
+  pub tightest : IsTightest asked.net (record { name = name; from = asked.from; to = asked.to }) most
+
+-- What `deadline` promises. `answers`: it puts the tightest deadline between the two points of the network that the input declares, with its
+-- certificates, or that there is no room for the bound, or the first refusal of the input. `controllable`, `refutes`: where it puts first
+-- that a network is controllable, or is not, that of the input is so. `tightest`: where it puts a number then, of the size that a plan may
+-- have, that is the tightest deadline.
+pub record DeadlinePromise (words : DeadlineWords) (input put : List ℕ) (end : End) : Type 0 where
+  pub answers : AnswersLine (points_in words) refusing (deadline_answers words) input put end
+  pub controllable : (more : List ℕ) → put ≡ controllable_line ++ more → (asked : PlanPoints) (rest : List (List ℕ)) → (points_in words).declares (lines input) asked rest → IsControllable asked.net
+  pub tightest : (most : ℤ) (more : List ℕ) → unsigned_abs most ≤ most_number → put ≡ kept_text words (signed_decimal most) more
+      → (asked : PlanPoints) (rest : List (List ℕ)) → (points_in words).declares (lines input) asked rest → IsPromised asked most
+  pub refutes : (more : List ℕ) → put ≡ refuted_line ++ more → (asked : PlanPoints) (rest : List (List ℕ)) → (points_in words).declares (lines input) asked rest → ¬ IsControllable asked.net
+
+-- the program of `deadline`
+abbrev pub deadline_program : DeadlineWords → Program
+deadline_program words = serves deadline_machine (deadline_start words) (or_nothing (deadline_causes words) (DeadlinePromise words))

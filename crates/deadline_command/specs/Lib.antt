@@ -1,0 +1,4 @@
+pub mod Points
+pub mod Asking
+pub mod DeadlinePromise
+pub mod Words

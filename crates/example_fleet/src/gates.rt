@@ -1,0 +1,68 @@
+//! That the plans of a fleet are decided side by side.
+
+use crate::plans::plans;
+use parallel_rounds::Gate;
+use plan_fleet::{Fleet, State};
+use std::alloc::Global;
+use std::process::Abort;
+use std::sync::atomic::{AtomicBool, AtomicU32, Ordering};
+use std::test::Fail;
+use std::thread::Threads;
+
+/// How often the gate looks, at most, whether the second plan has begun.
+const TURNS: u64 = 500_000_000;
+
+/// Holds the first plan until the second has begun.
+#[derive(Drop)]
+struct Held {
+    begun: AtomicU32,
+    failed: AtomicBool,
+}
+
+impl Held {
+    fn new() -> Held {
+        Held {
+            begun: AtomicU32::new(0),
+            failed: AtomicBool::new(false),
+        }
+    }
+
+    /// Looks until two plans have begun, for so many turns at most, and says whether they have.
+    fn both_begin(&self) -> bool {
+        for _ in 0..TURNS {
+            if self.begun.load(Ordering::SeqCst) >= 2 {
+                return true;
+            }
+        }
+        false
+    }
+
+    /// Whether the first plan was not let go before, and both have begun.
+    fn was_met(&self) -> bool {
+        !self.failed.load(Ordering::SeqCst) && self.begun.load(Ordering::SeqCst) == 2
+    }
+}
+
+impl Gate for Held {
+    fn before(&self, place: u32) {
+        self.begun.fetch_add(1, Ordering::SeqCst);
+        if place == 0 && !self.both_begin() {
+            self.failed.store(true, Ordering::SeqCst);
+        }
+    }
+}
+
+/// A fleet of two plans of one point each, of which the first is held until the second has begun.
+fn try_two<R: Threads + Sync + Abort>(rt: &R, alloc: Global) -> Result<(), Fail> {
+    let gate = Held::new();
+    let two = [("x", "point A"), ("y", "point B")];
+    let fleet = Fleet::open(rt, alloc, plans(alloc, two.as_slice())?, &gate)?;
+    assert!(rt; gate.was_met(), "two plans are decided at once");
+    assert!(rt; fleet.state(0) == State::Running && fleet.state(1) == State::Running);
+    Ok(())
+}
+
+#[test]
+fn plans_are_decided_side_by_side(rt: HostRuntime) -> Result<(), Fail> {
+    try_two(&rt, rt.alloc())
+}

@@ -1,0 +1,54 @@
+use Rattle.std.proofs.Common.{◌≡◌, ◌≤◌, List, length, sym, ◌∙◌, subst}
+use Rattle.std.specs.List.{All}
+use Rattle.net_model.specs.Network.{Plan, IsPoint}
+use Rattle.net_model.specs.declared.ids.PointId.{PointId}
+use Rattle.event_stream.specs.EventText.{completed}
+use Rattle.event_execution.specs.Executing.{answer_room, FeedsAmong, PutsFed}
+use Rattle.plan_fleet.specs.FleetPlans.{FleetPlan}
+use Rattle.plan_fleet.specs.Fleets.{ChangesOne}
+use Rattle.fleet_command.specs.FleetStands.{SaysTold}
+use Rattle.fleet_command.proofs.TellingLemmas.{FedAt, at_here, fed_among, fed_at, fed_changes, fed_net}
+use Rattle.fleet_command.proofs.own_lines.feed_plan.Goals as goal
+
+pub put_fed-requires-clause-points : goal.put_fed-requires-clause-points
+put_fed-requires-clause-points c =
+    let fleet = c.args.fleet.now in
+    let after = c.feed.new.self in
+    let place = c.args.place in
+    let listed = c.completions.result.now in
+    let at : FedAt fleet place c.args.moment listed c.in-Fed.fed after = fed_at fleet after place c.args.moment listed c.in-Fed.fed c.feed.result c.in-Fed.is c.feed.ensures in
+    let net_is : c.network-net.result.now ≡ at.old.net =
+    at_here (λ (p : FleetPlan). c.network-net.result.now ≡ p.net) after place at.new c.network-net.ensures.value at.there
+    ∙ fed_net fleet after place c.args.moment listed c.in-Fed.fed at c.network.ensures.sound c.network-net.ensures.sound c.acts.result.now c.acts.ensures.value in
+    let all : All (IsPoint at.old.net) listed =
+    subst (All (IsPoint at.old.net)) (sym c.completions.ensures.points) (at_here (λ (p : FleetPlan). All (IsPoint p.net) c.args.events.now) fleet place at.old c.requires.points at.was) in
+    subst (λ (n : Plan). FeedsAmong n c.in-Fed.fed c.acts.result.now) (sym net_is)
+    (fed_among fleet after place c.args.moment listed c.in-Fed.fed at c.network.ensures.sound c.network-net.ensures.sound c.acts.result.now c.acts.ensures.value c.acts.ensures.few all)
+
+pub returns-clause-changes : goal.returns-clause-changes
+returns-clause-changes c =
+    let fleet = c.args.fleet.now in
+    let after = c.feed.new.self in
+    let place = c.args.place in
+    let listed = c.completions.result.now in
+    let at : FedAt fleet place c.args.moment listed c.in-Fed.fed after = fed_at fleet after place c.args.moment listed c.in-Fed.fed c.feed.result c.in-Fed.is c.feed.ensures in
+    let net_is : c.network-net.result.now ≡ at.old.net =
+    at_here (λ (p : FleetPlan). c.network-net.result.now ≡ p.net) after place at.new c.network-net.ensures.value at.there
+    ∙ fed_net fleet after place c.args.moment listed c.in-Fed.fed at c.network.ensures.sound c.network-net.ensures.sound c.acts.result.now c.acts.ensures.value in
+    let puts : PutsFed at.old.net c.args.number c.in-Fed.fed c.acts.result.now c.next_due.result c.put_fed.new.answer.text c.put_fed.result =
+    subst (λ (n : Plan). PutsFed n c.args.number c.in-Fed.fed c.acts.result.now c.next_due.result c.put_fed.new.answer.text c.put_fed.result) net_is c.put_fed.ensures.answers in
+    subst (λ (l : List PointId). ChangesOne fleet place (SaysTold c.args.number (completed c.args.moment l) c.put_fed.new.answer.text) after) c.completions.ensures.points
+    (fed_changes fleet after place c.args.moment listed c.in-Fed.fed at c.network.ensures.sound c.network-net.ensures.sound c.acts.result.now c.acts.ensures.value c.args.number c.next_due.result
+    c.put_fed.new.answer.text c.put_fed.result c.next_due.ensures puts)
+
+pub returns-clause-size : goal.returns-clause-size
+returns-clause-size c =
+    let fleet = c.args.fleet.now in
+    let after = c.feed.new.self in
+    let place = c.args.place in
+    let listed = c.completions.result.now in
+    let at : FedAt fleet place c.args.moment listed c.in-Fed.fed after = fed_at fleet after place c.args.moment listed c.in-Fed.fed c.feed.result c.in-Fed.is c.feed.ensures in
+    let net_is : c.network-net.result.now ≡ at.old.net =
+    at_here (λ (p : FleetPlan). c.network-net.result.now ≡ p.net) after place at.new c.network-net.ensures.value at.there
+    ∙ fed_net fleet after place c.args.moment listed c.in-Fed.fed at c.network.ensures.sound c.network-net.ensures.sound c.acts.result.now c.acts.ensures.value in
+    (at.old, at.was, subst (λ (n : Plan). length c.put_fed.new.answer.text ≤ answer_room n) net_is c.put_fed.ensures.size)

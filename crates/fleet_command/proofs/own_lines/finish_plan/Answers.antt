@@ -1,0 +1,43 @@
+use Rattle.std.proofs.Common.{◌≡◌, ◌≤◌, length, sym, ◌∙◌, subst}
+use Rattle.net_model.specs.Network.{Plan}
+use Rattle.command_engine.specs.declared.machines.Onward.TheVariants.{Ends}
+use Rattle.event_execution.specs.Executing.{AnswersEnd, answer_room, EndsAmong}
+use Rattle.plan_fleet.specs.FleetPlans.{FleetPlan}
+use Rattle.fleet_command.proofs.TellingLemmas.{FinishedAt, at_here, finished_among, finished_at, finished_changes, finished_net}
+use Rattle.fleet_command.proofs.own_lines.finish_plan.Goals as goal
+
+pub put_end-requires-clause-points : goal.put_end-requires-clause-points
+put_end-requires-clause-points c =
+    let fleet = c.args.fleet.now in
+    let after = c.finish.new.self in
+    let place = c.args.place in
+    let at : FinishedAt fleet place c.in-Finished.finished after = finished_at fleet after place c.in-Finished.finished c.finish.result c.in-Finished.is c.finish.ensures in
+    let net_is : c.network-net.result.now ≡ at.old.net =
+    at_here (λ (p : FleetPlan). c.network-net.result.now ≡ p.net) after place at.new c.network-net.ensures.value at.there
+    ∙ finished_net fleet after place c.in-Finished.finished at c.network.ensures.sound c.network-net.ensures.sound c.acts.result.now c.acts.ensures.value in
+    subst (λ (n : Plan). EndsAmong n c.in-Finished.finished c.acts.result.now) (sym net_is)
+    (finished_among fleet after place c.in-Finished.finished at c.network.ensures.sound c.network-net.ensures.sound c.acts.result.now c.acts.ensures.value c.acts.ensures.few)
+
+pub returns-clause-changes : goal.returns-clause-changes
+returns-clause-changes c =
+    let fleet = c.args.fleet.now in
+    let after = c.finish.new.self in
+    let place = c.args.place in
+    let at : FinishedAt fleet place c.in-Finished.finished after = finished_at fleet after place c.in-Finished.finished c.finish.result c.in-Finished.is c.finish.ensures in
+    let net_is : c.network-net.result.now ≡ at.old.net =
+    at_here (λ (p : FleetPlan). c.network-net.result.now ≡ p.net) after place at.new c.network-net.ensures.value at.there
+    ∙ finished_net fleet after place c.in-Finished.finished at c.network.ensures.sound c.network-net.ensures.sound c.acts.result.now c.acts.ensures.value in
+    let puts : AnswersEnd at.old.net c.args.number c.in-Finished.finished c.acts.result.now c.put_end.new.answer.text (Ends c.put_end.result) =
+    subst (λ (n : Plan). AnswersEnd n c.args.number c.in-Finished.finished c.acts.result.now c.put_end.new.answer.text (Ends c.put_end.result)) net_is c.put_end.ensures.answers in
+    finished_changes fleet after place c.in-Finished.finished at c.network.ensures.sound c.network-net.ensures.sound c.acts.result.now c.acts.ensures.value c.args.number c.put_end.new.answer.text c.put_end.result puts
+
+pub returns-clause-size : goal.returns-clause-size
+returns-clause-size c =
+    let fleet = c.args.fleet.now in
+    let after = c.finish.new.self in
+    let place = c.args.place in
+    let at : FinishedAt fleet place c.in-Finished.finished after = finished_at fleet after place c.in-Finished.finished c.finish.result c.in-Finished.is c.finish.ensures in
+    let net_is : c.network-net.result.now ≡ at.old.net =
+    at_here (λ (p : FleetPlan). c.network-net.result.now ≡ p.net) after place at.new c.network-net.ensures.value at.there
+    ∙ finished_net fleet after place c.in-Finished.finished at c.network.ensures.sound c.network-net.ensures.sound c.acts.result.now c.acts.ensures.value in
+    (at.old, at.was, subst (λ (n : Plan). length c.put_end.new.answer.text ≤ answer_room n) net_is c.put_end.ensures.size)

@@ -1,0 +1,9 @@
+pub mod FleetHeader
+pub mod PlannedText
+pub mod FleetText
+pub mod FrontNames
+pub mod FleetStands
+pub mod FleetCommand
+pub mod Dividing
+pub mod FleetCauses
+pub mod FleetPromise

@@ -1,0 +1,143 @@
+//! The answer to a line of one plan of a fleet, without the plan's name.
+
+ghost use Rattle.std.specs.Prelude.{◌≡◌, ◌<◌, ◌≤◌, [], length, slice_get};
+ghost use Rattle.std.specs.List.{All};
+ghost use Rattle.net_model.specs.Network.{IsPoint};
+ghost use Rattle.texts.specs.Limits.{most_line};
+ghost use Rattle.texts.specs.Words.{words, are_passed_over};
+ghost use Rattle.event_stream.specs.EventText.{completed, done};
+ghost use Rattle.plan_fleet.specs.Fleets.{AtPlan, ChangesOne};
+ghost use Rattle.event_execution.specs.Executing.{answer_room};
+ghost use Rattle.merged_runs.specs.Alone.{idle_said};
+ghost use Rattle.fleet_command.specs.FleetStands.{HaveRoom, RunsAt, SaysHeld, SaysLine, SaysTold, idle_room, said_room, stands_held};
+ghost use Rattle.fleet_command.specs.declared.entries.Held.TheVariants.{Opened};
+
+use crate::entries::Held;
+use command_engine::{Answer, Word};
+use event_execution::{put_end, put_fed, refuse_line};
+use event_stream::{Event, EventReader};
+use plan_fleet::{Fleet, FleetFed, FleetFinished, State};
+use texts::first_word;
+
+/// Answers a line of one plan by its number among its own, into the buffer, which is empty: one that runs by its execution, and every other
+/// by `idle`.
+pub(crate) fn answer_own(
+    fleet: &mut Fleet,
+    events: &mut EventReader,
+    said: &mut Answer,
+    held: Held,
+    number: u32,
+    line: &[u8],
+)
+    requires empty { said.old.text ≡ [] }
+    requires placed { (place : _) → held ≡ Opened place → place < length fleet.old }
+    requires room { HaveRoom fleet.old said.old.capacity }
+    requires line { length line.now ≤ most_line }
+    ensures says { SaysHeld fleet.old held number line.now said.new.text fleet.new }
+    ensures size { length said.new.text ≤ said_room (stands_held fleet.old held) }
+    ensures capacity { said.old.capacity ≤ said.new.capacity }
+{
+    match held {
+        Held::Opened(place) => {
+            if fleet.state(place) == State::Running {
+                answer_running(fleet, events, said, place, number, line);
+            } else {
+                put_idle(said, line);
+            }
+        }
+        Held::Refused(_) => put_idle(said, line),
+    }
+}
+
+/// Puts that a plan is idle, where its line is not passed over.
+fn put_idle(said: &mut Answer, line: &[u8])
+    requires { said.old.text ≡ [] }
+    ensures text { said.new.text ≡ idle_said (are_passed_over (words line.now)) }
+    ensures size { length said.new.text ≤ idle_room }
+    ensures capacity { said.old.capacity ≤ said.new.capacity }
+{
+    // The proof reads here that there is room.
+    let _ = said.bytes();
+    if first_word(line).is_some() {
+        said.put_line(&[Word::Text("idle")]);
+    }
+}
+
+/// Answers a line of a plan that runs.
+fn answer_running(
+    fleet: &mut Fleet,
+    events: &mut EventReader,
+    said: &mut Answer,
+    place: u32,
+    number: u32,
+    line: &[u8],
+)
+    requires empty { said.old.text ≡ [] }
+    requires runs { RunsAt fleet.old place said.old.capacity }
+    requires line { length line.now ≤ most_line }
+    ensures changes { ChangesOne fleet.old place (SaysLine number line.now said.new.text) fleet.new }
+    ensures size { length said.new.text ≤ said_room (stands_held fleet.old (Opened place)) }
+    ensures capacity { said.old.capacity ≤ said.new.capacity }
+{
+    match events.read(line, fleet.network(place)) {
+        Ok(Event::Blank) => {}
+        Ok(Event::At(moment)) => feed_plan(fleet, events, said, place, number, moment),
+        Ok(Event::Done) => finish_plan(fleet, said, place, number),
+        Err(kind) => {
+            refuse_line(said, number, kind);
+            fleet.end(place);
+        }
+    }
+}
+
+/// Feeds a plan that runs the points that the reader has, and puts the answer.
+fn feed_plan(
+    fleet: &mut Fleet,
+    events: &EventReader,
+    said: &mut Answer,
+    place: u32,
+    number: u32,
+    moment: u64,
+)
+    requires empty { said.old.text ≡ [] }
+    requires runs { RunsAt fleet.old place said.old.capacity }
+    requires points { AtPlan fleet.old place (λ plan. All (IsPoint plan.net) events.now) }
+    ensures changes { ChangesOne fleet.old place (SaysTold number (completed moment events.now) said.new.text) fleet.new }
+    ensures size { AtPlan fleet.old place (λ plan. length said.new.text ≤ answer_room plan.net) }
+    ensures capacity { said.old.capacity ≤ said.new.capacity }
+{
+    // The proof reads here that the plan is sound before the feed, and after it by the same call below.
+    let _ = fleet.network(place);
+    match fleet.feed(place, moment, events.completions()) {
+        FleetFed::Fed(fed) => {
+            let net = fleet.network(place);
+            put_fed(
+                said,
+                net,
+                number,
+                fed,
+                fleet.acts(place),
+                fleet.next_due(place),
+            );
+        }
+        FleetFed::Idle => unreachable!(),
+    }
+}
+
+/// Ends the execution of a plan that runs, and puts the answer.
+fn finish_plan(fleet: &mut Fleet, said: &mut Answer, place: u32, number: u32)
+    requires empty { said.old.text ≡ [] }
+    requires runs { RunsAt fleet.old place said.old.capacity }
+    ensures changes { ChangesOne fleet.old place (SaysTold number done said.new.text) fleet.new }
+    ensures size { AtPlan fleet.old place (λ plan. length said.new.text ≤ answer_room plan.net) }
+    ensures capacity { said.old.capacity ≤ said.new.capacity }
+{
+    let _ = fleet.network(place);
+    match fleet.finish(place) {
+        FleetFinished::Finished(finished) => {
+            let net = fleet.network(place);
+            put_end(said, net, number, finished, fleet.acts(place));
+        }
+        FleetFinished::Idle => unreachable!(),
+    }
+}

@@ -1,0 +1,4 @@
+pub mod Judging
+pub mod ToJudge
+pub mod JudgePromise
+pub mod Words

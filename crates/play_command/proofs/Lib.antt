@@ -1,0 +1,5 @@
+pub mod PlayLemmas
+pub mod PlayWordLemmas
+pub mod ForgeLemmas
+pub mod ForgeWordLemmas
+pub mod PlayEndLemmas

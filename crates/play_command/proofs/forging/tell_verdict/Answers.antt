@@ -1,0 +1,32 @@
+use Rattle.std.proofs.Common.{IfOk, inr, sym, subst}
+use Rattle.std.proofs.lemmas.Result.{IfOk-weaker}
+use Rattle.net_model.specs.Network.{Plan, IsPlan}
+use Rattle.net_model.specs.ShownForm.{shown_form}
+use Rattle.refutations.specs.Refuting.{Refutes}
+use Rattle.play_command.specs.Forging.{Adds, TellsRefuted, TellsVerdict}
+use Rattle.command_frame.specs.declared.telling.TellingEnd.{TellingEnd}
+use Rattle.verdicts.proofs.VerdictLemmas.{decides_no, decides_yes}
+use Rattle.play_command.proofs.forging.tell_verdict.Goals as goal
+
+pub tell_controllable-requires-clause-proves : goal.tell_controllable-requires-clause-proves
+tell_controllable-requires-clause-proves g c =
+    let net = c.args.session.now.state.net in
+    let plan : IsPlan net = subst IsPlan c.network.ensures c.points.ensures.sound in
+    λ lifetimes lives. decides_yes (shown_form net) c.in_ok-certificate.certificate ((c.controllable_is_shown.ensures net plan).0 (c.is_controllable.ensures.yes c.if-is_controllable.true)) c.in_ok-certificate.ensures
+
+pub tell_refuted-requires-clause-refutes : goal.tell_refuted-requires-clause-refutes
+tell_refuted-requires-clause-refutes g c =
+    let net = c.args.session.now.state.net in
+    let cert = c.in_ok-certificate.certificate in
+    let plan : IsPlan net = subst IsPlan c.network.ensures c.points.ensures.sound in
+    λ lifetimes lives. subst (λ (n : Plan). Refutes (shown_form n) cert) (sym c.network-else-is_controllable.ensures)
+    (decides_no (shown_form net) cert (λ controls. c.is_controllable.ensures.no c.if-is_controllable.false ((c.controllable_is_shown.ensures net plan).1 controls)) c.in_ok-certificate.ensures)
+
+pub returns : goal.returns
+returns g c =
+    let net = shown_form c.args.session.now.state.net in
+    let before = c.args.answer.now.text in
+    let after = c.tell_refuted.new.answer.text in
+    IfOk-weaker c.tell_refuted.result (λ (end : TellingEnd). Adds (λ more. TellsRefuted net more end) before after) (λ (end : TellingEnd). Adds (λ more. TellsVerdict net more end) before after)
+    (λ end puts. (puts.0, puts.1, inr puts.2))
+    (subst (λ (n : Plan). IfOk c.tell_refuted.result (λ (end : TellingEnd). Adds (λ more. TellsRefuted (shown_form n) more end) before after)) c.network-else-is_controllable.ensures c.tell_refuted.ensures)

@@ -1,0 +1,5 @@
+pub mod Which
+pub mod Playing
+pub mod PlayPromise
+pub mod Forging
+pub mod Words

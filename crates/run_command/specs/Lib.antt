@@ -1,0 +1,4 @@
+pub mod Running
+pub mod RunPromise
+pub mod Words
+pub mod OrderedTexts

@@ -1,5 +1,0 @@
-use Rattle.stnu_run.proofs.ForgeWordLemmas.{workers_decide_no_forging}
-use Rattle.stnu_run.proofs.forging.ForgeRequest.workers_decide_nothing.Goals as goal
-
-pub returns : goal.returns
-returns c = workers_decide_no_forging

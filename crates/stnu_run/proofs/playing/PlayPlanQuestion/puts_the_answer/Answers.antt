@@ -1,6 +1,0 @@
-use Rattle.stnu_run.specs.Playing.{PutsTimes}
-use Rattle.verdicts.proofs.VerdictLemmas.{verdict_put}
-use Rattle.stnu_run.proofs.playing.PlayPlanQuestion.puts_the_answer.Goals as goal
-
-pub returns : goal.returns
-returns c = λ words net number put end plan answered. verdict_put net (PutsTimes words.which net put end) put end answered

@@ -1,5 +1,0 @@
-use Rattle.stnu_run.proofs.PlayWordLemmas.{workers_decide_no_day}
-use Rattle.stnu_run.proofs.playing.PlayRequest.workers_decide_nothing.Goals as goal
-
-pub returns : goal.returns
-returns c = workers_decide_no_day
