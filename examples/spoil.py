@@ -1,35 +1,17 @@
 #!/usr/bin/env python3
 """Spoils the proof of a plan that can be kept, and shows that `judge` refuses it then.
 
-    examples/spoil.py PROGRAM PLAN [COUNT]
-
-PROGRAM is the built program or its launcher, PLAN a plan text that can be kept. The proof that `check --proof` prints of it is judged as it
-is, and then after each of COUNT (3) changes of each kind, drawn from a fixed seed: an entry is dropped, the weight of an entry is raised by
-one, and the order lines of the two ends of a negative edge are exchanged. Prints one line for each kind, with the answers of `judge`; the
-status is 0 where the proof is accepted and every spoiled one is refused.
+The proof that `check --proof` prints of the plan is judged as it is, and then after each of COUNT (3) changes of each kind, drawn from a fixed
+seed: an entry is dropped, the weight of an entry is raised by one, and the order lines of the two ends of a negative edge are exchanged.
+Prints one line for each kind, with the answers of `judge`. Status: 0 where the proof is accepted and every spoiled one is refused, 1 where
+not or where the plan cannot be kept, 2 for wrong words or a file that cannot be read.
 """
 
+import argparse
 import random
-import subprocess
 import sys
 
-program, file, *rest = sys.argv[1:]
-count = int(rest[0]) if rest else 3
-draw = random.Random(1)
-with open(file, encoding="utf-8") as opened:
-    plan = opened.read()
-
-
-def answer(words, text):
-    return subprocess.run([program, *words], input=text, capture_output=True, text=True, check=False).stdout.splitlines()
-
-
-def judged(lines):
-    return " ".join(answer(["judge"], plan + "\n".join(lines) + "\n"))
-
-
-def drawn(places):
-    return draw.sample(places, min(count, len(places)))
+from plan import Source, answer, plan_words, read, started
 
 
 def dropped(lines, place):
@@ -47,20 +29,40 @@ def exchanged(lines, place):
     return [other.get(line, line) for line in lines]
 
 
-first, *proof = answer(["check", "--proof"], plan)
-if first != "controllable":
-    sys.exit(f"{file} cannot be kept")
-entries = [place for place, line in enumerate(proof) if line.startswith(("edge ", "upper "))]
-falling = [place for place in entries if proof[place].startswith("edge ") and int(proof[place].split()[-1]) < 0]
-said = judged(proof)
-print(f"{file}: {len(entries)} entries: {said}")
-right = said == "accepted controllable"
-for kind, spoil, places in (
-    ("an entry dropped", dropped, entries),
-    ("a weight raised by one", raised, entries),
-    ("two order lines exchanged", exchanged, falling),
-):
-    answers = [judged(spoil(proof, place)) for place in drawn(places)]
-    right = right and all(said.startswith("refused ") for said in answers)
-    print(f"{kind}: {'; '.join(answers) or 'there is none'}")
-sys.exit(0 if right else 1)
+def changes(proof):
+    """The kinds of change: what it is called, how it is made, and of which lines."""
+    entries = [place for place, line in enumerate(proof) if line.startswith(("edge ", "upper "))]
+    falling = [place for place in entries if proof[place].startswith("edge ") and int(proof[place].split()[-1]) < 0]
+    return [
+        ("an entry dropped", dropped, entries),
+        ("a weight raised by one", raised, entries),
+        ("two order lines exchanged", exchanged, falling),
+    ]
+
+
+def main():
+    parser = argparse.ArgumentParser(description=__doc__, formatter_class=argparse.RawDescriptionHelpFormatter)
+    plan_words(parser)
+    parser.add_argument("count", nargs="?", type=int, default=3, help="how many changes of each kind are made (3)")
+    words = parser.parse_args()
+    source, draw = read(words.plan, words.delay), random.Random(1)
+
+    def judged(lines):
+        return " ".join(answer(words.stnu, ["judge"], Source(source.text + "\n".join([*lines, ""]), source.words))[1])
+
+    first, *proof = answer(words.stnu, ["check", "--proof"], source)[1]
+    if first != "controllable":
+        sys.exit(f"{words.plan} cannot be kept: {first}")
+    kinds = changes(proof)
+    said = judged(proof)
+    print(f"{words.plan}: {len(kinds[0][2])} entries: {said}")
+    right = said == "accepted controllable"
+    for kind, spoil, places in kinds:
+        answers = [judged(spoil(proof, place)) for place in draw.sample(places, min(words.count, len(places)))]
+        right = right and all(said.startswith("refused ") for said in answers)
+        print(f"{kind}: {'; '.join(answers) or 'there is none'}")
+    return 0 if right else 1
+
+
+if __name__ == "__main__":
+    started(main)

@@ -1,9 +1,9 @@
 """Days of any number of points, to measure with."""
 
 
-def day(points, kept):
+def day(points, kept, delay=0):
     """Tasks one after another, each to begin within 30 moments of the end of the one before; nature decides every second
-    duration, and the day has an end."""
+    duration, and the day has an end. With a delay it has as much more time as completions are seen late."""
     tasks = points // 2
     lines = ["point morning", "point evening"]
     lines += [f"point {kind}{i}" for i in range(tasks - 1) for kind in ("begin", "done")]
@@ -13,7 +13,7 @@ def day(points, kept):
         lines += [f"bound after{i} begin{i} {last} 0", f"bound soon{i} {last} begin{i} 30"]
         if i % 2:
             lines.append(f"link begin{i} 10 25 done{i}")
-            least += 25
+            least += 25 + delay
         else:
             lines += [f"bound most{i} begin{i} done{i} 40", f"bound least{i} done{i} begin{i} -20"]
             least += 20

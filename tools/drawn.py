@@ -104,6 +104,21 @@ def with_a_completion_changed(choose, lines):
     return [" ".join(words) for words in events]
 
 
+def with_names_mixed(choose, lines):
+    """The names of each line in any order; often with one of them twice, or with one that is not contingent, not to come yet, or unknown."""
+    mixed = []
+    for line in lines:
+        words = line.split(" ")
+        if words[0] == "at":
+            names = words[2:]
+            if choose.random() < 0.15:
+                names += [choose.choice(names) if names and choose.random() < 0.3 else f"p{choose.randrange(10)}" for _ in range(choose.randint(1, 3))]
+            choose.shuffle(names)
+            words[2:] = names
+        mixed.append(" ".join(words))
+    return mixed
+
+
 class Counted(io.BytesIO):
     """An input that counts how often a line of it was asked for, its end included."""
 

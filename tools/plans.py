@@ -113,8 +113,8 @@ def lanes(points, kept):
     return [f"point {name}" for name in names] + lines
 
 
-def dense(points, kept):
-    """Points of which each comes after ten drawn ones before it, and not too long after them; nature decides each fifth."""
+def dense(points, kept, many=10):
+    """Points of which each comes after ten drawn ones before it, or so many, and not too long after half as many; nature decides each fifth."""
     draw = random.Random(points)
     names, after, lines = ["p0"], {"p0": []}, []
     for i in range(1, points - 1):
@@ -125,7 +125,7 @@ def dense(points, kept):
             after[name] = [(f"p{i - 1}", high)]
             lines.append(f"link p{i - 1} {low} {high} {name}")
         else:
-            firsts = {0} | {draw.randrange(i) for _ in range(10)}
+            firsts = {0} | {draw.randrange(i) for _ in range(many)}
             after[name] = [(f"p{first}", draw.randint(0, 30)) for first in sorted(firsts)]
             lines += [f"bound a{i}n{first} {name} {first} {-least}" for first, least in after[name]]
         names.append(name)
@@ -136,7 +136,7 @@ def dense(points, kept):
     moments = last_moments(names, after)
     for i in range(1, points - 1):
         if i % 5 != 4:
-            for first in sorted({draw.randrange(i) for _ in range(5)}):
+            for first in sorted({draw.randrange(i) for _ in range(many // 2)}):
                 if first % 5 != 4 or first == 0:
                     lines.append(f"bound m{i}n{first} p{first} p{i} {moments[f'p{i}'] - moments[f'p{first}'] + draw.randint(0, 20)}")
     lines.append(f"bound end p0 {last} {moments[last] - (0 if kept else 1)}")

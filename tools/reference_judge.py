@@ -182,7 +182,8 @@ def within(line, items, most, which):
         raise Answer(4, "error limit", line, which)
 
 
-def read_plan(lines):
+def read_parts(lines):
+    """A plan without its parts, and these, each with its line, its word and its values."""
     words = lines.next()
     if words is None:
         raise lines.missing("no-header")
@@ -207,6 +208,11 @@ def read_plan(lines):
             (plan.delay,) = values
         else:
             parts.append((lines.number, words[0], values))
+    return plan, parts
+
+
+def read_plan(lines):
+    plan, parts = read_parts(lines)
     for part in parts:
         plan.add(*part)
     return plan

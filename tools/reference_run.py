@@ -3,6 +3,8 @@
 
     cat PLAN EVENTS | tools/reference_run.py [DELAY]
 
+`run_in_order` is `run` with feeders, of whatever number: what it feeds is what a line names, in the order of the numbers of its points.
+
 Answers each line before it reads the next, and ends with the status that docs/ANSWERS.md gives. It is slow and nothing of it is
 proved: it serves to compare the program with the pages that describe it, as compare-run does. Time runs as it is defined, moment by
 moment; only where more than STEPPED moments lie ahead are those passed over at which nothing is due.
@@ -195,10 +197,13 @@ def read_event(words, numbers):
     return moment_of(words[1]), [point_of(word, numbers) for word in words[2:]]
 
 
-def answer_to(execution, words, line):
-    """The lines of the answer to an event in a line, the last of which ends the run where it is `complete`."""
+def answer_to(execution, words, line, in_order=False):
+    """The lines of the answer to an event in a line, the last of which ends the run where it is `complete`. The points that it names are
+    taken in the order of their numbers where that is asked for."""
     try:
         moment, listed = read_event(words, execution.numbers)
+        if in_order:
+            listed.sort()
         acts = execution.finish() if moment is None else execution.feed(moment, listed)
     except Fault as fault:
         if str(fault) == "moment":
@@ -215,7 +220,11 @@ def due(execution):
     return "due none" if moment is None else f"due {moment}"
 
 
-def run(stream, put, delay=None):
+def run_in_order(stream, put, delay=None):
+    return run(stream, put, delay, in_order=True)
+
+
+def run(stream, put, delay=None, in_order=False):
     """Puts the answer of each line of a stream before it takes the next, and returns the status."""
     lines = StreamLines(stream)
     try:
@@ -231,7 +240,7 @@ def run(stream, put, delay=None):
             words = lines.next()
             if words is None:
                 raise lines.missing("no-end")
-            answer = answer_to(execution, words, lines.number)
+            answer = answer_to(execution, words, lines.number, in_order)
             put(answer)
             if answer[-1] == "complete":
                 return 0
@@ -240,12 +249,13 @@ def run(stream, put, delay=None):
         return answer.status
 
 
-def main():
-    def put(lines):
-        sys.stdout.write("".join(f"{line}\n" for line in lines))
-        sys.stdout.flush()
+def put_lines(lines):
+    sys.stdout.write("".join(f"{line}\n" for line in lines))
+    sys.stdout.flush()
 
-    sys.exit(run(sys.stdin.buffer, put, int(sys.argv[1]) if len(sys.argv) > 1 else None))
+
+def main():
+    sys.exit(run(sys.stdin.buffer, put_lines, int(sys.argv[1]) if len(sys.argv) > 1 else None))
 
 
 if __name__ == "__main__":

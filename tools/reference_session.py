@@ -11,7 +11,7 @@ import sys
 
 from reference_check import Plan, Rounds, rounds_of
 from reference_judge import Answer, Fault, read_plan, values_of
-from reference_run import Execution, StreamLines, answer_to, due
+from reference_run import Execution, StreamLines, answer_to, due, put_lines
 
 # What stands after the two words of an edit: N a name, V a number of a plan.
 EDITS = {
@@ -239,11 +239,7 @@ def run(stream, put, delay=None):
 
 
 def main():
-    def put(lines):
-        sys.stdout.write("".join(f"{line}\n" for line in lines))
-        sys.stdout.flush()
-
-    sys.exit(run(sys.stdin.buffer, put, int(sys.argv[1]) if len(sys.argv) > 1 else None))
+    sys.exit(run(sys.stdin.buffer, put_lines, int(sys.argv[1]) if len(sys.argv) > 1 else None))
 
 
 if __name__ == "__main__":
