@@ -57,8 +57,7 @@ pub fn settle<R: Threads + Sync, G: CellGate>(
     ensures few { IfOk result (λ _. key_count net.now ≤ most_keys) }
     ensures fault { IfErr result (IsFaultOf net.now) }
 {
-    // The proof reads here that the network is sound.
-    let _ = net.points();
+    net.sound();
     let Ok(mut table) = Table::of(alloc, net) else {
         return Err(CellFault::OutOfMemory);
     };

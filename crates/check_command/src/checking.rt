@@ -182,8 +182,7 @@ fn put_yes(
     }
     ordered_tables_are_placed();
     controllable_is_shown();
-    // The proof reads here that the network is sound.
-    let _ = net.points();
+    net.sound();
     let certificate = table_proof(alloc, shown, &closed.table, closed.order.as_slice())?;
     put_proved(alloc, answer, &certificate)
 }

@@ -8,7 +8,7 @@ use Rattle.std.proofs.lemmas.Option.{slice_get_within, get_or_from_slice_get}
 use Rattle.net_model.proofs.RuleLemmas.{no_case_gives, upper_case_gives, lower_case_gives, cross_case_gives, removal_gives}
 use Rattle.net_model.specs.Network.{Plan, IsPlan, IsBound, IsLink, greatest}
 use Rattle.net_model.specs.Edges.{IsLinkOf, IsLabelled, IsEdge}
-use Rattle.net_model.specs.Rules.{Follows, bound_edge, link_edge, joined_weight, no_case, upper_case, lower_case, cross_case, removal}
+use Rattle.net_model.specs.Rules.{Follows}
 use Rattle.net_model.specs.Rules as rules_of
 use Rattle.net_model.specs.declared.ids.LinkId.{LinkId}
 use Rattle.net_model.specs.declared.part.Bound.{Bound}

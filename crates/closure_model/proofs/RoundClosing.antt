@@ -11,7 +11,7 @@ use Rattle.std.proofs.Math.ListN.{length-map}
 use Rattle.net_model.specs.Limits.{most_points, most_links}
 use Rattle.net_model.specs.Network.{Plan, IsPlan, IsLink, greatest}
 use Rattle.net_model.specs.Edges.{IsLinkOf, IsEdge, IsLabelled}
-use Rattle.net_model.specs.Rules.{bound_edge, link_edge, no_case, upper_case, lower_case, cross_case, removal}
+use Rattle.net_model.specs.Rules.{bound_edge, link_edge}
 use Rattle.net_model.specs.Rules as rules
 use Rattle.net_model.specs.declared.ids.LinkId.{LinkId}
 use Rattle.net_model.specs.declared.ids.PointId.{PointId}

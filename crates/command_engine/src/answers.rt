@@ -48,6 +48,13 @@ impl Answer {
         self.bytes.as_slice()
     }
 
+    /// Every answer has its least room. This does nothing: a body calls it where its proof needs the law.
+    pub fn has_room(&self)
+        ensures { least_room ≤ self.now.capacity }
+    {
+        let _ = &self.bytes;
+    }
+
     /// Empties the answer, and keeps its room.
     pub fn clear(&mut self)
         ensures text { self.new.text ≡ [] }

@@ -42,8 +42,7 @@ impl Search {
         requires high { most ≤ℤ highest }
         ensures { IfOk result (λ net. net ≡ with_goal self.now.net self.now.goal most) }
     {
-        // The proof reads here that the network is sound.
-        let _ = self.net.points();
+        self.net.sound();
         let goal = &self.goal;
         let from = *self.net.point_name(goal.from);
         let to = *self.net.point_name(goal.to);
@@ -73,8 +72,7 @@ impl Search {
         controllable_is_shown();
         gate.before(self.goal.to.0);
         let net = self.at(alloc, most)?;
-        // The proof reads here that the network is sound.
-        let _ = net.points();
+        net.sound();
         let shown = net.shown(alloc)?;
         match decide_by_closure(rt, alloc, &shown, self.workers)? {
             Some(closed) => Ok(Some(Kept {

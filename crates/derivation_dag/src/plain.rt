@@ -48,8 +48,7 @@ impl Plain {
         ensures base { IfOk result (λ plain. plain ≡ base_support net.now) }
         ensures stands { IfOk result (StandsOn net.now) }
     {
-        // The proof reads here that the network is sound.
-        let _ = net.points();
+        net.sound();
         let table = Table::of(alloc, net)?;
         let mut list = KeyedDag::new(alloc);
         push_bounds(&mut list, net)?;
@@ -74,8 +73,7 @@ impl Plain {
         requires follows { IsGiven net.now self.old.nodes node }
         ensures { IfOk result (λ id. (id.0 ≡ length self.old.nodes) × (self.new ≡ with_node self.old node)) }
     {
-        // The proof reads here that the network is sound.
-        let _ = net.points();
+        net.sound();
         if self.table.has_at_most(&node.edge) {
             Ok(self.list.push(net, node)?)
         } else {
@@ -103,8 +101,7 @@ impl Supports for Plain {
     }
 
     fn accept(&mut self, net: &Network, node: Node) -> Result<NodeId, AllocError> {
-        // The proof reads here that the network is sound.
-        let _ = net.points();
+        net.sound();
         let before = weight_in(&self.table, &node.edge);
         self.table.lower_to(&node.edge)?;
         match self.list.push(net, node) {
@@ -117,8 +114,7 @@ impl Supports for Plain {
     }
 
     fn accept_row(&mut self, net: &Network, row: &MadeRow<'_>) -> Result<(), AllocError> {
-        // The proof reads here that the network is sound.
-        let _ = net.points();
+        net.sound();
         match take_row(net, &mut self.list, &mut self.table, row) {
             Ok(()) => Ok(()),
             Err(error) => {
@@ -143,8 +139,7 @@ fn take_row(
     requires row { CanTakeRow net.now (record { nodes = list.old; table = table.old }) row.now.target row.now.made.now row.now.firsts.now }
     ensures { OnOk result (record { nodes = list.new; table = table.new } ≡ with_row (record { nodes = list.old; table = table.old }) row.now.made.now row.now.firsts.now) }
 {
-    // The proof reads here that the network is sound.
-    let _ = net.points();
+    net.sound();
     push_row(net, list, row)?;
     table.lower_all(row.target, row.made)
 }

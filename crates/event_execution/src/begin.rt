@@ -49,8 +49,7 @@ pub fn begin_with_feeders(
     ensures begins { IfOk result (BeginsExecutionBy (handing_where feeders) net answer.new.text) }
     ensures room { IfOk result (λ onward. HasRoom executing_machine onward answer.new.capacity) }
 {
-    // The proof reads here that the network is sound.
-    let _ = net.points();
+    net.sound();
     let state = Executing::start(alloc, net, dispatch.slim(), feeders)?;
     put_begun(answer, &state)?;
     Ok(Onward::Goes(state))

@@ -78,8 +78,7 @@ pub fn refuse_line(answer: &mut Answer, number: u32, kind: FormatKind) -> End
     ensures capacity { answer.old.capacity ≤ answer.new.capacity }
 {
     if kind == FormatKind::NumberLimit {
-        // The proof reads here that there is room.
-        let _ = answer.bytes();
+        answer.has_room();
         answer.clear();
         answer.put_line(&[
             Word::Text("error"),
@@ -171,8 +170,7 @@ fn refuse<'a>(answer: &mut Answer, number: u32, word: &'a str, of: Word<'a>)
     ensures capacity { answer.old.capacity ≤ answer.new.capacity }
 {
     let line = Word::Number(u64::from(number));
-    // The proof reads here that there is room.
-    let _ = answer.bytes();
+    answer.has_room();
     answer.clear();
     answer.put_line(&[
         Word::Text("error"),
@@ -190,8 +188,7 @@ fn refuse_at<'a>(answer: &mut Answer, number: u32, word: &'a str, point: Word<'a
     ensures size { length answer.new.text ≤ least_room }
     ensures capacity { answer.old.capacity ≤ answer.new.capacity }
 {
-    // The proof reads here that there is room.
-    let _ = answer.bytes();
+    answer.has_room();
     answer.clear();
     answer.put_line(&[
         Word::Text("error"),

@@ -101,8 +101,7 @@ fn start(alloc: Global, net: &Network, dispatch: Dispatch) -> Result<Executor, F
     requires no_delay { net.now.delay ≡ 0 }
     ensures { IfOk result (IsStartedByClosure net.now) }
 {
-    // The proof reads here that the network is sound.
-    let _points = net.points();
+    net.sound();
     Ok(Executor::start(alloc, net, dispatch.slim())?)
 }
 

@@ -33,8 +33,7 @@ fn executor_by(alloc: Global, net: &Network, closed: &Closed) -> Result<Executor
     requires closed { IsClosedBy net.now closed.now }
     ensures { IfOk result (IsExecutionFor net.now) }
 {
-    // The proof reads here that the network is sound.
-    let _points = net.points();
+    net.sound();
     let dispatch = Dispatch::of(alloc, net, &closed.table, closed.order.as_slice())?;
     Executor::start(alloc, net, dispatch)
 }

@@ -68,8 +68,7 @@ fn try_closing_of(
     parts: &str,
 ) -> Result<(), Fail> {
     let net = network(alloc, parts)?;
-    // The proof reads here that the network is sound.
-    let _ = net.points();
+    net.sound();
     let mut store = Plain::of(alloc, &net)?;
     let outcome = propagate(rt, alloc, &net, &mut store, 2, &NoGate)?;
     try_closing(rt, alloc, &net, &outcome, store.table(), parts)
@@ -115,8 +114,7 @@ fn try_engine(
     end: &(u64, Ending),
     parts: &str,
 ) -> Result<(), Fail> {
-    // The proof reads here that the network is sound.
-    let _ = net.points();
+    net.sound();
     let mut store = Plain::of(alloc, net)?;
     let outcome = propagate(rt, alloc, net, &mut store, 2, &NoGate)?;
     assert!(rt; has_nodes(store.dag(), nodes), "{parts}");

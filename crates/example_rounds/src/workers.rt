@@ -141,8 +141,7 @@ pub(crate) fn base(alloc: Global, net: &Network) -> Result<Table, Fail>
     ensures fits { IfOk result (λ table. IsFor net.now table) }
     ensures within { IfOk result (λ table. HasWeightsWithin net.now table) }
 {
-    // The proof reads here that the network is sound.
-    let _ = net.points();
+    net.sound();
     Ok(Table::of(alloc, net)?)
 }
 

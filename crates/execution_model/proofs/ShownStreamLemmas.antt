@@ -1,10 +1,9 @@
 -- Streams of a network with a delay are those of its shown form.
-use Rattle.std.proofs.Common.{◌≡◌, ◌⊎◌, inl, inr, ℕ, zero, suc, ◌+◌, ◌<◌, ◌==◌, ◌&&◌, Bool, true, false, List, [], ◌∷◌, ◌++◌, length, map, filter, Option, Some, None, is_some, is_none, refl, sym, ap, ◌∙◌, subst, arith}
+use Rattle.std.proofs.Common.{◌≡◌, ◌⊎◌, inl, inr, ℕ, zero, suc, ◌+◌, ◌==◌, ◌&&◌, List, [], ◌∷◌, ◌++◌, length, map, Option, Some, None, is_some, is_none, refl, sym, ap, ◌∙◌, subst, arith}
 use Rattle.std.specs.Prelude.{IsSome, slice_get, if◌then◌else◌}
-use Rattle.std.specs.List.{All, AllPairs, slice_index}
+use Rattle.std.specs.List.{slice_index}
 use Rattle.std.proofs.lemmas.List.Elements.{filter_agree}
 use Rattle.std.proofs.lemmas.Option.{same_Some, slice_get_within}
-use Rattle.net_model.specs.Moments.{Moments}
 use Rattle.net_model.specs.Network.{Plan, IsPlan, IsContingent, IsPoint, activation}
 use Rattle.net_model.specs.ShownForm.{lag, shown_form, shown_situation}
 use Rattle.net_model.specs.declared.ids.LinkId.{LinkId}
@@ -19,8 +18,8 @@ use Rattle.strategy_model.proofs.PlayLemmas.{link_sound}
 use Rattle.strategy_model.proofs.ShownFormLemmas.{earliest_is_shown, many_points, moment_in_shown, situations_are_shown}
 use Rattle.strategy_model.proofs.ShownPlayLemmas.{activation_shown}
 use Rattle.execution_model.specs.Acts.{executes_at, scheduled, scheduled_at}
-use Rattle.execution_model.specs.ShownStreams.{ActsAreShown, FitsAsShown, IsExecutionAsShown, ListsAsShown, StreamsAreShown}
-use Rattle.execution_model.specs.Streams.{Fits, HasGoneBy, IsExecution, IsFaithful, IsListed, Shows, Stream, fixed_by}
+use Rattle.execution_model.specs.ShownStreams.{ActsAreShown, FitsAsShown, ListsAsShown, StreamsAreShown}
+use Rattle.execution_model.specs.Streams.{Fits, HasGoneBy, IsListed, Shows, Stream, fixed_by}
 use Rattle.execution_model.specs.declared.feeding.Act.{Act}
 
 none_or_some : (o : Option LinkId) → o ≡ None → IsSome o → ⊥

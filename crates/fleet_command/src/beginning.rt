@@ -168,8 +168,7 @@ fn say_beginning(said: &mut Answer, fleet: &Fleet, held: Held)
     ensures says { BeginsHeld fleet.now held said.new.text }
     ensures whole { IsWhole said.new.text }
 {
-    // The proof reads here that there is room.
-    let _ = said.bytes();
+    said.has_room();
     match held {
         Held::Refused(why) => say_refusal(said, why),
         Held::Opened(place) => {
@@ -190,8 +189,7 @@ fn say_refusal(said: &mut Answer, why: BuildFault)
     requires { said.old.text ≡ [] }
     ensures { said.new.text ≡ printed_line (refusal_words why) }
 {
-    // The proof reads here that there is room.
-    let _ = said.bytes();
+    said.has_room();
     let place = Word::Number(u64::from(why.place().unwrap_or(0)));
     match why {
         BuildFault::Limit(which, _) => {

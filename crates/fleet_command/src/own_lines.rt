@@ -56,8 +56,7 @@ fn put_idle(said: &mut Answer, line: &[u8])
     ensures size { length said.new.text ≤ idle_room }
     ensures capacity { said.old.capacity ≤ said.new.capacity }
 {
-    // The proof reads here that there is room.
-    let _ = said.bytes();
+    said.has_room();
     if first_word(line).is_some() {
         said.put_line(&[Word::Text("idle")]);
     }

@@ -98,8 +98,7 @@ fn answer_line(
     ensures answers { AnswersMember serving place number line.now answer.new.text result }
     ensures room { fleet_room result ≤ answer.new.capacity }
 {
-    // The proof reads here that there is room.
-    let _room = answer.bytes();
+    answer.has_room();
     let Serving {
         mut fleet,
         mut entries,

@@ -1,22 +1,22 @@
 -- A point that comes, and is executed.
-use Rattle.std.proofs.Common.{◌≡◌, ℕ, ◌+◌, ◌<◌, ◌≤◌, List, [], ◌∷◌, ◌++◌, length, Option, Some, None, ap, sym, subst, ◌∙◌, arith, append-nil, length-append}
+use Rattle.std.proofs.Common.{◌≡◌, ℕ, ◌+◌, ◌<◌, List, [], ◌∷◌, ◌++◌, length, Option, Some, ap, sym, subst, ◌∙◌, arith, append-nil}
 use Rattle.std.specs.Prelude.{IfSome}
 use Rattle.std.specs.List.{All}
 use Rattle.std.proofs.lemmas.List.Elements.{All-set}
 use Rattle.net_model.specs.declared.ids.PointId.{PointId}
-use Rattle.net_model.specs.Moments.{Moments, moment_of}
+use Rattle.net_model.specs.Moments.{Moments}
 use Rattle.execution_model.specs.Feeding.{completed_at}
 use Rattle.execution_model.specs.Paced.{ArePaced}
 use Rattle.execution_model.specs.declared.feeding.Act.{Act}
 use Rattle.execution_model.proofs.MomentLemmas.{length-completed_at}
 use Rattle.live_executor.specs.Awaited.{AreLatest}
-use Rattle.live_executor.specs.Course.{CourseSoFar, StandsAt, HasRoomLeft, IsKeptCourse, MayComeAt, Comes, Executes, left_of}
+use Rattle.live_executor.specs.Course.{CourseSoFar, StandsAt, MayComeAt, Comes, Executes}
 use Rattle.live_executor.specs.Limits.{AreBefore, end_of_time}
 use Rattle.live_executor.specs.Sound.{KeptNetwork, made_setting}
 use Rattle.live_executor.specs.Trace.{KeepsTrace}
 use Rattle.live_executor.specs.Waking.{IsAwake}
-use Rattle.live_executor.proofs.CourseLemmas.{left_completed, stands_with}
-use Rattle.live_executor.proofs.UndoLemmas.{one_more_since, inside_more}
+use Rattle.live_executor.proofs.CourseLemmas.{stands_with}
+use Rattle.live_executor.proofs.UndoLemmas.{one_more_since}
 
 module _ (network : KeptNetwork) (t : ℕ) (point : PointId) (old : CourseSoFar) (stands : StandsAt network t old) (may : MayComeAt network t old point) where
   its_place : point.0 < length old.moments

@@ -7,9 +7,9 @@ use Rattle.std.proofs.lemmas.List.Sums.{sum_by-set}
 use Rattle.std.proofs.lemmas.Option.{none-some}
 use Rattle.net_model.specs.declared.ids.PointId.{PointId}
 use Rattle.net_model.specs.Moments.{Moments, moment_of}
-use Rattle.execution_model.specs.Execution.{Setting, is_due, acts_at, acted, time_runs, acts_while}
+use Rattle.execution_model.specs.Execution.{Setting, is_due, acts_at, time_runs, acts_while}
 use Rattle.execution_model.specs.Feeding.{completed_at}
-use Rattle.execution_model.specs.Paced.{ArePaced, IsMadeOneByOne, done, next}
+use Rattle.execution_model.specs.Paced.{IsMadeOneByOne, done, next}
 use Rattle.execution_model.specs.declared.feeding.Act.{Act}
 use Rattle.execution_model.proofs.AtOnceLemmas.{one_by_one_is_at_once}
 use Rattle.execution_model.proofs.MomentLemmas.{come_not_due, due_parts}

@@ -43,17 +43,22 @@ with_bound net name from to most =
           (refuse_if (nat_le most_bounds (length net.bounds)) (Limit Bounds)
           (Ok (record net { bounds = net.bounds ++ record { name = name; from = x; to = y; most = most } ∷ [] })))
 
--- the network with one more link, whose durations go from low to high
+-- the network with one more link between two of its points, whose durations go from low to high
+abbrev pub with_link_between : Plan → (from : PointId) → (low high : ℤ) → (to : PointId) → Result Plan PartFault
+with_link_between net from low high to =
+    refuse_if (from.0 == to.0) LinkToItself
+    (refuse_if (is_some (activation net to)) TwoLinksOnPoint
+    (refuse_if (int_lt low (pos 1) || int_lt high low) BadInterval
+    (refuse_if (not (within_limit high)) (Limit Number)
+    (refuse_if (nat_le most_links (length net.links)) (Limit Links)
+    (Ok (record net { links = net.links ++ record { from = from; low = low; high = high; to = to } ∷ [] }))))))
+
+-- the same between the points of two names
 unfoldable pub with_link : Plan → (from : List ℕ) → (low high : ℤ) → (to : List ℕ) → Result Plan PartFault
 with_link net from low high to = do
   a ← named net from
   c ← named net to
-  refuse_if (a.0 == c.0) LinkToItself
-      (refuse_if (is_some (activation net c)) TwoLinksOnPoint
-      (refuse_if (int_lt low (pos 1) || int_lt high low) BadInterval
-      (refuse_if (not (within_limit high)) (Limit Number)
-      (refuse_if (nat_le most_links (length net.links)) (Limit Links)
-      (Ok (record net { links = net.links ++ record { from = a; low = low; high = high; to = c } ∷ [] }))))))
+  with_link_between net a low high c
 
 -- the network with one more part
 abbrev pub with_part : Plan → Part → Result Plan PartFault

@@ -32,7 +32,7 @@ abbrev pub Maker : List Place → Type 0 → Type 0
 Maker [] A = A
 Maker (place ∷ places) A = Value place → Maker places A
 
--- the form of a line after the words with which it begins: its places, and what is made of it
+-- a form: which places the rest of a line has, after the words with which it begins, and what the values in these places make
 pub record Form (A : Type 0) : Type 0 where
   pub places : List Place
   pub make : Maker places A

@@ -19,8 +19,7 @@ pub fn between_parts(name: &Name, from: Name, low: Weight, high: Weight, to: Nam
     requires within { within_limit low ≡ true }
     ensures { result.0 ∷ result.1 ∷ [] ≡ between_parts name.now from low high to }
 {
-    // The proof reads here that the name is one.
-    let _ = name.bytes();
+    name.sound();
     (
         Part::Bound(name.with_end(b".max"), from, to, high),
         Part::Bound(name.with_end(b".min"), to, from, -low),

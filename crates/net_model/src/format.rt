@@ -3,7 +3,7 @@ use std::error::Error;
 use std::fmt;
 
 /// Why a line is no line of its text, in the order in which the causes are tried.
-#[derive(Clone, Copy, Debug, PartialEq, Eq, Hash)]
+#[derive(Clone, Copy, Debug, PartialEq, Eq)]
 pub enum FormatKind {
     /// The first word is none of the text's words in its place.
     UnknownWord,
@@ -58,7 +58,7 @@ impl fmt::Display for FormatKind {
 impl Error for FormatKind {}
 
 /// The first fault of a text: the number of its line, from 1, and why.
-#[derive(Clone, Copy, Debug, PartialEq, Eq, Hash)]
+#[derive(Clone, Copy, Debug)]
 pub struct FormatFault {
     pub line: u32,
     pub kind: FormatKind,
@@ -78,7 +78,7 @@ impl fmt::Display for FormatFault {
 impl Error for FormatFault {}
 
 /// Why a text was not read.
-#[derive(Clone, Copy, Debug, PartialEq, Eq, Hash)]
+#[derive(Clone, Copy, Debug)]
 pub enum TextFault {
     /// It is no such text: its first fault.
     Format(FormatFault),
@@ -125,7 +125,7 @@ impl From<AllocError> for TextFault {
 }
 
 /// Why a line was not read.
-#[derive(Clone, Copy, Debug, PartialEq, Eq, Hash)]
+#[derive(Clone, Copy, Debug)]
 pub enum WordFault {
     /// It is no line of the text.
     Kind(FormatKind),

@@ -27,7 +27,7 @@ pub use ids::{BoundId, LinkId, PointId, Weight};
 pub use items::Items;
 pub use limits::{
     MOST_BOUNDS, MOST_DELAY, MOST_LINES, MOST_LINKS, MOST_MOMENT, MOST_NUMBER, MOST_POINTS,
-    MOST_WEIGHT, limits_are_defined,
+    MOST_WEIGHT, counts_are_defined, limits_are_defined,
 };
 pub use name::{Name, NameFault};
 pub use network::Network;

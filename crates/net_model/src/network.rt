@@ -3,7 +3,7 @@ ghost use Rattle.std.specs.List.{enumerate_from};
 ghost use Rattle.net_model.specs.Network.{IsPlan, IsPoint, IsContingent, IsBound, IsLink, point_named, bound_named, activation, links_from, greatest, empty, HasPlanNumbers};
 ghost use Rattle.net_model.specs.NetworkParts.{point_name};
 ghost use Rattle.net_model.specs.Limits.{most_points, most_links, most_bounds, most_delay, within_limit};
-ghost use Rattle.net_model.specs.Building.{Builds, Adds, Pushes, built, with_part, with_point, with_bound, with_link, with_parts, named};
+ghost use Rattle.net_model.specs.Building.{Builds, Adds, Pushes, built, with_part, with_point, with_bound, with_link, with_link_between, with_parts, named};
 
 use crate::fault::{BuildFault, PartFault};
 use crate::ids::{BoundId, LinkId, PointId, Weight};
@@ -58,12 +58,18 @@ impl Network {
         let mut net = Network::empty(alloc, 0);
         match net.add_all(parts) {
             Ok(()) => {
-                // The proof reads here that the network is sound.
-                let _ = &net.points;
+                net.sound();
                 Ok(net)
             }
             Err(fault) => Err(fault),
         }
+    }
+
+    /// Every network is sound. This does nothing: a body calls it where its proof needs the law.
+    pub fn sound(&self)
+        ensures { IsPlan self.now }
+    {
+        let _ = &self.points;
     }
 
     /// The points by their names; the number of a point is its place.
@@ -114,8 +120,7 @@ impl Network {
         requires numbers { HasPlanNumbers self }
         ensures { result ≡ record self { delay = unsigned_abs moments } }
     {
-        // The proof reads here that the network is sound.
-        let _ = &self.points;
+        self.sound();
         self.delay = moments as u32;
         self
     }
@@ -124,8 +129,7 @@ impl Network {
     pub fn point(&self, name: &[u8]) -> Option<PointId>
         ensures { result ≡ point_named self.now name.now }
     {
-        // The proof reads here that each point has a name.
-        let _ = &self.points;
+        self.sound();
         let name = Name::from_text(name)?;
         self.named_point(&name)
     }
@@ -134,8 +138,7 @@ impl Network {
     pub fn bound(&self, name: &[u8]) -> Option<BoundId>
         ensures { result ≡ bound_named self.now name.now }
     {
-        // The proof reads here that each bound has a name.
-        let _ = &self.bounds;
+        self.sound();
         let name = Name::from_text(name)?;
         self.named_bound(&name)
     }
@@ -270,8 +273,7 @@ impl Network {
         if self.bounds.len() >= MOST_BOUNDS {
             return Err(PartFault::Limit(Which::Bounds));
         }
-        // The proof reads here that these bytes are a name.
-        let _ = name.bytes();
+        name.sound();
         self.push_bound(Bound {
             name: *name,
             from,
@@ -293,6 +295,21 @@ impl Network {
     {
         let from = self.known_point(from)?;
         let to = self.known_point(to)?;
+        self.add_link_between(from, low, high, to)
+    }
+
+    /// Takes a link between two points in.
+    fn add_link_between(
+        &mut self,
+        from: PointId,
+        low: Weight,
+        high: Weight,
+        to: PointId,
+    ) -> Result<(), PartFault>
+        requires from { IsPoint self.old from }
+        requires to { IsPoint self.old to }
+        ensures { Adds self.old self.new result (with_link_between self.old from low high to) }
+    {
         if from == to {
             return Err(PartFault::LinkToItself);
         }
@@ -323,8 +340,7 @@ impl Network {
         requires room { length self.old.points < most_points }
         ensures { Pushes self.old self.new result (record self.old { points = self.old.points ++ name.now ∷ [] }) }
     {
-        // The proof reads here that these bytes are a name.
-        let _ = name.bytes();
+        name.sound();
         self.points.reserve(1)?;
         self.ending.reserve(1)?;
         self.point_names.reserve(1)?;

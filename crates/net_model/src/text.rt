@@ -43,8 +43,7 @@ pub fn two(rest: &[u8]) -> Result<(&[u8], &[u8]), FormatKind>
     ensures { MatchResult result (λ w. counted 2 (words rest.now) ≡ Ok (w.0.now ∷ w.1.now ∷ [])) (λ kind. counted 2 (words rest.now) ≡ Err kind) }
 {
     let (first, rest) = word(rest)?;
-    let (second, rest) = word(rest)?;
-    no_more(rest)?;
+    let second = one(rest)?;
     Ok((first, second))
 }
 
@@ -53,9 +52,7 @@ pub fn three(rest: &[u8]) -> Result<(&[u8], &[u8], &[u8]), FormatKind>
     ensures { MatchResult result (λ w. counted 3 (words rest.now) ≡ Ok (w.0.now ∷ w.1.now ∷ w.2.now ∷ [])) (λ kind. counted 3 (words rest.now) ≡ Err kind) }
 {
     let (first, rest) = word(rest)?;
-    let (second, rest) = word(rest)?;
-    let (third, rest) = word(rest)?;
-    no_more(rest)?;
+    let (second, third) = two(rest)?;
     Ok((first, second, third))
 }
 
@@ -64,10 +61,7 @@ pub fn four(rest: &[u8]) -> Result<(&[u8], &[u8], &[u8], &[u8]), FormatKind>
     ensures { MatchResult result (λ w. counted 4 (words rest.now) ≡ Ok (w.0.now ∷ w.1.now ∷ w.2.now ∷ w.3.now ∷ [])) (λ kind. counted 4 (words rest.now) ≡ Err kind) }
 {
     let (first, rest) = word(rest)?;
-    let (second, rest) = word(rest)?;
-    let (third, rest) = word(rest)?;
-    let (fourth, rest) = word(rest)?;
-    no_more(rest)?;
+    let (second, third, fourth) = three(rest)?;
     Ok((first, second, third, fourth))
 }
 
@@ -76,11 +70,7 @@ pub fn five(rest: &[u8]) -> Result<(&[u8], &[u8], &[u8], &[u8], &[u8]), FormatKi
     ensures { MatchResult result (λ w. counted 5 (words rest.now) ≡ Ok (w.0.now ∷ w.1.now ∷ w.2.now ∷ w.3.now ∷ w.4.now ∷ [])) (λ kind. counted 5 (words rest.now) ≡ Err kind) }
 {
     let (first, rest) = word(rest)?;
-    let (second, rest) = word(rest)?;
-    let (third, rest) = word(rest)?;
-    let (fourth, rest) = word(rest)?;
-    let (fifth, rest) = word(rest)?;
-    no_more(rest)?;
+    let (second, third, fourth, fifth) = four(rest)?;
     Ok((first, second, third, fourth, fifth))
 }
 
@@ -89,12 +79,7 @@ pub fn six(rest: &[u8]) -> Result<(&[u8], &[u8], &[u8], &[u8], &[u8], &[u8]), Fo
     ensures { MatchResult result (λ w. counted 6 (words rest.now) ≡ Ok (w.0.now ∷ w.1.now ∷ w.2.now ∷ w.3.now ∷ w.4.now ∷ w.5.now ∷ [])) (λ kind. counted 6 (words rest.now) ≡ Err kind) }
 {
     let (first, rest) = word(rest)?;
-    let (second, rest) = word(rest)?;
-    let (third, rest) = word(rest)?;
-    let (fourth, rest) = word(rest)?;
-    let (fifth, rest) = word(rest)?;
-    let (sixth, rest) = word(rest)?;
-    no_more(rest)?;
+    let (second, third, fourth, fifth, sixth) = five(rest)?;
     Ok((first, second, third, fourth, fifth, sixth))
 }
 

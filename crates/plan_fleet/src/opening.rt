@@ -110,8 +110,7 @@ fn opened(alloc: Global, decided: Decided) -> Result<FleetPlan, AllocError>
     cycles_of_tables_exclude();
     shown_form_is_instant();
     controllable_is_shown();
-    // The proof reads here that the network is sound.
-    let _points = decided.net.points();
+    decided.net.sound();
     let executor = started(alloc, &decided.shown, &decided.closed)?;
     let state = state_at_first(&executor);
     let Decided { net, .. } = decided;

@@ -21,8 +21,7 @@ pub fn to_json(alloc: Global, net: &Network) -> Result<Vec<u8>, AllocError>
     ensures text { IfOk result (λ text. text.items ≡ document_text (document_of net.now)) }
     ensures read_back { IfOk result (λ text. ReadsBack text.items net.now) }
 {
-    // The proof reads here that the network is sound.
-    let _ = net.points();
+    net.sound();
     let document = document_of(alloc, net)?;
     document.to_vec_pretty(alloc)
 }

@@ -97,8 +97,7 @@ impl Propagated {
     {
         ordered_closures_are_controllable();
         standing_cycles_exclude();
-        // The proof reads here that the network is sound.
-        let _ = net.points();
+        net.sound();
         match self.outcome {
             Outcome::Closed { .. } => true,
             Outcome::Looped { .. } => false,
@@ -118,8 +117,7 @@ impl Propagated {
     {
         standing_cycles_exclude();
         table_proofs_prove();
-        // The proof reads here that the network is sound.
-        let _ = net.points();
+        net.sound();
         match &self.outcome {
             Outcome::Closed { order, .. } => {
                 let certificate = table_proof(alloc, net, self.store.table(), order.as_slice())?;
@@ -137,8 +135,7 @@ impl Propagated {
         ensures { IfOk result (Refutes net.now) }
     {
         ordered_closures_are_controllable();
-        // The proof reads here that the network is sound.
-        let _ = net.points();
+        net.sound();
         match &self.outcome {
             Outcome::Closed { .. } => unreachable!(),
             Outcome::Looped { cycle, .. } => {
@@ -163,8 +160,7 @@ impl Propagated {
     {
         standing_cycles_exclude();
         closures_may_dispatch();
-        // The proof reads here that the network is sound.
-        let _ = net.points();
+        net.sound();
         match &self.outcome {
             Outcome::Closed { order, .. } => {
                 Dispatch::of(alloc, net, self.store.table(), order.as_slice())

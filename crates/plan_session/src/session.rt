@@ -148,8 +148,7 @@ impl Session {
     {
         edits_withdraw_nodes();
         shown_forms_follow_edits();
-        // The proof reads here that the network is sound.
-        let _ = self.net.points();
+        self.net.sound();
         let Some(opened) = &mut self.opened else {
             return Err(SessionFault::Broken);
         };
@@ -191,8 +190,7 @@ impl Session {
         ensures { IsVerdictOf self.now.state result }
     {
         controllable_is_shown();
-        // The proof reads here that the network is sound.
-        let _ = self.net.points();
+        self.net.sound();
         match &self.opened {
             None => Verdict::Broken,
             Some(opened) => {
@@ -218,8 +216,7 @@ impl Session {
     {
         certificates_are_one();
         controllable_is_shown();
-        // The proof reads here that the network is sound.
-        let _ = self.net.points();
+        self.net.sound();
         match self.verdict() {
             Verdict::Broken => Err(AskFault::Broken),
             Verdict::Controllable => Ok(self.table_proof(alloc)?),
@@ -265,8 +262,7 @@ impl Session {
         ensures { IfOk result (IsDispatchOfClosure (shown_form self.now.state.net)) }
     {
         controllable_is_shown();
-        // The proof reads here that the network is sound.
-        let _ = self.net.points();
+        self.net.sound();
         match &self.opened {
             None => unreachable!(),
             Some(opened) => opened.dispatch(alloc, &self.shown),

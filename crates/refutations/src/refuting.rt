@@ -37,8 +37,7 @@ pub fn refutation<S: Supports>(
     ensures accepted { IfOk result (λ certificate. judgement_of net.now certificate ≡ Accepted NotControllable) }
     ensures weights { IfOk result HasWeights }
 {
-    // The proof reads here that the network is sound.
-    let _ = net.points();
+    net.sound();
     let steps = steps_of(alloc, store, cycle)?;
     let ids = dag.ancestors(alloc, steps.as_slice())?;
     let lines = lines_by(alloc, net, dag, ids.as_slice())?;

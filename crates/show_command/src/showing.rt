@@ -93,8 +93,7 @@ fn put_text(alloc: Global, answer: &mut Answer, net: &Network) -> Result<End, Al
     requires numbers { HasPlanNumbers net.now }
     ensures { IfOk result (λ end. PutsPlan Notation.Text net.now answer.new.text end) }
 {
-    // The proof reads here that the network is sound.
-    let _ = net.points();
+    net.sound();
     let text = print_plan(alloc, net)?;
     answer.push_text(text.as_slice())?;
     Ok(End::Done)
@@ -107,8 +106,7 @@ fn put_document(alloc: Global, answer: &mut Answer, net: &Network) -> Result<End
     ensures { IfOk result (λ end. PutsPlan Notation.Json net.now answer.new.text end) }
 {
     documents_stand_in_inputs();
-    // The proof reads here that the network is sound.
-    let _ = net.points();
+    net.sound();
     let document = to_json(alloc, net)?;
     push_document(answer, document.as_slice())?;
     Ok(End::Done)

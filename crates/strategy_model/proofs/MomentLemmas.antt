@@ -1,4 +1,6 @@
--- PartialSchedule so far: what is known stays, and what comes later has the later moment.
+-- The moments that points have so far: of two parts of a partial schedule the first decides, and the second where the first has no
+-- moment; points that are executed at a moment have it, and are executable; and the schedule that is made of all moments has one for
+-- each point.
 use Rattle.std.proofs.Common.{◌≡◌, ℕ, zero, suc, ◌+◌, ◌<◌, ◌&&◌, Bool, true, false, cond, not, List, [], ◌∷◌, ◌++◌, length, map, Option, Some, None, ◌⊎◌, inl, inr, refl, sym, ap, subst, ◌∙◌, arith}
 use Rattle.std.specs.Prelude.{slice_get, is_none, nat_lt, filter}
 use Rattle.std.specs.List.{list_any, range_with_len, position_or_len, slice_index}

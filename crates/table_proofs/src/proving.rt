@@ -30,8 +30,7 @@ pub fn table_proof(
     ensures accepted { IfOk result (λ certificate. judgement_of net.now certificate ≡ Accepted Controllable) }
     ensures weights { IfOk result HasWeights }
 {
-    // The proof reads here that the network is sound.
-    let _ = net.points();
+    net.sound();
     let names = point_names(alloc, net, order)?;
     let entries = entries_of(alloc, net, table)?;
     Ok(Certificate::TableProof {

@@ -87,8 +87,7 @@ fn verdict_by<R: Threads + Sync, G: Gate>(
     ensures { IfOk result (IsVerdict net) }
 {
     controllable_is_shown();
-    // The proof reads here that the network is sound.
-    let _ = net.points();
+    net.sound();
     match found {
         Some(closed) => Ok(Verdict::Controllable {
             stated: net,
@@ -116,8 +115,7 @@ pub fn decide_by_closure<R: Threads + Sync>(
 {
     ordered_closures_are_controllable();
     cycles_of_tables_exclude();
-    // The proof reads here that the network is sound.
-    let _ = net.points();
+    net.sound();
     close(rt, alloc, net, workers)
 }
 
@@ -135,8 +133,7 @@ fn closed_by_cells<R: Threads + Sync>(
 {
     ordered_closures_are_controllable();
     cycles_of_tables_exclude();
-    // The proof reads here that the network is sound.
-    let _ = net.points();
+    net.sound();
     close_by_cells(rt, alloc, net, workers)
 }
 
@@ -154,8 +151,7 @@ pub fn refute<R: Threads + Sync, G: Gate>(
     ensures { IfOk result (Refutes (shown_form net)) }
 {
     controllable_is_shown();
-    // The proof reads here that the network is sound.
-    let _ = net.points();
+    net.sound();
     let session = OpenSession::open(rt, alloc, net, workers, gate)?;
     session.certificate(rt, alloc)
 }

@@ -18,5 +18,5 @@ returns c =
     let put = c.put_proved.new.answer.text in
     let is = subst (λ (order : List PointId). cert ≡ table_proof_of shown closed.table order) c.as_slice.ensures said.proof in
     let proves =
-    table_proof_proves c.controllable_is_shown.ensures c.ordered_tables_are_placed.ensures net shown closed cert c.points.ensures.sound c.requires.verdict is said.accepted said.weights in
+    table_proof_proves c.controllable_is_shown.ensures c.ordered_tables_are_placed.ensures net shown closed cert c.sound.ensures c.requires.verdict is said.accepted said.weights in
     IfOk-weaker c.put_proved.result (PutsProved cert put) (PutsYes c.args.proof net put) (proved_yes net cert proves c.args.proof c.if-not-proof.false put) c.put_proved.ensures

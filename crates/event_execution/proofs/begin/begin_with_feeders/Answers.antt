@@ -8,10 +8,10 @@ use Rattle.event_execution.proofs.begin.begin_with_feeders.Goals as goal
 pub start-requires-clause-dispatch : goal.start-requires-clause-dispatch
 start-requires-clause-dispatch c =
     let is = c.requires.dispatch in
-    dispatch_of c.args.net is.table is.order (by_closure c.args.net c.args.dispatch (record { sound = c.points.ensures.sound; no_delay = c.requires.no_delay }) is) c.slim.result (c.slim.ensures.links ∙ is.by.links) (c.slim.ensures.made ∙ is.by.made)
+    dispatch_of c.args.net is.table is.order (by_closure c.args.net c.args.dispatch (record { sound = c.sound.ensures; no_delay = c.requires.no_delay }) is) c.slim.result (c.slim.ensures.links ∙ is.by.links) (c.slim.ensures.made ∙ is.by.made)
 
 pub returns-clause-begins : goal.returns-clause-begins
 returns-clause-begins c =
     let is = c.requires.dispatch in
-    begins_so (handing_where c.args.feeders) c.args.net is.table is.order (by_closure c.args.net c.args.dispatch (record { sound = c.points.ensures.sound; no_delay = c.requires.no_delay }) is) c.slim.result (c.slim.ensures.made ∙ is.by.made)
+    begins_so (handing_where c.args.feeders) c.args.net is.table is.order (by_closure c.args.net c.args.dispatch (record { sound = c.sound.ensures; no_delay = c.requires.no_delay }) is) c.slim.result (c.slim.ensures.made ∙ is.by.made)
     c.in_ok-state.state c.in_ok-state.ensures c.put_begun.new.answer.text c.in_ok-put_begun.ensures.put

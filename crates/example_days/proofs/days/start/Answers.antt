@@ -10,11 +10,11 @@ pub start-requires : goal.start-requires
 start-requires c =
     let is = c.requires.of in
     record {
-      instant = record { sound = c.points-points.ensures.sound; no_delay = c.requires.no_delay };
+      instant = record { sound = c.sound.ensures; no_delay = c.requires.no_delay };
       table = is.table;
       order = is.order;
-      graph = closures_are_graphs c.args.net.now is.table c.points-points.ensures.sound is.closure;
-      may = closures_may_dispatch c.args.net.now is.table is.order c.points-points.ensures.sound is.closure is.ordered;
+      graph = closures_are_graphs c.args.net.now is.table c.sound.ensures is.closure;
+      may = closures_may_dispatch c.args.net.now is.table is.order c.sound.ensures is.closure is.ordered;
       links = c.slim.ensures.links ∙ is.by.links;
       made = c.slim.ensures.made ∙ is.by.made;
     }
@@ -25,7 +25,7 @@ returns c =
     record {
       table = is.table;
       order = is.order;
-      by_closure = record { instant = record { sound = c.points-points.ensures.sound; no_delay = c.requires.no_delay }; closure = is.closure; ordered = is.ordered };
+      by_closure = record { instant = record { sound = c.sound.ensures; no_delay = c.requires.no_delay }; closure = is.closure; ordered = is.ordered };
       fresh =
           c.in_ok-start.ensures
           ∙ ap (λ (made : List Conditions). started (record { links = c.args.net.now.links; dispatch = made })) (c.slim.ensures.made ∙ is.by.made);

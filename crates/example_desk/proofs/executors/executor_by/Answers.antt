@@ -11,14 +11,14 @@ of-requires-clause-may c =
     let net = c.args.net.now in
     let closed = c.args.closed.now in
     let by = c.requires.closed in
-    subst (λ (o : List PointId). MayDispatch net closed.table o) (sym c.as_slice.ensures) (closures_may_dispatch net closed.table closed.order c.points-points.ensures.sound by.closure by.order)
+    subst (λ (o : List PointId). MayDispatch net closed.table o) (sym c.as_slice.ensures) (closures_may_dispatch net closed.table closed.order c.sound.ensures by.closure by.order)
 
 pub start-requires : goal.start-requires
 start-requires c =
     let net = c.args.net.now in
     let closed = c.args.closed.now in
     let by = c.requires.closed in
-    let sound = c.points-points.ensures.sound in
+    let sound = c.sound.ensures in
     record {
       instant = record { sound = sound; no_delay = c.requires.no_delay };
       table = closed.table;

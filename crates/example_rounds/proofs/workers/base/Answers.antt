@@ -8,4 +8,4 @@ use Rattle.example_rounds.proofs.workers.base.Goals as goal
 
 pub returns-clause-within : goal.returns-clause-within
 returns-clause-within c =
-    subst (HasWeightsWithin c.args.net.now) (sym c.in_ok-of.ensures.base) (standing_within c.args.net.now c.points.ensures.sound (base_support c.args.net.now) (base_stands c.args.net.now))
+    subst (HasWeightsWithin c.args.net.now) (sym c.in_ok-of.ensures.base) (standing_within c.args.net.now c.sound.ensures (base_support c.args.net.now) (base_stands c.args.net.now))

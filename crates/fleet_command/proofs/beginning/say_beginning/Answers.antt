@@ -10,17 +10,17 @@ use Rattle.fleet_command.proofs.beginning.say_beginning.Goals as goal
 pub put_line-requires : goal.put_line-requires
 put_line-requires c =
     let none = ap length c.requires.empty in
-    omega (arith, none, c.bytes.ensures.room)
+    omega (arith, none, c.has_room.ensures)
 
 pub put_due-requires : goal.put_due-requires
 put_due-requires c =
     let none = ap length c.requires.empty in
-    omega (arith, none, c.bytes.ensures.room, c.put_line.ensures.size, c.put_line.ensures.capacity)
+    omega (arith, none, c.has_room.ensures, c.put_line.ensures.size, c.put_line.ensures.capacity)
 
 pub put_line-requires-else-eq : goal.put_line-requires-else-eq
 put_line-requires-else-eq c =
     let none = ap length c.requires.empty in
-    omega (arith, none, c.bytes.ensures.room)
+    omega (arith, none, c.has_room.ensures)
 
 pub returns-in-Refused-clause-whole : goal.returns-in-Refused-clause-whole
 returns-in-Refused-clause-whole c =

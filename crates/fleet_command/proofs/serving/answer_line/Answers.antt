@@ -41,7 +41,7 @@ put_named-requires-clause-room c =
     let none = ap length c.requires.empty in
     let most =
     fits_named (stands_held fleet entry.held) c.bytes.result.now c.bytes-2.result.now (fleet_room (members_of fleet entries)) c.args.answer.now.capacity short (omega (arith, size, fits)) (room_here fleet entries place entry here) room
-    c.bytes-room.ensures.room in
+    c.has_room.ensures in
     omega (arith, most, none)
 
 pub invariant_of-result : goal.invariant_of-result

@@ -1,6 +1,5 @@
-use Rattle.std.proofs.Common.{◌+◌, ◌≡◌, pos, List, length, arith, get_or, take, sym, subst, refl}
+use Rattle.std.proofs.Common.{◌+◌, pos, List, arith, take, sym, subst, refl}
 use Rattle.std.proofs.lemmas.List.{take_all}
-use Rattle.net_model.specs.declared.ids.PointId.{PointId}
 use Rattle.net_model.specs.declared.part.Link.{Link}
 use Rattle.live_executor.specs.Awaited.{AreActivated}
 use Rattle.live_executor.proofs.AwaitedLemmas.{no_links, one_link_more}

@@ -5,7 +5,7 @@ use Rattle.plan_fleet.proofs.opening.opened.Goals as goal
 
 pub started-requires-clause-instant : goal.started-requires-clause-instant
 started-requires-clause-instant c =
-    subst IsInstant (sym c.requires.shown) (c.shown_form_is_instant.ensures c.args.decided.net c.points-points.ensures.sound)
+    subst IsInstant (sym c.requires.shown) (c.shown_form_is_instant.ensures c.args.decided.net c.sound.ensures)
 
 pub invariant_of-result : goal.invariant_of-result
 invariant_of-result c = kept c.args.decided.net c.args.decided.shown c.requires.shown c.in_ok-executor.executor c.in_ok-executor.ensures c.state_at_first-state.result c.state_at_first-state.ensures
@@ -13,6 +13,6 @@ invariant_of-result c = kept c.args.decided.net c.args.decided.shown c.requires.
 pub returns : goal.returns
 returns c =
     let decided = c.args.decided in
-    let plan = c.points-points.ensures.sound in
+    let plan = c.sound.ensures in
     opens decided.net decided.shown c.requires.shown plan (c.shown_form_is_instant.ensures decided.net plan) c.ordered_closures_are_controllable.ensures c.cycles_of_tables_exclude.ensures
     c.controllable_is_shown.ensures c.in_ok-executor.executor c.in_ok-executor.ensures c.state_at_first-state.result c.state_at_first-state.ensures

@@ -3,12 +3,12 @@ use Rattle.table_proofs.proofs.LawProofs.{points_inside, made_accepted, made_wei
 use Rattle.table_proofs.proofs.proving.table_proof.Goals as goal
 
 pub point_names-requires : goal.point_names-requires
-point_names-requires c = points_inside c.args.net.now c.args.table.now c.args.order.now c.points.ensures.sound c.requires.closure c.requires.order
+point_names-requires c = points_inside c.args.net.now c.args.table.now c.args.order.now c.sound.ensures c.requires.closure c.requires.order
 
 pub returns-clause-accepted : goal.returns-clause-accepted
 returns-clause-accepted c =
-    made_accepted c.args.net.now c.args.table.now c.args.order.now c.points.ensures.sound c.requires.closure c.new.result c.new-2.result (c.new.ensures ∙ c.in_ok-names.ensures) (c.new-2.ensures ∙ c.in_ok-entries.ensures) c.requires.order
+    made_accepted c.args.net.now c.args.table.now c.args.order.now c.sound.ensures c.requires.closure c.new.result c.new-2.result (c.new.ensures ∙ c.in_ok-names.ensures) (c.new-2.ensures ∙ c.in_ok-entries.ensures) c.requires.order
 
 pub returns-clause-weights : goal.returns-clause-weights
 returns-clause-weights c =
-    made_weights c.args.net.now c.args.table.now c.args.order.now c.points.ensures.sound c.requires.closure c.new.result c.new-2.result (c.new.ensures ∙ c.in_ok-names.ensures) (c.new-2.ensures ∙ c.in_ok-entries.ensures)
+    made_weights c.args.net.now c.args.table.now c.args.order.now c.sound.ensures c.requires.closure c.new.result c.new-2.result (c.new.ensures ∙ c.in_ok-names.ensures) (c.new-2.ensures ∙ c.in_ok-entries.ensures)

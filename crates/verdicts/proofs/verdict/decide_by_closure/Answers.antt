@@ -8,4 +8,4 @@ pub returns : goal.returns
 returns g c =
     let net = c.args.net.now in
     IfOk-weaker c.close.result (ClosesTo net) (IsDecidedByClosure net)
-    (closes_decides c.ordered_closures_are_controllable.ensures c.cycles_of_tables_exclude.ensures net (record { sound = c.points.ensures.sound; no_delay = c.requires.no_delay })) c.close.ensures
+    (closes_decides c.ordered_closures_are_controllable.ensures c.cycles_of_tables_exclude.ensures net (record { sound = c.sound.ensures; no_delay = c.requires.no_delay })) c.close.ensures

@@ -12,6 +12,6 @@ use Rattle.verdicts.proofs.verdict.refute.Goals as goal
 pub returns : goal.returns
 returns g c =
     let shown = shown_form c.args.net in
-    let never : ¬ IsControllable shown = λ controls. c.requires.never ((c.controllable_is_shown.ensures c.args.net c.points.ensures.sound).1 controls) in
+    let never : ¬ IsControllable shown = λ controls. c.requires.never ((c.controllable_is_shown.ensures c.args.net c.sound.ensures).1 controls) in
     IfOk-weaker c.certificate.result (Certifies shown) (Refutes shown) (λ (cert : Certificate) certifies. decides_no shown cert never certifies)
     (subst (λ (session : State). IfOk c.certificate.result (Certifies (shown_form session.net))) c.in_ok-session.ensures.opened.2 c.certificate.ensures)

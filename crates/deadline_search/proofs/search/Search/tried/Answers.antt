@@ -17,7 +17,7 @@ returns-in-Some g c =
     let number : to_z w64 (of_z w64 c.args.most) ≡ c.args.most = search rules in
     let is : c.in_ok-net.net ≡ with_goal net c.args.self.now.goal c.args.most = c.in_ok-net.ensures ∙ ap (with_goal net c.args.self.now.goal) number in
     let decided = subst (IsDecidedByClosure shown) c.in-Some.is c.in_ok-closed.ensures in
-    let kept = kept_by c.controllable_is_shown.ensures net c.args.self.now.goal c.args.most c.in_ok-net.net shown c.points.ensures.sound is c.in_ok-shown.ensures closed c.requires.low c.requires.high decided in
+    let kept = kept_by c.controllable_is_shown.ensures net c.args.self.now.goal c.args.most c.in_ok-net.net shown c.sound.ensures is c.in_ok-shown.ensures closed c.requires.low c.requires.high decided in
     subst (λ (n : ℤ). IsTried net c.args.self.now.goal c.args.most (Some (record { most = n; shown = shown; closed = closed }))) (sym number) kept
 
 pub returns : goal.returns
@@ -26,5 +26,5 @@ returns g c =
     let shown = c.in_ok-shown.shown in
     let number : to_z w64 (of_z w64 c.args.most) ≡ c.args.most = search rules in
     let is : c.in_ok-net.net ≡ with_goal net c.args.self.now.goal c.args.most = c.in_ok-net.ensures ∙ ap (with_goal net c.args.self.now.goal) number in
-    none_by c.controllable_is_shown.ensures net c.args.self.now.goal c.args.most c.in_ok-net.net shown c.points.ensures.sound is c.in_ok-shown.ensures
+    none_by c.controllable_is_shown.ensures net c.args.self.now.goal c.args.most c.in_ok-net.net shown c.sound.ensures is c.in_ok-shown.ensures
     (subst (IsDecidedByClosure shown) c.in-None.is c.in_ok-closed.ensures)

@@ -16,7 +16,7 @@ pub invariant_of-self-then-has_at_most : goal.invariant_of-self-then-has_at_most
 invariant_of-self-then-has_at_most c =
     let before : Support = record { nodes = c.self.inside.list; table = c.self.inside.table } in
     let given = subst (λ (s : Support). IsGiven c.args.net.now s.nodes c.args.node) (sym c.self.view_is) c.requires.follows in
-    let within = given_within c.args.net.now c.points.ensures.sound c.self.inside.list c.self.invariant.weights c.args.node given in
+    let within = given_within c.args.net.now c.sound.ensures c.self.inside.list c.self.invariant.weights c.args.node given in
     let low = ap (λ b. cond b before.table (with_edge before.table c.args.node.edge)) (sym c.has_at_most.ensures ∙ c.if-has_at_most.true) in
     let same : with_node before c.args.node ≡ record { nodes = c.push.new.self; table = c.self.inside.table } = λ i. record { nodes = sym c.in_ok-push.ensures.pushed.1 i; table = low i } in
     subst IsSupported same (supported_more before c.args.node c.self.invariant within)

@@ -12,7 +12,7 @@ invariant_of-result c =
     let begun = c.in_ok-push_bounds.ensures ∙ ap (λ nodes. nodes ++ map bound_node (enumerate_from 0 net.bounds)) c.new-list.ensures in
     let nodes : c.push_links.new.list ≡ base_nodes net = c.in_ok-push_links.ensures ∙ ap (λ all. all ++ map link_node (enumerate_from 0 net.links)) begun in
     let same : base_support net ≡ record { nodes = c.push_links.new.list; table = c.in_ok-table.table } = λ i. record { nodes = sym nodes i; table = sym c.in_ok-table.ensures.base i } in
-    subst IsSupported same (base_supported net c.points.ensures.sound)
+    subst IsSupported same (base_supported net c.sound.ensures)
 
 pub returns-clause-stands : goal.returns-clause-stands
 returns-clause-stands c =

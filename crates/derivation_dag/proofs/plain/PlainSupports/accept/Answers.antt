@@ -20,7 +20,7 @@ lower_to-requires-clause-key c =
 pub lower_to-requires-clause-weight : goal.lower_to-requires-clause-weight
 lower_to-requires-clause-weight c =
     let given = subst (λ (s : Support). IsGiven c.args.net.now s.nodes c.args.node) (sym c.self.view_is) c.requires.follows in
-    given_within c.args.net.now c.points.ensures.sound c.self.inside.list c.self.invariant.weights c.args.node given
+    given_within c.args.net.now c.sound.ensures c.self.inside.list c.self.invariant.weights c.args.node given
 
 pub restore-requires-clause-present : goal.restore-requires-clause-present
 restore-requires-clause-present c =
@@ -41,6 +41,6 @@ pub invariant_of-self-in-Ok : goal.invariant_of-self-in-Ok
 invariant_of-self-in-Ok c =
     let before : Support = record { nodes = c.self.inside.list; table = c.self.inside.table } in
     let given = subst (λ (s : Support). IsGiven c.args.net.now s.nodes c.args.node) (sym c.self.view_is) c.requires.follows in
-    let within = given_within c.args.net.now c.points.ensures.sound c.self.inside.list c.self.invariant.weights c.args.node given in
+    let within = given_within c.args.net.now c.sound.ensures c.self.inside.list c.self.invariant.weights c.args.node given in
     let same : with_node before c.args.node ≡ record { nodes = c.push.new.self; table = c.lower_to.new.self } = λ i. record { nodes = sym c.in-Ok.ensures.pushed.1 i; table = sym c.in_ok-lower_to.ensures.lowered.1 i } in
     subst IsSupported same (supported_more before c.args.node c.self.invariant within)

@@ -9,4 +9,4 @@ pub invariant_of-self : goal.invariant_of-self
 invariant_of-self c =
     let before : Support = record { nodes = c.self.inside.list; table = c.self.inside.table } in
     let can : CanTakeRow c.args.net.now before c.args.row.now.target c.args.row.now.made.now c.args.row.now.firsts.now = subst (λ (s : Support). CanTakeRow c.args.net.now s c.args.row.now.target c.args.row.now.made.now c.args.row.now.firsts.now) (sym c.self.view_is) c.requires in
-    subst IsSupported (sym c.in-Ok.ensures) (supported_row c.args.net.now c.points.ensures.sound before c.args.row.now.target c.args.row.now.made.now c.args.row.now.firsts.now c.self.invariant can)
+    subst IsSupported (sym c.in-Ok.ensures) (supported_row c.args.net.now c.sound.ensures before c.args.row.now.target c.args.row.now.made.now c.args.row.now.firsts.now c.self.invariant can)

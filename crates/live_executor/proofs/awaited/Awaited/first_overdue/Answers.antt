@@ -1,4 +1,4 @@
-use Rattle.std.proofs.Common.{◌≡◌, ◌∙◌, ℕ, Some, None, sym, subst, arith}
+use Rattle.std.proofs.Common.{◌∙◌, ℕ, Some, None, sym, subst, arith}
 use Rattle.net_model.specs.declared.ids.PointId.{PointId}
 use Rattle.due_queue.specs.First.{IsFirstDue}
 use Rattle.live_executor.specs.Sound.{made_setting}

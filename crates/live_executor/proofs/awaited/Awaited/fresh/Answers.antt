@@ -1,4 +1,4 @@
-use Rattle.std.proofs.Common.{◌≡◌, List, Option, ℕ, None, replicate, length, ap, sym, subst, ◌∙◌}
+use Rattle.std.proofs.Common.{◌≡◌, None, replicate, length, ap, sym, subst, ◌∙◌}
 use Rattle.live_executor.specs.Awaited.{AreLatest}
 use Rattle.live_executor.proofs.AwaitedLemmas.{none_awaited}
 use Rattle.live_executor.proofs.awaited.Awaited.fresh.Goals as goal

@@ -1,7 +1,6 @@
-use Rattle.std.proofs.Common.{◌≡◌, ◌<◌, ◌≤◌, ◌∙◌, List, length, ap, sym, subst, arith}
-use Rattle.std.specs.List.{All, Contains}
+use Rattle.std.proofs.Common.{◌<◌, ◌≤◌, List, length, sym, subst, arith}
+use Rattle.std.specs.List.{All}
 use Rattle.net_model.specs.declared.ids.PointId.{PointId}
-use Rattle.net_model.specs.declared.part.Link.{Link}
 use Rattle.live_executor.specs.Awaited.{AreActivatedBy}
 use Rattle.live_executor.specs.Sound.{KeptNetwork}
 use Rattle.live_executor.specs.Waking.{times}

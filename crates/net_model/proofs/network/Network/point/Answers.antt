@@ -5,4 +5,4 @@ use Rattle.net_model.proofs.network.Network.point.Goals as goal
 
 pub returns-in_err-name : goal.returns-in_err-name
 returns-in_err-name c =
-    c.from_residual.ensures ∙ sym (point_named-bad c.args.self.now (subst IsPlan c.self.view_is c.self.invariant.plan) c.args.name.now (sym c.in_err-name.ensures.variant))
+    c.from_residual.ensures ∙ sym (point_named-bad c.args.self.now c.sound.ensures c.args.name.now (sym c.in_err-name.ensures.variant))

@@ -9,7 +9,7 @@ pub invariant_of-self-2 : goal.invariant_of-self-2
 invariant_of-self-2 c =
     let keys = rw c.unwrap.ensures at c.insert.ensures.keys in
     stored-more_points c.self.inside _ c.self.invariant c.args.name.now
-    c.bytes.ensures.name (subst (λ net. point_named net c.args.name.now ≡ None) (sym c.self.view_is) c.requires.fresh) (rw (ap (λ (net : Plan). net.points) c.self.view_is) c.requires.room)
+    c.sound.ensures (subst (λ net. point_named net c.args.name.now ≡ None) (sym c.self.view_is) c.requires.fresh) (rw (ap (λ (net : Plan). net.points) c.self.view_is) c.requires.room)
     (record {
       bounds = refl;
       links = refl;

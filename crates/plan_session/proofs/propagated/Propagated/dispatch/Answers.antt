@@ -13,12 +13,12 @@ pub of-requires-clause-may : goal.of-requires-clause-may
 of-requires-clause-may c =
     let net = c.args.net.now in
     let well = closed_well net _ (subst (IsSound net) (sym c.self.view_is) c.requires.sound) c.in-Closed.order (ap ending_of c.in-Closed.is) in
-    let may = c.closures_may_dispatch.ensures net c.self.inside.store.table c.in-Closed.order c.points.ensures.sound well.0 well.1 in
+    let may = c.closures_may_dispatch.ensures net c.self.inside.store.table c.in-Closed.order c.sound.ensures well.0 well.1 in
     subst (λ (table : Graph). MayDispatch net table c.as_slice.result.now) (sym c.table.ensures) (subst (λ (order : List PointId). MayDispatch net c.self.inside.store.table order) (sym c.as_slice.ensures) may)
 
 pub unreachable-requires : goal.unreachable-requires
 unreachable-requires c =
-    looped_excludes c.args.net.now _ (subst (IsSound c.args.net.now) (sym c.self.view_is) c.requires.sound) c.standing_cycles_exclude.ensures (record { sound = c.points.ensures.sound; no_delay = c.requires.no_delay })
+    looped_excludes c.args.net.now _ (subst (IsSound c.args.net.now) (sym c.self.view_is) c.requires.sound) c.standing_cycles_exclude.ensures (record { sound = c.sound.ensures; no_delay = c.requires.no_delay })
     c.in-Looped.cycle (ap ending_of c.in-Looped.is) c.requires.controllable
 
 pub returns : goal.returns

@@ -7,9 +7,9 @@ use Rattle.plan_session.proofs.propagated.Propagated.is_controllable.Goals as go
 pub returns-in-Closed : goal.returns-in-Closed
 returns-in-Closed c =
     let sound = subst (IsSound c.args.net.now) (sym c.self.view_is) c.requires.sound in
-    (λ _. closed_controls c.args.net.now _ sound c.ordered_closures_are_controllable.ensures (record { sound = c.points.ensures.sound; no_delay = c.requires.no_delay }) c.in-Closed.order (ap ending_of c.in-Closed.is), λ _. refl)
+    (λ _. closed_controls c.args.net.now _ sound c.ordered_closures_are_controllable.ensures (record { sound = c.sound.ensures; no_delay = c.requires.no_delay }) c.in-Closed.order (ap ending_of c.in-Closed.is), λ _. refl)
 
 pub returns-in-Looped : goal.returns-in-Looped
 returns-in-Looped c =
     let sound = subst (IsSound c.args.net.now) (sym c.self.view_is) c.requires.sound in
-    (λ never. absurd cc, λ controls. absurd (looped_excludes c.args.net.now _ sound c.standing_cycles_exclude.ensures (record { sound = c.points.ensures.sound; no_delay = c.requires.no_delay }) c.in-Looped.cycle (ap ending_of c.in-Looped.is) controls))
+    (λ never. absurd cc, λ controls. absurd (looped_excludes c.args.net.now _ sound c.standing_cycles_exclude.ensures (record { sound = c.sound.ensures; no_delay = c.requires.no_delay }) c.in-Looped.cycle (ap ending_of c.in-Looped.is) controls))

@@ -9,7 +9,7 @@ use Rattle.plan_session.proofs.propagated.Propagated.refutation.Goals as goal
 pub unreachable-requires : goal.unreachable-requires
 unreachable-requires c =
     let opens = subst (Opens c.args.net.now) (sym c.self.view_is) c.requires.opened in
-    c.requires.never (closed_controls c.args.net.now _ opens.sound c.ordered_closures_are_controllable.ensures (record { sound = c.points.ensures.sound; no_delay = c.requires.no_delay }) c.in-Closed.order (ap ending_of c.in-Closed.is))
+    c.requires.never (closed_controls c.args.net.now _ opens.sound c.ordered_closures_are_controllable.ensures (record { sound = c.sound.ensures; no_delay = c.requires.no_delay }) c.in-Closed.order (ap ending_of c.in-Closed.is))
 
 pub returns : goal.returns
 returns c =

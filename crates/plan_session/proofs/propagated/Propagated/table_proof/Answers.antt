@@ -23,7 +23,7 @@ table_proof-requires-clause-order c =
 
 pub unreachable-requires : goal.unreachable-requires
 unreachable-requires c =
-    looped_excludes c.args.net.now _ (subst (IsSound c.args.net.now) (sym c.self.view_is) c.requires.sound) c.standing_cycles_exclude.ensures (record { sound = c.points.ensures.sound; no_delay = c.requires.no_delay })
+    looped_excludes c.args.net.now _ (subst (IsSound c.args.net.now) (sym c.self.view_is) c.requires.sound) c.standing_cycles_exclude.ensures (record { sound = c.sound.ensures; no_delay = c.requires.no_delay })
     c.in-Looped.cycle (ap ending_of c.in-Looped.is) c.requires.controllable
 
 pub returns : goal.returns
@@ -35,4 +35,4 @@ returns c =
     let is_table = subst (λ (order : List PointId). IsClosure net c.table.result.now × IsOrder c.table.result.now order × (order ≡ placed_points c.table.result.now)) (sym c.as_slice.ensures)
     (subst (λ (table : Graph). IsClosure net table × IsOrder table c.in-Closed.order × (c.in-Closed.order ≡ placed_points table)) (sym c.table.ensures) (well.0, well.1, placed)) in
     subst (Proves net) (sym c.in_ok-certificate-in-Closed.ensures.proof)
-    (c.table_proofs_prove.ensures net c.table.result.now c.as_slice.result.now c.points.ensures.sound c.requires.controllable is_table.0 is_table.1 is_table.2)
+    (c.table_proofs_prove.ensures net c.table.result.now c.as_slice.result.now c.sound.ensures c.requires.controllable is_table.0 is_table.1 is_table.2)

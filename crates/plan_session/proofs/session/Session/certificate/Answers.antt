@@ -14,10 +14,10 @@ returns-in_ok-refutation-in-NotControllable-clause-one g c =
 
 pub table_proof-requires-clause-controllable : goal.table_proof-requires-clause-controllable
 table_proof-requires-clause-controllable g c =
-    let plan = subst (λ (session : SessionView). IsPlan session.state.net) c.self.view_is c.points.ensures.sound in
+    let plan = subst (λ (session : SessionView). IsPlan session.state.net) c.self.view_is c.sound.ensures in
     (c.controllable_is_shown.ensures c.args.self.now.state.net plan).0 c.in-Controllable.ensures.1
 
 pub refutation-requires-after_bounds : goal.refutation-requires-after_bounds
 refutation-requires-after_bounds g c κs within =
-    let plan = subst (λ (session : SessionView). IsPlan session.state.net) c.self.view_is c.points.ensures.sound in
+    let plan = subst (λ (session : SessionView). IsPlan session.state.net) c.self.view_is c.sound.ensures in
     λ controls. c.in-NotControllable.ensures.1 ((c.controllable_is_shown.ensures c.args.self.now.state.net plan).1 controls)
