@@ -1,10 +1,11 @@
 -- Tables that are lowered to the edges of one another.
 use Rattle.std.proofs.Common.{◌≡◌, ℕ, ◌+◌, ◌<◌, ◌≤◌, ℤ, ◌==◌, ◌⊎◌, List, [], ◌∷◌, length, take, get_or, Bool, true, false, Option, Some, None, IfSome, refl, ap, sym, subst, ◌∙◌, inl, inr, arith}
 use Rattle.std.specs.Prelude.{MatchOption, slice_get}
-use Rattle.std.specs.List.{All, Contains}
+use Rattle.std.specs.List.{All, Contains, fold}
 use Rattle.std.proofs.lemmas.Bool.Decides.{nat_tests}
 use Rattle.std.proofs.lemmas.List.{take_more}
-use Rattle.std.proofs.lemmas.List.Elements.{All-contains, Contains-append_cases}
+use Rattle.std.proofs.lemmas.List.Elements.{All-contains}
+use Rattle.std.proofs.lemmas.List.Sums.{fold-append}
 use Rattle.net_model.specs.Network.{Plan, IsPlan}
 use Rattle.net_model.specs.Rules.{Follows}
 use Rattle.net_model.specs.declared.ids.LinkId.{LinkId}
@@ -13,19 +14,23 @@ use Rattle.net_model.specs.declared.part.Edge.{Edge}
 use Rattle.net_model.specs.declared.part.Link.{Link}
 use Rattle.closure_model.specs.Closure.{IsClosure, HoldsDerivable}
 use Rattle.closure_model.specs.Derivable.{IsDerivable, IsDerivableFor, IsLeastDerivable}
-use Rattle.closure_model.specs.Keys.{Key, shape_of, key_of}
+use Rattle.closure_model.specs.Keys.{Key, Shape, IsKey, shape_of, key_of}
 use Rattle.closure_model.specs.Tables.{Graph, weight_of, HasEdge, HasAtMost, IsAtMost, base_edges, edges_of, row_of, no_edges, lowered, has_at_most}
 use Rattle.closure_model.proofs.BaseLemmas.{all_contained}
 use Rattle.closure_model.proofs.LawProofs.{rules_keep_derivable, closed_and_derivable_is_closure}
-use Rattle.closure_model.proofs.Lists.{Contains-cases, Contains-none, Contains-filter, Contains-filter_from}
-use Rattle.closure_model.proofs.TableLemmas.{listed_edge, edge_listed, no_edges-has_none, lowered-at_most, lowered-cases, lowered-shape, lowered-has, at_most_below, at_most_from, at_most_test, at_most_tested, has_at_most_itself, IsAtMost-itself, IsAtMost-trans}
+use Rattle.closure_model.proofs.Lists.{Contains-filter, Contains-filter_from}
+use Rattle.closure_model.proofs.TableLemmas.{listed_edge, edge_listed, no_edges-has_none, lowered-at_most, lowered-cases, lowered-shape, lowered-has, all_lowered-at_most, all_lowered-has, all_lowered-cases, all_lowered-shape, at_most_below, at_most_from, at_most_test, at_most_tested, has_at_most_itself, IsAtMost-itself, IsAtMost-trans}
 use Rattle.table_closing.proofs.GivingLemmas.{held_one, label_known, labelled_end}
-use Rattle.table_closing.proofs.WayLemmas.{closed_way_is_closure, derivable_is}
-use Rattle.table_closing.specs.Closing.{IsOnWay, IsOfDerivable, IsDenseOf, IsLoweredTo, IsEdgeInto, IsHeld, TestsTo}
+use Rattle.table_closing.proofs.WayLemmas.{closed_way_is_closure, derivable_is, derivable_key, derivable_size}
+use Rattle.table_closing.specs.Closing.{IsOnWay, IsOfDerivable, IsDenseOf, IsLoweredTo, IsEdgeInto, IsHeld, IsStorable, TestsTo, lowered_if}
 
 -- ---- a table that was lowered
 pub lowered_none : (net : Plan) (table : Graph) (among : Edge → Type 0) → IsOfDerivable net table → ((edge : Edge) → among edge → ⊥) → IsLoweredTo net among table table
 lowered_none net table among of nothing = record { of_derivable = of; at_most = IsAtMost-itself table; has = λ edge inside. absurd (nothing edge inside) }
+
+-- a derivable edge is one that a table of the network may have
+pub storable : (net : Plan) (table : Graph) (edge : Edge) → IsOfDerivable net table → IsDerivable net edge → IsStorable table.shape edge
+storable net table edge of derivable = record { key = derivable_key net of.plan edge derivable table of.fits; weight = derivable_size net of.plan edge derivable }
 
 -- first to some edges, then to others
 pub lowered_then : (net : Plan) (old middle new : Graph) (first second both : Edge → Type 0) → IsLoweredTo net first old middle → IsLoweredTo net second middle new → ((edge : Edge) → both edge → first edge ⊎ second edge) → IsLoweredTo net both old new
@@ -52,6 +57,39 @@ lowered_to_one net old new edge of derivable is = subst (λ (table : Graph). IsL
     edge_is : (other : Edge) → Some edge ≡ Some other → edge ≡ other
     edge_is other same = cc
 
+-- the same of each edge of a row
+pub row_storable : (net : Plan) (table : Graph) (row : List Edge) → IsOfDerivable net table → All (IsDerivable net) row → All (IsStorable table.shape) row
+row_storable net table row of all k d inside = storable net table _ of (all k d inside)
+
+pub row_key : (old new : Graph) (row : List Edge) (edge : Edge) → new ≡ fold lowered old row → IsStorable old.shape edge → IsKey new.shape (key_of edge)
+row_key old new row edge is may = subst (λ (s : Shape). IsKey s (key_of edge)) (sym (ap (λ (g : Graph). g.shape) is ∙ all_lowered-shape old row)) may.key
+
+pub row_on : (old middle new : Graph) (row : List Edge) (place : ℕ) (d : Edge) → place < length row → middle ≡ fold lowered old (take place row) → new ≡ lowered middle (get_or row place d) → new ≡ fold lowered old (take (place + 1) row)
+row_on old middle new row place d inside before is =
+    is ∙ ap (λ (g : Graph). lowered g (get_or row place d)) before ∙ sym (fold-append lowered old (take place row) (get_or row place d ∷ [])) ∙ ap (fold lowered old) (sym (take_more row place d inside))
+
+pub row_lowered : (net : Plan) (old new : Graph) (row : List Edge) → IsOfDerivable net old → All (IsDerivable net) row → new ≡ fold lowered old row → IsLoweredTo net (Contains row) old new
+row_lowered net old new row of all is = subst (IsLoweredTo net (Contains row) old) (sym is) (record {
+  of_derivable = record { plan = of.plan; fits = all_lowered-shape old row ∙ of.fits; derivable = λ other has. by other (all_lowered-cases old row other has) };
+  at_most = all_lowered-at_most old row;
+  has = all_lowered-has old row;
+})
+  where
+    by : (other : Edge) → Contains row other ⊎ HasEdge old other → IsDerivable net other
+    by other (inl inside) = All-contains (IsDerivable net) row other all inside
+    by other (inr has) = of.derivable other has
+
+-- the same of an edge that was found
+pub found_storable : (net : Plan) (table dense : Graph) → IsOfDerivable net table → IsOnWay net dense → (from : PointId) (to : PointId) (label : Option LinkId) (found : Option Edge)
+    → MatchOption found (weight_of dense (record { to = to; from = from; label = label }) ≡ None) (IsHeld dense from to label) → IfSome found (IsStorable table.shape)
+found_storable net table dense of way from to label None none = tt
+found_storable net table dense of way from to label (Some edge) held = storable net table edge of (way.derivable edge held.has)
+
+pub found_lowered : (net : Plan) (table next dense : Graph) → IsOfDerivable net table → IsOnWay net dense → (from : PointId) (to : PointId) (label : Option LinkId) (found : Option Edge)
+    → MatchOption found (weight_of dense (record { to = to; from = from; label = label }) ≡ None) (IsHeld dense from to label) → next ≡ lowered_if table found → IsLoweredTo net (λ edge. found ≡ Some edge) table next
+found_lowered net table next dense of way from to label None none is = subst (IsLoweredTo net (λ (edge : Edge). None ≡ Some edge) table) (sym is) (lowered_none net table (λ (edge : Edge). None ≡ Some edge) of (λ edge same. absurd cc))
+found_lowered net table next dense of way from to label (Some edge) held is = lowered_to_one net table next edge of (way.derivable edge held.has) is
+
 -- ---- tables on their way
 pub way_is_of_derivable : (net : Plan) (table : Graph) → IsOnWay net table → IsOfDerivable net table
 way_is_of_derivable net table way = record { plan = way.plan; fits = way.fits; derivable = way.derivable }
@@ -77,17 +115,6 @@ row_derivable net table to row is derivable = subst (All (IsDerivable net)) (sym
 -- ---- one edge, row or label more
 cases_below : (k n : ℕ) → k < n + 1 → (k < n) ⊎ (k ≡ n)
 cases_below k n below = grind arith
-
-pub row_more : (row : List Edge) (place : ℕ) (d edge : Edge) → place < length row → Contains (take (place + 1) row) edge → Contains (take place row) edge ⊎ (Some (get_or row place d) ≡ Some edge)
-row_more row place d edge inside among = by (Contains-append_cases (take place row) (get_or row place d ∷ []) edge (subst (λ (edges : List Edge). Contains edges edge) (take_more row place d inside) among))
-  where
-    by : Contains (take place row) edge ⊎ Contains (get_or row place d ∷ []) edge → Contains (take place row) edge ⊎ (Some (get_or row place d) ≡ Some edge)
-    by (inl before) = inl before
-    by (inr here) = at (Contains-cases (get_or row place d) [] edge here)
-      where
-        at : (get_or row place d ≡ edge) ⊎ Contains [] edge → Contains (take place row) edge ⊎ (Some (get_or row place d) ≡ Some edge)
-        at (inl same) = inr (ap Some same)
-        at (inr none) = absurd (Contains-none edge none)
 
 abbrev pub IsBelow : Graph → ℕ → Edge → Type 0
 IsBelow table end edge = HasEdge table edge × (edge.to.0 < end)
@@ -168,11 +195,11 @@ way_below net table dense end way done lower = way_by net dense table way lower.
 pub bounded_none : (net : Plan) (low table : Graph) → table ≡ no_edges (shape_of net) → IsAtMost low table
 bounded_none net low table is edge has = absurd (no_edges-has_none (shape_of net) edge (subst (λ (g : Graph). HasEdge g edge) is has))
 
-pub bounded_one : (low old new : Graph) (edge : Edge) → IsAtMost low old → HasAtMost low edge → new ≡ lowered old edge → IsAtMost low new
-bounded_one low old new edge under met is = subst (IsAtMost low) (sym is) (λ other has. by other (lowered-cases old edge other has))
+pub bounded_on : (low old new : Graph) (row : List Edge) → new ≡ fold lowered old row → IsAtMost low old → All (HasAtMost low) row → IsAtMost low new
+bounded_on low old new row is under each = subst (IsAtMost low) (sym is) (λ other has. by other (all_lowered-cases old row other has))
   where
-    by : (other : Edge) → (other ≡ edge) ⊎ HasEdge old other → HasAtMost low other
-    by other (inl same) = subst (HasAtMost low) (sym same) met
+    by : (other : Edge) → Contains row other ⊎ HasEdge old other → HasAtMost low other
+    by other (inl inside) = All-contains (HasAtMost low) row other each inside
     by other (inr has) = under other has
 
 pub row_bounded : (table : Graph) (to : PointId) (row : List Edge) → row ≡ row_of table to → All (HasAtMost table) row

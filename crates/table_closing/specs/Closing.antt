@@ -7,8 +7,10 @@ use Rattle.net_model.specs.declared.ids.PointId.{PointId}
 use Rattle.net_model.specs.declared.part.Edge.{Edge}
 use Rattle.closure_model.specs.Closure.{IsClosure, HoldsDerivable}
 use Rattle.closure_model.specs.Derivable.{IsDerivable}
+use Rattle.closure_model.specs.Keys.{Shape, IsKey, key_of}
 use Rattle.closure_model.specs.Orders.{IsOrder, IsCycle, placed_points}
-use Rattle.closure_model.specs.Tables.{Graph, HasEdge, HasAtMost, HasBase, IsAtMost, IsClosed, IsFor, has_at_most}
+use Rattle.closure_model.specs.Tables.{Graph, HasEdge, HasAtMost, HasBase, IsAtMost, IsClosed, IsFor, has_at_most, lowered}
+use Rattle.labelled_graph.specs.Words.{FitsWord}
 use Rattle.table_closing.specs.declared.closing.Closed.{Closed}
 
 -- a table is on its way to the closure of a network: it is one of the network, has the base edges, and all its edges are derivable
@@ -40,6 +42,16 @@ pub record IsLoweredTo (net : Plan) (among : Edge → Type 0) (old new : Graph) 
   pub of_derivable : IsOfDerivable net new
   pub at_most : IsAtMost new old
   pub has : (edge : Edge) → among edge → HasAtMost new edge
+
+-- an edge that a table of these points and links may have, and a word may hold
+pub record IsStorable (shape : Shape) (edge : Edge) : Type 0 where
+  pub key : IsKey shape (key_of edge)
+  pub weight : FitsWord edge.weight
+
+-- a table, lowered to an edge if there is one
+abbrev pub lowered_if : Graph → Option Edge → Graph
+lowered_if table None = table
+lowered_if table (Some edge) = lowered table edge
 
 -- an edge of a table, of a target and a label
 pub record IsEdgeInto (table : Graph) (to : PointId) (label : Option LinkId) (edge : Edge) : Type 0 where

@@ -1,3 +1,4 @@
 pub mod Closing
 pub mod Dense
 pub mod Laws
+pub mod Progress

@@ -1,8 +1,7 @@
 ghost use Rattle.std.specs.Prelude.{◌≡◌, ◌<◌, length, Some, None, IfOk, IfSome, OnOk, slice_get};
-ghost use Rattle.std.specs.List.{All, Contains};
-ghost use Rattle.closure_model.specs.Derivable.{IsDerivable};
-ghost use Rattle.closure_model.specs.Tables.{Graph, HasEdge, HasAtMost, IsAtMost};
-ghost use Rattle.table_closing.specs.Closing.{IsOnWay, IsOfDerivable, IsDenseOf, IsLoweredTo, IsEdgeInto};
+ghost use Rattle.std.specs.List.{All, fold};
+ghost use Rattle.closure_model.specs.Tables.{HasEdge, lowered};
+ghost use Rattle.table_closing.specs.Closing.{IsOnWay, IsOfDerivable, IsDenseOf, IsLoweredTo, IsEdgeInto, IsStorable, lowered_if};
 
 use crate::dense::DenseTable;
 use crate::giving::{labelled, ordinary};
@@ -22,17 +21,15 @@ pub(crate) fn dense_of(
     let mut dense = DenseTable::without_edges(alloc, net)?;
     for to in 0..net.points().len() as u32 {
         let row = table.row_into(alloc, PointId(to))?;
-        lower_to_row(&mut dense, net, row.as_slice());
+        lower_to_row(&mut dense, row.as_slice());
     }
     Ok(dense)
 }
 
 /// Lowers a dense table to each of some edges.
-fn lower_to_row(dense: &mut DenseTable, net: &Network, row: &[Edge])
-    requires dense { IsOfDerivable net.now dense.old }
-    requires row { All (IsDerivable net.now) row.now }
-    ensures lowered { IsLoweredTo net.now (Contains row.now) dense.old dense.new }
-    ensures bounded { (low : Graph) → IsAtMost low dense.old → All (HasAtMost low) row.now → IsAtMost low dense.new }
+fn lower_to_row(dense: &mut DenseTable, row: &[Edge])
+    requires { All (IsStorable dense.old.shape) row.now }
+    ensures { dense.new ≡ fold lowered dense.old row.now }
 {
     for edge in row {
         dense.lower_to(edge);
@@ -72,8 +69,8 @@ fn lower_into(
     ensures { OnOk result (IsLoweredTo net.now (IsEdgeInto dense.now to None) table.old table.new) }
 {
     for from in 0..net.points().len() as u32 {
-        let found = ordinary(dense, net, PointId(from), to);
-        lower_to_found(table, net, found)?;
+        let found = ordinary(dense, PointId(from), to);
+        lower_to_found(table, found)?;
     }
     Ok(())
 }
@@ -92,17 +89,16 @@ fn lower_labelled(
     ensures { OnOk result (IsLoweredTo net.now (IsEdgeInto dense.now to (Some link)) table.old table.new) }
 {
     for from in 0..net.points().len() as u32 {
-        let found = labelled(dense, net, PointId(from), to, link);
-        lower_to_found(table, net, found)?;
+        let found = labelled(dense, PointId(from), to, link);
+        lower_to_found(table, found)?;
     }
     Ok(())
 }
 
 /// Lowers a table to an edge, if there is one.
-fn lower_to_found(table: &mut Table, net: &Network, found: Option<Edge>) -> Result<(), AllocError>
-    requires table { IsOfDerivable net.now table.old }
-    requires found { IfSome found (IsDerivable net.now) }
-    ensures { OnOk result (IsLoweredTo net.now (λ edge. found ≡ Some edge) table.old table.new) }
+fn lower_to_found(table: &mut Table, found: Option<Edge>) -> Result<(), AllocError>
+    requires { IfSome found (IsStorable table.old.shape) }
+    ensures { OnOk result (table.new ≡ lowered_if table.old found) }
 {
     match found {
         None => Ok(()),

@@ -1,5 +1,6 @@
-ghost use Rattle.std.specs.Prelude.{◌≡◌, ◌<◌, length, IfOk};
+ghost use Rattle.std.specs.Prelude.{◌≡◌, ◌+◌, ◌<◌, ◌≤◌, length, IfOk, OnOk};
 ghost use Rattle.table_closing.specs.Closing.{IsOnWay};
+ghost use Rattle.table_closing.specs.Progress.{GoesOn, left_of_frame, left_of_mark, most_waiting};
 
 use crate::dense::DenseTable;
 use crate::lowering::{Lowering, Queue, wait};
@@ -38,7 +39,7 @@ pub(crate) fn deepen(
 }
 
 /// A table that is lowered depth first: how far the row of each point is, and the rows under work, of which each rests on the next.
-/// Contracts see it as the network of the table.
+/// Contracts see it as the network of the table, and how much is left to do.
 #[derive(Drop)]
 struct Deepening<'a> {
     alloc: Global,
@@ -49,19 +50,19 @@ struct Deepening<'a> {
 
 impl<'a> Model for Deepening<'a> {
     ghost use Rattle.std.specs.Prelude.{◌≡◌, length};
-    ghost use Rattle.net_model.specs.Network.{Plan};
+    ghost use Rattle.table_closing.specs.Progress.{Progress, deepening_of};
 
-    ghost Value = { Plan };
+    ghost Value = { Progress };
 
-    ghost view = { λ deepening. deepening.lowering };
+    ghost view = { λ deepening. deepening_of deepening.lowering deepening.marks.items deepening.stack.items };
 
-    ghost invariant = { λ deepening. length deepening.marks.items ≡ length deepening.lowering.points };
+    ghost invariant = { λ deepening. length deepening.marks.items ≡ length deepening.lowering.net.points };
 }
 
 impl<'a> Deepening<'a> {
     /// A table of which no row is begun.
     fn of(alloc: Global, lowering: Lowering<'a>) -> Result<Deepening<'a>, AllocError>
-        ensures { IfOk result (λ deepening. deepening ≡ lowering.entry) }
+        ensures { IfOk result (λ deepening. deepening.net ≡ lowering.entry.net) }
     {
         let marks = vec![in alloc; Mark::New; lowering.points() as usize]?;
         Ok(Deepening {
@@ -74,14 +75,14 @@ impl<'a> Deepening<'a> {
 
     /// The table as it is lowered.
     fn into_table(self) -> DenseTable
-        ensures { IsOnWay self.entry result }
+        ensures { IsOnWay self.entry.net result }
     {
         self.lowering.into_table()
     }
 
     /// Makes the row of each point, until a row under work is met.
     fn make_all(&mut self) -> Result<(), AllocError>
-        ensures { self.new ≡ self.old }
+        ensures { self.new.net ≡ self.old.net }
     {
         for point in 0..self.lowering.points() {
             let goes = self.make(PointId(point))?;
@@ -94,40 +95,50 @@ impl<'a> Deepening<'a> {
 
     /// Makes the row of a point, if it is not begun, and first those on which it rests. Says whether no row under work was met.
     fn make(&mut self, root: PointId) -> Result<bool, AllocError>
-        requires { root.0 < length self.old.points }
-        ensures { self.new ≡ self.old }
+        requires { root.0 < length self.old.net.points }
+        ensures { self.new.net ≡ self.old.net }
     {
-        self.begin(root)?;
-        for _turn in 0..u64::MAX {
-            match self.stack.pop() {
-                None => return Ok(true),
-                Some(frame) => {
-                    let goes = self.turn(frame)?;
-                    if !goes {
-                        return Ok(false);
-                    }
-                }
+        if self.meet(root) == Mark::New {
+            self.begin(root)?;
+        }
+        while let Some(frame) = self.stack.pop() {
+            let goes = self.turn(frame)?;
+            if !goes {
+                return Ok(false);
             }
         }
         Ok(true)
     }
 
-    /// Begins the row of a point, if it is not begun.
-    fn begin(&mut self, target: PointId) -> Result<(), AllocError>
-        requires { target.0 < length self.old.points }
-        ensures { self.new ≡ self.old }
+    /// The mark of the row of a point, which is under work from then on if it was not begun.
+    fn meet(&mut self, point: PointId) -> Mark
+        requires { point.0 < length self.old.net.points }
+        ensures net { self.new.net ≡ self.old.net }
+        ensures left { self.new.left + left_of_mark result ≤ self.old.left }
     {
-        if self.marks[target.0 as usize] == Mark::New {
-            self.marks[target.0 as usize] = Mark::Open;
-            let queue = self.lowering.begun(self.alloc, target)?;
-            self.stack.push(Frame { target, queue })?;
+        let mark = self.marks[point.0 as usize];
+        if mark == Mark::New {
+            self.marks[point.0 as usize] = Mark::Open;
         }
+        mark
+    }
+
+    /// Begins the row of a point.
+    fn begin(&mut self, target: PointId) -> Result<(), AllocError>
+        requires { target.0 < length self.old.net.points }
+        ensures net { self.new.net ≡ self.old.net }
+        ensures left { self.new.left ≤ self.old.left + most_waiting }
+    {
+        let queue = self.lowering.begun(self.alloc, target)?;
+        self.stack.push(Frame { target, queue })?;
         Ok(())
     }
 
-    /// Settles the next key of a row, or begins the row on which it rests. Says whether no row under work was met.
+    /// Settles the next key of a row, or begins the row on which it rests. Says whether no row under work was met. Less is left than
+    /// before the row was taken from the stack.
     fn turn(&mut self, frame: Frame) -> Result<bool, AllocError>
-        ensures { self.new ≡ self.old }
+        ensures net { self.new.net ≡ self.old.net }
+        ensures less { OnOk result (self.new.left < self.old.left + left_of_frame frame) }
     {
         let Frame { target, mut queue } = frame;
         match self.lowering.next(target, &mut queue) {
@@ -135,7 +146,7 @@ impl<'a> Deepening<'a> {
                 self.finish(target);
                 Ok(true)
             }
-            Some(edge) => match self.marks[edge.from.0 as usize] {
+            Some(edge) => match self.meet(edge.from) {
                 Mark::Open => Ok(false),
                 Mark::New => {
                     wait(&mut queue, &edge)?;
@@ -154,7 +165,7 @@ impl<'a> Deepening<'a> {
 
     /// The row of a point is made.
     fn finish(&mut self, target: PointId)
-        ensures { self.new ≡ self.old }
+        ensures { GoesOn self.old self.new }
     {
         if let Some(mark) = self.marks.get_mut(target.0 as usize) {
             *mark = Mark::Done;

@@ -1,10 +1,10 @@
-ghost use Rattle.std.specs.Prelude.{◌≡◌, ◌<◌, length, None, Some, IfSome, MatchOption, slice_get};
+ghost use Rattle.std.specs.Prelude.{◌≡◌, ◌<◌, None, Some, IfSome, MatchOption, slice_get};
 ghost use Rattle.net_model.specs.Network.{activation};
 ghost use Rattle.net_model.specs.Rules.{removal};
 ghost use Rattle.closure_model.specs.Derivable.{IsDerivable};
 ghost use Rattle.closure_model.specs.Keys.{ordinary_key, labelled_key};
 ghost use Rattle.closure_model.specs.Tables.{weight_of, HasEdge};
-ghost use Rattle.table_closing.specs.Closing.{IsOnWay, IsOverLinks, IsAfter, IsHeld};
+ghost use Rattle.table_closing.specs.Closing.{IsOverLinks, IsAfter, IsHeld};
 
 use crate::dense::DenseTable;
 use net_model::{Edge, LinkId, Network, PointId};
@@ -16,8 +16,7 @@ pub fn freed(net: &Network, edge: &Edge) -> Option<Edge>
     ensures exact { result ≡ removal net.now edge.now }
     ensures derivable { IfSome result (IsDerivable net.now) }
 {
-    // The proof reads here that the network is sound.
-    let _ = net.points();
+    net.sound();
     removal(net, edge)
 }
 
@@ -26,8 +25,7 @@ pub fn over_link(net: &Network, edge: &Edge) -> Option<Edge>
     requires { IsDerivable net.now edge.now }
     ensures { IsOverLinks net.now edge.now result }
 {
-    // The proof reads here that the network is sound.
-    let _ = net.points();
+    net.sound();
     match net.activation(edge.from) {
         None => None,
         Some(link) => over_this_link(net, link, edge),
@@ -39,8 +37,7 @@ fn over_this_link(net: &Network, link: LinkId, edge: &Edge) -> Option<Edge>
     requires link { activation net.now edge.now.from ≡ Some link }
     ensures { IsOverLinks net.now edge.now result }
 {
-    // The proof reads here that the network is sound.
-    let _ = net.points();
+    net.sound();
     match edge.label {
         None => lower_case(net, link, edge),
         Some(_) => cross_case(net, link, edge),
@@ -53,8 +50,7 @@ pub fn after(net: &Network, first: &Edge, edge: &Edge) -> Option<Edge>
     requires edge { IsDerivable net.now edge.now }
     ensures { IsAfter net.now first.now edge.now result }
 {
-    // The proof reads here that the network is sound.
-    let _ = net.points();
+    net.sound();
     match edge.label {
         None => no_case(first, edge),
         Some(_) => upper_case(first, edge),
@@ -62,15 +58,9 @@ pub fn after(net: &Network, first: &Edge, edge: &Edge) -> Option<Edge>
 }
 
 /// The ordinary edge of a table from one point to another, if there is one.
-pub(crate) fn ordinary(
-    table: &DenseTable,
-    net: &Network,
-    from: PointId,
-    to: PointId,
-) -> Option<Edge>
-    requires way { IsOnWay net.now table.now }
-    requires from_point { from.0 < length net.now.points }
-    requires to_point { to.0 < length net.now.points }
+pub(crate) fn ordinary(table: &DenseTable, from: PointId, to: PointId) -> Option<Edge>
+    requires from_point { from.0 < table.now.shape.points }
+    requires to_point { to.0 < table.now.shape.points }
     ensures { MatchOption result (weight_of table.now (ordinary_key from to) ≡ None) (IsHeld table.now from to None) }
 {
     let weight = table.weight(from, to)?;
@@ -83,15 +73,8 @@ pub(crate) fn ordinary(
 }
 
 /// The edge of a table from a point that is labelled by a link that begins in another, if there is one.
-pub(crate) fn labelled(
-    table: &DenseTable,
-    net: &Network,
-    from: PointId,
-    to: PointId,
-    link: LinkId,
-) -> Option<Edge>
-    requires way { IsOnWay net.now table.now }
-    requires from_point { from.0 < length net.now.points }
+pub(crate) fn labelled(table: &DenseTable, from: PointId, to: PointId, link: LinkId) -> Option<Edge>
+    requires from_point { from.0 < table.now.shape.points }
     requires link { slice_get table.now.shape.activations link.0 ≡ Some to }
     ensures { MatchOption result (weight_of table.now (labelled_key from to link) ≡ None) (IsHeld table.now from to (Some link)) }
 {

@@ -1,7 +1,9 @@
-ghost use Rattle.std.specs.Prelude.{◌≡◌, ◌<◌, ◌≤◌, length, IfSome, Some, slice_get};
+ghost use Rattle.std.specs.Prelude.{◌≡◌, ◌+◌, ◌<◌, ◌≤◌, length, IfSome, OnSome, Some, slice_get};
+ghost use Rattle.std.specs.BinaryHeap.{heap_len};
 ghost use Rattle.closure_model.specs.Derivable.{IsDerivable};
 ghost use Rattle.closure_model.specs.Keys.{shape_of};
 ghost use Rattle.table_closing.specs.Closing.{IsDerivedEdge, IsOnWay};
+ghost use Rattle.table_closing.specs.Progress.{GoesOn, FallsForEach};
 
 use crate::dense::DenseTable;
 use crate::giving::{after, freed, labelled, ordinary, over_link};
@@ -17,7 +19,8 @@ pub(crate) type Queue = BinaryHeap<Reverse<(Weight, u32, u32)>>;
 /// How many points are looked at together.
 const BLOCK: u32 = 32;
 
-/// A table of a network on its way to the closure, which derivable edges lower. Contracts see it as its network.
+/// A table of a network on its way to the closure, which derivable edges lower. Contracts see it as its network, and how far its weights
+/// can still fall.
 #[derive(Drop)]
 pub(crate) struct Lowering<'a> {
     net: &'a Network,
@@ -25,12 +28,12 @@ pub(crate) struct Lowering<'a> {
 }
 
 impl<'a> Model for Lowering<'a> {
-    ghost use Rattle.net_model.specs.Network.{Plan};
     ghost use Rattle.table_closing.specs.Closing.{IsOnWay};
+    ghost use Rattle.table_closing.specs.Progress.{Progress, lowering_of};
 
-    ghost Value = { Plan };
+    ghost Value = { Progress };
 
-    ghost view = { λ lowering. lowering.net.now };
+    ghost view = { λ lowering. lowering_of lowering.net.now lowering.table };
 
     ghost invariant = { λ lowering. IsOnWay lowering.net.now lowering.table };
 }
@@ -39,29 +42,29 @@ impl<'a> Lowering<'a> {
     /// A table of a network, to be lowered.
     pub(crate) fn of(net: &'a Network, table: DenseTable) -> Lowering<'a>
         requires { IsOnWay net.now table }
-        ensures { result ≡ net.now }
+        ensures { result.net ≡ net.now }
     {
         Lowering { net, table }
     }
 
     /// The table as it is lowered.
     pub(crate) fn into_table(self) -> DenseTable
-        ensures { IsOnWay self.entry result }
+        ensures { IsOnWay self.entry.net result }
     {
         self.table
     }
 
     /// How many points the network has.
     pub(crate) fn points(&self) -> u32
-        ensures { result ≡ length self.now.points }
+        ensures { result ≡ length self.now.net.points }
     {
         self.net.points().len() as u32
     }
 
     /// The negative keys of a row as the table has it.
     pub(crate) fn begun(&mut self, alloc: Global, target: PointId) -> Result<Queue, AllocError>
-        requires { target.0 < length self.old.points }
-        ensures { self.new ≡ self.old }
+        requires { target.0 < length self.old.net.points }
+        ensures { GoesOn self.old self.new }
     {
         let mut queue = BinaryHeap::new(alloc);
         for from in 0..self.points() {
@@ -84,8 +87,8 @@ impl<'a> Lowering<'a> {
         target: PointId,
         link: LinkId,
     ) -> Result<(), AllocError>
-        requires { slice_get (shape_of self.old).activations link.0 ≡ Some target }
-        ensures { self.new ≡ self.old }
+        requires { slice_get (shape_of self.old.net).activations link.0 ≡ Some target }
+        ensures { GoesOn self.old self.new }
     {
         for from in 0..self.points() {
             if let Some(edge) = self.labelled(PointId(from), target, link) {
@@ -99,7 +102,8 @@ impl<'a> Lowering<'a> {
 
     /// The next key of a row that waits at the weight that the table has for it.
     pub(crate) fn next(&self, target: PointId, queue: &mut Queue) -> Option<Edge>
-        ensures { IfSome result (IsDerivedEdge self.now) }
+        ensures edge { IfSome result (IsDerivedEdge self.now.net) }
+        ensures taken { OnSome result (heap_len queue.new + 1 ≤ heap_len queue.old) }
     {
         for _one in 0..queue.len() {
             let Reverse((weight, from, number)) = queue.pop()?;
@@ -115,7 +119,7 @@ impl<'a> Lowering<'a> {
 
     /// The edge of a source, a target and the number of a label, if the table has one.
     fn held(&self, from: PointId, to: PointId, number: u32) -> Option<Edge>
-        ensures { IfSome result (IsDerivedEdge self.now) }
+        ensures { IfSome result (IsDerivedEdge self.now.net) }
     {
         let points = self.points();
         if from.0 >= points || to.0 >= points {
@@ -133,27 +137,27 @@ impl<'a> Lowering<'a> {
 
     /// The ordinary edge from one point to another, if the table has one.
     fn ordinary(&self, from: PointId, to: PointId) -> Option<Edge>
-        requires from_point { from.0 < length self.now.points }
-        requires to_point { to.0 < length self.now.points }
-        ensures { IfSome result (IsDerivedEdge self.now) }
+        requires from_point { from.0 < length self.now.net.points }
+        requires to_point { to.0 < length self.now.net.points }
+        ensures { IfSome result (IsDerivedEdge self.now.net) }
     {
-        ordinary(&self.table, self.net, from, to)
+        ordinary(&self.table, from, to)
     }
 
     /// The edge from a point that is labelled by a link that begins in another, if the table has one.
     fn labelled(&self, from: PointId, to: PointId, link: LinkId) -> Option<Edge>
-        requires from_point { from.0 < length self.now.points }
-        requires link { slice_get (shape_of self.now).activations link.0 ≡ Some to }
-        ensures { IfSome result (IsDerivedEdge self.now) }
+        requires from_point { from.0 < length self.now.net.points }
+        requires link { slice_get (shape_of self.now.net).activations link.0 ≡ Some to }
+        ensures { IfSome result (IsDerivedEdge self.now.net) }
     {
-        labelled(&self.table, self.net, from, to, link)
+        labelled(&self.table, from, to, link)
     }
 
     /// Offers what a rule gave to the table; where it falls and is negative, its key waits. The edge without its label is offered
     /// too.
     fn offer(&mut self, queue: &mut Queue, edge: Option<Edge>) -> Result<(), AllocError>
-        requires { IfSome edge (IsDerivable self.old) }
-        ensures { self.new ≡ self.old }
+        requires { IfSome edge (IsDerivable self.old.net) }
+        ensures { FallsForEach self.old self.new (heap_len queue.old) (heap_len queue.new) }
     {
         if let Some(edge) = edge {
             self.offer_one(queue, &edge)?;
@@ -166,8 +170,8 @@ impl<'a> Lowering<'a> {
 
     /// Offers an edge to the table; where it falls and is negative, its key waits.
     fn offer_one(&mut self, queue: &mut Queue, edge: &Edge) -> Result<(), AllocError>
-        requires { IsDerivable self.old edge.now }
-        ensures { self.new ≡ self.old }
+        requires { IsDerivable self.old.net edge.now }
+        ensures { FallsForEach self.old self.new (heap_len queue.old) (heap_len queue.new) }
     {
         if self.table.lower_to(edge) {
             wait(queue, edge)?;
@@ -177,8 +181,8 @@ impl<'a> Lowering<'a> {
 
     /// Offers whatever follows from an edge over a link, or with an ordinary edge of the table before it.
     pub(crate) fn settle(&mut self, queue: &mut Queue, edge: &Edge) -> Result<(), AllocError>
-        requires { IsDerivable self.old edge.now }
-        ensures { self.new ≡ self.old }
+        requires { IsDerivable self.old.net edge.now }
+        ensures { FallsForEach self.old self.new (heap_len queue.old) (heap_len queue.new) }
     {
         let over = over_link(self.net, edge);
         self.offer(queue, over)?;
@@ -190,8 +194,8 @@ impl<'a> Lowering<'a> {
 
     /// Offers what follows with an ordinary edge before an edge, for the points of a block, if something falls there.
     fn settle_block(&mut self, queue: &mut Queue, edge: &Edge, block: u32) -> Result<(), AllocError>
-        requires { IsDerivable self.old edge.now }
-        ensures { self.new ≡ self.old }
+        requires { IsDerivable self.old.net edge.now }
+        ensures { FallsForEach self.old self.new (heap_len queue.old) (heap_len queue.new) }
     {
         let points = self.points();
         let begin = block.saturating_mul(BLOCK).min(points);
@@ -209,9 +213,9 @@ impl<'a> Lowering<'a> {
         begin: u32,
         end: u32,
     ) -> Result<(), AllocError>
-        requires edge { IsDerivable self.old edge.now }
-        requires end { end ≤ length self.old.points }
-        ensures { self.new ≡ self.old }
+        requires edge { IsDerivable self.old.net edge.now }
+        requires end { end ≤ length self.old.net.points }
+        ensures { FallsForEach self.old self.new (heap_len queue.old) (heap_len queue.new) }
     {
         for from in begin..end {
             self.settle_after(queue, edge, PointId(from))?;
@@ -226,9 +230,9 @@ impl<'a> Lowering<'a> {
         edge: &Edge,
         from: PointId,
     ) -> Result<(), AllocError>
-        requires edge { IsDerivable self.old edge.now }
-        requires from { from.0 < length self.old.points }
-        ensures { self.new ≡ self.old }
+        requires edge { IsDerivable self.old.net edge.now }
+        requires from { from.0 < length self.old.net.points }
+        ensures { FallsForEach self.old self.new (heap_len queue.old) (heap_len queue.new) }
     {
         if let Some(first) = self.ordinary(from, edge.from) {
             let given = after(self.net, &first, edge);
@@ -239,7 +243,9 @@ impl<'a> Lowering<'a> {
 }
 
 /// The key of a negative edge waits.
-pub(crate) fn wait(queue: &mut Queue, edge: &Edge) -> Result<(), AllocError> {
+pub(crate) fn wait(queue: &mut Queue, edge: &Edge) -> Result<(), AllocError>
+    ensures { heap_len queue.new ≤ heap_len queue.old + 1 }
+{
     if edge.weight < 0 {
         queue.push(Reverse((edge.weight, edge.from.0, number_of(edge.label))))?;
     }

@@ -60,7 +60,7 @@ fn unmet_into(table: &DenseTable, net: &Network, to: PointId) -> Option<Edge>
     ensures { MatchOption result ((edge : Edge) → HasEdge table.now edge → edge.label ≡ None → edge.to ≡ to → MeetsAll net.now table.now edge) (IsUnmet net.now table.now) }
 {
     for from in 0..net.points().len() as u32 {
-        let found = ordinary(table, net, PointId(from), to);
+        let found = ordinary(table, PointId(from), to);
         if let Some(unmet) = unmet_found(table, net, found) {
             return Some(unmet);
         }
@@ -76,7 +76,7 @@ fn unmet_labelled(table: &DenseTable, net: &Network, link: LinkId) -> Option<Edg
 {
     let to = net.links()[link.0 as usize].from;
     for from in 0..net.points().len() as u32 {
-        let found = labelled(table, net, PointId(from), to, link);
+        let found = labelled(table, PointId(from), to, link);
         if let Some(unmet) = unmet_found(table, net, found) {
             return Some(unmet);
         }
@@ -139,7 +139,7 @@ fn unmet_after(table: &DenseTable, net: &Network, from: PointId, edge: &Edge) ->
     requires edge { IsDerivable net.now edge.now }
     ensures { MatchOption result ((first : Edge) → HasEdge table.now first → first.from ≡ from → MeetsAfter table.now first edge.now) (IsUnmet net.now table.now) }
 {
-    match ordinary(table, net, from, edge.from) {
+    match ordinary(table, from, edge.from) {
         None => None,
         Some(first) => unmet_given(table, net, after(net, &first, edge)),
     }
@@ -165,8 +165,7 @@ fn is_met(table: &DenseTable, net: &Network, edge: &Edge) -> bool
     requires edge { IsDerivable net.now edge.now }
     ensures { result ≡ has_at_most table.now edge.now }
 {
-    // The proof reads here that the network is sound.
-    let _ = net.points();
+    net.sound();
     table
         .weight_at(edge)
         .is_some_and(|weight| weight <= edge.weight)

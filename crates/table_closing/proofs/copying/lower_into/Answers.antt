@@ -1,13 +1,17 @@
 use Rattle.std.proofs.Common.{◌≡◌, ◌<◌, ◌+◌, ℕ, length, List, ap, None, Some, arith}
 use Rattle.net_model.specs.declared.part.Edge.{Edge}
 use Rattle.table_closing.specs.Closing.{IsEdgeInto}
-use Rattle.table_closing.proofs.CopyLemmas.{lowered_then, lowered_among, found_more, within_points}
+use Rattle.table_closing.proofs.CopyLemmas.{lowered_then, lowered_among, found_more, found_storable, found_lowered, within_points}
 use Rattle.table_closing.proofs.copying.lower_into.Goals as goal
+
+pub lower_to_found-requires : goal.lower_to_found-requires
+lower_to_found-requires c = found_storable c.args.net.now c.loop-from.table c.args.dense.now c.loop-from.invariant.of_derivable c.requires.dense (record { 0 = c.loop-from.from }) c.args.to None c.ordinary-found.result c.ordinary-found.ensures
 
 pub loop-from-preserved : goal.loop-from-preserved
 loop-from-preserved c =
     lowered_then c.args.net.now c.args.table.now c.loop-from.table c.lower_to_found.new.table (λ (edge : Edge). IsEdgeInto c.args.dense.now c.args.to None edge × (edge.from.0 < c.loop-from.from)) (λ (edge : Edge). c.ordinary-found.result ≡ Some edge)
-    (λ (edge : Edge). IsEdgeInto c.args.dense.now c.args.to None edge × (edge.from.0 < c.loop-from.from + 1)) c.loop-from.invariant c.in_ok-lower_to_found.ensures
+    (λ (edge : Edge). IsEdgeInto c.args.dense.now c.args.to None edge × (edge.from.0 < c.loop-from.from + 1)) c.loop-from.invariant
+    (found_lowered c.args.net.now c.loop-from.table c.lower_to_found.new.table c.args.dense.now c.loop-from.invariant.of_derivable c.requires.dense (record { 0 = c.loop-from.from }) c.args.to None c.ordinary-found.result c.ordinary-found.ensures c.in_ok-lower_to_found.ensures)
     (found_more c.args.dense.now c.loop-from.from c.args.to None c.ordinary-found.result c.ordinary-found.ensures)
 
 pub returns : goal.returns

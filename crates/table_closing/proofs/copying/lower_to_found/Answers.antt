@@ -1,20 +1,13 @@
-use Rattle.std.proofs.Common.{◌≡◌, Option, Some, sym, subst}
-use Rattle.net_model.specs.declared.part.Edge.{Edge}
-use Rattle.closure_model.specs.Derivable.{IsDerivable}
-use Rattle.table_closing.specs.Closing.{IsLoweredTo}
-use Rattle.table_closing.proofs.CopyLemmas.{lowered_to_one}
+use Rattle.std.proofs.Common.{ap, sym, ◌∙◌, arith}
+use Rattle.table_closing.specs.Closing.{IsStorable, lowered_if}
 use Rattle.table_closing.proofs.GivingLemmas.{given_if}
-use Rattle.table_closing.proofs.WayLemmas.{derivable_key, derivable_weight}
 use Rattle.table_closing.proofs.copying.lower_to_found.Goals as goal
 
 pub lower_to-requires-clause-key : goal.lower_to-requires-clause-key
-lower_to-requires-clause-key c =
-    derivable_key c.args.net.now c.requires.table.plan c.in-Some.edge (given_if (IsDerivable c.args.net.now) c.args.found c.in-Some.edge c.requires.found c.in-Some.is) c.args.table.now c.requires.table.fits
+lower_to-requires-clause-key c = (given_if (IsStorable c.args.table.now.shape) c.args.found c.in-Some.edge c.requires c.in-Some.is).key
 
 pub lower_to-requires-clause-weight : goal.lower_to-requires-clause-weight
-lower_to-requires-clause-weight c = derivable_weight c.args.net.now c.requires.table.plan c.in-Some.edge (given_if (IsDerivable c.args.net.now) c.args.found c.in-Some.edge c.requires.found c.in-Some.is)
+lower_to-requires-clause-weight c = let may = given_if (IsStorable c.args.table.now.shape) c.args.found c.in-Some.edge c.requires c.in-Some.is in omega (arith, may.weight)
 
 pub returns-in_ok-lower_to-in-Some : goal.returns-in_ok-lower_to-in-Some
-returns-in_ok-lower_to-in-Some c =
-    subst (λ (found : Option Edge). IsLoweredTo c.args.net.now (λ (edge : Edge). found ≡ Some edge) c.args.table.now c.lower_to.new.self) (sym c.in-Some.is)
-    (lowered_to_one c.args.net.now c.args.table.now c.lower_to.new.self c.in-Some.edge c.requires.table (given_if (IsDerivable c.args.net.now) c.args.found c.in-Some.edge c.requires.found c.in-Some.is) c.in_ok-lower_to-in-Some.ensures.lowered.1)
+returns-in_ok-lower_to-in-Some c = c.in_ok-lower_to-in-Some.ensures.lowered.1 ∙ ap (lowered_if c.args.table.now) (sym c.in-Some.is)

@@ -1,5 +1,6 @@
-use Rattle.std.proofs.Common.{◌≡◌, IfSome}
+use Rattle.std.proofs.Common.{◌≡◌, ◌<◌, IfSome, sym, subst}
 use Rattle.net_model.specs.declared.part.Edge.{Edge}
+use Rattle.closure_model.specs.Keys.{Shape}
 use Rattle.closure_model.specs.Tables.{HasEdge, HasAtMost}
 use Rattle.table_closing.specs.Closing.{MeetsAfter, IsUnmet}
 use Rattle.table_closing.proofs.WayLemmas.{derivable_is}
@@ -7,7 +8,7 @@ use Rattle.table_closing.proofs.GivingLemmas.{meets_none_from, meets_one_from, m
 use Rattle.table_closing.proofs.unmet.unmet_after.Goals as goal
 
 pub ordinary-requires-clause-to_point : goal.ordinary-requires-clause-to_point
-ordinary-requires-clause-to_point c = (derivable_is c.args.net.now c.requires.way.plan c.args.edge.now c.requires.edge).from_point
+ordinary-requires-clause-to_point c = subst (λ (s : Shape). c.args.edge.now.from.0 < s.points) (sym c.requires.way.fits) (derivable_is c.args.net.now c.requires.way.plan c.args.edge.now c.requires.edge).from_point
 
 pub returns-in-None : goal.returns-in-None
 returns-in-None c = meets_none_from c.args.table.now c.args.from c.args.edge.now c.in-None.ensures
