@@ -50,11 +50,14 @@ impl Feeding {
         requires count { (1 ≤ count) × (count ≤ most_feeders) }
         ensures { IfOk result (λ feeding. feeding ≡ net.now) }
     {
+        let rooms = rooms_for(alloc, net.links().len())?;
         let (desk, mut seat) = Desk::new(alloc, net, count + 1)?;
         let feeders = feeders_of(alloc, &desk, &mut seat)?;
-        let ordered = Vec::with_capacity(alloc, MOST_LISTED)?;
-        let links = Vec::with_capacity(alloc, MOST_LISTED)?;
-        let read = Vec::with_capacity(alloc, net.links().len())?;
+        let Rooms {
+            ordered,
+            links,
+            read,
+        } = rooms;
         Ok(Feeding {
             desk,
             seat,
@@ -79,8 +82,7 @@ impl Feeding {
         requires net { self.old ≡ net.now }
         requires executor { length executor.old.setting.dispatch ≡ length net.now.points }
         requires moment { moment < 2 ^ 63 }
-        requires listed { All (IsPoint net.now) listed.now }
-        requires few { length listed.now ≤ most_listed }
+        requires listed { All (IsPoint net.now) listed.now × (length listed.now ≤ most_listed) }
         ensures fed { IsFedInOrder executor.old moment listed.now result executor.new }
         ensures net { self.new ≡ self.old }
     {
@@ -93,6 +95,27 @@ impl Feeding {
         let (read, ordered) = (self.read.as_slice(), self.ordered.as_slice());
         executor.feed(moment, first_where_same(read, ordered, all && first))
     }
+}
+
+/// The room that a feed needs: for the points of a line, for the links that end in them, and for those that are read back.
+#[derive(Drop)]
+struct Rooms {
+    ordered: Vec<PointId>,
+    links: Vec<LinkId>,
+    read: Vec<PointId>,
+}
+
+/// The room for the feeds of a network with so many links. `AllocError` comes only for want of memory.
+fn rooms_for(alloc: Global, links: usize) -> Result<Rooms, AllocError>
+    ensures ordered { IfOk result (λ rooms. most_listed ≤ vec_capacity rooms.ordered) }
+    ensures links { IfOk result (λ rooms. most_listed ≤ vec_capacity rooms.links) }
+    ensures read { IfOk result (λ rooms. links ≤ vec_capacity rooms.read) }
+{
+    Ok(Rooms {
+        ordered: Vec::with_capacity(alloc, MOST_LISTED)?,
+        links: Vec::with_capacity(alloc, MOST_LISTED)?,
+        read: Vec::with_capacity(alloc, links)?,
+    })
 }
 
 /// A feeder for each seat that may be split from the first one.

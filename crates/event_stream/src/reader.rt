@@ -63,9 +63,8 @@ impl EventReader {
     /// `UnknownName` where no point of the network has it. It takes no memory.
     pub fn read(&mut self, line: &[u8], net: &Network) -> Result<Event, FormatKind>
         requires { length line.now ≤ most_line }
-        ensures reads { AnswersEventLine (event_line net.now (words line.now)) self.old result self.new }
+        ensures reads { AnswersEventLine (event_line net.now (words line.now)) self.old result self.new × ((told : EventLine) → IsLine net.now told line.now → (result ≡ Ok (event_of told)) × (self.new ≡ kept told self.old)) }
         ensures grammar { IfOk result (λ event. IsLine net.now (said event self.new) line.now) }
-        ensures every { (told : EventLine) → IsLine net.now told line.now → (result ≡ Ok (event_of told)) × (self.new ≡ kept told self.old) }
         ensures fault { IfErr result (IsFaultOf net.now line.now) }
         ensures refused { OnErr result (self.new ≡ self.old) }
         ensures points { IfOk result (λ event. HasPoints net.now event self.new) }

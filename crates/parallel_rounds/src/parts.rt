@@ -1,17 +1,17 @@
 //! The parts of the workers of a round, and how they are put together.
 
-ghost use Rattle.std.specs.Prelude.{◌≡◌, ◌<◌, ◌+◌, ◌++◌, length, vec_len, List, IfOk, OnOk};
+ghost use Rattle.std.specs.Prelude.{◌≡◌, ◌<◌, ◌+◌, ◌++◌, vec_len, List, IfOk, OnOk};
 ghost use Rattle.std.specs.List.{All};
-ghost use Rattle.net_model.specs.Network.{IsPoint, Plan};
+ghost use Rattle.net_model.specs.Network.{Plan};
 ghost use Rattle.net_model.specs.declared.ids.PointId.{PointId};
-ghost use Rattle.closure_model.specs.ReferenceRow.{HasWeightsWithin};
-ghost use Rattle.closure_model.specs.Tables.{IsFor, Graph};
+ghost use Rattle.closure_model.specs.Tables.{Graph};
 ghost use Rattle.work_board.specs.Boards.{IsSeatOf};
 ghost use Rattle.parallel_rounds.specs.Gathering.{CanMakeRows, IsFresh, IsFirst, AreSeats, IsPart, IsPartOf, HasRows, AreParts, AllHaveRows};
 ghost use Rattle.parallel_rounds.specs.Telling.{CanTell};
 ghost use Rattle.work_board.specs.Views.{joined_with};
 
 use crate::gate::Gate;
+use crate::workers::Workers;
 use crate::working::draw_rows;
 use back_propagation::NewRow;
 use labelled_graph::Table;
@@ -74,28 +74,30 @@ fn make_part<G: Gate>(
     Ok(Part { seat, rows })
 }
 
-/// The parts of all workers, one for each seat, which they make at once. That of the first seat stands at the end.
-pub(crate) fn all_parts<R: Threads + Sync, G: Gate>(
-    rt: &R,
-    alloc: Global,
-    board: &Board,
-    seats: Vec<Seat>,
-    task: &Task<G>,
-) -> Result<Vec<Result<Part, AllocError>>, AllocError>
-    requires can { CanMakeRows task.now.net.now task.now.table.now task.now.targets.now board.now }
-    requires seats { AreSeats board.now seats.items }
-    requires told { CanTell task.now.net.now task.now.table.now task.now.told task.now.fresh.now }
-    ensures parts { IfOk result (λ parts. AreParts board.now parts.items) }
-    ensures rows { IfOk result (λ parts. AllHaveRows task.now.net.now task.now.table.now task.now.targets.now parts.items) }
-{
-    map_vec(
-        rt,
-        seats,
-        &|seat| -> Result<Part, AllocError>
-            requires { CanMakeRows task.now.net.now task.now.table.now task.now.targets.now board.now × IsFresh board.now seat × CanTell task.now.net.now task.now.table.now task.now.told task.now.fresh.now }
-            ensures { IfOk result (IsPartOf task.entry.now.net.now task.entry.now.table.now task.entry.now.targets.now board.entry.now seat) }
-        { make_part(alloc, board, seat, task) },
-    )
+impl<'a, R: Threads + Sync> Workers<'a, R> {
+    /// The parts of all workers, one for each seat, which they make at once. That of the first seat stands at the end.
+    pub(crate) fn all_parts<G: Gate>(
+        &self,
+        board: &Board,
+        seats: Vec<Seat>,
+        task: &Task<G>,
+    ) -> Result<Vec<Result<Part, AllocError>>, AllocError>
+        requires can { CanMakeRows task.now.net.now task.now.table.now task.now.targets.now board.now }
+        requires seats { AreSeats board.now seats.items }
+        requires told { CanTell task.now.net.now task.now.table.now task.now.told task.now.fresh.now }
+        ensures parts { IfOk result (λ parts. AreParts board.now parts.items) }
+        ensures rows { IfOk result (λ parts. AllHaveRows task.now.net.now task.now.table.now task.now.targets.now parts.items) }
+    {
+        let alloc = self.alloc();
+        map_vec(
+            self.rt(),
+            seats,
+            &|seat| -> Result<Part, AllocError>
+                requires { CanMakeRows task.now.net.now task.now.table.now task.now.targets.now board.now × IsFresh board.now seat × CanTell task.now.net.now task.now.table.now task.now.told task.now.fresh.now }
+                ensures { IfOk result (IsPartOf task.entry.now.net.now task.entry.now.table.now task.entry.now.targets.now board.entry.now seat) }
+            { make_part(alloc, board, seat, task) },
+        )
+    }
 }
 
 /// The first worker's part, with those of the others joined into it. `AllocError` comes where a worker had no memory, or there is none

@@ -14,9 +14,10 @@ use crate::gate::Gate;
 use crate::outcome::Outcome;
 use crate::parts::Task;
 use crate::placing::{Placed, closed, order_if, place};
-use crate::rows::{round, rows_of};
+use crate::rows::round;
 use crate::staleness::stale;
 use crate::telling::LastRound;
+use crate::workers::Workers;
 use back_propagation::NewRow;
 use derivation_dag::Supports;
 use labelled_graph::Table;
@@ -46,6 +47,11 @@ pub fn propagate<R: Threads + Sync, S: Supports, G: Gate>(
     ensures { IfOk result (IsPropagated net.now (S.support store.old) (S.support store.new)) }
 {
     let points = net.points().len() as u32;
+    let by = Rounds {
+        workers: Workers::of(rt, alloc, workers),
+        net,
+        gate,
+    };
     let mut rounds = 0;
     let mut kept = None;
     let mut last = None;
@@ -55,7 +61,7 @@ pub fn propagate<R: Threads + Sync, S: Supports, G: Gate>(
             Placed::Round(cycle) => return Ok(Outcome::Looped { rounds, cycle }),
         };
         rounds += 1;
-        match make_round(rt, alloc, net, store, workers, gate, &order, &last)? {
+        match by.make_round(store, &order, &last)? {
             None => return closed(alloc, store.table(), points, rounds),
             Some(next) => {
                 kept = order_if(next.stays, order);
@@ -65,100 +71,108 @@ pub fn propagate<R: Threads + Sync, S: Supports, G: Gate>(
     }
 }
 
-/// Makes one round, and says what fell in it, if anything did.
-fn make_round<R: Threads + Sync, S: Supports, G: Gate>(
-    rt: &R,
-    alloc: Global,
-    net: &Network,
-    store: &mut S,
-    workers: u32,
-    gate: &G,
-    order: &KeptOrder,
-    last: &Option<LastRound>,
-) -> Result<Option<LastRound>, AllocError>
-    requires workers { (1 ≤ workers) × (workers ≤ most_seats) }
-    requires stands { StandsOn net.now (S.support store.old) }
-    requires last { IfSome last.now (IsLastRound net.now (S.support store.old).table) }
-    ensures after { IfOk result (λ _. S.support store.new ≡ after_round net.now (S.support store.old)) }
-    ensures fell { IfOk result (λ last. MatchOption last (round_made net.now (S.support store.old).table ≡ []) (λ last. (round_made net.now (S.support store.old).table ≢ []) × IsLastRound net.now (S.support store.new).table last)) }
-    ensures stays { IfOk result (λ last. IfSome last (λ last. last.stays ≡ true → IsOrder (S.support store.old).table order.now → IsOrder (S.support store.new).table order.now)) }
-{
-    // The proof reads here that the network is sound.
-    let points = net.points().len() as u32;
-    let rows = rows_of_round(rt, alloc, store.table(), net, workers, gate, last)?;
-    let firsts = firsts_in(alloc, store, rows.as_slice())?;
-    let last = LastRound::of(
-        alloc,
-        points,
-        store.table(),
-        rows.as_slice(),
-        firsts.len(),
-        order,
-    )?;
-    take_all(net, store, rows.as_slice(), firsts.as_slice())?;
-    if firsts.is_empty() {
-        return Ok(None);
-    }
-    Ok(Some(last))
+/// By what rounds are made: the workers, the network for which they make rows, and the gate before each row.
+#[derive(Drop)]
+pub(crate) struct Rounds<'a, R, G> {
+    workers: Workers<'a, R>,
+    net: &'a Network,
+    gate: &'a G,
 }
 
-/// The rows of a round: all of them where nothing is told of the last one, else those in which something can fall.
-fn rows_of_round<R: Threads + Sync, G: Gate>(
-    rt: &R,
-    alloc: Global,
-    table: &Table,
-    net: &Network,
-    workers: u32,
-    gate: &G,
-    last: &Option<LastRound>,
-) -> Result<Vec<NewRow>, AllocError>
-    requires workers { (1 ≤ workers) × (workers ≤ most_seats) }
-    requires fits { IsFor net.now table.now }
-    requires within { HasWeightsWithin net.now table.now }
-    requires sound { IsGraph table.now }
-    requires last { IfSome last.now (IsLastRound net.now table.now) }
-    ensures { IfOk result (λ rows. AreRowsOfRound net.now table.now rows.items) }
-{
-    match last {
-        None => round(rt, alloc, table, net, workers, gate),
-        Some(last) => stale_rows(rt, alloc, table, net, workers, gate, last),
+impl<'a, R: Threads + Sync, G: Gate> Rounds<'a, R, G> {
+    /// Makes one round, and says what fell in it, if anything did.
+    fn make_round<S: Supports>(
+        &self,
+        store: &mut S,
+        order: &KeptOrder,
+        last: &Option<LastRound>,
+    ) -> Result<Option<LastRound>, AllocError>
+        requires stands { StandsOn self.now.net.now (S.support store.old) }
+        requires last { IfSome last.now (IsLastRound self.now.net.now (S.support store.old).table) }
+        ensures after { IfOk result (λ _. S.support store.new ≡ after_round self.now.net.now (S.support store.old)) }
+        ensures fell { IfOk result (λ last. MatchOption last (round_made self.now.net.now (S.support store.old).table ≡ []) (λ last. (round_made self.now.net.now (S.support store.old).table ≢ []) × IsLastRound self.now.net.now (S.support store.new).table last)) }
+        ensures stays { IfOk result (λ last. IfSome last (λ last. last.stays ≡ true → IsOrder (S.support store.old).table order.now → IsOrder (S.support store.new).table order.now)) }
+    {
+        let alloc = self.workers.alloc();
+        let points = self.net.points().len() as u32;
+        let rows = self.rows_of_round(store.table(), last)?;
+        let firsts = firsts_in(alloc, store, rows.as_slice())?;
+        let last = LastRound::of(
+            alloc,
+            points,
+            store.table(),
+            rows.as_slice(),
+            firsts.len(),
+            order,
+        )?;
+        take_all(self.net, store, rows.as_slice(), firsts.as_slice())?;
+        if firsts.is_empty() {
+            return Ok(None);
+        }
+        Ok(Some(last))
     }
-}
 
-/// The rows that are stale after the last round, told what fell in it.
-fn stale_rows<R: Threads + Sync, G: Gate>(
-    rt: &R,
-    alloc: Global,
-    table: &Table,
-    net: &Network,
-    workers: u32,
-    gate: &G,
-    last: &LastRound,
-) -> Result<Vec<NewRow>, AllocError>
-    requires workers { (1 ≤ workers) × (workers ≤ most_seats) }
-    requires fits { IsFor net.now table.now }
-    requires within { HasWeightsWithin net.now table.now }
-    requires sound { IsGraph table.now }
-    requires last { IsLastRound net.now table.now last.now }
-    ensures { IfOk result (λ rows. AreRowsOfRound net.now table.now rows.items) }
-{
-    // The proof reads here that the network is sound.
-    let names = net.points();
-    let targets = stale(alloc, table, net, last.changed.as_slice())?;
-    let task = Task {
-        targets: targets.as_slice(),
-        table,
-        net,
-        gate,
-        told: true,
-        fresh: last.fresh.as_slice(),
-    };
-    let workers = if is_little(targets.len(), names.len(), last.fallen) {
-        1
-    } else {
-        workers
-    };
-    rows_of(rt, alloc, &task, workers)
+    /// The rows of a round: all of them where nothing is told of the last one, else those in which something can fall.
+    fn rows_of_round(
+        &self,
+        table: &Table,
+        last: &Option<LastRound>,
+    ) -> Result<Vec<NewRow>, AllocError>
+        requires fits { IsFor self.now.net.now table.now }
+        requires within { HasWeightsWithin self.now.net.now table.now }
+        requires sound { IsGraph table.now }
+        requires last { IfSome last.now (IsLastRound self.now.net.now table.now) }
+        ensures { IfOk result (λ rows. AreRowsOfRound self.now.net.now table.now rows.items) }
+    {
+        match last {
+            None => self.all_rows(table),
+            Some(last) => self.stale_rows(table, last),
+        }
+    }
+
+    /// The rows of all points.
+    fn all_rows(&self, table: &Table) -> Result<Vec<NewRow>, AllocError>
+        requires fits { IsFor self.now.net.now table.now }
+        requires within { HasWeightsWithin self.now.net.now table.now }
+        ensures { IfOk result (λ rows. AreRowsOfRound self.now.net.now table.now rows.items) }
+    {
+        let workers = &self.workers;
+        round(
+            workers.rt(),
+            workers.alloc(),
+            table,
+            self.net,
+            workers.count(),
+            self.gate,
+        )
+    }
+
+    /// The rows that are stale after the last round, told what fell in it.
+    fn stale_rows(&self, table: &Table, last: &LastRound) -> Result<Vec<NewRow>, AllocError>
+        requires fits { IsFor self.now.net.now table.now }
+        requires within { HasWeightsWithin self.now.net.now table.now }
+        requires sound { IsGraph table.now }
+        requires last { IsLastRound self.now.net.now table.now last.now }
+        ensures { IfOk result (λ rows. AreRowsOfRound self.now.net.now table.now rows.items) }
+    {
+        let names = self.net.points();
+        let targets = stale(
+            self.workers.alloc(),
+            table,
+            self.net,
+            last.changed.as_slice(),
+        )?;
+        let task = Task {
+            targets: targets.as_slice(),
+            table,
+            net: self.net,
+            gate: self.gate,
+            told: true,
+            fresh: last.fresh.as_slice(),
+        };
+        let is_little = is_little(targets.len(), names.len(), last.fallen);
+        self.workers.worth(is_little).rows_of(&task)
+    }
 }
 
 /// Whether the rows of so many targets, after so many edges fell, are made sooner by one worker than threads are started.

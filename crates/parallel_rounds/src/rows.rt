@@ -1,11 +1,10 @@
-ghost use Rattle.std.specs.Prelude.{◌≡◌, ◌≤◌, ◌<◌, map, length, IfOk};
+ghost use Rattle.std.specs.Prelude.{◌≡◌, ◌≤◌, ◌<◌, map, IfOk};
 ghost use Rattle.std.specs.List.{All};
 ghost use Rattle.std.specs.List.Sorted.{IsPermutation, IsNonDecreasingBy};
 ghost use Rattle.net_model.specs.Network.{IsPoint};
 ghost use Rattle.closure_model.specs.Keys.{all_points, shape_of};
 ghost use Rattle.closure_model.specs.ReferenceRow.{HasWeightsWithin};
 ghost use Rattle.closure_model.specs.Tables.{IsFor};
-ghost use Rattle.work_board.specs.Boards.{IsSeatOf, EachOnce};
 ghost use Rattle.work_board.specs.Limits.{most_seats};
 ghost use Rattle.parallel_rounds.specs.Gathering.{CanMakeRows, IsFresh, IsFirst, IsPart, HasRows};
 ghost use Rattle.parallel_rounds.specs.Rows.{new_row};
@@ -13,7 +12,8 @@ ghost use Rattle.parallel_rounds.specs.Targets.{AreRising};
 ghost use Rattle.parallel_rounds.specs.Telling.{CanTell};
 
 use crate::gate::Gate;
-use crate::parts::{Part, Task, all_parts, all_seats, gather};
+use crate::parts::{Part, Task, all_seats, gather};
+use crate::workers::Workers;
 use back_propagation::NewRow;
 use labelled_graph::Table;
 use net_model::{Network, PointId};
@@ -68,7 +68,7 @@ pub fn round_of<R: Threads + Sync, G: Gate>(
         told: false,
         fresh: nothing.as_slice(),
     };
-    rows_of(rt, alloc, &task, workers)
+    Workers::of(rt, alloc, workers).rows_of(&task)
 }
 
 /// All points of a network, in order.
@@ -80,48 +80,42 @@ fn all_targets(alloc: Global, net: &Network) -> Result<Vec<PointId>, AllocError>
         .collect(alloc)
 }
 
-/// The rows of the targets of a task, in their order.
-pub(crate) fn rows_of<R: Threads + Sync, G: Gate>(
-    rt: &R,
-    alloc: Global,
-    task: &Task<G>,
-    workers: u32,
-) -> Result<Vec<NewRow>, AllocError>
-    requires workers { (1 ≤ workers) × (workers ≤ most_seats) }
-    requires fits { IsFor task.now.net.now task.now.table.now }
-    requires within { HasWeightsWithin task.now.net.now task.now.table.now }
-    requires points { All (IsPoint task.now.net.now) task.now.targets.now }
-    requires rise { AreRising task.now.targets.now }
-    requires told { CanTell task.now.net.now task.now.table.now task.now.told task.now.fresh.now }
-    ensures { IfOk result (λ rows. rows.items ≡ map (new_row task.now.net.now task.now.table.now) task.now.targets.now) }
-{
-    // The proof reads here that the network is sound.
-    let _ = task.net.points();
-    let (board, first) = Board::new(alloc, task.targets.len() as u32, workers)?;
-    let Part { seat, mut rows } = make_rows(rt, alloc, &board, first, task)?;
-    board.close(seat);
-    put_in_order(&mut rows);
-    Ok(rows)
-}
+impl<'a, R: Threads + Sync> Workers<'a, R> {
+    /// The rows of the targets of a task, in their order.
+    pub(crate) fn rows_of<G: Gate>(&self, task: &Task<G>) -> Result<Vec<NewRow>, AllocError>
+        requires fits { IsFor task.now.net.now task.now.table.now }
+        requires within { HasWeightsWithin task.now.net.now task.now.table.now }
+        requires points { All (IsPoint task.now.net.now) task.now.targets.now }
+        requires rise { AreRising task.now.targets.now }
+        requires told { CanTell task.now.net.now task.now.table.now task.now.told task.now.fresh.now }
+        ensures { IfOk result (λ rows. rows.items ≡ map (new_row task.now.net.now task.now.table.now) task.now.targets.now) }
+    {
+        task.net.sound();
+        let (board, first) = Board::new(self.alloc(), task.targets.len() as u32, self.count())?;
+        let Part { seat, mut rows } = self.make_rows(&board, first, task)?;
+        board.close(seat);
+        put_in_order(&mut rows);
+        Ok(rows)
+    }
 
-/// The rows of all targets in any order, with the first seat, into which all others are joined.
-fn make_rows<R: Threads + Sync, G: Gate>(
-    rt: &R,
-    alloc: Global,
-    board: &Board,
-    first: Seat,
-    task: &Task<G>,
-) -> Result<Part, AllocError>
-    requires can { CanMakeRows task.now.net.now task.now.table.now task.now.targets.now board.now }
-    requires fresh { IsFresh board.now first }
-    requires first { IsFirst 0 first }
-    requires told { CanTell task.now.net.now task.now.table.now task.now.told task.now.fresh.now }
-    ensures seat { IfOk result (λ all. IsPart board.now all × IsFirst 0 all.seat) }
-    ensures rows { IfOk result (HasRows task.now.net.now task.now.table.now task.now.targets.now) }
-{
-    let seats = all_seats(alloc, board, first)?;
-    let parts = all_parts(rt, alloc, board, seats, task)?;
-    gather(board, parts)
+    /// The rows of all targets in any order, with the first seat, into which all others are joined.
+    fn make_rows<G: Gate>(
+        &self,
+        board: &Board,
+        first: Seat,
+        task: &Task<G>,
+    ) -> Result<Part, AllocError>
+        requires can { CanMakeRows task.now.net.now task.now.table.now task.now.targets.now board.now }
+        requires fresh { IsFresh board.now first }
+        requires first { IsFirst 0 first }
+        requires told { CanTell task.now.net.now task.now.table.now task.now.told task.now.fresh.now }
+        ensures seat { IfOk result (λ all. IsPart board.now all × IsFirst 0 all.seat) }
+        ensures rows { IfOk result (HasRows task.now.net.now task.now.table.now task.now.targets.now) }
+    {
+        let seats = all_seats(self.alloc(), board, first)?;
+        let parts = self.all_parts(board, seats, task)?;
+        gather(board, parts)
+    }
 }
 
 /// Puts rows in the order of their targets.

@@ -1,4 +1,4 @@
-ghost use Rattle.std.specs.Prelude.{◌≡◌, ◌++◌, [], ◌∷◌, length, IfOk, MatchResult, OnOk};
+ghost use Rattle.std.specs.Prelude.{◌≡◌, ◌++◌, [], ◌∷◌, IfOk, MatchResult, OnOk};
 ghost use Rattle.std.specs.List.{All};
 ghost use Rattle.net_model.specs.Network.{IsPoint};
 ghost use Rattle.closure_model.specs.ReferenceRow.{HasWeightsWithin};
@@ -30,10 +30,7 @@ pub fn work<G: Gate>(
     net: &Network,
     gate: &G,
 ) -> Result<Vec<NewRow>, AllocError>
-    requires fits { IsFor net.now table.now }
-    requires within { HasWeightsWithin net.now table.now }
-    requires targets { All (IsPoint net.now) targets.now }
-    requires sized { board.now.size.targets ≡ length targets.now }
+    requires can { CanMakeRows net.now table.now targets.now board.now }
     requires seat { IsSeatOf board.now seat.old }
     requires untold { seat.old.view.nones ≡ 0 }
     ensures { MatchResult result (λ rows. IsWorked net.now table.now targets.now seat.old seat.new rows.items) (λ _. LeftOff seat.old seat.new) }

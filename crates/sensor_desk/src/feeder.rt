@@ -46,11 +46,9 @@ impl Desk {
         gate: &G,
     )
         requires some { 0 < length feeders.old }
-        requires few { length links.now < 2 ^ 32 }
         requires seats { All (λ feeder. IsSeatOf self.now feeder.seat) feeders.old }
-        requires links { All (HasLink self.now) links.now }
+        requires links { All (HasLink self.now) links.now × (length links.now < 2 ^ 32) }
         requires moment { moment < 2 ^ 63 }
-        ensures count { length feeders.new ≡ length feeders.old }
         ensures fed { AreFedBy links.now moment feeders.old feeders.new }
         ensures seats { All (λ feeder. IsSeatOf self.now feeder.seat) feeders.new }
     {

@@ -30,9 +30,7 @@ impl Desk {
         requires executor { IsExecutionFor net.now executor.old }
         requires room { length net.now.links ≤ length room.old }
         ensures follows { Follows net.now moment seat.old seat.new executor.old result executor.new }
-        ensures seat { IsSeatOf self.now seat.new }
-        ensures executor { IsExecutionFor net.now executor.new }
-        ensures room { length room.new ≡ length room.old }
+        ensures kept { IsSeatOf self.now seat.new × IsExecutionFor net.now executor.new × (length room.new ≡ length room.old) }
     {
         let findings = self.look_at_all(seat, net, executor, moment, room);
         match findings.late {

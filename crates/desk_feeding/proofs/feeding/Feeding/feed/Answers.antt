@@ -7,12 +7,12 @@ use Rattle.desk_feeding.proofs.feeding.Feeding.feed.Goals as goal
 pub links_of-all-requires-clause-points : goal.links_of-all-requires-clause-points
 links_of-all-requires-clause-points g c =
     let is = subst (IsInOrder c.args.listed.now) (sym c.as_slice.ensures.value) c.fill_in_order.ensures.order in
-    ordered_points c.args.listed.now c.as_slice.result.now is c.args.net.now c.requires.listed
+    ordered_points c.args.listed.now c.as_slice.result.now is c.args.net.now c.requires.listed.0
 
 pub feed-requires : goal.feed-requires
 feed-requires g c =
     let ordered = c.fill_in_order.new.into.items in
-    may_feed c.args.listed.now ordered c.fill_in_order.ensures.order c.args.net.now c.args.executor.now c.requires.executor c.requires.listed c.first_where_same.result.now (search rules)
+    may_feed c.args.listed.now ordered c.fill_in_order.ensures.order c.args.net.now c.args.executor.now c.requires.executor c.requires.listed.0 c.first_where_same.result.now (search rules)
 
 pub returns-clause-fed : goal.returns-clause-fed
 returns-clause-fed g c =

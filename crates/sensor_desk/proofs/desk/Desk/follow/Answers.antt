@@ -1,4 +1,4 @@
-use Rattle.std.proofs.Common.{◌<◌, length, None, refl, sym, subst, ◌∙◌}
+use Rattle.std.proofs.Common.{rules, ◌<◌, length, None, refl, sym, subst, ◌∙◌}
 use Rattle.std.specs.Prelude.{take}
 use Rattle.std.specs.List.{All}
 use Rattle.net_model.specs.declared.ids.PointId.{PointId}
@@ -26,6 +26,7 @@ returns-in-None-clause-follows c =
       answer = followed_by c.args.moment findings.findings c.args.executor.now (followed.Fed c.feed.result) c.feed.new.self None (sym c.in-None.is ∙ findings.late_is) (c.feed.result, refl, fed, earliest);
     }
 
-pub returns-in-None-clause-executor : goal.returns-in-None-clause-executor
-returns-in-None-clause-executor c =
-    fed_for c.args.executor.now c.args.moment (take c.look_at_all-findings.result.count c.look_at_all-findings.new.room) c.feed.result c.feed.new.self c.args.net.now c.requires.executor c.feed.ensures.fed
+pub returns-in-None-clause-kept : goal.returns-in-None-clause-kept
+returns-in-None-clause-kept c =
+    let executor = fed_for c.args.executor.now c.args.moment (take c.look_at_all-findings.result.count c.look_at_all-findings.new.room) c.feed.result c.feed.new.self c.args.net.now c.requires.executor c.feed.ensures.fed in
+    (search rules, executor, search rules)

@@ -3,10 +3,10 @@ use Rattle.std.proofs.Common.{length, ap, arith}
 use Rattle.work_board.specs.declared.view.Size.{Size}
 use Rattle.parallel_rounds.proofs.InOrder.{can_make, rows_in_order}
 use Rattle.parallel_rounds.proofs.Rising.{rising_short}
-use Rattle.parallel_rounds.proofs.rows.rows_of.Goals as goal
+use Rattle.parallel_rounds.proofs.workers.Workers.rows_of.Goals as goal
 
 pub overflow_cast-task : goal.overflow_cast-task
-overflow_cast-task g c = omega (arith, rising_short (length c.args.task.now.net.now.points) c.args.task.now.targets.now c.requires.rise c.requires.points, c.points.ensures.sound.few_points)
+overflow_cast-task g c = omega (arith, rising_short (length c.args.task.now.net.now.points) c.args.task.now.targets.now c.requires.rise c.requires.points, c.sound.ensures.few_points)
 
 pub make_rows-requires-clause-can : goal.make_rows-requires-clause-can
 make_rows-requires-clause-can g c κs within =
