@@ -1,7 +1,6 @@
 //! The lines of a table proof, each for itself: its names become numbers.
 
 ghost use Rattle.std.specs.Prelude.{◌≡◌, ◌+◌, ◌<◌, ◌^◌, length};
-ghost use Rattle.net_model.specs.Network.{link_named as link_id};
 ghost use Rattle.cert_checker.specs.Tables.{edge_of_entry, entry_passes, labelled_of, ordinary_of, point_passes};
 ghost use Rattle.cert_checker.specs.TableRefusals.{ReadsEach};
 ghost use Rattle.cert_checker.specs.Ending.{Ends, RefusesLine};
@@ -10,7 +9,7 @@ use crate::judgement::{CertFault, Refusal, Stop};
 use crate::rules::{is_in_range, unless};
 use crate::shown::Shown;
 use cert_format::Entry;
-use net_model::{Edge, LinkId, Name, PointId, Weight};
+use net_model::{Edge, Name, PointId, Weight};
 use std::alloc::Global;
 
 /// The points of the order, whose first line is line 1, or the refusal of the first line whose point is not in the network.
@@ -19,7 +18,7 @@ pub(crate) fn read_points(alloc: Global, net: &Shown, order: &[Name]) -> Result<
 {
     let mut points = Vec::new(alloc);
     for (index, name) in order.iter().enumerate() {
-        match point_passes(net, name) {
+        match net.point(name.bytes()).ok_or(CertFault::UnknownItem) {
             Ok(point) => points.push(point)?,
             Err(why) => {
                 let line = index as u64 + 1;
@@ -51,13 +50,6 @@ pub(crate) fn read_edges(
         }
     }
     Ok(edges)
-}
-
-/// A line of the order: its point is in the network.
-fn point_passes(net: &Shown, name: &Name) -> Result<PointId, CertFault>
-    ensures { result ≡ point_passes net.now name.now }
-{
-    net.point(name.bytes()).ok_or(CertFault::UnknownItem)
 }
 
 /// An entry: its names are in the network, and its weight is within the limit.
@@ -99,7 +91,8 @@ fn labelled_of(net: &Shown, from: &Name, label: &Name, weight: Weight) -> Option
     ensures { result ≡ labelled_of net.now from.now label.now weight }
 {
     let from = net.point(from.bytes())?;
-    let label = link_id(net, label)?;
+    let end = net.point(label.bytes())?;
+    let label = net.activation(end)?;
     let link = net.link_at(label)?;
     Some(Edge {
         from,
@@ -107,12 +100,4 @@ fn labelled_of(net: &Shown, from: &Name, label: &Name, weight: Weight) -> Option
         label: Some(label),
         weight,
     })
-}
-
-/// The link that ends in the point of a name.
-fn link_id(net: &Shown, name: &Name) -> Option<LinkId>
-    ensures { result ≡ link_id net.now name.now }
-{
-    let point = net.point(name.bytes())?;
-    net.activation(point)
 }

@@ -11,14 +11,14 @@ use std::marker::Model;
 pub(crate) const ABSENT: Weight = i64::MAX;
 
 /// A point in which an entry begins, by its number, and its word.
-#[derive(Clone, Copy, Debug)]
+#[derive(Clone, Copy)]
 pub(crate) struct Start {
     pub(crate) from: u32,
     pub(crate) word: Weight,
 }
 
 /// A row of words, held as the points in which an entry begins, in their order. Contracts see it as the list of its words.
-#[derive(Debug, Drop)]
+#[derive(Drop)]
 pub(crate) struct Few {
     points: u32,
     starts: Vec<Start>,

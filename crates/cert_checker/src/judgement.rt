@@ -112,14 +112,14 @@ impl fmt::Display for Judgement {
 }
 
 /// The first line that does not pass, and why.
-#[derive(Clone, Copy, Debug, PartialEq, Eq)]
+#[derive(Clone, Copy)]
 pub(crate) struct Refusal {
     pub(crate) line: u64,
     pub(crate) why: CertFault,
 }
 
 /// Why a judgement stops: a line does not pass, or memory is wanting.
-#[derive(Clone, Copy, Debug)]
+#[derive(Clone, Copy)]
 pub(crate) enum Stop {
     Refused(Refusal),
     OutOfMemory,

@@ -1,8 +1,10 @@
-ghost use Rattle.std.specs.Prelude.{◌≡◌, ◌<◌, ◌≤◌, ◌<ℤ◌, pos, length, IfOk, OnOk, replicate, unsigned_abs};
+ghost use Rattle.std.specs.Prelude.{◌≡◌, ◌<◌, ◌≤◌, ◌<ℤ◌, ℕ, List, pos, length, IfOk, OnOk, replicate, unsigned_abs};
 ghost use Rattle.net_model.specs.Limits.{most_weight};
 ghost use Rattle.net_model.specs.Edges.{IsEdge};
-ghost use Rattle.cert_checker.specs.Least.{IsFor, HasPlaceInTable, IsPlacedBefore, absent, has_at_most, falls_in, least_of, no_weights, row_in, row_of, with_entry};
+ghost use Rattle.net_model.specs.Network.{Plan};
+ghost use Rattle.cert_checker.specs.Least.{IsFor, IsSmallEdge, IsTableOf, HasPlaceInTable, IsPlacedBefore, absent, falls_in, least_of, no_weights, row_in, row_of, with_entry};
 ghost use Rattle.cert_checker.specs.Sound.{AreSound};
+ghost use Rattle.cert_checker.specs.Tables.{stands_among};
 
 use crate::row::Row;
 use crate::shown::Shown;
@@ -11,7 +13,7 @@ use std::alloc::{AllocError, Global};
 use std::marker::Model;
 
 /// The least weight of each key among entries. Contracts see it as its rows of words.
-#[derive(Debug, Drop)]
+#[derive(Drop)]
 pub(crate) struct LeastWeights {
     ordinary: Vec<Row>,
     labelled: Vec<Row>,
@@ -77,10 +79,10 @@ impl LeastWeights {
         }
     }
 
-    /// Whether an entry of the key of an edge has at most its weight.
+    /// Whether an edge stands among the entries, of which these are the least weights.
     pub(crate) fn has_at_most(&self, edge: &Edge) -> bool
         requires { HasPlaceInTable self.now edge.now }
-        ensures { result ≡ has_at_most self.now edge.now }
+        ensures { (net : Plan) (first : ℕ) (edges : List Edge) → IsTableOf net first edges self.now → IsSmallEdge net edge.now → result ≡ stands_among edges edge.now }
     {
         self.row_of(edge).get(edge.from) <= edge.weight
     }

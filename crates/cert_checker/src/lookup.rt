@@ -1,10 +1,10 @@
 ghost use Rattle.std.specs.Prelude.{◌≡◌, option_copied, IfSome};
 ghost use Rattle.net_model.specs.Network.{IsLink};
-ghost use Rattle.cert_checker.specs.Lines.{link_named, bound_of, names_point, label_of, same_label, item_known, label_known, names_known, line_at};
+ghost use Rattle.cert_checker.specs.Lines.{link_named, bound_of, label_of, item_known, label_known, names_known, line_at};
 
 use crate::shown::Shown;
 use cert_format::{CertLine, LineKind};
-use net_model::{Bound, Link, Name, PointId};
+use net_model::{Bound, Link, Name};
 
 /// The link that ends in the point of a name.
 pub(crate) fn link_named(net: &Shown, name: &Name) -> Option<Link>
@@ -24,16 +24,6 @@ pub(crate) fn bound_of(net: &Shown, name: &Name) -> Option<Bound>
     net.bound_at(bound)
 }
 
-/// Whether a point has a name.
-pub(crate) fn names_point(net: &Shown, name: &Name, point: PointId) -> bool
-    ensures { result ≡ names_point net.now name.now point }
-{
-    match net.point(name.bytes()) {
-        Some(named) => named == point,
-        None => false,
-    }
-}
-
 /// The label of the edge that a line states.
 pub(crate) fn label_of(line: &CertLine) -> Option<Name>
     ensures { result ≡ label_of line.now }
@@ -42,17 +32,6 @@ pub(crate) fn label_of(line: &CertLine) -> Option<Name>
         LineKind::Link(name) => Some(name),
         LineKind::Up(..) | LineKind::Cross(..) => line.label,
         LineKind::Bound(_) | LineKind::No(..) | LineKind::Low(..) | LineKind::Drop(_) => None,
-    }
-}
-
-/// Whether two labels are the same.
-pub(crate) fn same_label(label: Option<Name>, other: Option<Name>) -> bool
-    ensures { result ≡ same_label label other }
-{
-    match (label, other) {
-        (Some(label), Some(other)) => label == other,
-        (None, None) => true,
-        _ => false,
     }
 }
 

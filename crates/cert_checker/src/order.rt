@@ -52,7 +52,17 @@ impl Order {
         ensures { result ≡ rises self.now edge.now }
     {
         let is_negative_ordinary = edge.label.is_none() && edge.weight < 0;
-        is_negative_ordinary && !comes_before(self.place(edge.to), self.place(edge.from))
+        is_negative_ordinary && !self.falls(edge)
+    }
+
+    /// Whether an edge goes from a later point to an earlier one.
+    fn falls(&self, edge: &Edge) -> bool
+        ensures { result ≡ comes_before (place_in self.now edge.now.to) (place_in self.now edge.now.from) }
+    {
+        match (self.place(edge.to), self.place(edge.from)) {
+            (Some(to), Some(from)) => to < from,
+            _ => false,
+        }
     }
 
     /// The place of a point in it.
@@ -95,13 +105,4 @@ fn are_there(places: &[Option<usize>]) -> bool
     ensures { result ≡ list_all is_some places.now }
 {
     places.iter().all(|place| place.is_some())
-}
-
-fn comes_before(place: Option<usize>, other: Option<usize>) -> bool
-    ensures { result ≡ comes_before place other }
-{
-    match (place, other) {
-        (Some(place), Some(other)) => place < other,
-        _ => false,
-    }
 }

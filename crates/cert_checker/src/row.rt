@@ -11,7 +11,7 @@ use std::marker::Model;
 /// The least weight of the entries of a target, or of a label, for each point in which they begin. While they are few, `few` holds them and
 /// `words` nothing; then `words` holds a word for each point and `few` nothing. So the room of a row grows with its entries. Contracts see
 /// it as the list of its words.
-#[derive(Debug, Drop)]
+#[derive(Drop)]
 pub(crate) struct Row {
     few: Few,
     words: Vec<Weight>,

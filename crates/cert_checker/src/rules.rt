@@ -3,12 +3,10 @@ ghost use Rattle.std.specs.Int.{int_max};
 ghost use Rattle.std.specs.List.{All};
 ghost use Rattle.net_model.specs.Network.{IsLink};
 ghost use Rattle.cert_format.specs.JudgementForms.{unless};
-ghost use Rattle.cert_checker.specs.Lines.{at_least, has_label_of, has_ends_of, are_ordinary, takes_label, is_negative, may_cross, goes, joins, reaches_back, in_range, bound_passes, link_passes, sum_passes, no_passes, up_passes, back_passes, low_passes, cross_passes, drop_passes, rule_passes, line_passes};
+ghost use Rattle.cert_checker.specs.Lines.{at_least, has_label_of, is_negative, may_cross, goes, joins, reaches_back, in_range, bound_passes, link_passes, sum_passes, no_passes, up_passes, back_passes, low_passes, cross_passes, drop_passes, rule_passes, line_passes};
 
 use crate::judgement::CertFault;
-use crate::lookup::{
-    bound_of, label_of, line_at, link_named, names_known, names_point, same_label,
-};
+use crate::lookup::{bound_of, label_of, line_at, link_named, names_known};
 use crate::shown::Shown;
 use cert_format::{CertLine, LineKind};
 use net_model::{Link, MOST_WEIGHT, Name, PointId, Weight};
@@ -111,7 +109,10 @@ fn no_passes(earlier: &[CertLine], line: &CertLine, i: u64, j: u64) -> Result<()
 {
     let first = line_at(earlier, i).ok_or(CertFault::Premise)?;
     let second = line_at(earlier, j).ok_or(CertFault::Premise)?;
-    unless(are_ordinary(first, second), CertFault::Label)?;
+    unless(
+        label_of(first).is_none() && label_of(second).is_none(),
+        CertFault::Label,
+    )?;
     sum_passes(first, second, line)
 }
 
@@ -123,7 +124,10 @@ fn up_passes(earlier: &[CertLine], line: &CertLine, i: u64, j: u64) -> Result<()
 {
     let first = line_at(earlier, i).ok_or(CertFault::Premise)?;
     let second = line_at(earlier, j).ok_or(CertFault::Premise)?;
-    unless(takes_label(line, first, second), CertFault::Label)?;
+    unless(
+        label_of(first).is_none() && has_label_of(line, second),
+        CertFault::Label,
+    )?;
     sum_passes(first, second, line)
 }
 
@@ -156,7 +160,7 @@ fn low_passes(
 {
     let second = line_at(earlier, j).ok_or(CertFault::Premise)?;
     unless(label_of(second).is_none(), CertFault::Label)?;
-    unless(is_negative(second.weight), CertFault::RuleCondition)?;
+    unless(second.weight < 0, CertFault::RuleCondition)?;
     let link = link_named(net, name).ok_or(CertFault::UnknownItem)?;
     back_passes(net, &link, second, line)
 }
@@ -194,7 +198,10 @@ fn drop_passes(net: &Shown, earlier: &[CertLine], line: &CertLine, j: u64) -> Re
 {
     let labelled = line_at(earlier, j).ok_or(CertFault::Premise)?;
     let label = label_of(labelled).ok_or(CertFault::Label)?;
-    unless(has_ends_of(line, labelled), CertFault::Ends)?;
+    unless(
+        labelled.from == line.from && labelled.to == line.to,
+        CertFault::Ends,
+    )?;
     let link = link_named(net, &label).ok_or(CertFault::UnknownItem)?;
     at_least(line, without_label(labelled.weight, link.low))
 }
@@ -204,49 +211,21 @@ fn has_label_of(line: &CertLine, premise: &CertLine) -> bool
     ensures { result ≡ has_label_of line.now premise.now }
 {
     let label = label_of(premise);
-    label.is_some() && same_label(line.label, label)
-}
-
-/// A line goes from where its premise begins to where it ends.
-fn has_ends_of(line: &CertLine, premise: &CertLine) -> bool
-    ensures { result ≡ has_ends_of line.now premise.now }
-{
-    premise.from == line.from && premise.to == line.to
-}
-
-/// Two premises without labels.
-fn are_ordinary(first: &CertLine, second: &CertLine) -> bool
-    ensures { result ≡ are_ordinary first.now second.now }
-{
-    label_of(first).is_none() && label_of(second).is_none()
-}
-
-/// A first premise without a label, and the label of a line that of its second premise.
-fn takes_label(line: &CertLine, first: &CertLine, second: &CertLine) -> bool
-    ensures { result ≡ takes_label line.now first.now second.now }
-{
-    label_of(first).is_none() && has_label_of(line, second)
-}
-
-/// A weight below 0.
-fn is_negative(weight: Weight) -> bool
-    ensures { result ≡ is_negative weight }
-{
-    weight < 0
+    label.is_some() && line.label == label
 }
 
 /// A premise of negative weight, and a line whose label is not this link's.
 fn may_cross(line: &CertLine, second: &CertLine, name: &Name) -> bool
     ensures { result ≡ may_cross line.now second.now name.now }
 {
-    is_negative(second.weight) && !same_label(line.label, Some(*name))
+    second.weight < 0 && line.label != Some(*name)
 }
 
 /// The edge of a line goes from a point to a point.
 fn goes(net: &Shown, line: &CertLine, from: PointId, to: PointId) -> bool
     ensures { result ≡ goes net.now line.now from to }
 {
-    names_point(net, &line.from, from) && names_point(net, &line.to, to)
+    net.point(line.from.bytes()) == Some(from) && net.point(line.to.bytes()) == Some(to)
 }
 
 /// Two premises meet, and a line goes from where the first begins to where the second ends.
@@ -260,7 +239,7 @@ fn joins(first: &CertLine, second: &CertLine, line: &CertLine) -> bool
 fn reaches_back(net: &Shown, link: &Link, second: &CertLine, line: &CertLine) -> bool
     ensures { result ≡ reaches_back net.now link.now second.now line.now }
 {
-    names_point(net, &second.from, link.to)
-        && names_point(net, &line.from, link.from)
+    net.point(second.from.bytes()) == Some(link.to)
+        && net.point(line.from.bytes()) == Some(link.from)
         && second.to == line.to
 }

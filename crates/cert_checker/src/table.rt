@@ -56,8 +56,7 @@ impl<'a> Table<'a> {
         requires lines { first + length edges.items < 2 ^ 64 }
         ensures { IfOk result (λ table. table ≡ record { net = net.entry; first = first; edges = edges.items }) }
     {
-        // The proof reads here that the network is sound.
-        let _ = net.points();
+        net.sound();
         let least = LeastWeights::of(alloc, &net, edges.as_slice())?;
         Ok(Table {
             net,
@@ -201,8 +200,7 @@ fn table_passes<R: Threads + Sync>(
 ) -> Result<(), Stop>
     ensures { Ends result (λ passed. IsAcceptedTable net.entry order.now entries.now) (λ refused. IsRefusedTable net.entry order.now entries.now refused.line refused.why) }
 {
-    // The proof reads here that the network is sound.
-    let _ = net.points();
+    net.sound();
     let points = read_points(alloc, &net, order)?;
     let first = order.len() as u64 + 1;
     let edges = read_edges(alloc, &net, first, entries)?;

@@ -1,5 +1,6 @@
 pub mod EdgeLemmas
 pub mod PrintLemmas
+pub mod HeaderLemmas
 pub mod WordLemmas
 pub mod FormFaultLemmas
 pub mod SaidLemmas

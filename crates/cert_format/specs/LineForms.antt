@@ -17,7 +17,8 @@ of_line_number = of_natural most_line_number
 abbrev pub of_weight : Place
 of_weight = of_integer most_written_weight
 
--- FROM TO W, of a rule whose edge has no label, or of an entry with two of its three parts
+-- an edge is told by three words, FROM TO W: where it begins, where it ends, and its weight; an `upper` line has its label in the
+-- place of its end
 abbrev pub edge_places : List Place
 edge_places = of_name ∷ of_name ∷ of_weight ∷ []
 

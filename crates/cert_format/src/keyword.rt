@@ -21,7 +21,7 @@ pub(crate) enum Keyword {
 }
 
 impl Keyword {
-    ghost use Rattle.cert_format.specs.Keywords.{spelled, keyword_of, is_of_refutation, is_of_table};
+    ghost use Rattle.cert_format.specs.Keywords.{spelled, keyword_of};
 
     const ALL: [Keyword; 15] = [
         Keyword::Certificate,
@@ -62,29 +62,6 @@ impl Keyword {
             Keyword::Upper => b"upper",
             Keyword::End => b"end",
         }
-    }
-
-    /// Whether a line of a refutation after its second one begins with the word.
-    pub(crate) fn is_of_refutation(self) -> bool
-        ensures { result ≡ is_of_refutation self }
-    {
-        match self {
-            Keyword::Bound | Keyword::Link | Keyword::No | Keyword::Up => true,
-            Keyword::Low | Keyword::Cross | Keyword::Drop => true,
-            Keyword::Walk | Keyword::End => true,
-            Keyword::Certificate | Keyword::Refutation | Keyword::Table => false,
-            Keyword::Order | Keyword::Edge | Keyword::Upper => false,
-        }
-    }
-
-    /// Whether a line of a table proof after its second one begins with the word.
-    pub(crate) fn is_of_table(self) -> bool
-        ensures { result ≡ is_of_table self }
-    {
-        matches!(
-            self,
-            Keyword::Order | Keyword::Edge | Keyword::Upper | Keyword::End
-        )
     }
 
     /// The first word that a word is, or `None` where it is none of them.

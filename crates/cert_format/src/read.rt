@@ -98,15 +98,13 @@ pub(crate) fn line_of(keyword: Keyword, rest: &[u8]) -> Result<CertText, FormatK
 }
 
 /// What stands after `certificate`.
+#[tactic(auto, using(crate::proofs::HeaderLemmas::header_of, crate::proofs::HeaderLemmas::no_header))]
 fn header_line(rest: &[u8]) -> Result<CertText, FormatKind>
     ensures { result ≡ header_line (words rest.now) }
 {
-    let Some((version, rest)) = texts::next_word(rest) else {
+    let Ok(version) = text::one(rest) else {
         return Err(FormatKind::UnknownWord);
     };
-    if texts::next_word(rest).is_some() {
-        return Err(FormatKind::UnknownWord);
-    }
     if version == b"1".as_slice() {
         return Ok(CertText::Header);
     }

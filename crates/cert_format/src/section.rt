@@ -29,9 +29,20 @@ impl Section {
         match self {
             Section::Header => first == Keyword::Certificate,
             Section::Kind => matches!(first, Keyword::Refutation | Keyword::Table),
-            Section::Rules => first.is_of_refutation(),
+            Section::Rules => !matches!(
+                first,
+                Keyword::Certificate
+                    | Keyword::Refutation
+                    | Keyword::Table
+                    | Keyword::Order
+                    | Keyword::Edge
+                    | Keyword::Upper
+            ),
             Section::Walk => matches!(first, Keyword::Walk | Keyword::End),
-            Section::Order => first.is_of_table(),
+            Section::Order => matches!(
+                first,
+                Keyword::Order | Keyword::Edge | Keyword::Upper | Keyword::End
+            ),
             Section::Entries => matches!(first, Keyword::Edge | Keyword::Upper | Keyword::End),
         }
     }

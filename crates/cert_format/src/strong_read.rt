@@ -78,15 +78,13 @@ fn line_of(first: StrongWord, rest: &[u8]) -> Result<StrongText, FormatKind>
 }
 
 /// What stands after `strong`.
+#[tactic(auto, using(crate::proofs::HeaderLemmas::strong_header_of, crate::proofs::HeaderLemmas::no_strong_header))]
 fn header_line(rest: &[u8]) -> Result<StrongText, FormatKind>
     ensures { result ≡ header_line (words rest.now) }
 {
-    let Some((version, rest)) = texts::next_word(rest) else {
+    let Ok(version) = text::one(rest) else {
         return Err(FormatKind::UnknownWord);
     };
-    if texts::next_word(rest).is_some() {
-        return Err(FormatKind::UnknownWord);
-    }
     if version == b"1".as_slice() {
         return Ok(StrongText::Header);
     }

@@ -49,7 +49,7 @@ fn are_same(left: &str, right: &str) -> Result<bool, NameFault> {
 
 #[test]
 fn equal_names(rt: HostRuntime) {
-    assert_eq!(rt; are_same("Ab", "Ab"), Ok(true));
-    assert_eq!(rt; are_same("Ab", "ab"), Ok(false));
-    assert_eq!(rt; are_same("a", "aa"), Ok(false));
+    assert!(rt; matches!(are_same("Ab", "Ab"), Ok(true)));
+    assert!(rt; matches!(are_same("Ab", "ab"), Ok(false)));
+    assert!(rt; matches!(are_same("a", "aa"), Ok(false)));
 }

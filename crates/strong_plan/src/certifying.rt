@@ -7,7 +7,6 @@ ghost use Rattle.least_moments.specs.History.{AreWithin};
 ghost use Rattle.least_moments.specs.Least.{IsLoopFromLowest};
 ghost use Rattle.strong_plan.specs.Answers.{down_edge, reduced_line, lines_at, names_at, AreReduced, HasNoRing, IsRefutation};
 
-use crate::lookup::point_name;
 use cert_format::{StrongCert, StrongLine};
 use net_model::{Edge, Items, Name, Network};
 use std::alloc::{AllocError, Global};
@@ -23,8 +22,7 @@ pub(crate) fn ring_certificate(
     requires round { IsLoopFromLowest edges.now places.now }
     ensures { IfOk result (IsRefutation net.now) }
 {
-    // The proof reads here that the network is sound.
-    net.points();
+    net.sound();
     let ring = names(alloc, net, edges, places)?;
     Ok(StrongCert {
         by: Items::new(Vec::new(alloc)),
@@ -45,8 +43,7 @@ pub(crate) fn bound_certificate(
     requires numbers { HasPlanNumbers net.now }
     ensures { IfOk result (IsRefutation net.now) }
 {
-    // The proof reads here that the network is sound.
-    net.points();
+    net.sound();
     let by = lines(alloc, net, edges, places)?;
     Ok(StrongCert {
         by: Items::new(by),
@@ -67,7 +64,7 @@ fn names(
 {
     let mut names = Vec::new(alloc);
     for place in places {
-        names.push(point_name(net, edges[*place].from))?;
+        names.push(*net.point_name(edges[*place].from))?;
     }
     Ok(names)
 }
@@ -100,8 +97,8 @@ fn line_of(net: &Network, place: usize, edge: &Edge) -> StrongLine
 {
     StrongLine {
         bound: net.bounds()[place].name,
-        from: point_name(net, edge.from),
-        to: point_name(net, edge.to),
+        from: *net.point_name(edge.from),
+        to: *net.point_name(edge.to),
         weight: edge.weight,
     }
 }

@@ -9,7 +9,7 @@ ghost use Rattle.strong_plan.specs.Reducing.{link_into, chain_of, links_of, root
 use net_model::{Bound, Edge, Link, Network, PointId, Weight};
 
 /// How many links lead up from a point to its root, and the root.
-#[derive(Clone, Copy, Debug)]
+#[derive(Clone, Copy)]
 pub(crate) struct Way {
     pub(crate) links: usize,
     pub(crate) root: PointId,
@@ -64,8 +64,7 @@ fn reduced_weight(net: &Network, bound: &Bound, from_links: usize, to_links: usi
     requires to { option_map length (chain_of net.now bound.now.to) ≡ Some to_links }
     ensures { result ≡ reduced_weight bound.now.most (links_of net.now bound.now.from) (links_of net.now bound.now.to) }
 {
-    // The proof reads here that the network is sound.
-    net.points();
+    net.sound();
     let mut weight = bound.most;
     let (mut from, mut to) = (bound.from, bound.to);
     let (mut from_left, mut to_left) = (from_links, to_links);

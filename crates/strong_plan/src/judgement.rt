@@ -25,7 +25,7 @@ impl fmt::Display for StrongJudgement {
 }
 
 /// The first line that does not pass, and why.
-#[derive(Clone, Copy, Debug, PartialEq, Eq)]
+#[derive(Clone, Copy)]
 pub(crate) struct Refusal {
     pub(crate) line: u64,
     pub(crate) why: CertFault,

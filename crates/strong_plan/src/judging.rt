@@ -20,8 +20,7 @@ pub fn judge_strong(net: &Network, cert: &StrongCert) -> StrongJudgement
     ensures excludes { result ≡ StrongJudgement.Accepted → ¬ IsStronglyControllable net.now }
 {
     laws::accepted_excludes();
-    // The proof reads here that the network is sound.
-    net.points();
+    net.sound();
     judgement_of(net, cert)
 }
 

@@ -5,7 +5,7 @@ ghost use Rattle.strong_plan.specs.Judgement.{line_passes, lines_pass, returns_t
 
 use crate::chain::reduced_edge;
 use crate::judgement::Refusal;
-use crate::lookup::{bound_of, names_point};
+use crate::lookup::bound_of;
 use cert_checker::CertFault;
 use cert_format::StrongLine;
 use net_model::{MOST_WEIGHT, Network};
@@ -39,7 +39,9 @@ fn line_passes(net: &Network, line: &StrongLine) -> Result<(), CertFault>
     let Some(edge) = reduced_edge(net, &bound) else {
         return Err(CertFault::Ends);
     };
-    if !names_point(net, &line.from, edge.from) || !names_point(net, &line.to, edge.to) {
+    let from = net.point(line.from.bytes());
+    let to = net.point(line.to.bytes());
+    if from != Some(edge.from) || to != Some(edge.to) {
         return Err(CertFault::Ends);
     }
     if edge.weight <= line.weight {

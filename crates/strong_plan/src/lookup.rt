@@ -1,12 +1,11 @@
 //! What the names of a certificate stand for.
 
 ghost use Rattle.std.specs.Prelude.{◌≡◌, IfSome};
-ghost use Rattle.net_model.specs.Network.{IsBound, IsPoint};
-ghost use Rattle.net_model.specs.NetworkParts.{point_name};
-ghost use Rattle.cert_checker.specs.Lines.{bound_of, names_point, link_named};
+ghost use Rattle.net_model.specs.Network.{IsBound};
+ghost use Rattle.cert_checker.specs.Lines.{bound_of, link_named};
 
 use crate::chain::link_into;
-use net_model::{Bound, Link, Name, Network, PointId};
+use net_model::{Bound, Link, Name, Network};
 
 /// The bound of a name.
 pub(crate) fn bound_of(net: &Network, name: &Name) -> Option<Bound>
@@ -23,22 +22,4 @@ pub(crate) fn link_named(net: &Network, name: &Name) -> Option<Link>
 {
     let point = net.point(name.bytes())?;
     link_into(net, point)
-}
-
-/// Whether a point has a name.
-pub(crate) fn names_point(net: &Network, name: &Name, point: PointId) -> bool
-    ensures { result ≡ names_point net.now name.now point }
-{
-    match net.point(name.bytes()) {
-        Some(named) => named == point,
-        None => false,
-    }
-}
-
-/// The name of a point of the network.
-pub(crate) fn point_name(net: &Network, point: PointId) -> Name
-    requires { IsPoint net.now point }
-    ensures { result ≡ point_name net.now.points point }
-{
-    net.points()[point.0 as usize]
 }

@@ -4,7 +4,7 @@ ghost use Rattle.std.specs.Prelude.{◌≡◌};
 ghost use Rattle.strong_plan.specs.Judgement.{points_pass, begins_in, follows, last_name};
 
 use crate::judgement::Refusal;
-use crate::lookup::{link_named, names_point};
+use crate::lookup::link_named;
 use cert_checker::CertFault;
 use net_model::{Name, Network};
 
@@ -25,7 +25,7 @@ fn begins_in(net: &Network, before: &Name, name: &Name) -> bool
     ensures { result ≡ begins_in net.now before.now name.now }
 {
     match link_named(net, name) {
-        Some(link) => names_point(net, before, link.from),
+        Some(link) => net.point(before.bytes()) == Some(link.from),
         None => false,
     }
 }

@@ -83,7 +83,6 @@ fn add(new: &Network, after: &mut Plain, node: Node) -> Result<NodeId, AllocErro
     ensures added { IfOk result (λ id. (id ≡ record { 0 = length after.old.nodes }) × (after.new.nodes ≡ after.old.nodes ++ node ∷ [])) }
     ensures derived { OnOk result (IsDerivedOn new.now after.new) }
 {
-    // The proof reads here that the network is sound.
-    let _ = new.points();
+    new.sound();
     Ok(after.add(new, node)?)
 }

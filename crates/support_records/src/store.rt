@@ -76,8 +76,8 @@ impl Store {
         requires { StandsOn old.now self.old }
         ensures { IfOk result (IsFollowed old.now edit.now new.now self.old self.new) }
     {
-        // The proof reads here that the networks are sound.
-        let _ = (old.points().len(), new.points().len());
+        old.sound();
+        new.sound();
         let mut after = Plain::without_nodes(alloc, new)?;
         let moves = Moves::of(alloc, old, edit, new)?;
         let kept = follow_into(alloc, &moves, self.plain.dag(), &mut after)?;

@@ -1,9 +1,11 @@
 use Rattle.std.proofs.Common.{◌≡◌, ◌<◌, ◌+◌, ◌++◌, pos, List, [], ◌∷◌, length, map, drop, get_or, ap, ◌∙◌, refl, arith}
 use Rattle.std.specs.List.{enumerate_from}
 use Rattle.std.proofs.lemmas.List.{get_or_default}
+use Rattle.net_model.specs.declared.part.Edge.{Edge}
 use Rattle.net_model.specs.declared.part.Link.{Link}
 use Rattle.cert_checker.specs.Tables.{base_of_link}
 use Rattle.cert_checker.specs.declared.base.Base.{Base}
+use Rattle.cert_checker.specs.declared.judgement.CertFault.TheVariants.{MissingLink}
 use Rattle.cert_checker.proofs.ScanLemmas.{link_pushed}
 use Rattle.cert_checker.proofs.base.push_links.Goals as goal
 
@@ -18,7 +20,10 @@ loop-index-preserved c =
     let link = c.link_numbered-link.result in
     let within : i < length net.links = omega (arith, c.loop-index-test.true, c.loop-index.auto.index-end, c.link_count-index-end.ensures) in
     let is : link ≡ get_or net.links i none = c.link_numbered-link.ensures.link ∙ get_or_default net.links i link none within in
-    let made : c.base_of_link-missing.result ≡ base_of_link net (i, get_or net.links i none) = c.base_of_link-missing.ensures ∙ ap (λ (l : Link). base_of_link net (i, l)) is in
+    let edge : Edge = c.link_edge-edge.result in
+    let one : Base = record { edge = edge; missing = MissingLink c.point_name.result.now } in
+    let own : one ≡ base_of_link net (i, link) = λ j. record { edge = c.link_edge-edge.ensures j; missing = MissingLink (c.point_name.ensures j) } in
+    let made : one ≡ base_of_link net (i, get_or net.links i none) = own ∙ ap (λ (l : Link). base_of_link net (i, l)) is in
     let pushed : c.push.new.self.items ≡ c.loop-index.base.items ++ base_of_link net (i, get_or net.links i none) ∷ [] = c.in_ok-push.ensures.items ∙ ap (λ (b : Base). c.loop-index.base.items ++ b ∷ []) made in
     ap (λ (items : List Base). items ++ map (base_of_link net) (enumerate_from (i + 1) (drop (i + 1) net.links))) pushed
     ∙ link_pushed net c.loop-index.base.items i (get_or net.links i none) none within refl

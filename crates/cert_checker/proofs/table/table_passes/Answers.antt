@@ -18,7 +18,7 @@ returns-in_err-edges g c =
     rw (p.1, p.2) (handed_on c.in_err-edges.field-0.0 _ _ _ _ c.in_err-edges.ensures (λ refused is. subst (λ (n : ℕ). IsRefusedTable c.args.net c.args.order.now c.args.entries.now n refused.why) (sym is.number) (line_of_entry c.in_ok-points.points.items is.place refused.why c.in_ok-points.ensures is.fault)))
 
 pub of-requires-clause-sound : goal.of-requires-clause-sound
-of-requires-clause-sound g c = entries_sound c.args.net c.points.ensures.sound c.args.entries.now c.in_ok-edges.edges.items c.in_ok-edges.ensures
+of-requires-clause-sound g c = entries_sound c.args.net c.sound.ensures c.args.entries.now c.in_ok-edges.edges.items c.in_ok-edges.ensures
 
 pub passes-requires-after_bounds : goal.passes-requires-after_bounds
 passes-requires-after_bounds g c κs within =

@@ -9,10 +9,10 @@ use Rattle.strong_plan.proofs.CertificateLemmas.{bounds_refute}
 use Rattle.strong_plan.proofs.certifying.bound_certificate.Goals as goal
 
 pub lines-requires-clause-within : goal.lines-requires-clause-within
-lines-requires-clause-within c = edges_within c.args.net.now c.points.ensures.sound c.args.edges.now c.requires.edges
+lines-requires-clause-within c = edges_within c.args.net.now c.sound.ensures c.args.edges.now c.requires.edges
 
 pub lines-requires-clause-bounds : goal.lines-requires-clause-bounds
-lines-requires-clause-bounds c = count c.args.net.now c.points.ensures.sound c.args.edges.now c.requires.edges
+lines-requires-clause-bounds c = count c.args.net.now c.sound.ensures c.args.edges.now c.requires.edges
 
 -- the certificate of these lists
 made : (net : Plan) → IsPlan net → HasPlanNumbers net → HasNoRing net → (edges : List Edge) (places : List ℕ) (by : List StrongLine) (ring : List (List ℕ)) → AreReduced net edges → IsLoopFromLowest edges places → by ≡ lines_at net edges places → ring ≡ [] → IsRefutation net (record { by = by; ring = ring })
@@ -23,4 +23,4 @@ made net plan numbers no_ring edges places by ring are loop lines none =
 
 pub returns : goal.returns
 returns c =
-    made c.args.net.now c.points.ensures.sound c.requires.numbers c.requires.no_ring c.args.edges.now c.args.places.now c.new.result c.new-3.result c.requires.edges c.requires.round (c.new.ensures ∙ c.in_ok-by.ensures) (c.new-3.ensures ∙ c.new-2.ensures.items)
+    made c.args.net.now c.sound.ensures c.requires.numbers c.requires.no_ring c.args.edges.now c.args.places.now c.new.result c.new-3.result c.requires.edges c.requires.round (c.new.ensures ∙ c.in_ok-by.ensures) (c.new-3.ensures ∙ c.new-2.ensures.items)

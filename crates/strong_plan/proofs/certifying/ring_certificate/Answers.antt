@@ -12,7 +12,7 @@ use Rattle.strong_plan.proofs.certifying.ring_certificate.Goals as goal
 pub names-requires-clause-within : goal.names-requires-clause-within
 names-requires-clause-within c =
     let net = c.args.net.now in
-    subst (AreWithin (length net.points)) (sym c.requires.edges) (down_within net c.points.ensures.sound)
+    subst (AreWithin (length net.points)) (sym c.requires.edges) (down_within net c.sound.ensures)
 
 -- the certificate of these lists
 made : (net : Plan) → IsPlan net → (edges : List Edge) (places : List ℕ) (by : List StrongLine) (ring : List (List ℕ)) → edges ≡ map down_edge net.links → IsLoopFromLowest edges places → by ≡ [] → ring ≡ names_at net edges places → IsRefutation net (record { by = by; ring = ring })
@@ -24,4 +24,4 @@ made net plan edges places by ring edges_are loop none names =
 
 pub returns : goal.returns
 returns c =
-    made c.args.net.now c.points.ensures.sound c.args.edges.now c.args.places.now c.new-2.result c.new-3.result c.requires.edges c.requires.round (c.new-2.ensures ∙ c.new.ensures.items) (c.new-3.ensures ∙ c.in_ok-ring.ensures)
+    made c.args.net.now c.sound.ensures c.args.edges.now c.args.places.now c.new-2.result c.new-3.result c.requires.edges c.requires.round (c.new-2.ensures ∙ c.new.ensures.items) (c.new-3.ensures ∙ c.in_ok-ring.ensures)

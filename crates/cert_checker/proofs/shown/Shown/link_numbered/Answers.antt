@@ -9,4 +9,4 @@ pub returns-clause-sound : goal.returns-clause-sound
 returns-clause-sound c =
     let stated = c.self.inside.stated.now in
     subst (λ (net : Plan). IsLink net c.shown_link.result) c.self.view_is
-    (link_sound (shown_form stated) (shown_sound stated c.links.ensures.sound) c.args.id.0 c.shown_link.result c.shown_link.ensures)
+    (link_sound (shown_form stated) (shown_sound stated c.sound.ensures) c.args.id.0 c.shown_link.result c.shown_link.ensures)

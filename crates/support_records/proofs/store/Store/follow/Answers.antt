@@ -11,7 +11,7 @@ follow_into-requires-clause-can c =
     let moves = c.in_ok-moves.moves in
     let nodes_is = c.dag.ensures ∙ ap (λ (s : Support). s.nodes) c.self.view_is in
     subst (CanFollow moves.points.old.now moves.points.new.now (moves_of moves)) (sym nodes_is)
-    (can_follow c.args.old.now c.args.edit.now c.args.new.now moves c.in_ok-moves.ensures c.args.self.now.nodes c.points.ensures.sound c.points-2.ensures.sound c.requires.derived)
+    (can_follow c.args.old.now c.args.edit.now c.args.new.now moves c.in_ok-moves.ensures c.args.self.now.nodes c.sound.ensures c.sound-2.ensures c.requires.derived)
 
 pub returns : goal.returns
 returns c =
@@ -20,4 +20,4 @@ returns c =
     let has = subst (λ (ns : List Node). HasFollowed moves.points.old.now moves.points.new.now (moves_of moves) ns c.follow_into.new.after c.in_ok-kept.kept) nodes_is c.in_ok-kept.ensures in
     let earlier = c.len.ensures ∙ ap (λ (ns : List Node). length ns) (c.dag-2.ensures ∙ ap (λ (s : Support). s.nodes) c.self.view_is) in
     is_followed c.args.old.now c.args.edit.now c.args.new.now moves c.in_ok-moves.ensures c.args.self.now c.follow_into.new.after c.counted-answer.result
-    c.points.ensures.sound c.points-2.ensures.sound c.requires (subst (HasFollowed moves.points.old.now moves.points.new.now (moves_of moves) c.args.self.now.nodes c.follow_into.new.after) (sym c.counted-answer.ensures.kept) has) (c.counted-answer.ensures.all ∙ earlier)
+    c.sound.ensures c.sound-2.ensures c.requires (subst (HasFollowed moves.points.old.now moves.points.new.now (moves_of moves) c.args.self.now.nodes c.follow_into.new.after) (sym c.counted-answer.ensures.kept) has) (c.counted-answer.ensures.all ∙ earlier)
