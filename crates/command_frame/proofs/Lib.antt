@@ -13,3 +13,4 @@ pub mod WorkersLemmas
 pub mod FormWordLemmas
 pub mod SameLemmas
 pub mod NothingLemmas
+pub mod PointTextLemmas

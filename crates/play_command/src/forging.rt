@@ -147,8 +147,7 @@ fn tell_verdict<R: Threads + Sync>(
     ensures { IfOk result (λ end. Adds (λ more. TellsVerdict (shown_form session.now.state.net) more end) answer.old.text answer.new.text) }
 {
     controllable_is_shown();
-    // The proof reads here that the network is sound.
-    let _ = session.network().points();
+    session.network().sound();
     let certificate = session.certificate(rt, alloc)?;
     if session.is_controllable() {
         tell_controllable(rt, alloc, answer, session, &certificate)

@@ -156,8 +156,7 @@ fn put_times(
     ensures { IfOk result (PutsTimes which net.now answer.new.text) }
 {
     earliest_is_shown();
-    // The proof reads here that the network is sound.
-    let _ = net.points();
+    net.sound();
     let dispatch = dispatch_by(alloc, shown, closed)?;
     let situation = situation_as_shown(alloc, net, which)?;
     let schedule = played(alloc, shown, dispatch, &situation)?;
@@ -171,8 +170,7 @@ fn situation_as_shown(alloc: Global, net: &Network, which: Which) -> Result<Situ
     ensures is { IfOk result (λ shown. shown.items ≡ shown_situation net.now (situation_of which net.now)) }
     ensures situation { IfOk result (λ shown. IsSituation net.now (situation_of which net.now)) }
 {
-    // The proof reads here that the network is sound.
-    let _ = net.points();
+    net.sound();
     let situation = which.situation(alloc, net)?;
     net.shown_situation(alloc, situation.as_slice())
 }
@@ -190,8 +188,7 @@ pub(crate) fn played(
     requires situation { IsSituation net.now situation.now.items }
     ensures { IfOk result (λ schedule. IsEarliest net.now situation.now.items schedule.items) }
 {
-    // The proof reads here that the network is sound.
-    let _ = net.points();
+    net.sound();
     let mut executor = Executor::start(alloc, net, dispatch.slim())?;
     play_out(alloc, &mut executor, net, situation)
 }

@@ -3,4 +3,3 @@ pub mod SessionOnceLemmas
 pub mod SessionLines
 pub mod SessionLemmas
 pub mod EditingLemmas
-pub mod SessionTextLemmas

@@ -11,14 +11,14 @@ use Rattle.play_command.proofs.forging.tell_verdict.Goals as goal
 pub tell_controllable-requires-clause-proves : goal.tell_controllable-requires-clause-proves
 tell_controllable-requires-clause-proves g c =
     let net = c.args.session.now.state.net in
-    let plan : IsPlan net = subst IsPlan c.network.ensures c.points.ensures.sound in
+    let plan : IsPlan net = subst IsPlan c.network.ensures c.sound.ensures in
     λ lifetimes lives. decides_yes (shown_form net) c.in_ok-certificate.certificate ((c.controllable_is_shown.ensures net plan).0 (c.is_controllable.ensures.yes c.if-is_controllable.true)) c.in_ok-certificate.ensures
 
 pub tell_refuted-requires-clause-refutes : goal.tell_refuted-requires-clause-refutes
 tell_refuted-requires-clause-refutes g c =
     let net = c.args.session.now.state.net in
     let cert = c.in_ok-certificate.certificate in
-    let plan : IsPlan net = subst IsPlan c.network.ensures c.points.ensures.sound in
+    let plan : IsPlan net = subst IsPlan c.network.ensures c.sound.ensures in
     λ lifetimes lives. subst (λ (n : Plan). Refutes (shown_form n) cert) (sym c.network-else-is_controllable.ensures)
     (decides_no (shown_form net) cert (λ controls. c.is_controllable.ensures.no c.if-is_controllable.false ((c.controllable_is_shown.ensures net plan).1 controls)) c.in_ok-certificate.ensures)
 

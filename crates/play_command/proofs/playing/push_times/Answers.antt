@@ -1,6 +1,6 @@
 use Rattle.net_model.specs.declared.ids.PointId.{PointId}
 use Rattle.play_command.specs.Playing.{happened_in, time_line}
-use Rattle.session_command.proofs.SessionTextLemmas.{points_put}
+use Rattle.command_frame.proofs.PointTextLemmas.{points_put}
 use Rattle.play_command.proofs.playing.push_times.Goals as goal
 
 pub loop-point-preserved : goal.loop-point-preserved

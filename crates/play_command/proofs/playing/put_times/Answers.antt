@@ -19,7 +19,7 @@ pub played-requires-clause-situation : goal.played-requires-clause-situation
 played-requires-clause-situation c =
     let net = c.args.net.now in
     let situation = situation_of c.args.which net in
-    let shown : IsSituation (shown_form net) (shown_situation net situation) = (situations_are_shown net situation c.points.ensures.sound).0 c.in_ok-situation.ensures.situation in
+    let shown : IsSituation (shown_form net) (shown_situation net situation) = (situations_are_shown net situation c.sound.ensures).0 c.in_ok-situation.ensures.situation in
     subst (λ (n : Plan). IsSituation n c.in_ok-situation.situation.items) (sym c.requires.verdict.as_shown) (subst (IsSituation (shown_form net)) (sym c.in_ok-situation.ensures.is) shown)
 
 pub returns : goal.returns
@@ -33,4 +33,4 @@ returns c =
     c.in_ok-push_times.ensures
     ∙ (ap (λ (t : List ℕ). t ++ text c.as_slice.result.now) (c.in_ok-push_line.ensures.text ∙ ap (λ (t : List ℕ). t ++ controllable_line) c.requires.empty)
     ∙ ap (λ (moments : List ℕ). controllable_line ++ text moments) c.as_slice.ensures.value) in
-    times_put c.earliest_is_shown.ensures c.args.which net shown schedule c.push_times.new.answer.text c.points.ensures.sound c.requires.verdict.as_shown c.in_ok-situation.ensures.situation earliest put
+    times_put c.earliest_is_shown.ensures c.args.which net shown schedule c.push_times.new.answer.text c.sound.ensures c.requires.verdict.as_shown c.in_ok-situation.ensures.situation earliest put

@@ -11,4 +11,4 @@ shown_situation-requires-clause-each c =
 pub shown_situation-requires-clause-small : goal.shown_situation-requires-clause-small
 shown_situation-requires-clause-small c =
     subst (All (λ (duration : ℕ). duration ≤ most_size)) (sym c.as_slice.ensures.value)
-    (none_long c.args.net.now c.in_ok-situation.situation.items c.in_ok-situation.ensures.situation c.points.ensures.sound)
+    (none_long c.args.net.now c.in_ok-situation.situation.items c.in_ok-situation.ensures.situation c.sound.ensures)
