@@ -1,26 +1,42 @@
 -- What is stored after one more point, bound or link is stored as it should be.
-use Rattle.std.proofs.Common.{◌≡◌, ℕ, zero, suc, ◌<◌, ◌==◌, Bool, true, false, List, [], ◌∷◌, ◌++◌, length, get_or, set, ◌≢◌, get_or-set_same, get_or-set_other, Option, Some, None, position, IsTrue, refl, ap, sym, subst, ⊎_elim, ◌∙◌, arith}
+use Rattle.std.proofs.Common.{◌≡◌, ℕ, zero, suc, ◌<◌, ◌==◌, Bool, true, false, cond, List, [], ◌∷◌, ◌++◌, length, get_or, set, ◌≢◌, get_or-set_same, get_or-set_other, Option, Some, None, position, IsTrue, refl, ap, sym, subst, ⊎_elim, ◌∙◌, arith}
+use Rattle.std.specs.HashMap.{get}
 use Rattle.std.specs.Option.{option_map}
 use Rattle.std.specs.Str.{bytes_eq}
 use Rattle.std.proofs.lemmas.Grind.{common_steps}
 use Rattle.std.proofs.lemmas.Bool.Decides.{nat_tests}
 use Rattle.std.proofs.lemmas.Bool.{cases_lt}
+use Rattle.std.proofs.lemmas.Cmp.{nat_list_eq_equiv}
 use Rattle.std.proofs.lemmas.List.{get_or_past}
-use Rattle.indexmap.specs.IndexSet.{insert_key}
-use Rattle.net_model.proofs.Positions.{None_from_option_map, list_any_from_None, position-push_fails, position-push_passes}
-use Rattle.net_model.proofs.NetworkLemmas.{names_of, more_points, more_bounds, more_links, IsPlan-more_points, IsPlan-more_bounds, IsPlan-more_links, activation-past, names_of-push, free_name}
+use Rattle.std.proofs.lemmas.Slice.Eq.{bytes_eq-Decides}
+use Rattle.net_model.proofs.Positions.{None_from_option_map, position-push_fails, position-push_passes}
+use Rattle.net_model.proofs.NetworkLemmas.{names_of, more_points, more_bounds, more_links, IsPlan-more_points, IsPlan-more_bounds, IsPlan-more_links, activation-past, bound_named-names_of, names_of-push, free_name}
 use Rattle.net_model.specs.Names.{is_name}
 use Rattle.net_model.specs.Network.{IsPlan, IsBound, IsLink, point_named, bound_named, activation}
 use Rattle.net_model.specs.Limits.{most_points, most_links, most_bounds}
 use Rattle.net_model.specs.Stored.{plan_of, IsStored}
+use Rattle.net_model.specs.declared.ids.BoundId.{BoundId}
 use Rattle.net_model.specs.declared.ids.LinkId.{LinkId}
 use Rattle.net_model.specs.declared.part.Bound.{Bound}
 use Rattle.net_model.specs.declared.part.Link.{Link}
 use Rattle.net_model.specs.declared.network.Network.TheInside.{Inside}
 
--- a new key goes last
-insert_key-new : (keys : List (List ℕ)) (key : List ℕ) → position (bytes_eq key) keys ≡ None → insert_key bytes_eq keys key ≡ keys ++ key ∷ []
-insert_key-new keys key none = rw (list_any_from_None (bytes_eq key) keys none)
+-- the number of a name in a list
+abbrev numbered : {X : Type 0} → (ℕ → X) → List (List ℕ) → List ℕ → Option X
+numbered number names name = option_map number (position (bytes_eq name) names)
+
+-- the numbers of names after a new name is put at the end
+numbered-push : {X : Type 0} (number : ℕ → X) (names : List (List ℕ)) (name other : List ℕ) → position (bytes_eq name) names ≡ None
+    → cond (bytes_eq name other) (Some (number (length names))) (numbered number names other) ≡ numbered number (names ++ name ∷ []) other
+numbered-push number names name other none = by (bytes_eq name other) refl
+  where
+    by : (b : Bool) → bytes_eq name other ≡ b
+        → cond b (Some (number (length names))) (numbered number names other) ≡ numbered number (names ++ name ∷ []) other
+    by true same =
+        let is : name ≡ other = (bytes_eq-Decides name other).0 same in
+        let free = subst (λ (n : List ℕ). position (bytes_eq n) names ≡ None) is none in
+        ap (option_map number) (sym (position-push_passes (bytes_eq other) names name free (nat_list_eq_equiv.symm other name ∙ same)))
+    by false apart = ap (option_map number) (sym (position-push_fails (bytes_eq other) names name (nat_list_eq_equiv.symm other name ∙ apart)))
 
 -- the first of some links that ends in a point
 abbrev ending_in : List Link → ℕ → Option LinkId
@@ -56,26 +72,28 @@ module _ (old new : Inside) where
   pub record HasMorePoints (name : List ℕ) : Type 0 where
     pub bounds : new.bounds ≡ old.bounds
     pub links : new.links ≡ old.links
-    pub bound_names : new.bound_names ≡ old.bound_names
+    pub bound_ids : new.bound_ids ≡ old.bound_ids
     pub points : new.points.items ≡ old.points.items ++ name ∷ []
-    pub point_names : new.point_names.keys ≡ insert_key bytes_eq old.point_names.keys name
+    pub point_ids : (other : List ℕ)
+        → get bytes_eq new.point_ids other ≡ cond (bytes_eq name other) (Some (record { 0 = length old.points.items })) (get bytes_eq old.point_ids other)
     pub ending : new.ending.items ≡ old.ending.items ++ None ∷ []
     pub delay : new.delay ≡ old.delay
 
   pub record HasMoreBounds (bound : Bound) : Type 0 where
     pub points : new.points ≡ old.points
     pub links : new.links ≡ old.links
-    pub point_names : new.point_names ≡ old.point_names
+    pub point_ids : new.point_ids ≡ old.point_ids
     pub ending : new.ending ≡ old.ending
     pub bounds : new.bounds.items ≡ old.bounds.items ++ bound ∷ []
-    pub bound_names : new.bound_names.keys ≡ insert_key bytes_eq old.bound_names.keys bound.name
+    pub bound_ids : (other : List ℕ)
+        → get bytes_eq new.bound_ids other ≡ cond (bytes_eq bound.name other) (Some (record { 0 = length old.bounds.items })) (get bytes_eq old.bound_ids other)
     pub delay : new.delay ≡ old.delay
 
   pub record HasMoreLinks (link : Link) : Type 0 where
     pub points : new.points ≡ old.points
     pub bounds : new.bounds ≡ old.bounds
-    pub point_names : new.point_names ≡ old.point_names
-    pub bound_names : new.bound_names ≡ old.bound_names
+    pub point_ids : new.point_ids ≡ old.point_ids
+    pub bound_ids : new.bound_ids ≡ old.bound_ids
     pub links : new.links.items ≡ old.links.items ++ link ∷ []
     pub ending : new.ending.items ≡ set old.ending.items link.to.0 (Some (record { 0 = length old.links.items }))
     pub delay : new.delay ≡ old.delay
@@ -84,14 +102,16 @@ module _ (old new : Inside) (stored : IsStored old) where
   pub stored-more_points : (name : List ℕ) → IsTrue (is_name name) → point_named (plan_of old) name ≡ None → length old.points.items < most_points
       → HasMorePoints old new name → IsStored new
   stored-more_points name named fresh room more =
-      let record { bounds = bounds; links = links; bound_names = bound_names; points = points; point_names = point_names; ending = ending; delay = delay } = more in
+      let record { bounds = bounds; links = links; bound_ids = bound_ids; points = points; point_ids = point_ids; ending = ending; delay = delay } = more in
       let same : plan_of new ≡ more_points (plan_of old) name = cc in
       let none = None_from_option_map _ (position (bytes_eq name) old.points.items) fresh in
-      let last = insert_key-new old.points.items name none in
       record {
         plan = subst IsPlan (sym same) (IsPlan-more_points (plan_of old) name stored.plan named fresh room);
-        point_names = grind (arith, common_steps);
-        bound_names = grind (arith, common_steps);
+        point_ids = λ other. point_ids other
+            ∙ ap (cond (bytes_eq name other) (Some (record { 0 = length old.points.items }))) (stored.point_ids other)
+            ∙ numbered-push (λ k. record { 0 = k }) old.points.items name other none
+            ∙ ap (λ (names : List (List ℕ)). numbered (λ k. record { 0 = k }) names other) (sym points);
+        bound_ids = λ other. rw (bound_ids, bounds) (stored.bound_ids other);
         ending_count = grind (arith, common_steps);
         ending = λ p inside. rw (ending, links) (no_link p);
       }
@@ -105,27 +125,35 @@ module _ (old new : Inside) (stored : IsStored old) where
   pub stored-more_bounds : (bound : Bound) → IsBound (plan_of old) bound → bound_named (plan_of old) bound.name ≡ None → length old.bounds.items < most_bounds
       → HasMoreBounds old new bound → IsStored new
   stored-more_bounds bound sound fresh room more =
-      let record { points = points; links = links; point_names = point_names; ending = ending; bounds = bounds; bound_names = bound_names; delay = delay } = more in
+      let record { points = points; links = links; point_ids = point_ids; ending = ending; bounds = bounds; bound_ids = bound_ids; delay = delay } = more in
       let same : plan_of new ≡ more_bounds (plan_of old) bound = cc in
-      let last = insert_key-new (names_of old.bounds.items) bound.name (free_name (plan_of old) bound.name fresh) in
       record {
         plan = subst IsPlan (sym same) (IsPlan-more_bounds (plan_of old) bound stored.plan sound fresh room);
-        point_names = cc;
-        bound_names = bound_names ∙ ap (λ keys. insert_key bytes_eq keys bound.name) stored.bound_names ∙ last ∙ sym (names_of-push old.bounds.items bound) ∙ ap names_of (sym bounds);
+        point_ids = λ other. rw (point_ids, points) (stored.point_ids other);
+        bound_ids = λ other. bound_ids other
+            ∙ ap (cond (bytes_eq bound.name other) (Some (record { 0 = length old.bounds.items }))) (stored.bound_ids other)
+            ∙ ap (λ (o : Option BoundId). cond (bytes_eq bound.name other) (Some (record { 0 = length old.bounds.items })) o) (sym (bound_named-names_of (plan_of old) other))
+            ∙ ap (λ (k : ℕ). cond (bytes_eq bound.name other) (Some (record { 0 = k })) (numbered (λ n. record { 0 = n }) (names_of old.bounds.items) other)) (sym count)
+            ∙ numbered-push (λ k. record { 0 = k }) (names_of old.bounds.items) bound.name other (free_name (plan_of old) bound.name fresh)
+            ∙ ap (λ (names : List (List ℕ)). numbered (λ k. record { 0 = k }) names other) (sym (names_of-push old.bounds.items bound) ∙ ap names_of (sym bounds))
+            ∙ bound_named-names_of (plan_of new) other;
         ending_count = grind (arith, common_steps);
         ending = λ p inside. rw (ending, links) (stored.ending p (rw points at inside));
       }
+    where
+      count : length (names_of old.bounds.items) ≡ length old.bounds.items
+      count = grind (arith, common_steps)
 
   pub stored-more_links : (link : Link) → IsLink (plan_of old) link → activation (plan_of old) link.to ≡ None → length old.links.items < most_links
       → HasMoreLinks old new link → IsStored new
   stored-more_links link sound fresh room more =
-      let record { points = points; bounds = bounds; point_names = point_names; bound_names = bound_names; links = links; ending = ending; delay = delay } = more in
+      let record { points = points; bounds = bounds; point_ids = point_ids; bound_ids = bound_ids; links = links; ending = ending; delay = delay } = more in
       let same : plan_of new ≡ more_links (plan_of old) link = cc in
       let none = None_from_option_map _ (position (λ (l : Link). l.to.0 == link.to.0) old.links.items) fresh in
       record {
         plan = subst IsPlan (sym same) (IsPlan-more_links (plan_of old) link stored.plan sound fresh room);
-        point_names = cc;
-        bound_names = cc;
+        point_ids = λ other. rw (point_ids, points) (stored.point_ids other);
+        bound_ids = λ other. rw (bound_ids, bounds) (stored.bound_ids other);
         ending_count = grind (arith, common_steps);
         ending = λ p inside. rw (links, ending) (ending-more_links old.links.items link old.ending.items p (omega (arith, sound.to_point, stored.ending_count)) none (stored.ending p (rw points at inside)));
       }

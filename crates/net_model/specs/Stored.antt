@@ -1,9 +1,10 @@
--- How a network is stored: its three lists and its delay, an index of names for each list of names, and for each point the link that
--- ends in it.
-use Rattle.std.specs.Prelude.{◌≡◌, ℕ, ◌<◌, length, map, None}
+-- How a network is stored: its three lists and its delay, the numbers of the points and of the bounds by their names, and for each point
+-- the link that ends in it.
+use Rattle.std.specs.Prelude.{◌≡◌, ℕ, ◌<◌, List, length, None}
+use Rattle.std.specs.HashMap.{get}
 use Rattle.std.specs.List.{slice_index_or}
-use Rattle.net_model.specs.Network.{Plan, IsPlan, activation}
-use Rattle.net_model.specs.declared.part.Bound.{Bound}
+use Rattle.std.specs.Str.{bytes_eq}
+use Rattle.net_model.specs.Network.{Plan, IsPlan, activation, bound_named, point_named}
 use Rattle.net_model.specs.declared.network.Network.TheInside.{Inside}
 
 -- the network that is stored
@@ -12,7 +13,7 @@ plan_of net = record { points = net.points.items; bounds = net.bounds.items; lin
 
 pub record IsStored (net : Inside) : Type 0 where
   pub plan : IsPlan (plan_of net)
-  pub point_names : net.point_names.keys ≡ net.points.items
-  pub bound_names : net.bound_names.keys ≡ map (λ (b : Bound). b.name) net.bounds.items
+  pub point_ids : (name : List ℕ) → get bytes_eq net.point_ids name ≡ point_named (plan_of net) name
+  pub bound_ids : (name : List ℕ) → get bytes_eq net.bound_ids name ≡ bound_named (plan_of net) name
   pub ending_count : length net.ending.items ≡ length net.points.items
   pub ending : (p : ℕ) → p < length net.points.items → slice_index_or net.ending.items p None ≡ activation (plan_of net) (record { 0 = p })

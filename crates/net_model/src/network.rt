@@ -10,8 +10,8 @@ use crate::ids::{BoundId, LinkId, PointId, Weight};
 use crate::limits::{MOST_BOUNDS, MOST_LINKS, MOST_NUMBER, MOST_POINTS};
 use crate::name::Name;
 use crate::part::{Bound, Link, Part, Which};
-use indexmap::IndexSet;
 use std::alloc::{AllocError, Global};
+use std::collections::HashMap;
 use std::marker::Model;
 
 /// A temporal network with uncertainty (Morris, Muscettola and Vidal 2001): points, bounds `to - from <= most`, and
@@ -22,8 +22,8 @@ pub struct Network {
     points: Vec<Name>,
     bounds: Vec<Bound>,
     links: Vec<Link>,
-    point_names: IndexSet<Name>,
-    bound_names: IndexSet<Name>,
+    point_ids: HashMap<Name, PointId>,
+    bound_ids: HashMap<Name, BoundId>,
     ending: Vec<Option<LinkId>>,
     pub(crate) delay: u32,
 }
@@ -185,8 +185,8 @@ impl Network {
             points: Vec::new(alloc),
             bounds: Vec::new(alloc),
             links: Vec::new(alloc),
-            point_names: IndexSet::new(alloc),
-            bound_names: IndexSet::new(alloc),
+            point_ids: HashMap::new(alloc),
+            bound_ids: HashMap::new(alloc),
             ending: Vec::new(alloc),
             delay: moments,
         }
@@ -195,15 +195,13 @@ impl Network {
     pub(crate) fn named_point(&self, name: &Name) -> Option<PointId>
         ensures { result ≡ point_named self.now name.now }
     {
-        let place = self.point_names.get_index_of(name)?;
-        Some(PointId(place as u32))
+        self.point_ids.get(name).copied()
     }
 
     pub(crate) fn named_bound(&self, name: &Name) -> Option<BoundId>
         ensures { result ≡ bound_named self.now name.now }
     {
-        let place = self.bound_names.get_index_of(name)?;
-        Some(BoundId(place as u32))
+        self.bound_ids.get(name).copied()
     }
 
     fn known_point(&self, name: &Name) -> Result<PointId, PartFault>
@@ -343,10 +341,10 @@ impl Network {
         name.sound();
         self.points.reserve(1)?;
         self.ending.reserve(1)?;
-        self.point_names.reserve(1)?;
+        let id = PointId(self.points.len() as u32);
+        self.point_ids.insert(*name, id)?;
         self.points.push_reserved(*name);
         self.ending.push_reserved(None);
-        self.point_names.insert(*name).unwrap();
         Ok(())
     }
 
@@ -357,8 +355,8 @@ impl Network {
         ensures { Pushes self.old self.new result (record self.old { bounds = self.old.bounds ++ bound ∷ [] }) }
     {
         self.bounds.reserve(1)?;
-        self.bound_names.reserve(1)?;
-        self.bound_names.insert(bound.name).unwrap();
+        let id = BoundId(self.bounds.len() as u32);
+        self.bound_ids.insert(bound.name, id)?;
         self.bounds.push_reserved(bound);
         Ok(())
     }

@@ -1,5 +1,4 @@
-use Rattle.std.proofs.Common.{◌∙◌, sym, subst}
-use Rattle.net_model.specs.Network.{IsPlan}
+use Rattle.std.proofs.Common.{◌∙◌, sym}
 use Rattle.net_model.proofs.NetworkLemmas.{point_named-bad}
 use Rattle.net_model.proofs.network.Network.point.Goals as goal
 

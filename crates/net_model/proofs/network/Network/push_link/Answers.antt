@@ -11,8 +11,8 @@ invariant_of-self-2 c =
     (record {
       points = refl;
       bounds = refl;
-      point_names = refl;
-      bound_names = refl;
+      point_ids = refl;
+      bound_ids = refl;
       links = c.push_reserved.ensures.items ∙ ap (λ links. links ++ c.args.link ∷ []) c.in_ok-reserve.ensures.items;
       ending = ap (λ (id : ℕ). set c.self.inside.ending.items c.args.link.to.0 (Some (record { 0 = id }))) count;
       delay = refl;

@@ -7,3 +7,7 @@ use Rattle.plan_session.proofs.session.Session.refutation.Goals as goal
 pub refutation-requires-clause-never : goal.refutation-requires-clause-never
 refutation-requires-clause-never g c =
     λ controls. c.requires (subst IsControllable (c.self.invariant.shown_is ∙ ap (λ (session : SessionView). shown_form session.state.net) c.self.view_is) controls)
+
+pub refutation-requires-in_default-clause-never : goal.refutation-requires-in_default-clause-never
+refutation-requires-in_default-clause-never g c =
+    λ controls. c.requires (subst IsControllable (c.self.invariant.shown_is ∙ ap (λ (session : SessionView). shown_form session.state.net) c.self.view_is) controls)
