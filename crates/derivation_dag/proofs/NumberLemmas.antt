@@ -1,22 +1,21 @@
 -- The number of the node of each key, after one node more.
-use Rattle.std.proofs.Common.{◌≡◌, ◌≢◌, ◌==◌, ◌&&◌, ℕ, ℤ, ◌≤ℤ◌, ◌<ℤ◌, Bool, true, false, cond, List, [], ◌∷◌, ◌++◌, length, Option, Some, None, refl, ap, sym, ◌∙◌, subst, arith}
+use Rattle.std.proofs.Common.{◌≡◌, ◌≢◌, ◌==◌, ◌&&◌, ℕ, ℤ, ◌≤ℤ◌, ◌<ℤ◌, Bool, true, false, List, [], ◌∷◌, ◌++◌, length, Option, Some, None, refl, ap, sym, ◌∙◌, subst, arith}
 use Rattle.std.specs.Prelude.{int_lt}
 use Rattle.std.specs.Bool.{MatchBool}
-use Rattle.std.specs.Map.{lookup}
 use Rattle.std.proofs.lemmas.Int.{ints}
 use Rattle.std.proofs.lemmas.Bool.{eq-eqb, eqb-true}
 use Rattle.std.specs.Option.{option_eq}
-use Rattle.indexmap.specs.IndexMap.{get}
 use Rattle.net_model.specs.contracts.ids.LinkIdPartialEq.TheImpl as link_eq
 use Rattle.net_model.specs.declared.ids.LinkId.{LinkId}
 use Rattle.net_model.specs.declared.part.Edge.{Edge}
-use Rattle.closure_model.specs.Keys.{key_of}
+use Rattle.closure_model.specs.Keys.{Key, key_of}
 use Rattle.closure_model.specs.Derivations.{node_at, IsNodeOf, IsNewest}
 use Rattle.closure_model.specs.declared.derivation.Node.{Node}
 use Rattle.closure_model.specs.declared.derivation.NodeId.{NodeId}
 use Rattle.closure_model.proofs.Newest.{none_after, kept_after, new_after}
 use Rattle.derivation_dag.specs.declared.key.EdgeKey.{EdgeKey}
-use Rattle.derivation_dag.specs.Numbers.{Ids, same_edge_key, edge_key, number_of, NumbersNodes, IsBelowAll, IsHeld}
+use Rattle.derivation_dag.specs.declared.numbers.Numbers.{Numbers}
+use Rattle.derivation_dag.specs.Numbers.{same_edge_key, edge_key, number_of, AreSame, NumbersNodes, IsBelowAll, IsHeld}
 
 -- ---- edge keys that pass the test are the same
 both_true : (a b : Bool) → (a && b) ≡ true → (a ≡ true) × (b ≡ true)
@@ -75,51 +74,49 @@ below_or_held nodes edge id node was here b is = by b is
       less = let weight : was.node.edge.weight ≡ node.edge.weight = ap (λ (n : Node). n.edge.weight) same in no_less edge.weight was.node.edge.weight (ap (int_lt edge.weight) weight ∙ sym is');
     }
 
--- ---- one node more
-module _ (nodes : List Node) (node : Node) (ids : Ids) (numbers : NumbersNodes nodes ids) where
-  -- one that is not below all of its key
-  pub numbers_held : (after : Ids) → after.entries ≡ ids.entries → IsHeld nodes node.edge → (all : List Node) → all ≡ nodes ++ node ∷ [] → NumbersNodes all after
-  numbers_held after same held all is key =
-      subst (λ (ns : List Node). IsNewest ns key (number_of after key)) (sym is)
-      (subst (λ o. IsNewest (nodes ++ node ∷ []) key o) (sym kept) (by (number_of ids key) (numbers key)))
-    where
-      kept : number_of after key ≡ number_of ids key
-      kept = ap (λ es. lookup (same_edge_key (edge_key key)) es) same
+-- a key whose edge key passes the test beside that of another is the other one
+key_by_test : (one other : Key) → same_edge_key (edge_key one) (edge_key other) ≡ true → one ≡ other
+key_by_test one other test =
+    let same : edge_key one ≡ edge_key other = tested (edge_key one) (edge_key other) test in
+    λ i. record { to = (same i).to; from = (same i).from; label = (same i).label }
 
+keys_apart : (one other : Key) → same_edge_key (edge_key one) (edge_key other) ≡ false → one ≢ other
+keys_apart one other test same =
+    let both : same_edge_key (edge_key one) (edge_key other) ≡ true = ap (λ (key : Key). same_edge_key (edge_key one) (edge_key key)) (sym same) ∙ passes (edge_key one) in
+    let no : true ≡ false = sym both ∙ test in
+    absurd cc
+
+-- ---- one node more
+module _ (nodes : List Node) (node : Node) (numbers : Numbers) (held : NumbersNodes nodes numbers) where
+  -- one that is not below all of its key
+  pub numbers_held : (after : Numbers) → AreSame numbers after → IsHeld nodes node.edge → (all : List Node) → all ≡ nodes ++ node ∷ [] → NumbersNodes all after
+  numbers_held after same below all is key =
+      subst (λ (ns : List Node). IsNewest ns key (number_of after key)) (sym is)
+      (subst (λ o. IsNewest (nodes ++ node ∷ []) key o) (sym (same key)) (by (number_of numbers key) (held key)))
+    where
       by : (o : Option NodeId) → IsNewest nodes key o → IsNewest (nodes ++ node ∷ []) key o
-      by None none = none_after nodes node key (λ of_key. none held.id held.of_key.node held.of_key.here (held.of_key.of_key ∙ of_key)) none
+      by None none = none_after nodes node key (λ of_key. none below.id below.of_key.node below.of_key.here (below.of_key.of_key ∙ of_key)) none
       by (Some id) was = kept_after nodes node key id was (λ of_key.
-          let least : was.node.edge.weight ≤ℤ held.of_key.node.edge.weight = was.least held.id held.of_key.node held.of_key.here (held.of_key.of_key ∙ of_key) in
-          let under : held.of_key.node.edge.weight ≤ℤ node.edge.weight = held.less in
+          let least : was.node.edge.weight ≤ℤ below.of_key.node.edge.weight = was.least below.id below.of_key.node below.of_key.here (below.of_key.of_key ∙ of_key) in
+          let under : below.of_key.node.edge.weight ≤ℤ node.edge.weight = below.less in
           omega (arith, ints))
 
   -- one that is below all of its key
-  pub numbers_below : (roomy after : Ids) (name : EdgeKey) (id : NodeId) → roomy.entries ≡ ids.entries → name ≡ edge_key (key_of node.edge) → id.0 ≡ length nodes
-      → ((q : EdgeKey) → get same_edge_key after q ≡ cond (same_edge_key name q) (Some id) (get same_edge_key roomy q))
+  pub numbers_below : (after : Numbers) → number_of after (key_of node.edge) ≡ Some (record { 0 = length nodes })
+      → ((key : Key) → key ≢ key_of node.edge → number_of after key ≡ number_of numbers key)
       → IsBelowAll nodes node.edge → (all : List Node) → all ≡ nodes ++ node ∷ [] → NumbersNodes all after
-  numbers_below roomy after name id same named last updated below all is key =
-      subst (λ (ns : List Node). IsNewest ns key (number_of after key)) (sym is)
-      (subst (λ o. IsNewest (nodes ++ node ∷ []) key o) (sym (updated (edge_key key))) (by (same_edge_key name (edge_key key)) refl))
+  numbers_below after here others below all is key =
+      subst (λ (ns : List Node). IsNewest ns key (number_of after key)) (sym is) (by (same_edge_key (edge_key (key_of node.edge)) (edge_key key)) refl)
     where
-      new : NodeId
-      new = record { 0 = length nodes }
-
-      by : (b : Bool) → same_edge_key name (edge_key key) ≡ b → IsNewest (nodes ++ node ∷ []) key (cond b (Some id) (number_of roomy key))
+      by : (b : Bool) → same_edge_key (edge_key (key_of node.edge)) (edge_key key) ≡ b → IsNewest (nodes ++ node ∷ []) key (number_of after key)
       by true test =
-          let one : edge_key (key_of node.edge) ≡ edge_key key = sym named ∙ tested name (edge_key key) test in
-          let of_key : key_of node.edge ≡ key = λ i. record { to = (one i).to; from = (one i).from; label = (one i).label } in
-          let number : record { 0 = length nodes } ≡ id = ap (λ (k : ℕ). record { 0 = k }) (sym last) in
-          subst (IsNodeOf (nodes ++ node ∷ []) key) number (new_after nodes node key of_key (λ other m here m_key. below other m here (m_key ∙ sym of_key)))
+          let of_key = key_by_test (key_of node.edge) key test in
+          let number = ap (number_of after) (sym of_key) ∙ here in
+          subst (λ o. IsNewest (nodes ++ node ∷ []) key o) (sym number) (new_after nodes node key of_key (λ other m at m_key. below other m at (m_key ∙ sym of_key)))
       by false test =
-          let kept : number_of roomy key ≡ number_of ids key = ap (λ es. lookup (same_edge_key (edge_key key)) es) same in
-          subst (λ o. IsNewest (nodes ++ node ∷ []) key o) (sym kept) (otherwise (number_of ids key) (numbers key))
+          let apart = keys_apart (key_of node.edge) key test in
+          subst (λ o. IsNewest (nodes ++ node ∷ []) key o) (sym (others key (λ same. apart (sym same)))) (otherwise apart (number_of numbers key) (held key))
         where
-          apart : key_of node.edge ≢ key
-          apart of_key =
-              let both : same_edge_key name (edge_key key) ≡ true = ap (λ k. same_edge_key k (edge_key key)) (named ∙ ap edge_key of_key) ∙ passes (edge_key key) in
-              let no : true ≡ false = sym both ∙ test in
-              absurd cc
-
-          otherwise : (o : Option NodeId) → IsNewest nodes key o → IsNewest (nodes ++ node ∷ []) key o
-          otherwise None none = none_after nodes node key apart none
-          otherwise (Some other) was = kept_after nodes node key other was (λ of_key. absurd (apart of_key))
+          otherwise : key_of node.edge ≢ key → (o : Option NodeId) → IsNewest nodes key o → IsNewest (nodes ++ node ∷ []) key o
+          otherwise apart None none = none_after nodes node key apart none
+          otherwise apart (Some other) was = kept_after nodes node key other was (λ of_key. absurd (apart of_key))

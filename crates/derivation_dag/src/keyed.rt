@@ -5,9 +5,8 @@ ghost use Rattle.closure_model.specs.Derivations.{IsGiven, IsNewest};
 ghost use Rattle.derivation_dag.specs.Numbers.{IsBelowAll, IsHeld};
 
 use crate::dag::Dag;
-use crate::key::EdgeKey;
+use crate::numbers::Numbers;
 use closure_model::{Node, NodeId};
-use indexmap::IndexMap;
 use net_model::{Edge, Network};
 use std::alloc::{AllocError, Global};
 use std::marker::Model;
@@ -16,7 +15,7 @@ use std::marker::Model;
 #[derive(Debug, Drop)]
 pub(crate) struct KeyedDag {
     dag: Dag,
-    ids: IndexMap<EdgeKey, NodeId>,
+    numbers: Numbers,
 }
 
 impl Model for KeyedDag {
@@ -29,18 +28,29 @@ impl Model for KeyedDag {
 
     ghost view = { λ keyed. keyed.dag };
 
-    ghost invariant = { λ keyed. NumbersNodes keyed.dag keyed.ids };
+    ghost invariant = { λ keyed. NumbersNodes keyed.dag keyed.numbers };
 }
 
 impl KeyedDag {
-    /// The list without nodes.
+    /// The list without nodes. It takes no memory.
     pub(crate) fn new(alloc: Global) -> KeyedDag
         ensures { result ≡ [] }
     {
         KeyedDag {
             dag: Dag::new(alloc),
-            ids: IndexMap::new(alloc),
+            numbers: Numbers::new(alloc),
         }
+    }
+
+    /// The list without nodes, with 8 bytes for each ordinary key between so many points. `AllocError` comes only for want of memory.
+    pub(crate) fn of(alloc: Global, points: u32) -> Result<KeyedDag, AllocError>
+        ensures { IfOk result (λ list. list ≡ []) }
+    {
+        let numbers = Numbers::of(alloc, points)?;
+        Ok(KeyedDag {
+            dag: Dag::new(alloc),
+            numbers,
+        })
     }
 
     /// The allocator that it keeps for its growth.
@@ -59,7 +69,7 @@ impl KeyedDag {
     pub(crate) fn newest(&self, edge: &Edge) -> Option<NodeId>
         ensures { IsNewest self.now (key_of edge.now) result }
     {
-        self.ids.get(&EdgeKey::of(edge)).copied()
+        self.numbers.get(edge)
     }
 
     /// Puts a node at the end of the list, as `Dag::push` does.
@@ -69,10 +79,10 @@ impl KeyedDag {
         ensures refused { OnErr result (self.new ≡ self.old) }
     {
         let below = self.is_below_all(&node.edge);
-        self.ids.reserve(1)?;
+        self.numbers.reserve(&node.edge)?;
         let id = self.dag.push(net, node)?;
         if below {
-            self.ids.insert(EdgeKey::of(&node.edge), id).unwrap();
+            self.numbers.put(&node.edge, self.dag.len());
         }
         Ok(id)
     }

@@ -7,9 +7,11 @@ mod dag;
 mod key;
 mod keyed;
 mod made;
+mod numbers;
 mod plain;
 mod premises;
 mod resting;
+mod square;
 mod supports;
 
 pub use closure_model::{Item, Node, NodeId, Rule};

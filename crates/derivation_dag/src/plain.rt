@@ -1,12 +1,13 @@
-ghost use Rattle.std.specs.Prelude.{◌≡◌, ◌++◌, length, map, IfOk, IfSome, IsSome, OnOk, ◌≤◌, unsigned_abs};
+ghost use Rattle.std.specs.Prelude.{◌≡◌, ◌++◌, [], length, map, IfOk, OnOk, ◌≤◌, unsigned_abs};
 ghost use Rattle.std.specs.List.{enumerate_from};
 ghost use Rattle.net_model.specs.Edges.{IsEdge};
 ghost use Rattle.net_model.specs.Limits.{most_size, IsWeight};
 ghost use Rattle.closure_model.specs.Keys.{key_of, IsKey};
-ghost use Rattle.closure_model.specs.Tables.{weight_of, IsFor};
+ghost use Rattle.closure_model.specs.Tables.{no_edges, IsFor};
 ghost use Rattle.closure_model.specs.Derivations.{base_support, bound_node, link_node, with_node, IsGiven, StandsOn};
+ghost use Rattle.labelled_graph.specs.Merging.{no_shape};
 ghost use Rattle.derivation_dag.specs.Rows.{CanTakeRow, with_row};
-ghost use Rattle.derivation_dag.specs.Supported.{no_support, restored, IsSupported};
+ghost use Rattle.derivation_dag.specs.Supported.{no_support, IsSupported};
 
 use crate::dag::Dag;
 use crate::keyed::KeyedDag;
@@ -14,7 +15,7 @@ use crate::made::push_row;
 use crate::supports::{MadeRow, Supports};
 use closure_model::{Node, NodeId, Rule};
 use labelled_graph::Table;
-use net_model::{Bound, BoundId, Edge, Link, LinkId, Network, Weight, bound_edge, link_edge};
+use net_model::{Bound, BoundId, Edge, Link, LinkId, Network, bound_edge, link_edge};
 use std::alloc::{AllocError, Global};
 use std::marker::Model;
 
@@ -50,7 +51,7 @@ impl Plain {
     {
         net.sound();
         let table = Table::of(alloc, net)?;
-        let mut list = KeyedDag::new(alloc);
+        let mut list = KeyedDag::of(alloc, net.points().len() as u32)?;
         push_bounds(&mut list, net)?;
         push_links(&mut list, net)?;
         Ok(Plain { list, table })
@@ -61,12 +62,12 @@ impl Plain {
         ensures { IfOk result (λ plain. plain ≡ no_support net.now) }
     {
         let table = Table::without_edges(alloc, net)?;
-        let list = KeyedDag::new(alloc);
+        let list = KeyedDag::of(alloc, net.points().len() as u32)?;
         Ok(Plain { list, table })
     }
 
     /// Puts a node at the end of the list and its edge into the table, as `accept` does, also where the table has as little for its key
-    /// already. `AllocError` comes only for want of memory.
+    /// already. `AllocError` comes only for want of memory; then the store is lost, and the caller drops it.
     pub fn add(&mut self, net: &Network, node: Node) -> Result<NodeId, AllocError>
         requires for_network { IsFor net.now self.old.table }
         requires edge { IsEdge net.now node.edge }
@@ -74,10 +75,12 @@ impl Plain {
         ensures { IfOk result (λ id. (id.0 ≡ length self.old.nodes) × (self.new ≡ with_node self.old node)) }
     {
         net.sound();
-        if self.table.has_at_most(&node.edge) {
-            Ok(self.list.push(net, node)?)
-        } else {
-            self.accept(net, node)
+        match take_node(net, &mut self.list, &mut self.table, node) {
+            Ok(id) => Ok(id),
+            Err(error) => {
+                lose(&mut self.list, &mut self.table);
+                Err(error)
+            }
         }
     }
 
@@ -101,16 +104,7 @@ impl Supports for Plain {
     }
 
     fn accept(&mut self, net: &Network, node: Node) -> Result<NodeId, AllocError> {
-        net.sound();
-        let before = weight_in(&self.table, &node.edge);
-        self.table.lower_to(&node.edge)?;
-        match self.list.push(net, node) {
-            Ok(id) => Ok(id),
-            Err(error) => {
-                restore(&mut self.table, &node.edge, before);
-                Err(error)
-            }
-        }
+        self.add(net, node)
     }
 
     fn accept_row(&mut self, net: &Network, row: &MadeRow<'_>) -> Result<(), AllocError> {
@@ -118,14 +112,39 @@ impl Supports for Plain {
         match take_row(net, &mut self.list, &mut self.table, row) {
             Ok(()) => Ok(()),
             Err(error) => {
-                // The list has nodes then whose edges are not in the table.
-                let alloc = self.list.allocator();
-                self.list = KeyedDag::new(alloc);
-                self.table = Table::empty(alloc);
+                lose(&mut self.list, &mut self.table);
                 Err(error)
             }
         }
     }
+}
+
+/// Puts a node at the end of a list, and its edge into a table.
+fn take_node(
+    net: &Network,
+    list: &mut KeyedDag,
+    table: &mut Table,
+    node: Node,
+) -> Result<NodeId, AllocError>
+    requires follows { IsGiven net.now list.old node }
+    requires key { IsKey table.old.shape (key_of node.edge) }
+    requires weight { IsWeight node.edge.weight }
+    ensures { IfOk result (λ id. (id.0 ≡ length list.old) × (record { nodes = list.new; table = table.new } ≡ with_node (record { nodes = list.old; table = table.old }) node)) }
+{
+    let edge = node.edge;
+    let id = list.push(net, node)?;
+    table.lower_to(&edge)?;
+    Ok(id)
+}
+
+/// Empties a list and a table: after a failure the list may have nodes whose edges are not in the table.
+fn lose(list: &mut KeyedDag, table: &mut Table)
+    ensures list { list.new ≡ [] }
+    ensures table { table.new ≡ no_edges no_shape }
+{
+    let alloc = list.allocator();
+    *list = KeyedDag::new(alloc);
+    *table = Table::empty(alloc);
 }
 
 /// Puts the nodes of what a row made into a list, and its edges into a table.
@@ -180,29 +199,5 @@ pub fn link_node(id: LinkId, link: &Link) -> Node
     Node {
         rule: Rule::Link(id),
         edge: link_edge(id, link),
-    }
-}
-
-/// The weight that a table has for the key of an edge.
-fn weight_in(table: &Table, edge: &Edge) -> Option<Weight>
-    requires { IsKey table.now.shape (key_of edge.now) }
-    ensures weight { result ≡ weight_of table.now (key_of edge.now) }
-    ensures within { IfSome result IsWeight }
-{
-    match edge.label {
-        Some(label) => table.upper(edge.from, label),
-        None => table.weight(edge.from, edge.to),
-    }
-}
-
-/// Gives the key of an edge the weight that it had before.
-fn restore(table: &mut Table, edge: &Edge, before: Option<Weight>)
-    requires present { IsSome (weight_of table.old (key_of edge.now)) }
-    requires weight { IfSome before IsWeight }
-    ensures { table.new ≡ restored table.old edge.now before }
-{
-    match before {
-        Some(weight) => table.raise_to(&Edge { weight, ..*edge }),
-        None => table.clear(edge),
     }
 }
