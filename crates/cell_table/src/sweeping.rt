@@ -32,7 +32,7 @@ pub(crate) struct Worker {
 }
 
 /// How far a worker is with the row of a point: not begun, under work, or made.
-#[derive(Clone, Copy, Debug, PartialEq, Eq)]
+#[derive(Clone, Copy, PartialEq, Eq)]
 enum Mark {
     New,
     Open,

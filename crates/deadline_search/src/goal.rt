@@ -9,7 +9,7 @@ pub const LOWEST: Weight = -1_000_000_000;
 pub const HIGHEST: Weight = 1_000_000_000;
 
 /// The bound `to - from <= most` that a network is to have more, but for its number.
-#[derive(Clone, Copy, Debug)]
+#[derive(Clone, Copy)]
 pub(crate) struct Goal {
     pub name: Name,
     pub from: PointId,

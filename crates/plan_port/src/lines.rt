@@ -32,7 +32,7 @@ pub enum Line {
 
 // What the kept bytes say of their first line: nothing yet, that it is whole and has this many bytes, that it is
 // too long, or that the input is too much.
-#[derive(Clone, Copy, Debug, PartialEq, Eq)]
+#[derive(Clone, Copy, PartialEq, Eq)]
 pub(crate) enum Verdict {
     Unclear,
     Line(usize),
@@ -53,7 +53,7 @@ impl Verdict {
 }
 
 // How the taking for one line ended.
-#[derive(Clone, Copy, Debug, PartialEq, Eq)]
+#[derive(Clone, Copy, PartialEq, Eq)]
 pub(crate) enum Outcome {
     Decided(Verdict),
     Fault,

@@ -6,7 +6,7 @@ use std::alloc::{AllocError, Global};
 use std::marker::Model;
 
 // Where the bytes of a take stand in the input, and how many bytes were put before it.
-#[derive(Clone, Copy, Debug)]
+#[derive(Clone, Copy)]
 struct TakenPiece {
     start: usize,
     end: usize,

@@ -7,7 +7,7 @@ use net_model::PointId;
 
 /// What was found so far of the links of open points: the first point whose link stands at a moment that has gone by, and how many links
 /// stand at the moment.
-#[derive(Clone, Copy, Debug)]
+#[derive(Clone, Copy)]
 pub(crate) struct Findings {
     pub(crate) late: Option<(PointId, u64)>,
     pub(crate) count: usize,

@@ -12,7 +12,7 @@ use std::alloc::{AllocError, Global};
 use strategy_model::{Schedule, Situation};
 
 /// A link in a situation: its contingent point completes the duration after its activation point.
-#[derive(Clone, Copy, Debug)]
+#[derive(Clone, Copy)]
 struct Lasting {
     from: PointId,
     to: PointId,

@@ -1,6 +1,6 @@
 -- The weights of reduced edges are small: their links are links of the network, and none counts twice.
 use Rattle.std.proofs.Common.{◌≡◌, ℕ, ◌+◌, ◌*◌, ◌<◌, ◌≤◌, ℤ, pos, ◌≤ℤ◌, Bool, true, false, cond, not, List, [], ◌∷◌, ◌++◌, length, slice_get, eqb, refl, ap, sym, subst, ◌∙◌, inl, inr, arith}
-use Rattle.std.specs.List.{All, AllByRecursion, Contains, IsDistinct, filter, list_any}
+use Rattle.std.specs.List.{AllByRecursion, Contains, IsDistinct, filter, list_any}
 use Rattle.std.specs.Prelude.{unsigned_abs}
 use Rattle.std.proofs.lemmas.Bool.{leb-true, eqb-true, eqb-false, ne_eqb, or_cases, true≢false}
 use Rattle.std.proofs.lemmas.Int.{ints}

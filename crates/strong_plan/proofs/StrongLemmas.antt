@@ -1,6 +1,6 @@
 -- Strong schedules and reduced edges.
 use Rattle.std.proofs.Common.{◌≡◌, ◌≢◌, ◌⊎◌, ℕ, zero, suc, ◌+◌, ◌<◌, ◌≤◌, ℤ, pos, ◌+ℤ◌, ◌≤ℤ◌, Bool, true, false, cond, not, List, [], ◌∷◌, Option, Some, None, map, length, get_or, slice_get, nat_abs, is_none, is_some, refl, ap, sym, subst, ◌∙◌, inl, inr, arith}
-use Rattle.std.specs.List.{list_any, filter, All, AllByRecursion, AllZip, Contains, position_or_len, slice_index}
+use Rattle.std.specs.List.{list_any, filter, AllByRecursion, AllZip, Contains, position_or_len, slice_index}
 use Rattle.std.specs.Option.{option_map}
 use Rattle.std.specs.Prelude.{◌==◌}
 use Rattle.std.proofs.lemmas.Bool.{cases_lt, cases_Bool, true≢false, eq-eqb}

@@ -10,7 +10,7 @@ use std::marker::Model;
 
 /// A table of the labelled distance graph (Morris and Muscettola 2005, in this project's form) in which each key has a word of four
 /// bytes. Contracts see it as the map from keys to weights that it is, with the points and links that it is for.
-#[derive(Debug, Drop)]
+#[derive(Drop)]
 pub(crate) struct DenseTable {
     ordinary: Vec<DenseRow>,
     labelled: Vec<DenseRow>,
