@@ -1,13 +1,13 @@
 -- What the rows of a table have for a key, before and after one row is changed.
-use Rattle.std.proofs.Common.{◌≡◌, ◌≢◌, ℕ, zero, suc, ◌+◌, ◌==◌, ◌<◌, ◌≤◌, ◌^◌, ℤ, Bool, true, false, cond, not, List, [], length, map, get_or, set, get_or-set_same, get_or-set_other, length-set, take, Option, Some, None, refl, ap, sym, subst, ◌∙◌, arith}
-use Rattle.std.specs.Prelude.{slice_get, IfSome, IsSome}
+use Rattle.std.proofs.Common.{◌≡◌, ◌≢◌, ℕ, zero, suc, ◌+◌, ◌==◌, ◌<◌, ◌≤◌, ◌^◌, ℤ, Bool, true, false, cond, not, List, [], length, map, get_or, set, get_or-set_same, get_or-set_other, length-set, take, Option, Some, None, Result, Ok, Err, refl, ap, sym, subst, ◌∙◌, arith}
+use Rattle.std.specs.Prelude.{slice_get, IfSome, IsSome, OnErr}
 use Rattle.std.specs.List.{All, range_with_len}
 use Rattle.std.specs.Ordering.{eq_by_cmp}
 use Rattle.std.specs.FinMap as map_of
 use Rattle.std.proofs.lemmas.Bool.{eqb-true}
 use Rattle.std.proofs.lemmas.Bool.Decides.{nat_tests}
 use Rattle.std.proofs.lemmas.Option.{slice_get_within, get_or_from_slice_get}
-use Rattle.std.proofs.lemmas.List.{get_or_default, take_all}
+use Rattle.std.proofs.lemmas.List.{get_or_default, set-get_or, take_all}
 use Rattle.std.proofs.lemmas.List.Elements.{All-set}
 use Rattle.std.proofs.lemmas.List.FromFn.{get_or-map-range_with_len, length-map-range_with_len}
 use Rattle.net_model.specs.Network.{Plan, IsPlan}
@@ -231,6 +231,18 @@ module _ (rows : List TargetRow) (activations : List PointId) (stored : AreStore
   one_gone key is before after read gone_is =
       one_changed key is None tt before after read (ap (λ (r : TargetRow). r.to) gone_is) (λ q. ap (λ (r : TargetRow). map_of.get r.weights q) gone_is ∙ map_of.get-remove key_total before.weights key q)
 
+-- rows of which one was written as it was store what they did
+pub none_set : (rows : List TargetRow) (activations : List PointId) → AreStored rows activations → (graph : Graph) → graph_with rows activations ≡ graph → (place : ℕ) (before after : TargetRow) → before ≡ get_or rows place before → after ≡ before
+    → AreTableOf (set rows place after) activations graph
+none_set rows activations stored graph view place before after read is =
+    let same : set rows place after ≡ rows = ap (set rows place) (is ∙ read) ∙ set-get_or rows place before in
+    subst (λ (rs : List TargetRow). AreTableOf rs activations graph) (sym same) (stored, view)
+
+-- what holds also holds where an answer is an error
+pub on_error : {A E P : Type 0} → P → (r : Result A E) → OnErr r P
+on_error holds (Ok done) = tt
+on_error holds (Err error) = holds
+
 -- a key that has a weight is one that there is
 pub present_key : (graph : Graph) → IsGraph graph → (key : Key) → IsSome (weight_of graph key) → IsKey graph.shape key
 present_key graph sound key present = by (weight_of graph key) refl present
@@ -242,6 +254,10 @@ present_key graph sound key present = by (weight_of graph key) refl present
 -- an edge that the table had not, or at a greater weight, was set
 pub lowered_set : (graph after : Graph) (edge : Edge) → has_at_most graph edge ≡ false → after ≡ with_edge graph edge → (true ≡ not (has_at_most graph edge)) × (after ≡ lowered graph edge)
 lowered_set graph after edge test is = (sym (ap not test), is ∙ sym (ap (λ b. cond b graph (with_edge graph edge)) test))
+
+-- an edge that the table had at no greater weight changes nothing
+pub lowered_kept : (graph : Graph) (edge : Edge) → has_at_most graph edge ≡ true → (false ≡ not (has_at_most graph edge)) × (graph ≡ lowered graph edge)
+lowered_kept graph edge test = (sym (ap not test), sym (ap (λ b. cond b graph (with_edge graph edge)) test))
 
 -- ---- rows without edges
 nothing_in : (a n k : ℕ) → (get_or (map empty_row (range_with_len a n)) k no_row).weights ≡ map_of.empty

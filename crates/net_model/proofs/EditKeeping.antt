@@ -6,7 +6,7 @@ use Rattle.std.proofs.lemmas.List.Elements.{All-set, All-map}
 use Rattle.net_model.specs.Building.{◌>>=◌, refuse_if, named, with_point, with_bound, with_link}
 use Rattle.net_model.specs.EditLaws.{HasNames, EditsKeepSound}
 use Rattle.net_model.specs.Editing.{Edits, edited, added, known, unused, user_of, without_point, with_number, with_interval}
-use Rattle.net_model.specs.Limits.{most_points, most_bounds, most_links, within_limit, within_size}
+use Rattle.net_model.specs.Limits.{most_points, most_bounds, most_links, within_limit}
 use Rattle.net_model.specs.Names.{is_name}
 use Rattle.net_model.specs.Network.{Plan, IsPlan, IsPoint, HasPlanNumbers, point_named, bound_named, activation, link_named}
 use Rattle.net_model.specs.declared.edit.Edit.{Edit}
@@ -21,7 +21,7 @@ use Rattle.net_model.specs.declared.part.Bound.{Bound}
 use Rattle.net_model.specs.declared.part.Link.{Link}
 use Rattle.net_model.specs.declared.part.Part.TheVariants as part
 use Rattle.net_model.specs.declared.part.Which.TheVariants.{Points, Links, Bounds, Number}
-use Rattle.net_model.proofs.EditLemmas.{All-remove, shown_within_limit, bound_within, link_within, point_within, sound_without_bound, sound_without_link, sound_without_point, sound_with_number, sound_with_interval}
+use Rattle.net_model.proofs.EditLemmas.{All-remove, shown_within_limit, within_sizes, declared_bound, bound_within, link_within, point_within, sound_without_bound, sound_without_link, sound_without_point, sound_with_number, sound_with_interval}
 use Rattle.net_model.proofs.NetworkLemmas.{IsPlan-more_points, IsPlan-more_bounds, IsPlan-more_links}
 use Rattle.net_model.proofs.PlanNumbers.{unless_refused, fits, part_keeps}
 
@@ -90,9 +90,6 @@ none_of : {A : Type 0} (found : Option A) → is_some found ≡ false → found 
 none_of (Some x) is = absurd (cc)
 none_of None is = refl
 
-within_sizes : (n : ℤ) → within_limit n ≡ true → within_size n ≡ true
-within_sizes n small = grind (arith, nat_tests)
-
 interval_of : (low high : ℤ) → (int_lt low (pos 1) || int_lt high low) ≡ false → (pos 1 ≤ℤ low) × (low ≤ℤ high)
 interval_of low high good = (grind (arith, ints), grind (arith, ints))
 
@@ -117,7 +114,7 @@ bound_sound net name from to most sound is =
     if_named IsPlan net to (λ y. small x y) (λ y y_held.
     unless_refused IsPlan (not (within_limit most)) (Limit Number) (room x y) (λ fitting.
     unless_refused IsPlan (nat_le most_bounds (length net.bounds)) (Limit Bounds) (Ok (more x y)) (λ roomy.
-    IsPlan-more_bounds net (bound x y) sound (record { named = is; from_point = x_held; to_point = y_held; within = within_sizes most (fits most fitting); shown_within = shown_within_limit most net.delay sound.short_delay (fits most fitting) }) (none_of (bound_named net name) fresh) (grind (arith, nat_tests)))))))
+    IsPlan-more_bounds net (bound x y) sound (declared_bound net sound (bound x y) is x_held y_held (fits most fitting)) (none_of (bound_named net name) fresh) (grind (arith, nat_tests)))))))
 
 link_sound : (net : Plan) (from : List ℕ) (low high : ℤ) (to : List ℕ) → IsPlan net → IfOk (with_link net from low high to) IsPlan
 unfolding with_link

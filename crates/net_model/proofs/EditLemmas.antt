@@ -17,7 +17,7 @@ use Rattle.std.proofs.lemmas.Option.{slice_get_within, slice_get_read, slice_get
 use Rattle.net_model.proofs.FillingLemmas.{pairs_from_map}
 use Rattle.net_model.proofs.NetworkLemmas.{IsBound-more, IsLink-more}
 use Rattle.net_model.proofs.Positions.{fails_from_None, None_from_option_map}
-use Rattle.net_model.specs.Building.{Adds, refuse_if}
+use Rattle.net_model.specs.Building.{Adds, named, refuse_if}
 use Rattle.net_model.specs.Editing.{closed_up, closed_up_bounds, closed_up_links, without_point, with_number, with_interval, bound_user, link_user, user_by, user_of, known, edited, cause_of, added, Edits}
 use Rattle.net_model.specs.Limits.{most_delay, most_number, most_size, within_limit, within_size}
 use Rattle.net_model.specs.Names.{is_name}
@@ -31,6 +31,7 @@ use Rattle.net_model.specs.declared.part.Which.TheVariants.{Number}
 use Rattle.net_model.specs.declared.fault.PartFault.{PartFault}
 use Rattle.net_model.specs.declared.fault.PartFault.TheVariants as part
 use Rattle.net_model.specs.declared.edit.Edit.TheVariants as edits
+use Rattle.net_model.specs.declared.edit.EditFault.{EditFault}
 use Rattle.net_model.specs.declared.edit.EditFault.TheVariants as fault
 
 -- ---- a list without one item
@@ -297,6 +298,50 @@ interval_made net sound to id low high d named above ordered small =
     let positive : pos 1 ≤ℤ low = grind (arith, ints) in
     let interval : low ≤ℤ high = grind (arith, ints) in
     (sound_with_interval net sound id low high (get_or net.links id.0 d) at positive interval small, interval_set net to id low high (get_or net.links id.0 d) named at positive interval small)
+
+-- ---- what a setting answers where it is refused
+-- what comes of what was found, and of what was read there, where that is refused
+known_refused : {A B : Type 0} (found : Option A) (a : A) (seen : A → Option B) (b : B) (next : A → B → Result Plan EditFault) (cause : EditFault)
+    → found ≡ Some a → seen a ≡ Some b → next a b ≡ Err cause → known found (λ x. known (seen x) (next x)) ≡ Err cause
+known_refused {A} {B} found a seen b next cause is here refused =
+    ap (λ (o : Option A). known o (λ x. known (seen x) (next x))) is ∙ ap (λ (o : Option B). known o (next a)) here ∙ refused
+
+module _ (net : Plan) (to : List ℕ) (id : LinkId) (low high : ℤ) (d : Link) (named : link_named net to ≡ Some id) where
+  setting : (cause : EditFault)
+      → refuse_if (int_lt low (pos 1) || int_lt high low) fault.BadInterval (refuse_if (not (within_limit high)) (fault.Limit Number) (Ok (with_interval net id low high (get_or net.links id.0 d)))) ≡ Err cause
+      → edited net (edits.SetLink to low high) ≡ Err cause
+  setting cause refused =
+      known_refused (link_named net to) id (λ k. slice_get net.links k.0) (get_or net.links id.0 d)
+      (λ k l. refuse_if (int_lt low (pos 1) || int_lt high low) fault.BadInterval (refuse_if (not (within_limit high)) (fault.Limit Number) (Ok (with_interval net k low high l))))
+      cause named (slice_get-get_or net.links id.0 d (link_within net to id named)) refused
+
+  pub interval_refused : (int_lt low (pos 1) || int_lt high low) ≡ true → edited net (edits.SetLink to low high) ≡ Err fault.BadInterval
+  interval_refused bad =
+      setting fault.BadInterval (ap (λ (t : Bool). refuse_if t fault.BadInterval (refuse_if (not (within_limit high)) (fault.Limit Number) (Ok (with_interval net id low high (get_or net.links id.0 d))))) bad)
+
+  pub longest_refused : int_lt low (pos 1) ≡ false → int_lt high low ≡ false → within_limit high ≡ false → edited net (edits.SetLink to low high) ≡ Err (fault.Limit Number)
+  longest_refused above ordered great =
+      setting (fault.Limit Number) (λ i. refuse_if (above i || ordered i) fault.BadInterval (refuse_if (not (great i)) (fault.Limit Number) (Ok (with_interval net id low high (get_or net.links id.0 d)))))
+
+-- ---- what is declared with a number that a plan may have
+pub named_within : (net : Plan) (name : List ℕ) (id : PointId) → named net name ≡ Ok id → id.0 < length net.points
+named_within net name id is = by (point_named net name) refl is
+  where
+    by : (found : Option PointId) → point_named net name ≡ found → elim found as (λ _. Result PointId PartFault) [ Some p ↦ Ok p | None ↦ Err part.UnknownName ] ≡ Ok id → id.0 < length net.points
+    by None none gave = absurd (cc)
+    by (Some p) at gave = let same : p ≡ id = cc in point_within net name id (at ∙ ap (λ (q : PointId). Some q) same)
+
+pub within_sizes : (n : ℤ) → within_limit n ≡ true → within_size n ≡ true
+within_sizes n small = grind (arith, nat_tests)
+
+pub declared_bound : (net : Plan) → IsPlan net → (bound : Bound) → IsTrue (is_name bound.name) → bound.from.0 < length net.points → bound.to.0 < length net.points → within_limit bound.most ≡ true → IsBound net bound
+declared_bound net sound bound is from_held to_held small = record {
+  named = is;
+  from_point = from_held;
+  to_point = to_held;
+  within = within_sizes bound.most small;
+  shown_within = shown_within_limit bound.most net.delay sound.short_delay small;
+}
 
 -- an addition is refused as its part is
 pub refused_part : (old new : Plan) (cause : PartFault) (answer : Result Plan PartFault) → Adds old new (Err cause) answer → Edits (Err (cause_of cause)) (added answer)

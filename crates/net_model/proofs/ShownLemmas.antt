@@ -1,11 +1,11 @@
 -- The shown form of a network is a network, with numbers near to those of the network; without a delay it is the network itself.
-use Rattle.std.proofs.Common.{◌≡◌, ℕ, ℤ, pos, zero, suc, drop, ◌+◌, ◌<◌, ◌≤◌, ◌+ℤ◌, ◌-ℤ◌, List, [], ◌∷◌, ◌++◌, append_assoc, length, map, get_or, refl, sym, ap, subst, ◌∙◌, arith, unsigned_abs, true, false, Bool, cond}
+use Rattle.std.proofs.Common.{◌≡◌, ℕ, ℤ, pos, zero, suc, take, drop, ◌+◌, ◌<◌, ◌≤◌, ◌+ℤ◌, ◌-ℤ◌, ◌≤ℤ◌, List, [], ◌∷◌, ◌++◌, append_assoc, length, map, get_or, refl, sym, ap, subst, ◌∙◌, arith, unsigned_abs, true, false, Bool, cond, w64, to_z, of_z}
 use Rattle.std.specs.Prelude.{is_some, fold, max}
-use Rattle.std.specs.List.{IsDistinct}
+use Rattle.std.specs.List.{All, IsDistinct}
 use Rattle.std.specs.Str.{bytes_eq}
-use Rattle.std.proofs.lemmas.Int.{ints}
+use Rattle.std.proofs.lemmas.Int.{ints, to_z-of_z, fits_signed_from_abs}
 use Rattle.std.proofs.lemmas.Bool.{le-leb}
-use Rattle.std.proofs.lemmas.List.{length-map, get_or-map}
+use Rattle.std.proofs.lemmas.List.{length-map, get_or-map, map-append, take_more}
 use Rattle.std.proofs.lemmas.List.Elements.{All-map}
 use Rattle.net_model.specs.Limits.{most_size, most_bounds, most_links}
 use Rattle.net_model.specs.Network.{Plan, IsPlan, IsBound, IsLink, activation, greatest}
@@ -14,11 +14,26 @@ use Rattle.net_model.specs.declared.ids.PointId.{PointId}
 use Rattle.net_model.specs.declared.part.Bound.{Bound}
 use Rattle.net_model.specs.declared.part.Link.{Link}
 
-at_most_delay : (b : Bool) (delay : ℕ) → cond b delay 0 ≤ delay
+-- ---- a list that is made of another, item by item: `ys` is `xs` as it is read
+module _ {X : Type 0} (xs ys : List X) (k : ℕ) (x : X) (same : ys ≡ xs) (inside : k < length ys) (at : x ≡ get_or ys k x) where
+  here : get_or xs k x ≡ x
+  here = ap (λ (zs : List X). get_or zs k x) (sym same) ∙ sym at
+
+  within : k < length xs
+  within = subst (λ (zs : List X). k < length zs) same inside
+
+  pub of_each : (P : X → Type 0) → All P xs → P x
+  of_each P all = subst P here (all k x within)
+
+  pub mapped_next : {Y : Type 0} (f : X → Y) (made more : List Y) (y : Y) → made ≡ map f (take k xs) → more ≡ made ++ y ∷ [] → y ≡ f x → more ≡ map f (take (k + 1) xs)
+  mapped_next f made more y before pushed is =
+      pushed ∙ (λ i. before i ++ (is ∙ ap f (sym here)) i ∷ []) ∙ sym (ap (map f) (take_more xs k x within) ∙ map-append f (take k xs) (get_or xs k x ∷ []))
+
+pub at_most_delay : (b : Bool) (delay : ℕ) → cond b delay 0 ≤ delay
 at_most_delay true delay = omega arith
 at_most_delay false delay = omega arith
 
-at_most_gain : (b : Bool) (delay : ℕ) → cond b 0 delay ≤ delay
+pub at_most_gain : (b : Bool) (delay : ℕ) → cond b 0 delay ≤ delay
 at_most_gain true delay = omega arith
 at_most_gain false delay = omega arith
 
@@ -28,6 +43,33 @@ both_fit n a b delay least more within = grind (arith, ints)
 
 one_fits : (n : ℤ) (a delay : ℕ) → a ≤ delay → unsigned_abs n + delay ≤ most_size → unsigned_abs (n +ℤ pos a) ≤ most_size
 one_fits n a delay least within = grind (arith, ints)
+
+-- numbers that are small are read from their machine words as they are
+as_read : ℤ → ℤ
+as_read n = to_z w64 (of_z w64 n)
+
+read_small : (n : ℤ) → unsigned_abs n ≤ most_size → as_read n ≡ n
+unfolding as_read
+read_small n small = to_z-of_z w64 n (fits_signed_from_abs w64 n (omega (arith, small)))
+
+-- what a number and what lags make, as it is read
+module _ (n x : ℤ) (a delay : ℕ) (is : x ≡ pos a) (least : a ≤ delay) (fits : unsigned_abs n + delay ≤ most_size) where
+  pub sum_read : to_z w64 (of_z w64 (to_z w64 (of_z w64 n) +ℤ to_z w64 (of_z w64 x))) ≡ n +ℤ pos a
+  unfolding as_read
+  sum_read =
+      let number = read_small n (omega (arith, fits)) in
+      let lags = ap as_read is ∙ read_small (pos a) (omega (arith, least, fits)) in
+      (λ i. as_read (number i +ℤ lags i)) ∙ read_small (n +ℤ pos a) (one_fits n a delay least fits)
+
+  pub difference_read : (y : ℤ) (b : ℕ) → y ≡ pos b → b ≤ delay
+      → to_z w64 (of_z w64 (to_z w64 (of_z w64 (to_z w64 (of_z w64 n) +ℤ to_z w64 (of_z w64 x))) -ℤ to_z w64 (of_z w64 y))) ≡ (n +ℤ pos a) -ℤ pos b
+  unfolding as_read
+  difference_read y b y_is more =
+      let lags = ap as_read y_is ∙ read_small (pos b) (omega (arith, more, fits)) in
+      (λ i. as_read (sum_read i -ℤ lags i)) ∙ read_small ((n +ℤ pos a) -ℤ pos b) (both_fit n a b delay least more fits)
+
+pub least_fits : (low high : ℤ) (delay : ℕ) → pos 1 ≤ℤ low → low ≤ℤ high → unsigned_abs high + delay ≤ most_size → unsigned_abs low + delay ≤ most_size
+least_fits low high delay positive interval fits = omega (arith, ints, positive, interval, fits)
 
 same_names : (net : Plan) (bounds : List Bound) → map (λ (b : Bound). b.name) bounds ≡ map (λ (b : Bound). b.name) (map (shown_bound net) bounds)
 same_names net [] = refl

@@ -1,7 +1,8 @@
 -- The numbers by names as they are held.
-use Rattle.std.proofs.Common.{◌≡◌, ℕ, zero, suc, List, [], ◌∷◌, map, get_or, Option, None, refl, ap, ◌∙◌}
+use Rattle.std.proofs.Common.{◌≡◌, ℕ, zero, suc, ◌+◌, ◌<◌, List, [], ◌∷◌, ◌++◌, length, take, map, get_or, Option, None, refl, ap, sym, ◌∙◌}
 use Rattle.std.specs.Prelude.{slice_get}
 use Rattle.std.specs.Option.{option_and_then}
+use Rattle.std.proofs.lemmas.List.{map-append, take_more}
 use Rattle.net_model.specs.Network.{Plan}
 use Rattle.net_model.specs.declared.ids.BoundId.{BoundId}
 use Rattle.net_model.specs.declared.ids.LinkId.{LinkId}
@@ -37,3 +38,11 @@ are_moves old edit new moves old_is new_is bounds links = record {
         let link : (id : LinkId) → (moves_of moves).links id ≡ (renumbering moves.points.old.now edit moves.points.new.now).links id =
         λ id. ap (λ (xs : List (Option LinkId)). get_or xs id.0 None) links ∙ at_map (link_in moves.points.old.now edit moves.points.new.now) moves.points.old.now.links id.0 in
         λ i. record { points = (moves_of moves).points; bounds = λ id. bound id i; links = λ id. link id i }
+
+-- what was found for each item of a list, one item more
+pub mapped_more : {X Y : Type 0} (f : X → Y) (listed xs : List X) (i : ℕ) (d : X) (items new : List Y) (found : Y) → listed ≡ xs → i < length listed → items ≡ map f (take i xs) → found ≡ f (get_or listed i d) → new ≡ items ++ found ∷ []
+    → new ≡ map f (take (i + 1) xs)
+mapped_more {X} f listed xs i d items new found same inside was is pushed =
+    pushed
+    ∙ ((λ t. (was ∙ ap (λ (l : List X). map f (take i l)) (sym same)) t ++ is t ∷ [])
+    ∙ (sym (ap (map f) (take_more listed i d inside) ∙ map-append f (take i listed) (get_or listed i d ∷ [])) ∙ ap (λ (l : List X). map f (take (i + 1) l)) same))
