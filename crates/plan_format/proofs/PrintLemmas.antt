@@ -1,6 +1,6 @@
 -- The printed text of a network, piece by piece.
-use Rattle.std.proofs.Common.{◌≡◌, ℕ, List, [], ◌∷◌, ◌++◌, map, sym, ap, ◌∙◌, append_assoc}
-use Rattle.std.proofs.lemmas.List.{append-nil, map-append}
+use Rattle.std.proofs.Common.{◌≡◌, ℕ, ◌<◌, ◌+◌, List, [], ◌∷◌, ◌++◌, length, take, get_or, map, sym, ap, ◌∙◌, append_assoc}
+use Rattle.std.proofs.lemmas.List.{append-nil, flat_map_more, map-append, take_more}
 use Rattle.std.proofs.lemmas.List.Concat.{flat_map-append}
 use Rattle.std.specs.List.{flat_map}
 use Rattle.net_model.specs.Network.{Plan}
@@ -48,3 +48,9 @@ printed_pieces net =
     (regrouped header told (printed_parts points) (printed_parts bounds) (printed_parts links) end
     ∙ (ap (λ (text : List ℕ). header ++ (told ++ (text ++ (end ++ [])))) (sym parts)
     ∙ ap (λ (text : List ℕ). header ++ text) (sym rest)))
+
+-- one printed line more
+pub written_more : {A : Type 0} (print : A → List ℕ) (out : List ℕ) (all : List A) (i : ℕ) (one : A) → i < length all → one ≡ get_or all i one → (out ++ flat_map print (take i all)) ++ print one ≡ out ++ flat_map print (take (i + 1) all)
+written_more print out all i one within same =
+    let more : take i all ++ one ∷ [] ≡ take (i + 1) all = ap (λ last. take i all ++ last ∷ []) same ∙ sym (take_more all i one within) in
+    flat_map_more print out (take i all) one ∙ ap (λ ls. out ++ flat_map print ls) more

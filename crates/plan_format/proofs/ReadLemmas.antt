@@ -1,5 +1,5 @@
 -- Reading the lines of bytes one after another.
-use Rattle.std.proofs.Common.{◌≡◌, ℕ, ◌<◌, ◌≤◌, ◌+◌, ◌-◌, ◌*◌, inl, inr, List, [], ◌∷◌, ◌++◌, length, map, Result, Ok, Err, refl, sym, ap, ◌∙◌, subst, arith, append_assoc, length-append}
+use Rattle.std.proofs.Common.{◌≡◌, ◌≢◌, ℕ, ◌<◌, ◌≤◌, ◌+◌, ◌-◌, ◌*◌, inl, inr, List, [], ◌∷◌, ◌++◌, length, map, Result, Ok, Err, refl, sym, ap, ◌∙◌, subst, arith, append_assoc, length-append}
 use Rattle.std.specs.Result.{IfOk, IfErr}
 use Rattle.std.proofs.lemmas.List.{length-map, append-nil}
 use Rattle.texts.specs.Lines.{lines, size_of_lines}
@@ -11,6 +11,8 @@ use Rattle.net_model.specs.declared.format.TextFault.TheVariants as text
 use Rattle.net_model.specs.declared.format.WordFault.{WordFault}
 use Rattle.net_model.specs.declared.format.WordFault.TheVariants as word
 use Rattle.net_model.specs.declared.part.Part.{Part}
+use Rattle.plan_format.specs.declared.plan_line.PlanLine.{PlanLine}
+use Rattle.plan_format.specs.declared.plan_line.PlanLine.TheVariants as line
 use Rattle.plan_format.specs.declared.read.Parts.{Parts}
 use Rattle.plan_format.specs.PlanGrammar.{IsBegun, header, blank, delays, declares, Declares, IsPlanText, ReadsPlan}
 use Rattle.plan_format.specs.declared.version.PlanStage.{PlanStage}
@@ -75,6 +77,15 @@ pub record IsNextLine (rest text others : List ℕ) : Type 0 where
   pub here : lines rest ≡ text ∷ lines others
   pub shorter : length others < length rest
   pub sizes : (count : ℕ) → size_of_lines (count + 1) rest ≡ size_of_lines count others + (length rest - length others)
+
+-- a line that is not the last one makes the front longer
+pub goes_on : (before : List (List ℕ)) (text : List ℕ) (said : PlanLine) (more : Progress) → said ≢ line.End → Brings before text (Ok said) more → IsFront (before ++ text ∷ []) more
+goes_on before text line.Blank more not_last brings = brings
+goes_on before text (line.Header version) more not_last brings = brings
+goes_on before text (line.Part part) more not_last brings = brings
+goes_on before text (line.Delay moments) more not_last brings = brings
+goes_on before text (line.Between name from low high to) more not_last brings = brings
+goes_on before text line.End more not_last brings = absurd (not_last refl)
 
 -- one line more was read
 pub at_next : (bytes rest text others : List ℕ) (number : ℕ) (read more : Progress) (at : AtLine bytes rest number read) → IsNextLine rest text others → IsFront (at.before ++ text ∷ []) more → AtLine bytes others (number + 1) more

@@ -8,3 +8,4 @@ pub mod ViewLemmas
 pub mod WritingLemmas
 pub mod GrammarLemmas
 pub mod OneReadingLemmas
+pub mod ItemsLemmas
