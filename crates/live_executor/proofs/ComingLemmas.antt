@@ -1,7 +1,6 @@
 -- A point that comes, and is executed.
-use Rattle.std.proofs.Common.{◌≡◌, ℕ, ◌+◌, ◌<◌, List, [], ◌∷◌, ◌++◌, length, Option, Some, ap, sym, subst, ◌∙◌, arith, append-nil}
+use Rattle.std.proofs.Common.{◌≡◌, ℕ, ◌<◌, List, [], ◌∷◌, ◌++◌, length, Option, Some, ap, sym, subst, ◌∙◌, arith, append-nil}
 use Rattle.std.specs.Prelude.{IfSome}
-use Rattle.std.specs.List.{All}
 use Rattle.std.proofs.lemmas.List.Elements.{All-set}
 use Rattle.net_model.specs.declared.ids.PointId.{PointId}
 use Rattle.net_model.specs.Moments.{Moments}
@@ -19,7 +18,7 @@ use Rattle.live_executor.proofs.CourseLemmas.{stands_with}
 use Rattle.live_executor.proofs.UndoLemmas.{one_more_since}
 
 module _ (network : KeptNetwork) (t : ℕ) (point : PointId) (old : CourseSoFar) (stands : StandsAt network t old) (may : MayComeAt network t old point) where
-  its_place : point.0 < length old.moments
+  pub its_place : point.0 < length old.moments
   its_place = (let inside = may.inside in omega (arith, inside, stands.count))
 
   as_long : length (completed_at old.moments t point) ≡ length old.moments

@@ -44,6 +44,11 @@ starts setting wanted moments acts same none no_acts =
 abbrev no_moment : Option ℕ
 no_moment = None
 
+pub none_before : (end n : ℕ) (moments : Moments) → moments ≡ replicate n no_moment → AreBefore end moments
+none_before end n moments none = subst (AreBefore end) (sym none) (λ k d inside.
+    let below : k < n = (let long = length-replicate n no_moment in omega (arith, inside, long)) in
+    subst (λ (m : Option ℕ). IfSome m (λ a. a < end)) (sym (get_or-replicate n k no_moment d below)) tt)
+
 -- an execution of whose points none has come stands right at the first moment
 pub none_stands : (network : KeptNetwork) → ExecutesTheSame network → IsSound network.setting → length network.setting.dispatch ≡ length network.made → (course : CourseSoFar)
     → course.moments ≡ replicate (length network.setting.dispatch) None → IsAwake network.setting 0 course.moments course.counts course.due
@@ -52,9 +57,7 @@ none_stands network same sound whole course none awake awaited = record {
   awake = awake;
   awaited = awaited;
   count = awake.moments_count ∙ whole;
-  early = subst (AreBefore end_of_time) (sym none) (λ k d inside.
-      let below : k < length network.setting.dispatch = (let long = length-replicate (length network.setting.dispatch) no_moment in omega (arith, inside, long)) in
-      subst (λ (m : Option ℕ). IfSome m (λ a. a < end_of_time)) (sym (get_or-replicate (length network.setting.dispatch) k no_moment d below)) tt);
+  early = none_before end_of_time (length network.setting.dispatch) course.moments none;
   few = omega (arith, awake.moments_count, sound.few);
   paced = subst (ArePaced (made_setting network)) (sym (none ∙ ap (λ (n : ℕ). replicate n no_moment) whole ∙ none_come (made_setting network))) (started_paced (made_setting network) same.rank same.ranked);
 }

@@ -14,5 +14,6 @@ pub mod WakesLemmas
 pub mod ListLemmas
 pub mod UndoLemmas
 pub mod ComingLemmas
+pub mod KeptLemmas
 pub mod AwaitedLemmas
 pub mod OfClosureLemmas

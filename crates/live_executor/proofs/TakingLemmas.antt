@@ -1,6 +1,6 @@
 -- Completions of a moment, and the lowest point that should have completed.
-use Rattle.std.proofs.Common.{◌≡◌, ℕ, ◌<◌, ◌≤◌, true, false, [], length, Option, Some, None, refl, arith, ap, ◌∙◌}
-use Rattle.std.specs.Prelude.{nat_le}
+use Rattle.std.proofs.Common.{◌≡◌, ℕ, ◌<◌, ◌≤◌, true, false, List, [], length, Option, Some, None, refl, arith, ap, ◌∙◌}
+use Rattle.std.specs.Prelude.{nat_le, Result, Ok, Err}
 use Rattle.std.specs.Option.{option_map, option_map_or, option_and_then}
 use Rattle.std.proofs.lemmas.Bool.{le-leb}
 use Rattle.net_model.specs.declared.ids.PointId.{PointId}
@@ -8,12 +8,14 @@ use Rattle.closure_model.proofs.OrderLemmas.{found_at, found_nowhere}
 use Rattle.net_model.specs.Limits.{most_moment}
 use Rattle.net_model.specs.Moments.{Moments}
 use Rattle.execution_model.specs.Execution.{Setting}
-use Rattle.execution_model.specs.Feeding.{completed_at, refusal_of, latest_of, is_overdue, overdue_why, first_overdue}
+use Rattle.execution_model.specs.Feeding.{completed_at, refusal_of, latest_of, is_overdue, overdue_why, first_overdue, none_overdue}
+use Rattle.execution_model.specs.declared.feeding.Why.{Why}
 use Rattle.execution_model.specs.declared.feeding.Why.TheVariants as why
 use Rattle.execution_model.proofs.PacedLemmas.{completed_paced}
 use Rattle.execution_model.proofs.TimelyLemmas.{in_time_from}
 use Rattle.live_executor.specs.Course.{CourseSoFar, StandsAt, Reaches, MayComeAt, Comes}
 use Rattle.live_executor.specs.Sound.{KeptNetwork, made_setting, ExecutesTheSame}
+use Rattle.live_executor.specs.Taking.{Completes, Settles, completed}
 use Rattle.live_executor.proofs.CourseLemmas.{goes_further}
 
 -- a listed point that is not refused may come
@@ -44,3 +46,23 @@ pub overdue_nowhere : (setting : Setting) (moments : Moments) (moment : ℕ) →
     → first_overdue setting moments moment ≡ None
 overdue_nowhere setting moments moment none =
     ap (option_and_then (overdue_why setting moments)) (found_nowhere (is_overdue setting moments moment) (length setting.dispatch) none)
+
+-- after the completions of a moment: one was refused, or a point is overdue, or none is
+module _ (network : KeptNetwork) (moment : ℕ) (listed : List PointId) (old now : CourseSoFar) where
+  pub refused_one : (why : Why) → Completes network moment listed (Err why) old now → Settles network moment listed (Err why) old now
+  refused_one why done = record {
+    taken = ap (λ (r : Result Moments Why). elim r [ Ok moments ↦ none_overdue (made_setting network) moment moments | Err why ↦ Err why ]) done.taken;
+    goes = done.goes;
+  }
+
+  checked : Completes network moment listed (Ok tt) old now → (o : Option Why) → first_overdue (made_setting network) now.moments moment ≡ o
+      → completed (made_setting network) old.moments moment listed ≡ option_map_or Err o (Ok now.moments)
+  checked done o is =
+      ap (λ (r : Result Moments Why). elim r [ Ok moments ↦ none_overdue (made_setting network) moment moments | Err why ↦ Err why ]) done.taken
+      ∙ ap (λ (o : Option Why). option_map_or Err o (Ok now.moments)) is
+
+  pub overdue_one : (why : Why) → Completes network moment listed (Ok tt) old now → first_overdue (made_setting network) now.moments moment ≡ Some why → Settles network moment listed (Err why) old now
+  overdue_one why done is = record { taken = checked done (Some why) is; goes = done.goes }
+
+  pub none_late : Completes network moment listed (Ok tt) old now → first_overdue (made_setting network) now.moments moment ≡ None → Settles network moment listed (Ok tt) old now
+  none_late done is = record { taken = checked done None is; goes = done.goes }

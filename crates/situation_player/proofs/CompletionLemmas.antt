@@ -1,10 +1,11 @@
 -- When active links complete: the first completion, and what completes at a moment.
-use Rattle.std.proofs.Common.{◌≡◌, ◌≢◌, ℕ, zero, suc, ◌+◌, ◌≤◌, ◌==◌, ◌⊎◌, Bool, true, false, cond, eq-eqb, List, [], ◌∷◌, map, filter, fold, min, Option, Some, None, inl, inr, refl, ap, sym, subst, ◌∙◌, arith}
+use Rattle.std.proofs.Common.{◌≡◌, ◌≢◌, ℕ, zero, suc, ◌+◌, ◌<◌, ◌≤◌, ◌==◌, ◌⊎◌, Bool, true, false, cond, eq-eqb, List, [], ◌∷◌, ◌++◌, length, take, get_or, map, filter, fold, min, Option, Some, None, inl, inr, refl, ap, sym, subst, ◌∙◌, arith}
 use Rattle.std.specs.Prelude.{slice_get}
 use Rattle.std.specs.List.{All, AllPairs, AllByRecursion, Contains, IsDistinct, zip}
 use Rattle.std.specs.Option.{IsSomeAnd, option_map, option_map_or}
 use Rattle.std.proofs.lemmas.Bool.{true≢false, eqb-true, ne_eqb}
-use Rattle.std.proofs.lemmas.List.Elements.{All-head, All-tail}
+use Rattle.std.proofs.lemmas.List.{map-append}
+use Rattle.std.proofs.lemmas.List.Elements.{All-head, All-tail, filter_more}
 use Rattle.std.proofs.lemmas.Option.{none-some, same_Some}
 use Rattle.net_model.specs.declared.ids.PointId.{PointId}
 use Rattle.net_model.specs.declared.part.Link.{Link}
@@ -207,3 +208,15 @@ module _ (moments : Moments) (moment : ℕ) where
           → IsDistinct same_point (kept test (lasting_in (link, d)) (filter (completes_at moments moment) (lastings_of links durations)))
       by true others rest = (others, rest)
       by false others rest = rest
+
+  -- what completes among one more
+  pub completing_more : (lastings : List Lasting) (k : ℕ) (d : Lasting) (test : Bool) (so_far after : List PointId) → k < length lastings
+      → test ≡ completes_at moments moment (get_or lastings k d) → so_far ≡ completing_at moments moment (take k lastings)
+      → after ≡ so_far ++ map (λ (l : Lasting). l.to) (cond test (get_or lastings k d ∷ []) []) → after ≡ completing_at moments moment (take (k + 1) lastings)
+  completing_more lastings k d test so_far after inside is so added =
+      let ends : List Lasting → List PointId = map (λ (l : Lasting). l.to) in
+      let one = get_or lastings k d in
+      added ∙ ap (λ (ps : List PointId). ps ++ ends (cond test (one ∷ []) [])) so
+      ∙ ap (λ (b : Bool). completing_at moments moment (take k lastings) ++ ends (cond b (one ∷ []) [])) is
+      ∙ sym (ap ends (filter_more (completes_at moments moment) lastings k d inside)
+      ∙ map-append (λ (l : Lasting). l.to) (filter (completes_at moments moment) (take k lastings)) (cond (completes_at moments moment one) (one ∷ []) []))

@@ -1,8 +1,9 @@
 -- Situations by number are the situations of a network.
-use Rattle.std.proofs.Common.{◌≡◌, ℕ, ℤ, pos, ◌+◌, ◌-◌, ◌*◌, ◌/◌, ◌%◌, ◌<◌, ◌≤◌, ◌≤ℤ◌, List, [], ◌∷◌, map, refl, ap, ◌∙◌, arith}
+use Rattle.std.proofs.Common.{◌≡◌, ℕ, ℤ, pos, ◌+◌, ◌-◌, ◌*◌, ◌/◌, ◌%◌, ◌<◌, ◌≤◌, ◌≤ℤ◌, List, [], ◌∷◌, ◌++◌, length, drop, get_or, map, append_assoc, append-nil, refl, ap, sym, ◌∙◌, arith}
 use Rattle.std.specs.Prelude.{unsigned_abs}
 use Rattle.std.specs.List.{All, AllZip}
 use Rattle.std.proofs.lemmas.Int.{ints}
+use Rattle.std.proofs.lemmas.List.{drop_more, drop_all}
 use Rattle.std.proofs.lemmas.List.Elements.{All-head, All-tail}
 use Rattle.std.proofs.Math.Nat.{mod-eq_of_lt, div-eq_of_lt}
 use Rattle.std.proofs.lemmas.Nat.{mod-mul-add, div-mul-add, mod_below}
@@ -75,3 +76,19 @@ number_of (link ∷ links) net (duration ∷ situation) sound fits =
 
 pub situations_have_numbers : SituationsHaveNumbers
 situations_have_numbers net situation plan fits = number_of net.links net situation plan.links_sound fits
+
+-- what is left of a number after one more link, and past the last one
+pub numbered_more : (links : List Link) (k rest shortest count : ℕ) (d : Link) (so_far after whole : List ℕ) → k < length links → shortest ≡ shortest_of (get_or links k d) → count ≡ choices (get_or links k d)
+    → after ≡ so_far ++ (shortest + rest % count) ∷ [] → so_far ++ numbered rest (drop k links) ≡ whole → after ++ numbered (rest / count) (drop (k + 1) links) ≡ whole
+numbered_more links k rest shortest count d so_far after whole inside is_shortest is_count added so =
+    let later = drop (k + 1) links in
+    let here : (shortest + rest % count) ∷ numbered (rest / count) later ≡ numbered rest (drop k links) =
+    ap (λ (n : ℕ). (n + rest % count) ∷ numbered (rest / count) later) is_shortest
+    ∙ ap (λ (n : ℕ). (shortest_of (get_or links k d) + rest % n) ∷ numbered (rest / n) later) is_count
+    ∙ ap (numbered rest) (sym (drop_more links k d inside)) in
+    ap (λ (ds : List ℕ). ds ++ numbered (rest / count) later) added ∙ append_assoc so_far ((shortest + rest % count) ∷ []) (numbered (rest / count) later)
+    ∙ ap (λ (ds : List ℕ). so_far ++ ds) here ∙ so
+
+pub numbered_past : (links : List Link) (k rest : ℕ) (so_far whole : List ℕ) → length links ≤ k → so_far ++ numbered rest (drop k links) ≡ whole → so_far ≡ whole
+numbered_past links k rest so_far whole past so =
+    sym (append-nil so_far) ∙ ap (λ (ls : List Link). so_far ++ numbered rest ls) (sym (drop_all k links past)) ∙ so

@@ -37,3 +37,20 @@ module _ (parts : ℕ → Task → List Part) where
       let long = length-append (parts i task) (parts_from parts (i + 1) tasks) in
       let more = mul-suc each (length tasks) in
       omega (arith, here, rest, long, more)
+
+-- two parts are added, and three
+pub two_added : (before one two : List Part) (a b : Part) → one ≡ before ++ a ∷ [] → two ≡ one ++ b ∷ [] → two ≡ before ++ a ∷ b ∷ []
+two_added before one two a b first second = second ∙ ap (λ (ps : List Part). ps ++ b ∷ []) first ∙ append_assoc before (a ∷ []) (b ∷ [])
+
+pub three_added : (before one two three : List Part) (a b c : Part) → one ≡ before ++ a ∷ [] → two ≡ one ++ b ∷ [] → three ≡ two ++ c ∷ []
+    → three ≡ before ++ a ∷ b ∷ c ∷ []
+three_added before one two three a b c first second third =
+    third ∙ ap (λ (ps : List Part). ps ++ c ∷ []) (two_added before one two a b first second) ∙ append_assoc before (a ∷ b ∷ []) (c ∷ [])
+
+-- four lists of parts are added to none
+pub all_added : (none one two three all ps qs rs ss : List Part) → none ≡ [] → one ≡ none ++ ps → two ≡ one ++ qs → three ≡ two ++ rs → all ≡ three ++ ss
+    → all ≡ ps ++ (qs ++ (rs ++ ss))
+all_added none one two three all ps qs rs ss empty first second third fourth =
+    let begun : one ≡ ps = first ∙ ap (λ (xs : List Part). xs ++ ps) empty in
+    let next : three ≡ ps ++ (qs ++ rs) = third ∙ ap (λ (xs : List Part). xs ++ rs) (second ∙ ap (λ (xs : List Part). xs ++ qs) begun) ∙ append_assoc ps qs rs in
+    fourth ∙ ap (λ (xs : List Part). xs ++ ss) next ∙ append_assoc ps (qs ++ rs) ss ∙ ap (λ (xs : List Part). ps ++ xs) (append_assoc qs rs ss)

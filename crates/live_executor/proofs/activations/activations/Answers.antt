@@ -1,4 +1,4 @@
-use Rattle.std.proofs.Common.{◌+◌, pos, List, arith, take, sym, subst, refl}
+use Rattle.std.proofs.Common.{◌+◌, pos, List, arith, take, sym, subst}
 use Rattle.std.proofs.lemmas.List.{take_all}
 use Rattle.net_model.specs.declared.part.Link.{Link}
 use Rattle.live_executor.specs.Awaited.{AreActivated}

@@ -1,0 +1,16 @@
+use Rattle.situation_player.specs.ForgedParts.{task_parts}
+use Rattle.situation_player.specs.declared.tasks.Task.{Task}
+use Rattle.situation_player.proofs.PartLemmas.{one_more, none_left}
+use Rattle.situation_player.proofs.parts.push_tasks.Goals as goal
+
+-- what stands where a list has no task
+abbrev none : Task
+none = record { low = 0; high = 0; slack = 0; early = 0; late = 0 }
+
+pub loop-k-preserved : goal.loop-k-preserved
+loop-k-preserved c =
+    one_more task_parts c.args.tasks.now c.loop-k.k none c.args.parts.now.items c.loop-k.parts.items c.push_task.new.parts.items c.loop-k-test.true
+    c.in_ok-push_task.ensures c.loop-k.invariant
+
+pub returns : goal.returns
+returns c = none_left task_parts c.args.tasks.now c.loop-k.k c.args.parts.now.items c.loop-k.parts.items c.loop-k-test.false c.loop-k.invariant
