@@ -13,6 +13,8 @@ pub mod TableRefusalLemmas
 pub mod EndingLemmas
 pub mod ListLemmas
 pub mod TableLaw
+pub mod LookupLemmas
+pub mod RuleLemmas
 pub mod RowLemmas
 pub mod FewLemmas
 pub mod FallsLemmas

@@ -10,6 +10,7 @@ use Rattle.std.proofs.lemmas.List.{append-nil, append_assoc}
 use Rattle.std.proofs.lemmas.List.Elements.{recursion_from_All}
 use Rattle.std.proofs.lemmas.List.Folds.{list_any-append}
 use Rattle.std.proofs.lemmas.Option.{same_Some}
+use Rattle.std.proofs.Math.Bool.{or-false}
 use Rattle.net_model.specs.Network.{Plan}
 use Rattle.net_model.specs.Edges.{IsEdge, IsLabelled}
 use Rattle.net_model.specs.declared.ids.PointId.{PointId}
@@ -117,16 +118,12 @@ least_more net front table x is_placed sound least edge is small =
     lower : (a b w : ℤ) → int_le (int_min a b) w ≡ (int_le a w || (int_le b w || false))
     lower a b w = grind (arith, ints)
 
-    or_none : (a : Bool) → a ≡ (a || false)
-    or_none true = refl
-    or_none false = refl
-
     old : int_le (weight_in table edge) edge.weight ≡ stands_among front edge
     old = least edge is small
 
     by : (b : Bool) → same_key x edge ≡ b → int_le (cond (same_key x edge) (int_min (weight_in table edge) x.weight) (weight_in table edge)) edge.weight ≡ (stands_among front edge || ((same_key x edge && int_le x.weight edge.weight) || false))
     by true same = rw same (lower (weight_in table edge) x.weight edge.weight ∙ ap (λ (b : Bool). b || (int_le x.weight edge.weight || false)) old)
-    by false same = rw same (old ∙ or_none (stands_among front edge))
+    by false same = rw same (old ∙ sym (or-false (stands_among front edge)))
 
 -- the table of entries
 least_from : (net : Plan) (front edges : List Edge) (table : Weights) → AllByRecursion (IsSoundEdge net) edges → IsFor (length net.points) (length net.links) table → IsLeast net front table → IsLeast net (front ++ edges) (fold with_entry table edges)

@@ -13,6 +13,7 @@ use Rattle.std.proofs.lemmas.List.Folds.{list_any-append}
 use Rattle.std.proofs.lemmas.List.Sums.{position_or_len_is}
 use Rattle.std.proofs.lemmas.List.Quantifiers.{position-Some}
 use Rattle.std.proofs.lemmas.Option.{same_Some, slice_get_within, get_or_from_slice_get}
+use Rattle.std.proofs.Math.Bool.{or-false}
 use Rattle.net_model.specs.Limits.{most_weight, most_size, within_size}
 use Rattle.net_model.specs.Network.{Plan, IsPlan, IsPoint, IsLink, activation}
 use Rattle.net_model.specs.Edges.{IsEdge, IsLinkOf}
@@ -501,11 +502,7 @@ module _ (net : Plan) (edges : List Edge) (second : Edge) where
       ∙ ap (λ (b : Bool). of_rule (λ name. lower_case net name second) (link_ids net) || b) (sym (any_given (unmet edges) (λ name. cross_case net name second) (link_ids net))))
 
   removal_part : of_rule (removal net) (second ∷ []) ≡ is_unmet edges (removal net second)
-  removal_part = any_given (unmet edges) (removal net) (second ∷ []) ∙ or_none (is_unmet edges (removal net second))
-    where
-      or_none : (a : Bool) → (a || false) ≡ a
-      or_none true = refl
-      or_none false = refl
+  removal_part = any_given (unmet edges) (removal net) (second ∷ []) ∙ or-false (is_unmet edges (removal net second))
 
   -- an edge that is not negative gives nothing but by removal
   nothing_before : is_negative second ≡ false → is_open_before edges second ≡ false

@@ -1,5 +1,8 @@
 -- The words of two rows, place by place.
-use Rattle.std.proofs.Common.{◌≡◌, ℕ, ◌<◌, ℤ, Bool, true, false, ◌||◌, List, [], ◌∷◌, length, get_or, zero, suc, refl, arith}
+use Rattle.std.proofs.Common.{◌≡◌, ℕ, ◌+◌, ◌<◌, ◌≤◌, ℤ, pos, ◌+ℤ◌, ◌≤ℤ◌, ◌<ℤ◌, unsigned_abs, w64, SFits, Bool, true, false, ◌||◌, List, [], ◌∷◌, length, get_or, drop, drop-cons, drop_of_length-le, zero, suc, refl, sym, ap, ◌∙◌, subst, arith}
+use Rattle.std.proofs.lemmas.Int.{ints}
+use Rattle.std.proofs.Math.Bool.{or-false}
+use Rattle.net_model.specs.Limits.{most_weight}
 use Rattle.cert_checker.specs.Least.{absent, falls, falls_in}
 
 -- a place at which the word of a first premise falls
@@ -29,3 +32,26 @@ falls_at (first ∷ firsts) [] weight k within also is = absurd (omega arith)
 falls_at (first ∷ firsts) (other ∷ there) weight zero within also is = or_left (falls first other weight) (falls_in firsts there weight) is
 falls_at (first ∷ firsts) (other ∷ there) weight (suc k) within also is =
     or_right (falls first other weight) (falls_in firsts there weight) (falls_at firsts there weight k (omega arith) (omega arith) is)
+
+or_apart : (a b c : Bool) → ((a || b) || c) ≡ (a || (b || c))
+or_apart true b c = refl
+or_apart false b c = refl
+
+-- what falls in the rests of two rows falls at their first place or after it
+module _ (firsts there : List ℤ) (weight : ℤ) (k : ℕ) (before whole : Bool) (so_far : (before || falls_in (drop k firsts) (drop k there) weight) ≡ whole) where
+  pub falls_more : (here : Bool) → k < length firsts → k < length there → here ≡ falls (get_or firsts k (pos 0)) (get_or there k (pos 0)) weight
+      → ((before || here) || falls_in (drop (k + 1) firsts) (drop (k + 1) there) weight) ≡ whole
+  falls_more here within also is =
+      let next : k + 1 ≡ suc k = omega arith in
+      ap (λ (n : ℕ). (before || here) || falls_in (drop n firsts) (drop n there) weight) next
+      ∙ (or_apart before here (falls_in (drop (suc k) firsts) (drop (suc k) there) weight)
+      ∙ ((λ i. before || (is i || falls_in (drop (suc k) firsts) (drop (suc k) there) weight))
+      ∙ (sym (λ i. before || falls_in (drop-cons firsts k (pos 0) within i) (drop-cons there k (pos 0) also i) weight) ∙ so_far)))
+
+  pub falls_end : length firsts ≤ k → before ≡ whole
+  falls_end past = sym (or-false before) ∙ (sym (ap (λ (rest : List ℤ). before || falls_in rest (drop k there) weight) (drop_of_length-le firsts past)) ∙ so_far)
+
+-- a weight that is not below 0 and a negative one that is judged have a sum of 64 bits
+pub sum_fits : (high weight h w : ℤ) → h ≡ high → w ≡ weight → pos 0 ≤ℤ high → SFits w64 high → weight <ℤ pos 0 → unsigned_abs weight ≤ most_weight → SFits w64 (h +ℤ w)
+sum_fits high weight h w same_high same above fits below small =
+    subst (SFits w64) (λ i. sym same_high i +ℤ sym same i) (omega (arith, ints, above, fits, below, small))

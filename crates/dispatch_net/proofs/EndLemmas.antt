@@ -6,13 +6,10 @@ use Rattle.std.specs.Option.{option_map_or}
 use Rattle.std.proofs.lemmas.Bool.{cases_lt, eqb-true, ne_eqb}
 use Rattle.std.proofs.lemmas.List.{get_or_past}
 use Rattle.std.proofs.lemmas.List.Folds.{list_any_none}
+use Rattle.std.proofs.Math.Bool.{or-false}
 use Rattle.net_model.specs.Network.{Plan, IsPlan}
 use Rattle.net_model.specs.declared.part.Link.{Link}
 use Rattle.dispatch_net.specs.Held.{AreEnds, AreAllEnds}
-
-or_none : (b : Bool) → (b || false) ≡ b
-or_none true = refl
-or_none false = refl
 
 -- of links that end apart, those that end in a point are the first that does
 one_ends : (links : List Link) → AllPairs (λ (l m : Link). l.to.0 ≢ m.to.0) links → (test : Link → Bool) (point : ℕ)
@@ -28,7 +25,7 @@ one_ends (link ∷ links) apart test point = by (link.to.0 == point) refl (one_e
         ap (λ (b : Bool). test link || b)
         (list_any_none (λ (l : Link). l.to.0 == point && test l) links (λ k d inside.
         ap (λ (b : Bool). b && test (get_or links k d)) (ne_eqb (get_or links k d).to.0 point (λ equal. apart 0 (suc k) d (omega arith) (omega (arith, inside)) (at ∙ sym equal)))))
-        ∙ or_none (test link)
+        ∙ or-false (test link)
 
 -- past the points none ends
 none_ends : (net : Plan) → IsPlan net → (test : Link → Bool) (point : ℕ) → length net.points ≤ point → list_any (λ (link : Link). link.to.0 == point && test link) net.links ≡ false

@@ -1,4 +1,4 @@
-use Rattle.std.proofs.Common.{◌≡◌, ◌<◌, ◌+◌, ◌++◌, pos, List, [], ◌∷◌, length, map, drop, get_or, ap, ◌∙◌, refl, arith}
+use Rattle.std.proofs.Common.{◌≡◌, ◌<◌, ◌≤◌, ◌+◌, ◌++◌, pos, List, [], ◌∷◌, length, map, drop, drop_of_length-le, append-nil, get_or, sym, ap, ◌∙◌, refl, arith}
 use Rattle.std.specs.List.{enumerate_from}
 use Rattle.std.proofs.lemmas.List.{get_or_default}
 use Rattle.net_model.specs.declared.part.Edge.{Edge}
@@ -28,3 +28,16 @@ loop-index-preserved c =
     ap (λ (items : List Base). items ++ map (base_of_link net) (enumerate_from (i + 1) (drop (i + 1) net.links))) pushed
     ∙ link_pushed net c.loop-index.base.items i (get_or net.links i none) none within refl
     ∙ c.loop-index.invariant
+
+pub link_numbered-link-requires : goal.link_numbered-link-requires
+link_numbered-link-requires c = omega (arith, c.loop-index-test.true, c.link_count-index-end.ensures)
+
+pub point_name-requires : goal.point_name-requires
+point_name-requires c = c.link_numbered-link.ensures.sound.to_point
+
+pub returns : goal.returns
+returns c =
+    let items = c.loop-index.base.items in
+    let numbered = λ (links : List Link). map (base_of_link c.args.net.now) (enumerate_from c.loop-index.index links) in
+    let past : length c.args.net.now.links ≤ c.loop-index.index = omega (arith, c.loop-index-test.false, c.link_count-index-end.ensures) in
+    sym (append-nil items) ∙ (ap (λ (links : List Link). items ++ numbered links) (sym (drop_of_length-le c.args.net.now.links past)) ∙ c.loop-index.invariant)

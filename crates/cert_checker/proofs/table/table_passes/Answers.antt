@@ -1,9 +1,10 @@
-use Rattle.std.proofs.Common.{ℕ, sym, subst}
+use Rattle.std.proofs.Common.{ℕ, sym, ap, subst}
 use Rattle.std.specs.List.{All}
 use Rattle.std.proofs.lemmas.Result.{err_from_is_err_and}
 use Rattle.net_model.specs.Network.{IsPoint}
+use Rattle.cert_checker.specs.Ending.{Ends, IsAcceptedTable}
 use Rattle.cert_checker.specs.Sound.{Stated}
-use Rattle.cert_checker.specs.TableRefusals.{IsRefusedTable, line_of_order, line_of_entry}
+use Rattle.cert_checker.specs.TableRefusals.{IsRead, IsRefusedTable, line_of_order, line_of_entry}
 use Rattle.cert_checker.proofs.EndingLemmas.{handed_on, points_inside, entries_sound}
 use Rattle.cert_checker.proofs.table.table_passes.Goals as goal
 
@@ -24,3 +25,19 @@ pub passes-requires-after_bounds : goal.passes-requires-after_bounds
 passes-requires-after_bounds g c κs within =
     let points = c.in_ok-points.points.items in
     subst (λ (t : Stated). All (IsPoint t.net) points) (sym c.in_ok-table.ensures) (points_inside c.args.net c.args.order.now points c.in_ok-points.ensures)
+
+pub returns-in_err-table : goal.returns-in_err-table
+returns-in_err-table g c =
+    let p = err_from_is_err_and c.from_residual-in_err-table.result c.from_residual-in_err-table.ensures.1 in
+    rw (p.1, p.2) tt
+
+pub returns : goal.returns
+returns g c =
+    let order = c.args.order.now in
+    let entries = c.args.entries.now in
+    let points = c.in_ok-points.points.items in
+    let read : IsRead c.args.net order entries points c.in_ok-edges.edges.items = record { order_says = c.in_ok-points.ensures; entries_say = c.in_ok-edges.ensures } in
+    let stated = c.in_ok-table.ensures in
+    let is_read : IsRead c.in_ok-table.table.net order entries points c.in_ok-table.table.edges = subst (λ (t : Stated). IsRead t.net order entries points t.edges) (sym stated) read in
+    subst (λ (t : Stated). Ends c.passes.result (λ passed. IsAcceptedTable t.net order entries) (λ refused. IsRefusedTable t.net order entries refused.line refused.why)) stated
+    (c.passes.ensures order entries is_read (ap (λ (t : Stated). t.first) stated))
