@@ -1,7 +1,8 @@
 -- The number of the node of each key, after one node more.
-use Rattle.std.proofs.Common.{◌≡◌, ◌≢◌, ◌==◌, ◌&&◌, ℕ, ℤ, ◌≤ℤ◌, ◌<ℤ◌, Bool, true, false, List, [], ◌∷◌, ◌++◌, length, Option, Some, None, refl, ap, sym, ◌∙◌, subst, arith}
+use Rattle.std.proofs.Common.{◌≡◌, ◌≢◌, ◌==◌, ◌&&◌, ℕ, zero, suc, replicate, slice_index_or, ℤ, ◌≤ℤ◌, ◌<ℤ◌, Bool, true, false, List, [], ◌∷◌, ◌++◌, length, Option, Some, None, refl, ap, sym, ◌∙◌, subst, arith}
 use Rattle.std.specs.Prelude.{int_lt}
 use Rattle.std.specs.Bool.{MatchBool}
+use Rattle.std.specs.HashMap.{IsEmpty}
 use Rattle.std.proofs.lemmas.Int.{ints}
 use Rattle.std.proofs.lemmas.Bool.{eq-eqb, eqb-true}
 use Rattle.std.specs.Option.{option_eq}
@@ -13,9 +14,10 @@ use Rattle.closure_model.specs.Derivations.{node_at, IsNodeOf, IsNewest}
 use Rattle.closure_model.specs.declared.derivation.Node.{Node}
 use Rattle.closure_model.specs.declared.derivation.NodeId.{NodeId}
 use Rattle.closure_model.proofs.Newest.{none_after, kept_after, new_after}
+use Rattle.derivation_dag.specs.Places.{place_in, told}
 use Rattle.derivation_dag.specs.declared.key.EdgeKey.{EdgeKey}
 use Rattle.derivation_dag.specs.declared.numbers.Numbers.{Numbers}
-use Rattle.derivation_dag.specs.Numbers.{same_edge_key, edge_key, number_of, AreSame, NumbersNodes, IsBelowAll, IsHeld}
+use Rattle.derivation_dag.specs.Numbers.{same_edge_key, edge_key, number_at, number_of, IsWithout, AreSame, NumbersNodes, IsBelowAll, IsHeld}
 
 -- ---- edge keys that pass the test are the same
 both_true : (a b : Bool) → (a && b) ≡ true → (a ≡ true) × (b ≡ true)
@@ -120,3 +122,16 @@ module _ (nodes : List Node) (node : Node) (numbers : Numbers) (held : NumbersNo
           otherwise : key_of node.edge ≢ key → (o : Option NodeId) → IsNewest nodes key o → IsNewest (nodes ++ node ∷ []) key o
           otherwise apart None none = none_after nodes node key apart none
           otherwise apart (Some other) was = kept_after nodes node key other was (λ of_key. absurd (apart of_key))
+
+-- ---- none at first
+zero_at : (n place : ℕ) → ◌≡◌ {A = ℕ} (slice_index_or (replicate n 0) place 0) 0
+zero_at zero place = refl
+zero_at (suc n) zero = refl
+zero_at (suc n) (suc place) = zero_at n place
+
+pub none_counted : (numbers : Numbers) (n : ℕ) → numbers.ordinary.counted ≡ replicate n 0 → IsEmpty numbers.others → IsWithout numbers
+none_counted numbers n zeros empty = λ key. by key (place_in numbers.ordinary.points key)
+  where
+    by : (key : Key) (place : Option ℕ) → number_at numbers key place ≡ None
+    by key None = search
+    by key (Some place) = ap told (ap (λ (counted : List ℕ). slice_index_or counted place 0) zeros ∙ zero_at n place)

@@ -1,18 +1,21 @@
 -- The targets that are stale, and that no row but theirs is needed.
-use Rattle.std.proofs.Common.{◌≡◌, ◌&&◌, ◌||◌, ◌==◌, nat_lt, ◌⊎◌, ℕ, zero, suc, ◌+◌, ◌<◌, ◌≤◌, pos, Bool, true, false, List, [], ◌∷◌, ◌++◌, length, map, get_or, refl, ap, sym, subst, ◌∙◌, inl, inr, arith}
+use Rattle.std.proofs.Common.{◌≡◌, ◌≢◌, slice_set, take, ◌&&◌, ◌||◌, ◌==◌, nat_lt, ◌⊎◌, ℕ, zero, suc, ◌+◌, ◌<◌, ◌≤◌, pos, Bool, true, false, List, [], ◌∷◌, ◌++◌, length, map, get_or, refl, ap, sym, subst, ◌∙◌, inl, inr, arith}
 use Rattle.std.specs.Prelude.{filter, int_lt}
 use Rattle.std.specs.List.{All, AllPairs, Contains, flat_map, list_any, range_with_len, slice_index_or}
+use Rattle.std.proofs.Math.Bool.{or-true}
 use Rattle.std.proofs.Math.ListN.{get_or-eq_default}
+use Rattle.std.proofs.lemmas.Bool.{eq-eqb, eqb-true, false≢true}
 use Rattle.std.proofs.lemmas.Bool.Decides.{nat_tests}
-use Rattle.std.proofs.lemmas.List.Elements.{All-contains, All-filter, filter-append}
-use Rattle.std.proofs.lemmas.List.Folds.{flat_map-map}
-use Rattle.std.proofs.lemmas.List.{get_or_default}
+use Rattle.std.proofs.lemmas.List.Elements.{All-get_or, All-contains, All-filter, filter-append}
+use Rattle.std.proofs.lemmas.List.Folds.{flat_map-map, list_any-append}
+use Rattle.std.proofs.lemmas.List.{get_or_default, get_or-set_same, get_or-set_other, length-set, take_more}
 use Rattle.std.proofs.lemmas.List.FromFn.{map-range_with_len_more}
 use Rattle.std.proofs.lemmas.List.Kept.{AllPairs-filter, AllPairs-cons}
 use Rattle.net_model.specs.Network.{Plan, IsPlan, IsPoint}
 use Rattle.net_model.specs.declared.ids.PointId.{PointId}
 use Rattle.net_model.specs.declared.part.Edge.{Edge}
 use Rattle.closure_model.specs.Keys.{Shape, all_points}
+use Rattle.closure_model.specs.Orders.{is_among}
 use Rattle.closure_model.specs.ReferenceRow.{reference_row}
 use Rattle.closure_model.specs.ReferenceRound.{round_made}
 use Rattle.closure_model.specs.RoundLaws.{IsStale}
@@ -49,6 +52,32 @@ map_pairs f R S then (x ∷ xs) pairs =
   where
     above : (y : _) → (z : _) × Contains xs z × (f z ≡ y) → S (f x) y
     above y (z, there, is) = subst (S (f x)) is (then x z (All-contains (R x) xs z (λ k d inside. pairs 0 (suc k) d (omega arith) (omega arith)) there))
+
+-- one point more is marked
+pub marks_more : (listed : List PointId) (i points : ℕ) (marks : List Bool) → i < length listed → All (λ (point : PointId). point.0 < points) listed → length marks ≡ points → AreMarks (take i listed) marks
+    → let number : ℕ = (get_or listed i (record { 0 = 0 })).0 in (length (slice_set marks number true) ≡ points) × AreMarks (take (i + 1) listed) (slice_set marks number true)
+marks_more listed i points marks inside known long are = (
+  length-set marks number true ∙ long,
+  λ k within. by k (is_among (take i listed) (record { 0 = k })) (number == k) refl refl (omega (arith, within, length-set marks number true))
+      ∙ sym (ap (λ (these : List PointId). is_among these (record { 0 = k })) (take_more listed i none inside) ∙ list_any-append (λ (other : PointId). other.0 == k) (take i listed) (get_or listed i none ∷ [])),
+)
+  where
+    none : PointId
+    none = record { 0 = 0 }
+
+    number : ℕ
+    number = (get_or listed i none).0
+
+    there : number < length marks
+    there = omega (arith, long, All-get_or (λ (point : PointId). point.0 < points) listed i none inside known)
+
+    other : (k : ℕ) → (number == k) ≡ false → k ≢ number
+    other k not same = false≢true (sym not ∙ eq-eqb number k (sym same))
+
+    by : (k : ℕ) (a same : Bool) → is_among (take i listed) (record { 0 = k }) ≡ a → (number == k) ≡ same → k < length marks → slice_index_or (slice_set marks number true) k false ≡ (a || (same || false))
+    by k a true among is within = ap (λ n. slice_index_or (slice_set marks number true) n false) (sym (eqb-true number k is)) ∙ (get_or-set_same marks number true false there ∙ sym (or-true a))
+    by k true false among is within = get_or-set_other marks number k true false (other k is) ∙ (are k within ∙ among)
+    by k false false among is within = get_or-set_other marks number k true false (other k is) ∙ (are k within ∙ among)
 
 -- ---- the loop over the points
 pub reached_more : (table : Graph) (marks : List Bool) (point : ℕ) (items new : List PointId) → items ≡ filter (is_reached table marks) (map (λ k. record { 0 = k }) (range_with_len 0 point))

@@ -1,6 +1,8 @@
 -- One edge more.
-use Rattle.std.proofs.Common.{pos, None}
+use Rattle.std.proofs.Common.{pos, None, filter, not, ap, ◌∙◌}
+use Rattle.std.proofs.lemmas.List.{take_all}
 use Rattle.net_model.specs.declared.part.Edge.{Edge}
+use Rattle.parallel_rounds.specs.Telling.{was_low}
 use Rattle.parallel_rounds.proofs.FreshSteps.{kept_more}
 use Rattle.parallel_rounds.proofs.telling.fresh_among.Goals as goal
 
@@ -10,3 +12,6 @@ no_edge = record { from = record { 0 = 0 }; to = record { 0 = 0 }; label = None;
 
 pub loop-edge-preserved : goal.loop-edge-preserved
 loop-edge-preserved c = kept_more c.args.before.now c.args.edges.now c.loop-edge.edge-index no_edge c.loop-edge.fresh.items c.push_fresh.new.fresh.items c.loop-edge-test.true c.loop-edge.invariant c.in_ok-push_fresh.ensures
+
+pub returns : goal.returns
+returns c = c.loop-edge.invariant ∙ ap (filter (λ (edge : Edge). not (was_low c.args.before.now edge))) (take_all c.loop-edge.edge-index c.args.edges.now c.loop-edge-test.false)

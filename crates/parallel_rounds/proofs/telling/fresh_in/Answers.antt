@@ -1,7 +1,9 @@
 -- One row more.
-use Rattle.std.proofs.Common.{List, subst}
+use Rattle.std.proofs.Common.{List, subst, ◌<◌, sym, arith}
+use Rattle.std.proofs.lemmas.List.{take_all}
 use Rattle.closure_model.specs.declared.rows.Made.{Made}
-use Rattle.parallel_rounds.specs.Telling.{AreFreshIn}
+use Rattle.back_propagation.specs.declared.settling.NewRow.{NewRow}
+use Rattle.parallel_rounds.specs.Telling.{AreFreshIn, AreListed}
 use Rattle.parallel_rounds.proofs.FreshSteps.{listed_none, listed_more}
 use Rattle.parallel_rounds.proofs.telling.fresh_in.Goals as goal
 
@@ -12,3 +14,14 @@ pub loop-row-preserved : goal.loop-row-preserved
 loop-row-preserved c =
     listed_more c.args.before.now c.args.rows.now c.loop-row.row-index c.row-item.result c.args.points c.loop-row.fresh.items c.in_ok-fresh-2.field-0 c.loop-row-test.true c.row-item.is c.requires.points c.requires.rise c.loop-row.invariant.0 c.loop-row.invariant.1
     (subst (λ (made : List Made). AreFreshIn c.args.before.now made c.in_ok-fresh-2.field-0) c.as_slice.ensures c.in_ok-fresh-2.ensures)
+
+pub index_mut-requires : goal.index_mut-requires
+index_mut-requires c =
+    let below : c.row-item.result.target.0 < c.args.points = subst (λ (row : NewRow). row.target.0 < c.args.points) (sym c.row-item.is) (c.requires.points c.loop-row.row-index c.row-item.result c.loop-row-test.true) in
+    omega (arith, below, c.loop-row.invariant.0)
+
+pub returns-clause-count : goal.returns-clause-count
+returns-clause-count c = c.loop-row.invariant.0
+
+pub returns-clause-fresh : goal.returns-clause-fresh
+returns-clause-fresh c = subst (λ (rows : List NewRow). AreListed c.args.before.now rows c.loop-row.fresh.items) (take_all c.loop-row.row-index c.args.rows.now c.loop-row-test.false) c.loop-row.invariant.1
