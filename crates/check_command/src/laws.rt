@@ -6,6 +6,12 @@ ghost use Rattle.check_command.specs.EngineLaw.{ChangesTheLimitAlone, check_of};
 ghost use Rattle.command_frame.specs.Requests.{asked_by};
 ghost use Rattle.check_command.specs.Words.{SayCheckFlags};
 ghost use Rattle.check_command.specs.declared.checking.CheckFlags.{CheckFlags};
+ghost use Rattle.command_frame.specs.Programs.{EachDefinesOne, RunsEndByCause};
+ghost use Rattle.command_frame.specs.Workers.{WorkersDecideNothing};
+ghost use Rattle.check_command.specs.CheckPromise.{check_program};
+
+use crate::checking::Check;
+use command_frame::{OneRun, Promising, Request};
 
 /// The words after `check` are its own exactly where they spell its uses, and the number of workers, where it is given, is one from 1 to
 /// 64, and the delay, where it is given, one of at most 1000000. The plan is a document exactly where `--json` is given, its delay is its own
@@ -21,3 +27,16 @@ pub fn check_is_read_exactly()
 pub fn engine_changes_the_limit_alone()
     ensures { ChangesTheLimitAlone check_of }
 {}
+
+/// Whatever is asked of `check`, an input has one run at most, each run ends by the causes in its input, and the number of workers decides
+/// nothing of what is asked.
+pub fn check_is_lawful()
+    ensures one { EachDefinesOne check_program }
+    ensures causes { (asked : CheckFlags) → RunsEndByCause (check_program asked) }
+    ensures workers { WorkersDecideNothing check_syntax check_asked }
+{
+    Check::defines_one();
+    Check::keeps_its_promise();
+    Check::ends_by_its_causes();
+    Check::workers_decide_nothing();
+}

@@ -7,4 +7,4 @@ mod laws;
 
 pub use checking::{Check, CheckFlags, CheckText};
 pub use engine::{Engine, EnginePlan, EngineTest};
-pub use laws::{check_is_read_exactly, engine_changes_the_limit_alone};
+pub use laws::{check_is_lawful, check_is_read_exactly, engine_changes_the_limit_alone};

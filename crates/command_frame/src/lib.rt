@@ -5,7 +5,6 @@
 mod counts;
 mod form_and_workers;
 mod forms;
-mod laws;
 mod plan_asking;
 mod promising;
 mod requests;
@@ -16,7 +15,6 @@ mod workers;
 pub use counts::{count_within, number_within};
 pub use form_and_workers::FormAndWorkers;
 pub use forms::form_given;
-pub use laws::{has_one_run, is_lawful, is_lawfully_told};
 pub use plan_asking::{OneAnswer, PlanQuestion};
 pub use promising::{OneRun, Promising, serve_asked};
 pub use requests::{Request, request_in};

@@ -6,5 +6,5 @@ mod laws;
 mod points;
 
 pub use asking::AskDeadline;
-pub use laws::deadline_is_read_exactly;
+pub use laws::{deadline_is_lawful, deadline_is_read_exactly};
 pub use points::{DeadlineWords, PlanPoints};

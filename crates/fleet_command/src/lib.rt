@@ -16,7 +16,7 @@ pub use beginning::{AskFleet, FleetReading};
 pub use between::PlanLines;
 pub use entries::{Entry, Held};
 pub use header::FleetHeader;
-pub use laws::fleet_is_read_exactly;
+pub use laws::{fleet_is_lawful, fleet_is_read_exactly};
 pub use planned::{KeepRefusal, Planned, PlannedText};
 pub use plans_text::{FleetText, Plans, PlansText};
 pub use serving::Serving;

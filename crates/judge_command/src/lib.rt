@@ -5,4 +5,4 @@ mod judging;
 mod laws;
 
 pub use judging::Judge;
-pub use laws::judge_is_read_exactly;
+pub use laws::{judge_is_lawful, judge_is_read_exactly};

@@ -5,7 +5,12 @@ ghost use Rattle.command_frame.specs.Requests.{asked_by};
 ghost use Rattle.run_command.specs.Running.{RunForm, run_asked, run_syntax};
 ghost use Rattle.run_command.specs.OrderedTexts.{FeedersPutTheLinesInOrder};
 ghost use Rattle.run_command.specs.Words.{SayRun, SpellsFeeders};
+ghost use Rattle.command_frame.specs.Programs.{EachDefinesOne, RunsEndByCause};
+ghost use Rattle.command_frame.specs.Workers.{WorkersDecideNothing};
+ghost use Rattle.run_command.specs.RunPromise.{run_program};
 
+use crate::running::Run;
+use command_frame::{OneRun, Promising, Request};
 use event_stream::laws::lines_have_one_reading;
 
 /// The words after `run` are its own exactly where they spell its uses, and the number of workers, where it is given, is one from 1 to 64, the
@@ -27,4 +32,17 @@ pub fn feeders_put_the_lines_in_order()
     ensures { FeedersPutTheLinesInOrder }
 {
     lines_have_one_reading();
+}
+
+/// Whatever is asked of `run`, an input has one run at most, each run ends by the causes in its input, and the number of workers decides
+/// nothing of what is asked.
+pub fn run_is_lawful()
+    ensures one { EachDefinesOne run_program }
+    ensures causes { (asked : RunForm) → RunsEndByCause (run_program asked) }
+    ensures workers { WorkersDecideNothing run_syntax run_asked }
+{
+    Run::defines_one();
+    Run::keeps_its_promise();
+    Run::ends_by_its_causes();
+    Run::workers_decide_nothing();
 }

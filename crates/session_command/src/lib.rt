@@ -7,5 +7,5 @@ mod laws;
 mod session;
 mod session_answers;
 
-pub use laws::session_is_read_exactly;
+pub use laws::{session_is_lawful, session_is_read_exactly};
 pub use session::OpenSession;

@@ -4,5 +4,5 @@
 mod laws;
 mod showing;
 
-pub use laws::show_is_read_exactly;
+pub use laws::{show_is_lawful, show_is_read_exactly};
 pub use showing::Show;

@@ -7,20 +7,17 @@ ghost use Rattle.command_frame.specs.Programs.{DefineSame, DefineSameWhereTaken,
 ghost use Rattle.stnu_run.specs.WordLaws.{AreTaken, SameRuns};
 ghost use Rattle.command_frame.specs.Workers.{SpellsWorkers};
 ghost use Rattle.run_command.specs.Words.{SpellsFeeders};
-ghost use Rattle.judge_command.specs.declared.judging.Judge.{Judge};
-ghost use Rattle.show_command.specs.declared.showing.Show.{Show};
 ghost use Rattle.command_frame.specs.declared.status.Status.{Status};
 
-use check_command::Check;
-use command_frame::{has_one_run, is_lawful, is_lawfully_told};
-use deadline_command::AskDeadline;
-use fleet_command::AskFleet;
-use judge_command::Judge;
-use play_command::{Forge, Play};
-use run_command::{Run, feeders_decide_nothing};
-use session_command::OpenSession;
-use show_command::Show;
-use strong_command::AskStrong;
+use check_command::check_is_lawful;
+use deadline_command::deadline_is_lawful;
+use fleet_command::fleet_is_lawful;
+use judge_command::judge_is_lawful;
+use play_command::{forge_is_lawful, play_is_lawful};
+use run_command::{feeders_decide_nothing, run_is_lawful};
+use session_command::session_is_lawful;
+use show_command::show_is_lawful;
+use strong_command::strong_is_lawful;
 
 /// For given words, but those of `strong`, and a given input at most one pair of bytes and status stands in the defined run, and to each
 /// line, and where none comes, the command of the words has at most one reply. Of a network without a strong schedule `strong` may put any
@@ -70,15 +67,15 @@ pub fn feeders_change_nothing()
 fn each_defines_one()
     ensures { (command : List ℕ) (words : List (List ℕ)) → bytes_eq command strong_word ≡ false → DefinesOne (program_named command words) }
 {
-    has_one_run::<Judge>();
-    has_one_run::<Check>();
-    has_one_run::<Run>();
-    has_one_run::<OpenSession>();
-    has_one_run::<Show>();
-    has_one_run::<Play>();
-    has_one_run::<AskDeadline>();
-    has_one_run::<AskFleet>();
-    is_lawfully_told::<Forge>();
+    judge_is_lawful();
+    check_is_lawful();
+    run_is_lawful();
+    session_is_lawful();
+    show_is_lawful();
+    play_is_lawful();
+    deadline_is_lawful();
+    fleet_is_lawful();
+    forge_is_lawful();
 }
 
 /// Whatever the command is, without an input it defines at most one answer, each run ends by the causes in its input, and the number of
@@ -93,14 +90,14 @@ fn each_is_lawful()
         → SpellsWorkers count spelled
         → DefineSameWhereTaken (program_named command (front ++ (spelled ++ back))) (program_named command (front ++ back)) }
 {
-    is_lawful::<Judge>();
-    is_lawful::<Check>();
-    is_lawful::<Run>();
-    is_lawful::<OpenSession>();
-    is_lawful::<Show>();
-    is_lawful::<Play>();
-    is_lawful::<AskStrong>();
-    is_lawful::<AskDeadline>();
-    is_lawful::<AskFleet>();
-    is_lawfully_told::<Forge>();
+    judge_is_lawful();
+    check_is_lawful();
+    run_is_lawful();
+    session_is_lawful();
+    show_is_lawful();
+    play_is_lawful();
+    strong_is_lawful();
+    deadline_is_lawful();
+    fleet_is_lawful();
+    forge_is_lawful();
 }

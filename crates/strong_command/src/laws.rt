@@ -2,10 +2,25 @@
 
 ghost use Rattle.std.specs.Prelude.{◌≡◌, ◌↔◌, ℕ, List, Some};
 ghost use Rattle.command_frame.specs.Requests.{asked_by};
-ghost use Rattle.strong_command.specs.Asking.{SayStrong, strong_asked, strong_syntax};
+ghost use Rattle.strong_command.specs.Asking.{SayStrong, strong_asked, strong_syntax, strong_program};
 ghost use Rattle.strong_command.specs.declared.asking.AskStrong.{AskStrong};
+ghost use Rattle.command_frame.specs.Programs.{RunsEndByCause};
+ghost use Rattle.command_frame.specs.Workers.{WorkersDecideNothing};
+
+use crate::asking::AskStrong;
+use command_frame::{Promising, Request};
 
 /// The words after `strong` are its own exactly where they spell its uses. The plan is a document exactly where `--json` is given.
 pub fn strong_is_read_exactly()
     ensures { (words : List (List ℕ)) (asked : AskStrong) → asked_by strong_syntax strong_asked words ≡ Some asked ↔ SayStrong asked words }
 {}
+
+/// Whatever is asked of `strong`, each run ends by the causes in its input, and the number of workers decides nothing of what is asked.
+pub fn strong_is_lawful()
+    ensures causes { (asked : AskStrong) → RunsEndByCause (strong_program asked) }
+    ensures workers { WorkersDecideNothing strong_syntax strong_asked }
+{
+    AskStrong::keeps_its_promise();
+    AskStrong::ends_by_its_causes();
+    AskStrong::workers_decide_nothing();
+}

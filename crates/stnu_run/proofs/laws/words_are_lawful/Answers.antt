@@ -1,5 +1,4 @@
-use Rattle.stnu_run.proofs.NamedLemmas.{words_tell_one}
-use Rattle.stnu_run.proofs.NamedLemmas.{words_causes}
+use Rattle.stnu_run.proofs.NamedLemmas.{words_causes, words_tell_one}
 use Rattle.stnu_run.proofs.laws.words_are_lawful.Goals as goal
 
 pub returns-clause-tells : goal.returns-clause-tells
