@@ -41,7 +41,8 @@ pub fn play_is_lawful()
     Play::workers_decide_nothing();
 }
 
-/// Whatever is asked of `forge`, it defines one answer at most, and the number of workers decides nothing of what is asked.
+/// Whatever is asked of `forge`, it defines one answer at most, and the number of workers decides nothing of what is asked. It reads no input, so
+/// that no run has a cause in one.
 pub fn forge_is_lawful()
     ensures one { EachDefinesOne forge_program }
     ensures workers { WorkersDecideNothing forge_syntax forge_asked }
