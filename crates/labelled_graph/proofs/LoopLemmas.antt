@@ -1,7 +1,7 @@
 -- One step of each loop over a table, over plain variables.
 use Rattle.std.proofs.Common.{◌≡◌, ℕ, ◌+◌, ◌<◌, List, [], ◌∷◌, ◌++◌, map, fold, length, take, get_or, ap, sym, subst, ◌∙◌, arith}
 use Rattle.std.specs.List.{All, enumerate_from}
-use Rattle.std.proofs.lemmas.List.{map-append, take_more}
+use Rattle.std.proofs.lemmas.List.{map-append, map_more}
 use Rattle.std.proofs.lemmas.List.Sums.{fold-append}
 use Rattle.std.proofs.lemmas.List.FromFn.{get_or-enumerate_from, length-enumerate_from}
 use Rattle.net_model.specs.Network.{Plan, IsPlan}
@@ -18,7 +18,7 @@ use Rattle.labelled_graph.specs.Changes.{IsEdgeFor}
 
 -- ---- lists that a loop maps, element by element
 pub mapped_more : {A B : Type 0} (f : A → B) (xs : List A) (k : ℕ) (d : A) → k < length xs → (was now : List B) → was ≡ map f (take k xs) → now ≡ was ++ f (get_or xs k d) ∷ [] → now ≡ map f (take (k + 1) xs)
-mapped_more f xs k d inside was now held step = step ∙ ap (λ ys. ys ++ f (get_or xs k d) ∷ []) held ∙ sym (ap (map f) (take_more xs k d inside) ∙ map-append f (take k xs) (get_or xs k d ∷ []))
+mapped_more f xs k d inside was now held step = step ∙ ap (λ ys. ys ++ f (get_or xs k d) ∷ []) held ∙ sym (map_more f xs k d inside)
 
 -- ---- lowering
 -- an edge for the table before the loop is one for the table in it

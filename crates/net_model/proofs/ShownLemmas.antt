@@ -5,7 +5,7 @@ use Rattle.std.specs.List.{All, IsDistinct}
 use Rattle.std.specs.Str.{bytes_eq}
 use Rattle.std.proofs.lemmas.Int.{ints, to_z-of_z, fits_signed_from_abs}
 use Rattle.std.proofs.lemmas.Bool.{le-leb}
-use Rattle.std.proofs.lemmas.List.{length-map, get_or-map, map-append, take_more}
+use Rattle.std.proofs.lemmas.List.{length-map, get_or-map, map_more}
 use Rattle.std.proofs.lemmas.List.Elements.{All-map}
 use Rattle.net_model.specs.Limits.{most_size, most_bounds, most_links}
 use Rattle.net_model.specs.Network.{Plan, IsPlan, IsBound, IsLink, activation, greatest}
@@ -27,7 +27,7 @@ module _ {X : Type 0} (xs ys : List X) (k : ℕ) (x : X) (same : ys ≡ xs) (ins
 
   pub mapped_next : {Y : Type 0} (f : X → Y) (made more : List Y) (y : Y) → made ≡ map f (take k xs) → more ≡ made ++ y ∷ [] → y ≡ f x → more ≡ map f (take (k + 1) xs)
   mapped_next f made more y before pushed is =
-      pushed ∙ (λ i. before i ++ (is ∙ ap f (sym here)) i ∷ []) ∙ sym (ap (map f) (take_more xs k x within) ∙ map-append f (take k xs) (get_or xs k x ∷ []))
+      pushed ∙ (λ i. before i ++ (is ∙ ap f (sym here)) i ∷ []) ∙ sym (map_more f xs k x within)
 
 pub at_most_delay : (b : Bool) (delay : ℕ) → cond b delay 0 ≤ delay
 at_most_delay true delay = omega arith

@@ -2,7 +2,7 @@
 use Rattle.std.proofs.Common.{◌≡◌, ℕ, zero, suc, ◌+◌, ◌<◌, List, [], ◌∷◌, ◌++◌, length, take, map, get_or, Option, None, refl, ap, sym, ◌∙◌}
 use Rattle.std.specs.Prelude.{slice_get}
 use Rattle.std.specs.Option.{option_and_then}
-use Rattle.std.proofs.lemmas.List.{map-append, take_more}
+use Rattle.std.proofs.lemmas.List.{map_more}
 use Rattle.net_model.specs.Network.{Plan}
 use Rattle.net_model.specs.declared.ids.BoundId.{BoundId}
 use Rattle.net_model.specs.declared.ids.LinkId.{LinkId}
@@ -45,4 +45,4 @@ pub mapped_more : {X Y : Type 0} (f : X → Y) (listed xs : List X) (i : ℕ) (d
 mapped_more {X} f listed xs i d items new found same inside was is pushed =
     pushed
     ∙ ((λ t. (was ∙ ap (λ (l : List X). map f (take i l)) (sym same)) t ++ is t ∷ [])
-    ∙ (sym (ap (map f) (take_more listed i d inside) ∙ map-append f (take i listed) (get_or listed i d ∷ [])) ∙ ap (λ (l : List X). map f (take (i + 1) l)) same))
+    ∙ (sym (map_more f listed i d inside) ∙ ap (λ (l : List X). map f (take (i + 1) l)) same))
