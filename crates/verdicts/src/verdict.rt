@@ -14,6 +14,7 @@ use cell_table::close_by_cells;
 use cert_format::Certificate;
 use controllability::laws::{cycles_of_tables_exclude, ordered_closures_are_controllable};
 use dispatch_net::Dispatch;
+use longest_durations::is_excluded_at_longest;
 use net_model::Network;
 use parallel_rounds::Gate;
 use plan_session::OpenSession;
@@ -35,9 +36,10 @@ pub enum Verdict {
     Refuted(Certificate),
 }
 
-/// Decides whether a network is controllable, by closing the table of its shown form; a session is opened only where it is not, since the nodes of the
-/// certificate are those of its rounds. So many workers, 1 to 64, test the table and make the rows of a round; the gate is called before
-/// each row. `AllocError` comes only for want of memory.
+/// Decides whether a network is controllable, by closing the table of its shown form; a network that is seen to be excluded already where
+/// every link takes its longest duration is refused before its table is closed. A session is opened only where the network is not
+/// controllable, since the nodes of the certificate are those of its rounds. So many workers, 1 to 64, test the table and make the rows of
+/// a round; the gate is called before each row. `AllocError` comes only for want of memory.
 pub fn decide<R: Threads + Sync, G: Gate>(
     rt: &R,
     alloc: Global,
@@ -49,7 +51,7 @@ pub fn decide<R: Threads + Sync, G: Gate>(
     ensures { IfOk result (IsVerdict net) }
 {
     let shown = net.shown(alloc)?;
-    let found = decide_by_closure(rt, alloc, &shown, workers)?;
+    let found = closed_unless_excluded(rt, alloc, &shown, workers)?;
     verdict_by(rt, alloc, net, shown, found, workers, gate)
 }
 
@@ -99,6 +101,23 @@ fn verdict_by<R: Threads + Sync, G: Gate>(
             Ok(Verdict::Refuted(certificate))
         }
     }
+}
+
+/// Decides as `decide_by_closure` does, but closes no table of a network for which `is_excluded_at_longest` says yes.
+fn closed_unless_excluded<R: Threads + Sync>(
+    rt: &R,
+    alloc: Global,
+    net: &Network,
+    workers: u32,
+) -> Result<Option<Closed>, AllocError>
+    requires some { 1 ≤ workers }
+    requires no_delay { net.now.delay ≡ 0 }
+    ensures { IfOk result (IsDecidedByClosure net.now) }
+{
+    if is_excluded_at_longest(alloc, net)? {
+        return Ok(None);
+    }
+    decide_by_closure(rt, alloc, net, workers)
 }
 
 /// Decides whether a network without a delay is controllable, and makes no certificate: the closure with the order of its points where it is, and `None`
