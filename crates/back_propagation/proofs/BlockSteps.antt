@@ -1,5 +1,5 @@
 -- Where no edge of a block goes below the row, nothing that follows with them changes it.
-use Rattle.std.proofs.Common.{◌≡◌, ℕ, zero, suc, ◌+◌, ◌<◌, ◌≤◌, ◌-◌, ℤ, pos, ◌*◌, ◌≤ℤ◌, ◌+ℤ◌, ◌==◌, ◌&&◌, Bool, true, false, cond, List, [], ◌∷◌, ◌++◌, length, map, fold, drop, get_or, append_assoc, append-nil, Option, Some, None, refl, ap, sym, subst, ◌∙◌, arith}
+use Rattle.std.proofs.Common.{◌≡◌, ℕ, zero, suc, ◌+◌, ◌<◌, ◌≤◌, ◌-◌, ℤ, pos, ◌*◌, ◌≤ℤ◌, ◌+ℤ◌, ◌==◌, ◌&&◌, Bool, true, false, cond, List, [], ◌∷◌, ◌++◌, length, map, fold, drop, get_or, append_assoc, append-nil, nat_lt, Option, Some, None, refl, ap, sym, subst, ◌∙◌, arith}
 use Rattle.std.specs.Prelude.{slice_get, slice_range, IsSomeAnd, int_lt, is_none}
 use Rattle.std.specs.Int.{int_max}
 use Rattle.std.specs.Option.{option_map, option_map_or}
@@ -22,6 +22,7 @@ use Rattle.closure_model.specs.declared.rows.Why.TheVariants.{No, Up}
 use Rattle.net_model.specs.declared.ids.LinkId.{LinkId}
 use Rattle.net_model.proofs.RuleLemmas.{no_case_gives, upper_case_gives}
 use Rattle.std.proofs.lemmas.Bool.{eqb-true}
+use Rattle.std.proofs.lemmas.Bool.Decides.{nat_tests}
 use Rattle.closure_model.specs.Tables.{Graph, HasEdge, row_of}
 use Rattle.closure_model.proofs.Weights.{le_then}
 use Rattle.closure_model.specs.declared.rows.Made.{Made}
@@ -244,9 +245,21 @@ offered_all edge entries at was now past all =
     drop_past (x ∷ xs) zero past = absurd (omega (arith, past))
     drop_past (x ∷ xs) (suc k) past = drop_past xs k (omega (arith, past))
 
-pub block_held : (table : Graph) (edge : Edge) (entries : List Entry) (at end : ℕ) → map (edge_into edge.from) entries ≡ row_of table edge.from → end ≤ length entries → All (IsHeld table edge) (slice_range entries at end)
-block_held table edge entries at end are within =
+pub all_held : (table : Graph) (edge : Edge) (entries : List Entry) → map (edge_into edge.from) entries ≡ row_of table edge.from → All (IsHeld table edge) entries
+all_held table edge entries are = All-from_get_or (IsHeld table edge) entries no_entry (λ i below. entry_held table edge.from entries i no_entry are below)
+
+pub block_held : (table : Graph) (edge : Edge) (entries : List Entry) (at end : ℕ) → All (IsHeld table edge) entries → end ≤ length entries → All (IsHeld table edge) (slice_range entries at end)
+block_held table edge entries at end held within =
     All-from_get_or (IsHeld table edge) (slice_range entries at end) no_entry
     (λ i below.
     (let long : length (slice_range entries at end) ≡ end - at = length-between entries at end within in
-    subst (IsHeld table edge) (sym (get_or-between entries at end i no_entry (omega (arith, below, long)))) (entry_held table edge.from entries (at + i) no_entry are (omega (arith, below, long, within)))))
+    subst (IsHeld table edge) (sym (get_or-between entries at end i no_entry (omega (arith, below, long)))) (All-get_or (IsHeld table edge) entries (at + i) no_entry (omega (arith, below, long, within)) held)))
+
+-- what holds of the points before one, and of those of a part that begins there, holds of all before the end of the part
+pub part_more : (Holds : PointId → Type 0) (at end : ℕ) → ((first : PointId) → first.0 < at → Holds first) → ((first : PointId) → at ≤ first.0 → first.0 < end → Holds first)
+    → (first : PointId) → first.0 < end → Holds first
+part_more Holds at end before part first below = by (nat_lt first.0 at) refl
+  where
+    by : (b : Bool) → nat_lt first.0 at ≡ b → Holds first
+    by true is = before first (grind (arith, nat_tests))
+    by false is = part first (grind (arith, nat_tests)) below

@@ -23,6 +23,9 @@ const BLOCK: usize = 32;
 /// For how many points a whole column of words is tested in the time of one look.
 const LOOKS: usize = 8;
 
+/// How many words of a column are tested at once, before it is asked whether one of them falls.
+const PART: u32 = 128;
+
 impl OpenRow {
     /// Offers to the row what follows from an edge of it, in the order of the definition. An edge of weight 0 or more has no consequence
     /// but the removal of its label.
@@ -71,8 +74,8 @@ impl OpenRow {
         Ok(())
     }
 
-    /// Offers what follows with an ordinary edge of the table before a negative edge, for each that ends where it begins. Most of it is in
-    /// vain, which is seen of a block of entries at once.
+    /// Offers what follows with an ordinary edge of the table before a negative edge, for each that ends where it begins. Mostly all of it is
+    /// in vain.
     fn offer_after_firsts(
         &mut self,
         basis: Basis<'_>,
@@ -84,6 +87,48 @@ impl OpenRow {
         ensures { OnOk result (HasOffered self.old self.new (flat_map (from_first edge.now) (ordinary_into basis.entry.table.now edge.now.from))) }
     {
         let entries = basis.table.entries(edge.from);
+        if self.may_fall_among(basis, edge, column, entries) {
+            self.offer_by_blocks(basis, edge, column, entries)?;
+        }
+        Ok(())
+    }
+
+    /// Whether something that follows with the edges of some entries before the edge may go below what the row has. It may where they are
+    /// no more than a block, which is looked at by itself.
+    fn may_fall_among(
+        &self,
+        basis: Basis<'_>,
+        edge: &Edge,
+        column: usize,
+        entries: &[Entry],
+    ) -> bool
+        requires row { IsOffering basis self.now edge.now column }
+        requires entries { All (IsHeld basis.table.now edge.now) entries.now }
+        requires ascend { Ascend entries.now }
+        requires negative { edge.now.weight <ℤ pos 0 }
+        ensures { result ≡ false → All (IsMetIn self.now.slots self.now.width edge.now column) entries.now }
+    {
+        if entries.len() <= BLOCK {
+            return true;
+        }
+        self.falls_among(basis, edge, column, entries)
+    }
+
+    /// Offers what follows with the edges of some entries before the edge, by blocks: where nothing of a block goes below what the row has,
+    /// that is seen at once.
+    fn offer_by_blocks(
+        &mut self,
+        basis: Basis<'_>,
+        edge: &Edge,
+        column: usize,
+        entries: &[Entry],
+    ) -> Result<(), AllocError>
+        requires row { IsOffering basis self.old edge.now column }
+        requires entries { All (IsHeld basis.table.now edge.now) entries.now }
+        requires ascend { Ascend entries.now }
+        requires negative { edge.now.weight <ℤ pos 0 }
+        ensures { OnOk result (HasOffered self.old self.new (flat_map (after_entry edge.now) entries.now)) }
+    {
         let mut at = 0;
         while at < entries.len() {
             let end = block_end(at, entries.len());
@@ -127,9 +172,16 @@ impl OpenRow {
         if asked <= points / LOOKS || edge.weight >= 0 {
             return true;
         }
-        basis
-            .table
-            .falls_before(edge, self.slots.words(column), 0, points as u32)
+        let words = self.slots.words(column);
+        let mut at = 0;
+        while at < points as u32 {
+            let end = part_end(at, points as u32);
+            if basis.table.falls_before(edge, words, at, end) {
+                return true;
+            }
+            at = end;
+        }
+        false
     }
 
     /// Offers what follows with the edges of some entries before the edge, unless it is known that nothing of it goes below what the row has.
@@ -263,6 +315,15 @@ fn block_end(at: usize, count: usize) -> usize
     } else {
         count
     }
+}
+
+/// Where the part of a column of so many words ends that begins at one of them.
+fn part_end(at: u32, count: u32) -> u32
+    requires { at < count }
+    ensures after { at < result }
+    ensures within { result ≤ count }
+{
+    if count - at > PART { at + PART } else { count }
 }
 
 fn is_negative(edge: &Edge) -> bool

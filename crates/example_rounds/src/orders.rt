@@ -1,7 +1,6 @@
 //! An order that is kept while edges fall.
 
 use crate::networks::network;
-use closure_model::rows::{Made, Why};
 use labelled_graph::Table;
 use loop_finder::{Found, KeptOrder, order};
 use net_model::{Edge, LinkId, Network, PointId};
@@ -33,12 +32,7 @@ fn kept(alloc: Global, net: &Network) -> Result<KeptOrder, Fail> {
 }
 
 fn try_edge<R: Abort>(rt: &R, kept: &KeptOrder, edge: Edge, along: bool) {
-    let fell = [Made {
-        edge,
-        why: Why::Drop(edge),
-    }];
     assert_eq!(rt; kept.goes_along(&edge), along, "{edge:?}");
-    assert_eq!(rt; kept.stays(fell.as_slice()), along, "{edge:?}");
 }
 
 fn try_edges<R: Abort>(rt: &R, kept: &KeptOrder) {

@@ -38,7 +38,7 @@ fn are_rows(rows: &[NewRow]) -> bool {
 }
 
 fn is_row(row: &NewRow, wanted: &(u32, usize)) -> bool {
-    row.target.0 == wanted.0 && row.made.as_slice().len() == wanted.1
+    row.target.0 == wanted.0 && row.made.len() == wanted.1
 }
 
 /// The rows that one worker makes alone.

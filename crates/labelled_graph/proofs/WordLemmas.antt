@@ -1,8 +1,8 @@
 -- What words hold, one by one and in rows.
-use Rattle.std.proofs.Common.{◌≡◌, ◌+◌, ◌||◌, ◌&&◌, not, ℕ, zero, suc, ℤ, pos, ◌+ℤ◌, ◌≤ℤ◌, ◌<ℤ◌, ◌<◌, ◌≤◌, ◌⊎◌, inl, inr, Bool, true, false, length, get_or, sym, subst, cond, List, [], ◌∷◌, map, replicate, Option, Some, None, refl, ap, ◌∙◌, arith}
+use Rattle.std.proofs.Common.{◌≡◌, ◌+◌, ◌||◌, ℕ, zero, suc, ℤ, pos, ◌+ℤ◌, ◌≤ℤ◌, ◌<ℤ◌, ◌<◌, ◌≤◌, ◌⊎◌, inl, inr, Bool, true, false, length, get_or, sym, subst, cond, List, [], ◌∷◌, map, replicate, Option, Some, None, refl, ap, ◌∙◌, arith}
 use Rattle.std.specs.List.{slice_set}
 use Rattle.std.specs.Prelude.{IsSomeAnd, int_lt}
-use Rattle.std.specs.Int.{int_max}
+use Rattle.std.specs.Int.{int_max, int_min}
 use Rattle.std.specs.Ordering.{int_eq}
 use Rattle.std.proofs.lemmas.Int.{ints, int_max_is}
 use Rattle.labelled_graph.specs.Words.{absent, least_word, held, word_of, FitsWord, MeetsHeld}
@@ -37,14 +37,26 @@ meets_present first there weight negative below met =
     subst (λ (b : Bool). MeetsHeld (cond b None (Some first)) (held there) weight) (sym some)
     (subst (λ (b : Bool). IsSomeAnd (cond b None (Some there)) (λ (u : ℤ). u ≤ℤ (int_max first (pos 0) +ℤ weight))) (sym lower) met)
 
--- a weight that is not one, or that goes no lower, is met
-pub falls_not : (first there weight : ℤ) (present below : Bool) → present ≡ not (int_eq first absent) → below ≡ int_lt (int_max first (pos 0) +ℤ weight) there → weight <ℤ pos 0 → first ≤ℤ absent → (present && below) ≡ false → MeetsHeld (held first) (held there) weight
-falls_not first there weight present below is_present is_below negative most none = by (int_eq first absent) refl (int_lt (int_max first (pos 0) +ℤ weight) there) refl (sym (λ i. is_present i && is_below i) ∙ none)
+-- what goes no lower than the lesser of a word and of the limit is met: no weight comes to the limit, and any other below it
+pub falls_under : (first there weight : ℤ) (falls : Bool) → falls ≡ int_lt (int_max first (pos 0) +ℤ weight) (int_min there (absent +ℤ weight)) → weight <ℤ pos 0 → first ≤ℤ absent → falls ≡ false → MeetsHeld (held first) (held there) weight
+falls_under first there weight falls is negative most none = by (int_eq first absent) refl
   where
-    by : (gone : Bool) → int_eq first absent ≡ gone → (lower : Bool) → int_lt (int_max first (pos 0) +ℤ weight) there ≡ lower → (not (int_eq first absent) && int_lt (int_max first (pos 0) +ℤ weight) there) ≡ false → MeetsHeld (held first) (held there) weight
-    by true gone lower low none = meets_absent first there weight (grind (arith, ints))
-    by false gone false low none = meets_present first there weight negative (grind (arith, ints)) (grind (arith, ints))
-    by false gone true low none = let both : (not (int_eq first absent) && int_lt (int_max first (pos 0) +ℤ weight) there) ≡ true = λ i. not (gone i) && low i in let no : true ≡ false = sym both ∙ none in absurd cc
+    low : int_lt (int_max first (pos 0) +ℤ weight) (int_min there (absent +ℤ weight)) ≡ false
+    low = sym is ∙ none
+
+    by : (gone : Bool) → int_eq first absent ≡ gone → MeetsHeld (held first) (held there) weight
+    by true gone = meets_absent first there weight (grind (arith, ints))
+    by false gone = meets_present first there weight negative below (least (int_lt (absent +ℤ weight) there) low)
+      where
+        below : first <ℤ absent
+        below = grind (arith, ints)
+
+        limit : int_max first (pos 0) <ℤ absent
+        limit = grind (arith, ints, int_max_is)
+
+        least : (over : Bool) → int_lt (int_max first (pos 0) +ℤ weight) (cond over (absent +ℤ weight) there) ≡ false → there ≤ℤ (int_max first (pos 0) +ℤ weight)
+        least true kept = absurd (grind (arith, ints))
+        least false kept = grind (arith, ints)
 
 pub held_at : (words : List ℤ) (k : ℕ) → k < length words → get_or (map held words) k None ≡ held (get_or words k (pos 0))
 held_at [] k below = absurd (omega (arith, below))

@@ -1,7 +1,6 @@
-ghost use Rattle.std.specs.Prelude.{◌≡◌, ◌<◌, ◌≤◌, ◌==◌, ◌<ℤ◌, ◌+ℤ◌, ◌++◌, [], ◌∷◌, ℕ, pos, false, not, int_lt, length, map, IfOk, IfSome, OnOk, None, Some, replicate};
-ghost use Rattle.std.specs.Int.{int_max};
+ghost use Rattle.std.specs.Prelude.{◌≡◌, ◌<◌, ◌≤◌, ◌==◌, ◌<ℤ◌, ◌+ℤ◌, ◌++◌, [], ◌∷◌, ℕ, pos, false, int_lt, length, map, IfOk, IfSome, OnOk, None, Some, replicate};
+ghost use Rattle.std.specs.Int.{int_max, int_min};
 ghost use Rattle.std.specs.List.{slice_index_or, slice_set};
-ghost use Rattle.std.specs.Ordering.{int_eq};
 ghost use Rattle.labelled_graph.specs.Words.{absent, held, least_word, nearest_word, word_of, FitsWord, IsTold, MeetsHeld};
 
 use net_model::{PointId, Weight};
@@ -198,19 +197,23 @@ fn falls_in(firsts: &[i32], there: &[i32], from: usize, end: usize, weight: i32)
     falls_in
 }
 
+/// Whether the weight that a word holds, counted as 0 where it is below, and a negative weight after it may go below what another word holds.
 fn falls(first: i32, there: i32, weight: i32) -> bool
     requires negative { weight <ℤ pos 0 }
     requires weight { FitsWord weight }
     ensures { result ≡ false → MeetsHeld (held first) (held there) weight }
 {
-    // Both are looked at whatever the other says, so that several places are at once.
-    is_weight(first) & goes_below(first, weight, there)
+    // The greatest word comes to the limit and any other below it, so one comparison tells whether there is a weight and how low it goes.
+    goes_below(first, weight, limited(there, weight))
 }
 
-fn is_weight(word: i32) -> bool
-    ensures { result ≡ not (int_eq word absent) }
+/// The lesser of a word and of what the greatest word comes to with a weight after it.
+fn limited(there: i32, weight: i32) -> i32
+    requires negative { weight <ℤ pos 0 }
+    requires weight { FitsWord weight }
+    ensures { result ≡ int_min there (absent +ℤ weight) }
 {
-    word != ABSENT
+    there.min(ABSENT + weight)
 }
 
 fn goes_below(first: i32, weight: i32, there: i32) -> bool

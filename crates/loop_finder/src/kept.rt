@@ -1,12 +1,8 @@
-ghost use Rattle.std.specs.Prelude.{◌≡◌, ◌≢◌, ◌<◌, length, true, IfOk, List};
+ghost use Rattle.std.specs.Prelude.{◌≡◌, ◌≢◌, ◌<◌, length, IfOk};
 ghost use Rattle.std.specs.Bool.{Decides};
 ghost use Rattle.std.specs.List.{All, AllPairs};
-ghost use Rattle.closure_model.specs.Orders.{IsOrder};
-ghost use Rattle.closure_model.specs.ReferenceRow.{with_made};
-ghost use Rattle.closure_model.specs.Tables.{Graph};
 ghost use Rattle.loop_finder.specs.Kept.{place_in, GoesAlong, ArePlaces};
 
-use closure_model::rows::Made;
 use net_model::{Edge, Items, PointId};
 use std::alloc::{AllocError, Global};
 use std::marker::Model;
@@ -46,21 +42,8 @@ impl KeptOrder {
         Ok(KeptOrder { order, places })
     }
 
-    /// Whether all edges that fell go along the order: each that is ordinary and negative from a later point to an earlier one. Then
-    /// the order is one of the table in which they fell too.
-    pub fn stays(&self, made: &[Made]) -> bool
-        ensures along { Decides result (All (λ one. GoesAlong self.now one.edge) made.now) }
-        ensures kept { result ≡ true → (table : Graph) → IsOrder table self.now → IsOrder (with_made table made.now) self.now }
-    {
-        for one in made {
-            if !self.goes_along(&one.edge) {
-                return false;
-            }
-        }
-        true
-    }
-
-    /// Whether an edge goes along the order: where it is ordinary and negative, from a later point to an earlier one.
+    /// Whether an edge goes along the order: where it is ordinary and negative, from a later point to an earlier one. While every edge that
+    /// falls does, the order stays one (`orders_are_kept`).
     pub fn goes_along(&self, edge: &Edge) -> bool
         ensures { Decides result (GoesAlong self.now edge.now) }
     {

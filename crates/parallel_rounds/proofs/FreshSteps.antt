@@ -1,6 +1,6 @@
 -- The edges that fell in a round, listed, are the fresh edges after it.
 use Rattle.std.proofs.Common.{◌≡◌, ◌≢◌, ◌==◌, ◌⊎◌, ℕ, suc, ◌+◌, ◌<◌, ◌≤◌, ℤ, pos, ◌≤ℤ◌, ◌<ℤ◌, Bool, true, false, not, ◌&&◌, cond, nat_lt, List, [], ◌∷◌, ◌++◌, length, map, take, get_or, Option, Some, None, refl, ap, sym, subst, ◌∙◌, inl, inr, arith, is_none}
-use Rattle.std.specs.Prelude.{filter, int_lt, slice_set}
+use Rattle.std.specs.Prelude.{filter, int_lt, slice_get, slice_set}
 use Rattle.std.specs.Int.{int_max}
 use Rattle.std.specs.Option.{option_map, option_map_or}
 use Rattle.std.specs.List.{All, AllPairs, Contains, IsDistinct, cons_option, filter_map}
@@ -13,7 +13,7 @@ use Rattle.std.proofs.lemmas.List.Kept.{AllPairs-filter, AllPairs-cons}
 use Rattle.std.proofs.lemmas.List.Sorted.{Contains-permutation, IsPermutation-sym}
 use Rattle.std.proofs.lemmas.Map.Keys.{IsDistinct-IsPermutation, IsDistinct-cons}
 use Rattle.std.proofs.lemmas.Int.{ints, int_max_is}
-use Rattle.std.proofs.lemmas.Option.{same_Some}
+use Rattle.std.proofs.lemmas.Option.{same_Some, slice_get_cases}
 use Rattle.net_model.specs.Network.{Plan, IsPlan}
 use Rattle.net_model.specs.declared.ids.LinkId.{LinkId}
 use Rattle.net_model.specs.declared.ids.PointId.{PointId}
@@ -35,6 +35,7 @@ use Rattle.closure_model.proofs.RowLaw.{row_result}
 use Rattle.closure_model.proofs.TableLemmas.{all_lowered-has, all_lowered-cases, at_most_gives}
 use Rattle.closure_model.proofs.Weights.{not_below, le_then_lt}
 use Rattle.back_propagation.specs.declared.settling.NewRow.{NewRow}
+use Rattle.back_propagation.proofs.MadeSteps.{taken_more}
 use Rattle.parallel_rounds.specs.Rows.{new_row}
 use Rattle.parallel_rounds.specs.Targets.{AreRising, AreRowsOfRound}
 use Rattle.parallel_rounds.specs.Telling.{ordinary_made, is_low, was_low, was_low_by, AreFreshIn, AreFallenInOrder, AreListed, IsTableFor, changed_in}
@@ -49,13 +50,21 @@ changed_more rows i row items new inside read was is =
     let both : changed_in (take i rows ++ row ∷ []) ≡ changed_in (take i rows) ++ changed_in (row ∷ []) = ap (map target) (filter-append keep (take i rows) (row ∷ [])) ∙ map-append target (filter keep (take i rows)) (filter keep (row ∷ [])) in
     is ∙ (ap (λ (l : List PointId). l ++ changed_in (row ∷ [])) was ∙ sym (ap changed_in more ∙ both))
 
-pub ordinary_more : (made : List Made) (i : ℕ) (d : Made) (items new : List Edge) → i < length made → items ≡ ordinary_made (take i made) → new ≡ items ++ ordinary_made (get_or made i d ∷ []) → new ≡ ordinary_made (take (i + 1) made)
-ordinary_more made i d items new inside was is =
-    let keep : Edge → Bool = λ e. is_none e.label in
-    let edge : Made → Edge = λ m. m.edge in
-    let one : Made = get_or made i d in
-    let both : ordinary_made (take i made ++ one ∷ []) ≡ ordinary_made (take i made) ++ ordinary_made (one ∷ []) = ap (filter keep) (map-append edge (take i made) (one ∷ [])) ∙ filter-append keep (map edge (take i made)) (edge one ∷ []) in
-    is ∙ (ap (λ (l : List Edge). l ++ ordinary_made (one ∷ [])) was ∙ sym (ap ordinary_made (take_more made i d inside) ∙ both))
+pub ordinary_more : (made : List Made) (i : ℕ) (edge : Edge) (items new : List Edge) → i < length made → ((one : Made) → slice_get made i ≡ Some one → edge ≡ one.edge) → items ≡ ordinary_made (take i made)
+    → new ≡ items ++ filter (λ e. is_none e.label) (edge ∷ []) → new ≡ ordinary_made (take (i + 1) made)
+ordinary_more made i edge items new inside of_one was is = by (slice_get_cases made i).1
+  where
+    keep : Edge → Bool
+    keep e = is_none e.label
+
+    edge_of_one : Made → Edge
+    edge_of_one m = m.edge
+
+    by : ((x : Made) × (i < length made) × (slice_get made i ≡ Some x) × (get_or made i x ≡ x)) ⊎ ((length made ≤ i) × (slice_get made i ≡ None)) → new ≡ ordinary_made (take (i + 1) made)
+    by (inl (one, within, here, read)) =
+        let both : ordinary_made (take i made ++ one ∷ []) ≡ ordinary_made (take i made) ++ ordinary_made (one ∷ []) = ap (filter keep) (map-append edge_of_one (take i made) (one ∷ [])) ∙ filter-append keep (map edge_of_one (take i made)) (one.edge ∷ []) in
+        is ∙ ((λ k. was k ++ filter keep (of_one one here k ∷ [])) ∙ sym (ap ordinary_made (taken_more made i one here) ∙ both))
+    by (inr (past, none)) = absurd (omega (arith, past, inside))
 
 -- an edge that is fresh by what a table had
 abbrev pub still_fresh : Graph → Edge → Bool

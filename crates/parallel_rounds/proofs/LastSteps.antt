@@ -1,8 +1,9 @@
 -- What is told after a round.
-use Rattle.std.proofs.Common.{◌≡◌, ◌==◌, ℕ, ◌<◌, Bool, true, false, not, List, [], ◌∷◌, length, refl, ap, sym, subst, ◌∙◌, arith, get_or, take, fold, ◌+◌, ◌++◌, ◌≤◌, map}
-use Rattle.std.specs.Prelude.{filter}
+use Rattle.std.proofs.Common.{◌≡◌, ◌==◌, ℕ, ◌<◌, Bool, true, false, not, List, [], ◌∷◌, length, nat_lt, refl, ap, sym, subst, ◌∙◌, arith, get_or, take, fold, ◌+◌, ◌++◌, ◌≤◌, map}
+use Rattle.std.specs.Prelude.{filter, slice_get, Some}
 use Rattle.std.specs.List.{All, AllPairs, Contains}
 use Rattle.std.proofs.lemmas.Bool.Decides.{nat_tests}
+use Rattle.std.proofs.lemmas.Option.{slice_get-get_or}
 use Rattle.std.proofs.lemmas.List.{take_all, take_more, map-append, append-nil}
 use Rattle.std.proofs.lemmas.List.Concat.{flat_map-append}
 use Rattle.std.proofs.lemmas.List.Sums.{fold-append}
@@ -26,6 +27,7 @@ use Rattle.closure_model.proofs.OrderLemmas.{among_from, from_among}
 use Rattle.closure_model.proofs.RoundClosing.{standing_fits, standing_sound}
 use Rattle.closure_model.proofs.RoundsLaw.{round_stands_after}
 use Rattle.back_propagation.specs.declared.settling.NewRow.{NewRow}
+use Rattle.loop_finder.specs.Kept.{GoesAlong}
 use Rattle.parallel_rounds.specs.Adding.{made_in}
 use Rattle.parallel_rounds.specs.Rows.{new_row}
 use Rattle.parallel_rounds.specs.Targets.{AreRising, AreRowsOfRound}
@@ -132,6 +134,17 @@ rows_fit net support rows points plan stands are is =
 -- an order that stays one after any table is lowered by some edges
 abbrev pub StaysAfter : List PointId → List Made → Type 0
 StaysAfter order made = (table : Graph) → IsOrder table order → IsOrder (with_made table made) order
+
+-- the edges before a place go along an order, and that at the place does
+pub along_more : (order : List PointId) (made : List Made) (place : ℕ) (edge : Edge) → place < length made → ((one : Made) → slice_get made place ≡ Some one → edge ≡ one.edge) → GoesAlong order edge
+    → ((k : ℕ) (d : Made) → k < place → GoesAlong order (get_or made k d).edge) → (k : ℕ) (d : Made) → k < place + 1 → GoesAlong order (get_or made k d).edge
+along_more order made place edge inside of_one along before k d below = by (nat_lt k place) refl
+  where
+    by : (b : Bool) → nat_lt k place ≡ b → GoesAlong order (get_or made k d).edge
+    by true is = before k d (grind (arith, nat_tests))
+    by false is =
+        let here : k ≡ place = grind (arith, nat_tests) in
+        subst (λ (n : ℕ). GoesAlong order (get_or made n d).edge) (sym here) (subst (GoesAlong order) (of_one (get_or made place d) (slice_get-get_or made place d inside)) along)
 
 -- an order that stays one row by row stays one
 pub stays_more : (order : List PointId) (rows : List NewRow) (i : ℕ) (row : NewRow) → i < length rows → row ≡ get_or rows i row → StaysAfter order (made_in (take i rows))

@@ -105,7 +105,7 @@ impl<'a, R: Threads + Sync, G: Gate> Rounds<'a, R, G> {
             firsts.len(),
             order,
         )?;
-        take_all(self.net, store, rows.as_slice(), firsts.as_slice())?;
+        take_all(alloc, self.net, store, rows.as_slice(), firsts.as_slice())?;
         if firsts.is_empty() {
             return Ok(None);
         }

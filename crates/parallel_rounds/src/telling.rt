@@ -1,4 +1,4 @@
-ghost use Rattle.std.specs.Prelude.{◌≡◌, ◌<◌, ◌++◌, ◌∷◌, [], true, not, filter, length, IfOk, OnOk};
+ghost use Rattle.std.specs.Prelude.{◌≡◌, ◌<◌, ◌++◌, ◌∷◌, [], true, not, filter, is_none, length, IfOk, OnOk};
 ghost use Rattle.std.specs.List.{All, AllPairs};
 ghost use Rattle.closure_model.specs.Keys.{ordinary_key};
 ghost use Rattle.closure_model.specs.Orders.{IsOrder};
@@ -7,9 +7,9 @@ ghost use Rattle.closure_model.specs.Tables.{Graph};
 ghost use Rattle.parallel_rounds.specs.Adding.{made_in};
 ghost use Rattle.parallel_rounds.specs.Telling.{AreFreshIn, AreFallenInOrder, AreListed, IsTableFor, changed_in, is_low, ordinary_made, was_low};
 
-use back_propagation::{Made, NewRow};
+use back_propagation::{MadeEdges, NewRow};
 use labelled_graph::Table;
-use loop_finder::KeptOrder;
+use loop_finder::{KeptOrder, orders_are_kept};
 use net_model::{Edge, Items, PointId};
 use std::alloc::{AllocError, Global};
 
@@ -58,7 +58,20 @@ fn all_stay(order: &KeptOrder, rows: &[NewRow]) -> bool
     ensures { result ≡ true → (table : Graph) → IsOrder table order.now → IsOrder (with_made table (made_in rows.now)) order.now }
 {
     for row in rows {
-        if !order.stays(row.made.as_slice()) {
+        if !stays(order, &row.made) {
+            return false;
+        }
+    }
+    true
+}
+
+/// Whether the edges that fell in a row go along an order.
+fn stays(order: &KeptOrder, made: &MadeEdges) -> bool
+    ensures { result ≡ true → (table : Graph) → IsOrder table order.now → IsOrder (with_made table made.now) order.now }
+{
+    orders_are_kept();
+    for place in 0..made.len() {
+        if !order.goes_along(&made.edge(place)) {
             return false;
         }
     }
@@ -79,7 +92,7 @@ fn changed_in(alloc: Global, rows: &[NewRow]) -> Result<Vec<PointId>, AllocError
 fn push_changed(changed: &mut Vec<PointId>, row: &NewRow) -> Result<(), AllocError>
     ensures { OnOk result (changed.new.items ≡ changed.old.items ++ changed_in (row.now ∷ [])) }
 {
-    if !row.made.as_slice().is_empty() {
+    if !row.made.is_empty() {
         changed.push(row.target)?;
     }
     Ok(())
@@ -100,7 +113,7 @@ fn fresh_in(
 {
     let mut fresh = no_edges(alloc, points)?;
     for row in rows {
-        fresh[row.target.0 as usize] = fresh_of(alloc, points, before, row.made.as_slice())?;
+        fresh[row.target.0 as usize] = fresh_of(alloc, points, before, &row.made)?;
     }
     Ok(fresh)
 }
@@ -120,7 +133,7 @@ fn fresh_of(
     alloc: Global,
     points: u32,
     before: &Table,
-    made: &[Made],
+    made: &MadeEdges,
 ) -> Result<Items<Edge>, AllocError>
     requires { IsTableFor points before.now }
     ensures { IfOk result (AreFreshIn before.now made.now) }
@@ -181,6 +194,11 @@ fn is_low(points: u32, table: &Table, from: PointId, to: PointId) -> bool
     if from.0 >= points || to.0 >= points {
         return false;
     }
+    let words = table.words(to);
+    let place = from.0 as usize;
+    if place < words.len() {
+        return words[place] < 1;
+    }
     match table.weight(from, to) {
         None => false,
         Some(weight) => weight < 1,
@@ -188,7 +206,7 @@ fn is_low(points: u32, table: &Table, from: PointId, to: PointId) -> bool
 }
 
 /// The ordinary edges that fell in a row, in the order of the points in which they begin.
-fn in_order(alloc: Global, made: &[Made]) -> Result<Items<Edge>, AllocError>
+fn in_order(alloc: Global, made: &MadeEdges) -> Result<Items<Edge>, AllocError>
     ensures { IfOk result (AreFallenInOrder made.now) }
 {
     let mut edges = ordinary_made(alloc, made)?;
@@ -196,21 +214,21 @@ fn in_order(alloc: Global, made: &[Made]) -> Result<Items<Edge>, AllocError>
     Ok(Items::new(edges))
 }
 
-fn ordinary_made(alloc: Global, made: &[Made]) -> Result<Vec<Edge>, AllocError>
+fn ordinary_made(alloc: Global, made: &MadeEdges) -> Result<Vec<Edge>, AllocError>
     ensures { IfOk result (λ edges. edges.items ≡ ordinary_made made.now) }
 {
     let mut edges = Vec::new(alloc);
-    for one in made {
-        push_ordinary(&mut edges, one)?;
+    for place in 0..made.len() {
+        push_ordinary(&mut edges, &made.edge(place))?;
     }
     Ok(edges)
 }
 
-fn push_ordinary(edges: &mut Vec<Edge>, one: &Made) -> Result<(), AllocError>
-    ensures { OnOk result (edges.new.items ≡ edges.old.items ++ ordinary_made (one.now ∷ [])) }
+fn push_ordinary(edges: &mut Vec<Edge>, edge: &Edge) -> Result<(), AllocError>
+    ensures { OnOk result (edges.new.items ≡ edges.old.items ++ filter (λ edge. is_none edge.label) (edge.now ∷ [])) }
 {
-    if one.edge.label.is_none() {
-        edges.push(one.edge)?;
+    if edge.label.is_none() {
+        edges.push(*edge)?;
     }
     Ok(())
 }

@@ -1,5 +1,5 @@
 -- The first of the heap comes no later than all of it.
-use Rattle.std.proofs.Common.{◌≡◌, ◌<◌, ℤ, ℕ, length, get_or, pos, arith}
+use Rattle.std.proofs.Common.{◌<◌, ℤ, ℕ, length, get_or, pos, arith}
 use Rattle.std.specs.BinaryHeap.{heap_items}
 use Rattle.back_propagation.specs.Waiting.{heap_list}
 use Rattle.back_propagation.proofs.QueueSteps.{ahead_by, first_of_heap, read_next, top_among}

@@ -1,14 +1,10 @@
 -- One row more.
-use Rattle.std.proofs.Common.{List, subst, arith}
-use Rattle.closure_model.specs.Orders.{IsOrder}
-use Rattle.closure_model.specs.ReferenceRow.{with_made}
-use Rattle.closure_model.specs.declared.rows.Made.{Made}
+use Rattle.std.proofs.Common.{arith}
 use Rattle.parallel_rounds.proofs.LastSteps.{stays_more, stays_all}
 use Rattle.parallel_rounds.proofs.telling.all_stay.Goals as goal
 
 pub loop-row-preserved : goal.loop-row-preserved
-loop-row-preserved c = stays_more c.args.order.now c.args.rows.now c.loop-row.row-index c.row-item.result c.loop-row-test.true c.row-item.is c.loop-row.invariant
-    (λ table is. subst (λ (made : List Made). IsOrder (with_made table made) c.args.order.now) c.as_slice.ensures (c.stays.ensures.kept c.if-not-stays.false table is))
+loop-row-preserved c = stays_more c.args.order.now c.args.rows.now c.loop-row.row-index c.row-item.result c.loop-row-test.true c.row-item.is c.loop-row.invariant (c.stays.ensures c.if-not-stays.false)
 
 pub returns : goal.returns
 returns c = λ _. stays_all c.args.order.now c.args.rows.now c.loop-row.row-index (omega (arith, c.loop-row-test.false)) c.loop-row.invariant

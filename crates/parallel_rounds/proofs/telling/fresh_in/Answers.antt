@@ -1,9 +1,8 @@
 -- One row more.
 use Rattle.std.proofs.Common.{List, subst, ◌<◌, sym, arith}
 use Rattle.std.proofs.lemmas.List.{take_all}
-use Rattle.closure_model.specs.declared.rows.Made.{Made}
 use Rattle.back_propagation.specs.declared.settling.NewRow.{NewRow}
-use Rattle.parallel_rounds.specs.Telling.{AreFreshIn, AreListed}
+use Rattle.parallel_rounds.specs.Telling.{AreListed}
 use Rattle.parallel_rounds.proofs.FreshSteps.{listed_none, listed_more}
 use Rattle.parallel_rounds.proofs.telling.fresh_in.Goals as goal
 
@@ -12,8 +11,7 @@ loop-row-init c = (c.in_ok-fresh.ensures.count, listed_none c.args.before.now c.
 
 pub loop-row-preserved : goal.loop-row-preserved
 loop-row-preserved c =
-    listed_more c.args.before.now c.args.rows.now c.loop-row.row-index c.row-item.result c.args.points c.loop-row.fresh.items c.in_ok-fresh-2.field-0 c.loop-row-test.true c.row-item.is c.requires.points c.requires.rise c.loop-row.invariant.0 c.loop-row.invariant.1
-    (subst (λ (made : List Made). AreFreshIn c.args.before.now made c.in_ok-fresh-2.field-0) c.as_slice.ensures c.in_ok-fresh-2.ensures)
+    listed_more c.args.before.now c.args.rows.now c.loop-row.row-index c.row-item.result c.args.points c.loop-row.fresh.items c.in_ok-fresh-2.field-0 c.loop-row-test.true c.row-item.is c.requires.points c.requires.rise c.loop-row.invariant.0 c.loop-row.invariant.1 c.in_ok-fresh-2.ensures
 
 pub index_mut-requires : goal.index_mut-requires
 index_mut-requires c =

@@ -1,4 +1,4 @@
-use Rattle.std.proofs.Common.{◌≡◌, ◌∙◌, sym}
+use Rattle.std.proofs.Common.{sym}
 use Rattle.back_propagation.proofs.BeginSteps.{none_improves}
 use Rattle.back_propagation.proofs.open_row.OpenRow.begins_after_any.Goals as goal
 

@@ -1,54 +1,29 @@
--- Each block adds what follows after its edges.
-use Rattle.std.proofs.Common.{None, pos, subst, arith}
-use Rattle.std.proofs.lemmas.List.Edits.{length-between}
-use Rattle.labelled_graph.specs.declared.entry.Entry.{Entry}
+-- All is offered by blocks, unless all is met.
+use Rattle.std.proofs.Common.{subst}
 use Rattle.back_propagation.specs.OpenRows.{HasOffered}
-use Rattle.back_propagation.proofs.AscendSteps.{entries_ascend, block_ascends}
-use Rattle.back_propagation.proofs.BlockSteps.{block_held, offered_none, offered_more, offered_all}
+use Rattle.back_propagation.proofs.AscendSteps.{entries_ascend}
+use Rattle.back_propagation.proofs.BlockSteps.{all_held, block_offers_nothing}
 use Rattle.back_propagation.proofs.OfferSteps.{entries_all}
-use Rattle.back_propagation.proofs.OpenRowSteps.{still_offering}
 use Rattle.back_propagation.proofs.open_row.OpenRow.offer_after_firsts.Goals as goal
 
-abbrev no_entry : Entry
-no_entry = record { from = record { 0 = 0 }; label = None; weight = pos 0 }
+pub may_fall_among-requires-clause-entries : goal.may_fall_among-requires-clause-entries
+may_fall_among-requires-clause-entries c = all_held c.args.basis.table.now c.args.edge.now c.entries-entries.result.now c.entries-entries.ensures.row
 
-pub loop-at-init : goal.loop-at-init
-loop-at-init c = offered_none c.args.edge.now c.entries-entries.result.now c.args.self.now
+pub may_fall_among-requires-clause-ascend : goal.may_fall_among-requires-clause-ascend
+may_fall_among-requires-clause-ascend c = entries_ascend c.args.basis.table.now c.args.edge.now.from c.entries-entries.result.now c.entries-entries.ensures.sound c.requires.row.of_row.key.from_point c.entries-entries.ensures.row
 
-pub falls_among-falls-requires-clause-row : goal.falls_among-falls-requires-clause-row
-falls_among-falls-requires-clause-row c = still_offering c.args.basis c.args.self.now c.loop-at.self c.args.edge.now c.args.column c.loop-at.invariant.done c.loop-at.invariant.offered c.requires.row
+pub offer_by_blocks-requires-clause-entries : goal.offer_by_blocks-requires-clause-entries
+offer_by_blocks-requires-clause-entries c = all_held c.args.basis.table.now c.args.edge.now c.entries-entries.result.now c.entries-entries.ensures.row
 
-pub falls_among-falls-requires-clause-entries : goal.falls_among-falls-requires-clause-entries
-falls_among-falls-requires-clause-entries c = block_held c.args.basis.table.now c.args.edge.now c.entries-entries.result.now c.loop-at.at c.block_end-end.result c.entries-entries.ensures.row c.block_end-end.ensures.within
+pub offer_by_blocks-requires-clause-ascend : goal.offer_by_blocks-requires-clause-ascend
+offer_by_blocks-requires-clause-ascend c = entries_ascend c.args.basis.table.now c.args.edge.now.from c.entries-entries.result.now c.entries-entries.ensures.sound c.requires.row.of_row.key.from_point c.entries-entries.ensures.row
 
-pub falls_among-falls-requires-clause-ascend : goal.falls_among-falls-requires-clause-ascend
-falls_among-falls-requires-clause-ascend c =
-    block_ascends c.entries-entries.result.now c.loop-at.at c.block_end-end.result c.block_end-end.ensures.within (entries_ascend c.args.basis.table.now c.args.edge.now.from c.entries-entries.result.now c.entries-entries.ensures.sound c.requires.row.of_row.key.from_point c.entries-entries.ensures.row)
+pub returns-in_ok-offer_by_blocks : goal.returns-in_ok-offer_by_blocks
+returns-in_ok-offer_by_blocks c =
+    subst (HasOffered c.args.self.now c.offer_by_blocks.new.self) (entries_all c.args.basis.table.now c.args.edge.now c.entries-entries.result.now c.entries-entries.ensures.ordinary) c.in_ok-offer_by_blocks.ensures
 
-pub falls_among-falls-requires-clause-some : goal.falls_among-falls-requires-clause-some
-falls_among-falls-requires-clause-some c =
-    let long = length-between c.entries-entries.result.now c.loop-at.at c.block_end-end.result c.block_end-end.ensures.within in
-    let after = c.block_end-end.ensures.after in
-    omega (arith, long, after)
-
-pub offer_unless_met-requires-clause-row : goal.offer_unless_met-requires-clause-row
-offer_unless_met-requires-clause-row c = still_offering c.args.basis c.args.self.now c.loop-at.self c.args.edge.now c.args.column c.loop-at.invariant.done c.loop-at.invariant.offered c.requires.row
-
-pub offer_unless_met-requires-clause-entries : goal.offer_unless_met-requires-clause-entries
-offer_unless_met-requires-clause-entries c = block_held c.args.basis.table.now c.args.edge.now c.entries-entries.result.now c.loop-at.at c.block_end-end.result c.entries-entries.ensures.row c.block_end-end.ensures.within
-
-pub loop-at-preserved : goal.loop-at-preserved
-loop-at-preserved c =
-    let after = c.block_end-end.ensures.after in
-    offered_more c.args.edge.now c.entries-entries.result.now c.loop-at.at c.block_end-end.result c.args.self.now c.loop-at.self c.offer_unless_met.new.self (omega (arith, after)) c.loop-at.invariant c.in_ok-offer_unless_met.ensures
-
-pub loop-at-smaller : goal.loop-at-smaller
-loop-at-smaller c =
-    let after = c.block_end-end.ensures.after in
-    let within = c.block_end-end.ensures.within in
-    omega (arith, after, within)
-
-pub returns : goal.returns
-returns c =
-    subst (HasOffered c.args.self.now c.loop-at.self) (entries_all c.args.basis.table.now c.args.edge.now c.entries-entries.result.now c.entries-entries.ensures.ordinary)
-    (offered_all c.args.edge.now c.entries-entries.result.now c.loop-at.at c.args.self.now c.loop-at.self c.loop-at-test.false c.loop-at.invariant)
+pub returns-else-may_fall_among : goal.returns-else-may_fall_among
+returns-else-may_fall_among c =
+    subst (HasOffered c.args.self.now c.args.self.now) (entries_all c.args.basis.table.now c.args.edge.now c.entries-entries.result.now c.entries-entries.ensures.ordinary)
+    (block_offers_nothing c.args.basis c.args.self.now c.args.edge.now c.args.column c.entries-entries.result.now c.requires.row
+    (all_held c.args.basis.table.now c.args.edge.now c.entries-entries.result.now c.entries-entries.ensures.row) (c.may_fall_among.ensures c.if-may_fall_among.false))

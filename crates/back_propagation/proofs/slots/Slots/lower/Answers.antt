@@ -17,8 +17,8 @@ index_mut-requires-2 c =
     let inside = place_stored c.self.inside c.args.self.now c.self.view_is c.args.place c.requires in
     omega (arith, inside, c.self.inside.weights.ok.0)
 
-word_is : (s : Inside) (place width word : ℕ) → width ≡ vec_len s.labels → word ≡ place % (width + 1) * s.points + place / (width + 1) → word ≡ word_place s place
-word_is s place width word wide is = is ∙ ap (λ (n : ℕ). place % (n + 1) * s.points + place / (n + 1)) (wide ∙ s.labels.ok.0)
+word_is : (s : Inside) (place width source column word : ℕ) → width ≡ vec_len s.labels → source ≡ place / (width + 1) → column ≡ place % (width + 1) → word ≡ column * s.points + source → word ≡ word_place s place
+word_is s place width source column word wide from in_column is = is ∙ ((λ i. in_column i * s.points + from i) ∙ ap (λ (n : ℕ). place % (n + 1) * s.points + place / (n + 1)) (wide ∙ s.labels.ok.0))
 
 abbrev after : After-nearest_word → Inside
 after c =
@@ -42,7 +42,7 @@ is_lowered c = record {
   stands =
       (let kept : to_z w32 (of_z w32 c.nearest_word.result) ≡ c.nearest_word.result = search rules in
       subst (λ (w : ℤ). StandsFor w (Some (to_z w64 (of_z w64 c.args.made.now.edge.weight)))) (sym kept) (nearest_stands _ _ c.nearest_word.ensures));
-  words = ap (λ (n : ℕ). slice_set c.self.inside.words.items n (to_z w32 (of_z w32 c.nearest_word.result))) (word_is c.self.inside c.args.place c.len-width.result c.word_place-word_place.result c.len-width.ensures c.word_place-word_place.ensures);
+  words = ap (λ (n : ℕ). slice_set c.self.inside.words.items n (to_z w32 (of_z w32 c.nearest_word.result))) (word_is c.self.inside c.args.place c.len-width.result c.source_in.result c.column_in.result c.word_place-word_place.result c.len-width.ensures c.source_in.ensures c.column_in.ensures c.word_place-word_place.ensures);
   settled = refl;
   whys = c.in_ok-push.ensures.items;
 }
@@ -77,10 +77,11 @@ pub word_place-word_place-requires : goal.word_place-word_place-requires
 word_place-word_place-requires c =
     let width : c.len-width.result ≡ length c.self.inside.labels.items = c.len-width.ensures ∙ c.self.inside.labels.ok.0 in
     let inside = word_inside c.self.inside c.self.invariant c.args.place (place_stored c.self.inside c.args.self.now c.self.view_is c.args.place c.requires) in
-    subst (λ (n : ℕ). c.args.place % (n + 1) * c.self.inside.points + c.args.place / (n + 1) < 2 ^ 64) (sym width) (omega (arith, inside, c.self.invariant.small, c.self.invariant.words))
+    let at : c.column_in.result * c.self.inside.points + c.source_in.result ≡ word_place c.self.inside c.args.place = (λ i. c.column_in.ensures i * c.self.inside.points + c.source_in.ensures i) ∙ ap (λ (n : ℕ). c.args.place % (n + 1) * c.self.inside.points + c.args.place / (n + 1)) width in
+    subst (λ (n : ℕ). n < 2 ^ 64) (sym at) (omega (arith, inside, c.self.invariant.small, c.self.invariant.words))
 
 pub index_mut-requires-3 : goal.index_mut-requires-3
 index_mut-requires-3 c =
     let inside = word_inside c.self.inside c.self.invariant c.args.place (place_stored c.self.inside c.args.self.now c.self.view_is c.args.place c.requires) in
-    let place = word_is c.self.inside c.args.place c.len-width.result c.word_place-word_place.result c.len-width.ensures c.word_place-word_place.ensures in
+    let place = word_is c.self.inside c.args.place c.len-width.result c.source_in.result c.column_in.result c.word_place-word_place.result c.len-width.ensures c.source_in.ensures c.column_in.ensures c.word_place-word_place.ensures in
     omega (arith, inside, place, c.self.inside.words.ok.0)

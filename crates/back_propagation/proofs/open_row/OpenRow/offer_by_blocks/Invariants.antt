@@ -1,6 +1,6 @@
 use Rattle.std.proofs.Common.{◌-◌, length}
 use Rattle.back_propagation.proofs.BlockSteps.{IsOfferedTo}
-use Rattle.back_propagation.proofs.open_row.OpenRow.offer_after_firsts.Given as goal
+use Rattle.back_propagation.proofs.open_row.OpenRow.offer_by_blocks.Given as goal
 
 abbrev pub invariant-loop-at : goal.invariant-loop-at
 invariant-loop-at l = IsOfferedTo l.edge l.entries l.at l.fn.self l.self
