@@ -168,10 +168,10 @@ impl OpenRow {
         requires row { IsOffering basis self.now edge.now column }
         ensures { result ≡ false → AllAreMet basis.entry.table.now self.now.slots self.now.width edge.now column }
     {
-        let points = basis.net.points().len();
-        if asked <= points / LOOKS || edge.weight >= 0 {
+        if !is_many(basis, asked) || edge.weight >= 0 {
             return true;
         }
+        let points = basis.net.points().len();
         let words = self.slots.words(column);
         let mut at = 0;
         while at < points as u32 {
@@ -302,6 +302,11 @@ impl OpenRow {
         }
         Ok(())
     }
+}
+
+/// Whether so many edges are asked about that the words of a whole column are tested sooner than each of them is looked at.
+pub(crate) fn is_many(basis: Basis<'_>, asked: usize) -> bool {
+    asked > basis.net.points().len() / LOOKS
 }
 
 /// Where the block of entries ends that begins at one of so many.
