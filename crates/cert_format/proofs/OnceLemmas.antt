@@ -1,11 +1,14 @@
 -- Lines declare one certificate, or have one first fault.
-use Rattle.std.proofs.Common.{◌≡◌, ◌⊎◌, ℕ, ◌+◌, List, [], ◌∷◌, ◌++◌, length, Result, Ok, Err, refl, sym, ap, ◌∙◌, subst, arith, inl, inr}
+use Rattle.std.proofs.Common.{◌≡◌, ◌⊎◌, ℕ, ◌+◌, List, [], ◌∷◌, ◌++◌, length, Result, Ok, Err, refl, sym, ap, ◌∙◌, subst, arith, inl, inr, IfOk, IfErr}
 use Rattle.std.proofs.lemmas.List.{append-nil}
+use Rattle.texts.specs.Lines.{lines}
 use Rattle.texts.specs.Words.{words}
 use Rattle.net_model.specs.declared.format.FormatKind.{FormatKind}
 use Rattle.net_model.specs.declared.format.FormatFault.{FormatFault}
-use Rattle.cert_format.specs.CertificateGrammar.{Progress, DeclareCertificate, CanBecomeCertificate, IsFirstFault, IsFront, IsFaultIn, IsFaultOfRest, ExcludesCertificate, admits, begun, certificate_of, missing}
-use Rattle.cert_format.specs.CertificateText.{Declared, Brings, advanced, line_in, said_from, read_from}
+use Rattle.net_model.specs.declared.format.TextFault.{TextFault}
+use Rattle.net_model.specs.declared.format.TextFault.TheVariants as whole
+use Rattle.cert_format.specs.CertificateGrammar.{Progress, DeclareCertificate, CanBecomeCertificate, IsFirstFault, IsFront, IsFaultIn, IsFaultOfRest, IsCertificateText, FaultIsFirst, ExcludesCertificate, admits, begun, certificate_of, missing}
+use Rattle.cert_format.specs.CertificateText.{Declared, SaysText, Brings, advanced, line_in, said_from, read_from}
 use Rattle.cert_format.specs.Laws.{OneReading}
 use Rattle.cert_format.specs.declared.certificate.Certificate.{Certificate}
 use Rattle.cert_format.specs.declared.read.CertText.{CertText}
@@ -81,3 +84,10 @@ one_reading all = record {
       let wrong : declared ≡ Err fault = sym (declared_read all c after declares) ∙ fault_read all fault faults in
       absurd (cc);
 }
+
+-- a text with a first fault is answered by it, unless memory ran out
+pub answer_every_fault : (bytes : List ℕ) (answer : Result Certificate TextFault) (fault : FormatFault) → IfOk answer (λ certificate. IsCertificateText bytes certificate) → IfErr answer (FaultIsFirst bytes)
+    → IsFirstFault (lines bytes) fault → SaysText answer (Err fault)
+answer_every_fault bytes (Ok certificate) fault (after, declared) told first = absurd ((one_reading (lines bytes)).not_both certificate after fault declared first)
+answer_every_fault bytes (Err (whole.Format other)) fault text told first = ap Err ((one_reading (lines bytes)).one_fault fault other first told)
+answer_every_fault bytes (Err whole.OutOfMemory) fault text told first = tt

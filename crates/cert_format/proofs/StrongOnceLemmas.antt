@@ -1,12 +1,15 @@
 -- Lines declare one strong certificate, or have one first fault.
-use Rattle.std.proofs.Common.{◌≡◌, ◌⊎◌, ℕ, ◌+◌, List, [], ◌∷◌, ◌++◌, length, Result, Ok, Err, refl, sym, ap, ◌∙◌, subst, inl, inr}
+use Rattle.std.proofs.Common.{◌≡◌, ◌⊎◌, ℕ, ◌+◌, List, [], ◌∷◌, ◌++◌, length, Result, Ok, Err, refl, sym, ap, ◌∙◌, subst, inl, inr, IfOk, IfErr}
 use Rattle.std.proofs.lemmas.List.{append-nil}
+use Rattle.texts.specs.Lines.{lines}
 use Rattle.texts.specs.Words.{words}
 use Rattle.net_model.specs.declared.format.FormatKind.{FormatKind}
 use Rattle.net_model.specs.declared.format.FormatFault.{FormatFault}
-use Rattle.cert_format.specs.StrongGrammar.{StrongProgress, DeclareStrong, CanBecomeStrong, IsFirstStrongFault, IsStrongFront, IsFaultIn, IsFaultOfRest, ExcludesStrong, admits, begun, strong_of, missing}
+use Rattle.net_model.specs.declared.format.TextFault.{TextFault}
+use Rattle.net_model.specs.declared.format.TextFault.TheVariants as whole
+use Rattle.cert_format.specs.StrongGrammar.{StrongProgress, DeclareStrong, CanBecomeStrong, IsFirstStrongFault, IsStrongFront, IsFaultIn, IsFaultOfRest, IsStrongText, StrongFaultIsFirst, ExcludesStrong, admits, begun, strong_of, missing}
 use Rattle.cert_format.specs.StrongLines.{line_in}
-use Rattle.cert_format.specs.StrongReading.{DeclaredStrong, StrongBrings, advanced, said_from, read_from}
+use Rattle.cert_format.specs.StrongReading.{DeclaredStrong, SaysStrongText, StrongBrings, advanced, said_from, read_from}
 use Rattle.cert_format.specs.Laws.{OneStrongReading}
 use Rattle.cert_format.specs.declared.strong_cert.StrongCert.{StrongCert}
 use Rattle.cert_format.specs.declared.strong_read.StrongText.{StrongText}
@@ -72,3 +75,10 @@ one_reading all = record {
       let wrong : declared ≡ Err fault = sym (declared_read all c after declares) ∙ fault_read all fault faults in
       absurd cc;
 }
+
+-- a text with a first fault is answered by it, unless memory ran out
+pub answer_every_fault : (bytes : List ℕ) (answer : Result StrongCert TextFault) (fault : FormatFault) → IfOk answer (λ cert. IsStrongText bytes cert) → IfErr answer (StrongFaultIsFirst bytes)
+    → IsFirstStrongFault (lines bytes) fault → SaysStrongText answer (Err fault)
+answer_every_fault bytes (Ok cert) fault (after, declared) told first = absurd ((one_reading (lines bytes)).not_both cert after fault declared first)
+answer_every_fault bytes (Err (whole.Format other)) fault text told first = ap Err ((one_reading (lines bytes)).one_fault fault other first told)
+answer_every_fault bytes (Err whole.OutOfMemory) fault text told first = tt

@@ -1,8 +1,10 @@
 //! The whole text of a strong certificate.
 
-ghost use Rattle.std.specs.Prelude.{◌≡◌, ◌<◌, ◌^◌, length, IfErr, IfOk, Ok};
+ghost use Rattle.std.specs.Prelude.{◌≡◌, ◌<◌, ◌^◌, length, Err, IfErr, IfOk, Ok};
+ghost use Rattle.texts.specs.Lines.{lines};
+ghost use Rattle.net_model.specs.declared.format.FormatFault.{FormatFault};
 ghost use Rattle.cert_format.specs.StrongWords.{HasStrongWeights, OfOneKind};
-ghost use Rattle.cert_format.specs.StrongGrammar.{IsStrongText, StrongFaultIsFirst};
+ghost use Rattle.cert_format.specs.StrongGrammar.{IsFirstStrongFault, IsStrongText, StrongFaultIsFirst};
 ghost use Rattle.cert_format.specs.StrongReading.{strong_text, SaysStrongText};
 ghost use Rattle.cert_format.specs.declared.strong_cert.StrongCert.{StrongCert};
 
@@ -26,6 +28,7 @@ pub fn read_strong(alloc: Global, bytes: &[u8]) -> Result<StrongCert, TextFault>
     ensures first_fault { IfErr result (StrongFaultIsFirst bytes.now) }
     ensures weights { IfOk result (λ cert. HasStrongWeights cert × OfOneKind cert) }
     ensures every_text { (cert : StrongCert) → IsStrongText bytes.now cert → SaysStrongText result (Ok cert) }
+    ensures every_fault { (fault : FormatFault) → IsFirstStrongFault (lines bytes.now) fault → SaysStrongText result (Err fault) }
 {
     read_lines(alloc, bytes)
 }

@@ -1,9 +1,11 @@
 //! The whole text of a certificate.
 
-ghost use Rattle.std.specs.Prelude.{◌≡◌, ◌<◌, ◌^◌, length, IfErr, IfOk, Ok};
+ghost use Rattle.std.specs.Prelude.{◌≡◌, ◌<◌, ◌^◌, length, Err, IfErr, IfOk, Ok};
+ghost use Rattle.texts.specs.Lines.{lines};
+ghost use Rattle.net_model.specs.declared.format.FormatFault.{FormatFault};
 ghost use Rattle.cert_format.specs.CertificateText.{certificate_text, SaysText, fault_at_line};
 ghost use Rattle.cert_format.specs.CertificateWords.{HasWeights};
-ghost use Rattle.cert_format.specs.CertificateGrammar.{IsCertificateText, FaultIsFirst};
+ghost use Rattle.cert_format.specs.CertificateGrammar.{IsCertificateText, IsFirstFault, FaultIsFirst};
 ghost use Rattle.cert_format.specs.declared.certificate.Certificate.{Certificate};
 
 use crate::certificate::Certificate;
@@ -25,6 +27,7 @@ pub fn read_certificate(alloc: Global, bytes: &[u8]) -> Result<Certificate, Text
     ensures first_fault { IfErr result (FaultIsFirst bytes.now) }
     ensures weights { IfOk result (λ certificate. HasWeights certificate) }
     ensures every_text { (certificate : Certificate) → IsCertificateText bytes.now certificate → SaysText result (Ok certificate) }
+    ensures every_fault { (fault : FormatFault) → IsFirstFault (lines bytes.now) fault → SaysText result (Err fault) }
 {
     read_lines(alloc, bytes)
 }

@@ -111,7 +111,7 @@ fn told(alloc: Global, document: &[u8]) -> Result<Vec<u8>, AllocError> {
 
 /// The plan text of the network of a delay and of parts, or why there is none.
 fn built(alloc: Global, plan: &JsonPlan) -> Result<Vec<u8>, AllocError>
-    requires few { length plan.now.parts.items < 2 ^ 32 }
+    requires few { length plan.now.parts < 2 ^ 32 }
     requires from_nought { pos 0 ≤ℤ plan.now.delay }
     requires short { plan.now.delay ≤ℤ pos most_delay }
 {

@@ -1,5 +1,5 @@
 -- Of a list whose items are apart, each item may follow those before it: a network is filled from its three lists.
-use Rattle.std.proofs.Common.{◌≡◌, ℕ, ◌+◌, ◌<◌, ◌==◌, false, List, [], ◌++◌, length, map, take, get_or, None, IsTrue, sym, ap, subst, ◌∙◌, arith}
+use Rattle.std.proofs.Common.{◌≡◌, ℕ, ◌+◌, ◌<◌, ◌==◌, false, List, [], ◌++◌, length, map, take, get_or, None, position, IsTrue, sym, ap, subst, ◌∙◌, arith}
 use Rattle.std.specs.List.{All, AllPairs, IsDistinct}
 use Rattle.std.specs.Option.{option_map}
 use Rattle.std.specs.Str.{bytes_eq}
@@ -43,6 +43,13 @@ All-appended_right P xs ys all k d inside = subst P (get_or-append-add xs ys k d
 -- names that differ differ from each other
 pub names_apart : (names : List (List ℕ)) → IsDistinct bytes_eq names → AllPairs (λ x y. bytes_eq y x ≡ false) names
 names_apart names distinct i j d less inside = nat_list_eq_equiv.symm (get_or names j d) (get_or names i d) ∙ apart_from_distinct bytes_eq names i j d distinct less inside
+
+-- the next of names that differ is not among those before it
+pub next_name_new : (names : List (List ℕ)) (n : ℕ) (name : List ℕ) → n < length names → IsDistinct bytes_eq names → name ≡ get_or names n name
+    → position (bytes_eq name) (take n names) ≡ None
+next_name_new names n name inside distinct is =
+    let apart = before (λ x y. bytes_eq y x ≡ false) names n name inside (names_apart names distinct) in
+    None_from_fails (bytes_eq name) (take n names) (subst (λ text. All (λ x. bytes_eq text x ≡ false) (take n names)) (sym is) apart)
 
 -- the next point, bound or link of a list that is taken in: its name is free, no link ends where it does, and it is sound
 module _ (net now : Plan) (points : List (List ℕ)) (n : ℕ) (name : List ℕ) (inside : n < length points) (sound : IsPlan (record net { points = net.points ++ points }))

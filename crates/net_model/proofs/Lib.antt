@@ -1,7 +1,8 @@
 pub mod NameLemmas
+pub mod IndexLemmas
 pub mod Positions
 pub mod NetworkLemmas
-pub mod StoredLemmas
+pub mod DeclaringLemmas
 pub mod ShownLemmas
 pub mod SpellingLemmas
 pub mod ReadingLemmas

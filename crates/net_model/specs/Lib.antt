@@ -1,5 +1,7 @@
 pub mod Moments
 pub mod Names
+pub mod NameOrder
+pub mod NameIndex
 pub mod Between
 pub mod Limits
 pub mod Network
@@ -15,6 +17,7 @@ pub mod NetworkParts
 pub mod ShownForm
 pub mod ShownLaws
 pub mod Stored
+pub mod Declaring
 pub mod Numbers
 pub mod Places
 pub mod Reading

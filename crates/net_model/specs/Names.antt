@@ -1,6 +1,9 @@
 -- The names of points and bounds.
 use Rattle.std.specs.Prelude.{ℕ, ◌-◌, ◌==◌, ◌&&◌, ◌||◌, Bool, false, List, [], ◌∷◌, ◌++◌, length, nat_le, nat_lt, replicate}
+use Rattle.std.specs.Cmp.Lexicographic.{slice_cmp}
 use Rattle.std.specs.List.{list_all}
+use Rattle.std.specs.Ordering.{nat_cmp, on, then_cmp}
+use Rattle.std.specs.declared.cmp.Ordering.{Ordering}
 
 -- a letter of ASCII, large or small
 abbrev pub is_letter : ℕ → Bool
@@ -30,3 +33,7 @@ is_short_name word = is_name word && nat_le (length word) most_short
 -- the bytes of a name, and then zeros up to 32 bytes
 abbrev pub padded : List ℕ → List ℕ
 padded bytes = bytes ++ replicate (32 - length bytes) 0
+
+-- the order of names: short ones first, and those of one length by their bytes
+abbrev pub name_cmp : List ℕ → List ℕ → Ordering
+name_cmp = then_cmp (on length nat_cmp) (slice_cmp nat_cmp)

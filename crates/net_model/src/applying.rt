@@ -7,6 +7,7 @@ ghost use Rattle.net_model.specs.Building.{with_part};
 ghost use Rattle.net_model.specs.Editing.{Edits, edited, added, user_of, without_point, closed_up, closed_up_bounds, closed_up_links};
 ghost use Rattle.net_model.specs.Network.{IsPlan, IsPoint, HasPlanNumbers, link_named};
 
+use crate::declaring::Declared;
 use crate::edit::{Edit, EditFault, User};
 use crate::ids::{BoundId, LinkId, PointId, Weight};
 use crate::name::Name;
@@ -50,9 +51,15 @@ impl Network {
     fn with_part(&self, alloc: Global, part: &Part) -> Result<Network, EditFault>
         ensures { Edits result (added (with_part self.now part.now)) }
     {
-        let mut net = self.of_lists(alloc, self.points(), self.bounds(), self.links())?;
-        match net.add(part) {
-            Ok(()) => Ok(net),
+        let mut declared = Declared::of(
+            alloc,
+            self.delay,
+            self.points(),
+            self.bounds(),
+            self.links(),
+        )?;
+        match declared.add(part) {
+            Ok(()) => Ok(declared.network(alloc)?),
             Err(fault) => Err(fault.of_edit()),
         }
     }

@@ -3,6 +3,7 @@
 
 mod applying;
 mod between;
+mod declaring;
 mod edges;
 mod edit;
 mod fault;
@@ -13,6 +14,7 @@ mod items;
 pub mod laws;
 mod limits;
 mod name;
+mod name_index;
 mod network;
 mod part;
 mod shown;

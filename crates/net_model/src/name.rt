@@ -1,11 +1,13 @@
-ghost use Rattle.std.specs.Prelude.{◌≡◌, ◌<◌, ◌≤◌, ◌==◌, ◌+◌, ◌++◌, length, Some, is_some, if◌then◌else◌, IsTrue, IfSome};
+ghost use Rattle.std.specs.Prelude.{◌≡◌, ◌<◌, ◌≤◌, ◌==◌, ◌+◌, ◌++◌, length, refl, Some, is_some, if◌then◌else◌, IsTrue, IfSome};
 ghost use Rattle.std.specs.Cmp.Lexicographic.{pointwise};
 ghost use Rattle.std.specs.Cmp.Rules.{comparing, hashing};
 ghost use Rattle.std.specs.Hash as fed;
 ghost use Rattle.std.proofs.Common.{rules};
 ghost use Rattle.std.specs.List.{list_all};
-ghost use Rattle.net_model.specs.Names.{is_name, is_name_byte, padded};
+ghost use Rattle.net_model.specs.Names.{is_name, is_name_byte, name_cmp, padded};
+ghost use Rattle.net_model.specs.NameOrder.{name_cmp_total, names_tie, names_po};
 
+use std::cmp::Ordering;
 use std::error::Error;
 use std::fmt;
 use std::hash::{Hash, Hasher};
@@ -174,6 +176,35 @@ impl PartialEq for Name {
 
 impl Eq for Name {
     ghost laws = { Prim.search (comparing, rules) };
+}
+
+impl PartialOrd for Name {
+    ghost partial_cmp = { λ x y. Some (name_cmp x y) };
+
+    ghost laws = { names_po };
+
+    fn partial_cmp(&self, other: &Name) -> Option<Ordering> {
+        Some(self.cmp(other))
+    }
+}
+
+/// Short names come first, and names of one length in the order of their bytes. So names that end in growing numbers are in order
+/// as they are declared.
+impl Ord for Name {
+    ghost cmp = { name_cmp };
+
+    ghost total = { name_cmp_total };
+
+    ghost matches_partial_cmp = { λ x y. refl };
+
+    ghost matches_eq = { names_tie };
+
+    fn cmp(&self, other: &Name) -> Ordering {
+        match self.len.cmp(&other.len) {
+            Ordering::Equal => self.bytes().cmp(other.bytes()),
+            unequal => unequal,
+        }
+    }
 }
 
 impl Hash for Name {

@@ -5,13 +5,14 @@ ghost use Rattle.net_model.specs.NetworkParts.{point_name};
 ghost use Rattle.net_model.specs.Limits.{most_points, most_links, most_bounds, most_delay, within_limit};
 ghost use Rattle.net_model.specs.Building.{Builds, Adds, Pushes, built, with_part, with_point, with_bound, with_link, with_link_between, with_parts, named};
 
-use crate::fault::{BuildFault, PartFault};
+use crate::declaring::Declared;
+use crate::fault::BuildFault;
 use crate::ids::{BoundId, LinkId, PointId, Weight};
-use crate::limits::{MOST_BOUNDS, MOST_LINKS, MOST_NUMBER, MOST_POINTS};
+use crate::limits::MOST_NUMBER;
 use crate::name::Name;
-use crate::part::{Bound, Link, Part, Which};
+use crate::name_index::place_of;
+use crate::part::{Bound, Link, Part};
 use std::alloc::{AllocError, Global};
-use std::collections::HashMap;
 use std::marker::Model;
 
 /// A temporal network with uncertainty (Morris, Muscettola and Vidal 2001): points, bounds `to - from <= most`, and
@@ -19,12 +20,12 @@ use std::marker::Model;
 /// shown. Contracts see it as its three lists and its delay.
 #[derive(Debug, Drop)]
 pub struct Network {
-    points: Vec<Name>,
-    bounds: Vec<Bound>,
-    links: Vec<Link>,
-    point_ids: HashMap<Name, PointId>,
-    bound_ids: HashMap<Name, BoundId>,
-    ending: Vec<Option<LinkId>>,
+    pub(crate) points: Vec<Name>,
+    pub(crate) bounds: Vec<Bound>,
+    pub(crate) links: Vec<Link>,
+    pub(crate) point_index: Vec<u32>,
+    pub(crate) bound_index: Vec<u32>,
+    pub(crate) ending: Vec<Option<LinkId>>,
     pub(crate) delay: u32,
 }
 
@@ -55,14 +56,11 @@ impl Network {
         ensures numbers { IfOk result HasPlanNumbers }
         ensures no_delay { IfOk result (λ net. net.delay ≡ 0) }
     {
-        let mut net = Network::empty(alloc, 0);
-        match net.add_all(parts) {
-            Ok(()) => {
-                net.sound();
-                Ok(net)
-            }
-            Err(fault) => Err(fault),
-        }
+        let mut declared = Declared::empty(alloc, 0);
+        declared.add_all(parts)?;
+        let net = declared.network(alloc)?;
+        net.sound();
+        Ok(net)
     }
 
     /// Every network is sound. This does nothing: a body calls it where its proof needs the law.
@@ -176,202 +174,18 @@ impl Network {
         links_from(alloc, self.links.as_slice(), point)
     }
 
-    /// The network without points, with a delay.
-    pub(crate) fn empty(alloc: Global, moments: u32) -> Network
-        requires { moments ≤ most_delay }
-        ensures { result ≡ record empty { delay = moments } }
-    {
-        Network {
-            points: Vec::new(alloc),
-            bounds: Vec::new(alloc),
-            links: Vec::new(alloc),
-            point_ids: HashMap::new(alloc),
-            bound_ids: HashMap::new(alloc),
-            ending: Vec::new(alloc),
-            delay: moments,
-        }
-    }
-
     pub(crate) fn named_point(&self, name: &Name) -> Option<PointId>
         ensures { result ≡ point_named self.now name.now }
     {
-        self.point_ids.get(name).copied()
+        let place = place_of(self.points.as_slice(), self.point_index.as_slice(), name)?;
+        Some(PointId(place))
     }
 
     pub(crate) fn named_bound(&self, name: &Name) -> Option<BoundId>
         ensures { result ≡ bound_named self.now name.now }
     {
-        self.bound_ids.get(name).copied()
-    }
-
-    fn known_point(&self, name: &Name) -> Result<PointId, PartFault>
-        ensures { result ≡ named self.now name.now }
-    {
-        self.named_point(name).ok_or(PartFault::UnknownName)
-    }
-
-    /// Takes parts in, one after another, up to the first that is refused.
-    fn add_all(&mut self, parts: &[Part]) -> Result<(), BuildFault>
-        requires { length parts.now < 2 ^ 32 }
-        ensures { MatchResult result (λ _. with_parts 0 self.old parts.now ≡ Ok self.new) (λ fault. Builds (Err fault) (with_parts 0 self.old parts.now)) }
-    {
-        let mut place = 0;
-        for part in parts {
-            place += 1;
-            if let Err(fault) = self.add(part) {
-                return Err(fault.at(place));
-            }
-        }
-        Ok(())
-    }
-
-    /// Takes one more part in. A refusal and want of memory change nothing.
-    pub(crate) fn add(&mut self, part: &Part) -> Result<(), PartFault>
-        ensures { Adds self.old self.new result (with_part self.old part.now) }
-    {
-        match part {
-            Part::Point(name) => self.add_point(name),
-            Part::Bound(name, from, to, most) => self.add_bound(name, from, to, *most),
-            Part::Link(from, low, high, to) => self.add_link(from, *low, *high, to),
-        }
-    }
-
-    #[tactic(auto, unfolding(crate::specs::Building::with_point))]
-    fn add_point(&mut self, name: &Name) -> Result<(), PartFault>
-        ensures { Adds self.old self.new result (with_point self.old name.now) }
-    {
-        if self.named_point(name).is_some() {
-            return Err(PartFault::DuplicateName);
-        }
-        if self.points.len() >= MOST_POINTS {
-            return Err(PartFault::Limit(Which::Points));
-        }
-        self.push_point(name)?;
-        Ok(())
-    }
-
-    #[tactic(auto, unfolding(crate::specs::Building::with_bound))]
-    fn add_bound(
-        &mut self,
-        name: &Name,
-        from: &Name,
-        to: &Name,
-        most: Weight,
-    ) -> Result<(), PartFault>
-        ensures { Adds self.old self.new result (with_bound self.old name.now from.now to.now most) }
-    {
-        if self.named_bound(name).is_some() {
-            return Err(PartFault::DuplicateName);
-        }
-        let from = self.known_point(from)?;
-        let to = self.known_point(to)?;
-        if !is_within_limit(most) {
-            return Err(PartFault::Limit(Which::Number));
-        }
-        if self.bounds.len() >= MOST_BOUNDS {
-            return Err(PartFault::Limit(Which::Bounds));
-        }
-        name.sound();
-        self.push_bound(Bound {
-            name: *name,
-            from,
-            to,
-            most,
-        })?;
-        Ok(())
-    }
-
-    #[tactic(auto, unfolding(crate::specs::Building::with_link))]
-    fn add_link(
-        &mut self,
-        from: &Name,
-        low: Weight,
-        high: Weight,
-        to: &Name,
-    ) -> Result<(), PartFault>
-        ensures { Adds self.old self.new result (with_link self.old from.now low high to.now) }
-    {
-        let from = self.known_point(from)?;
-        let to = self.known_point(to)?;
-        self.add_link_between(from, low, high, to)
-    }
-
-    /// Takes a link between two points in.
-    fn add_link_between(
-        &mut self,
-        from: PointId,
-        low: Weight,
-        high: Weight,
-        to: PointId,
-    ) -> Result<(), PartFault>
-        requires from { IsPoint self.old from }
-        requires to { IsPoint self.old to }
-        ensures { Adds self.old self.new result (with_link_between self.old from low high to) }
-    {
-        if from == to {
-            return Err(PartFault::LinkToItself);
-        }
-        if self.is_contingent(to) {
-            return Err(PartFault::TwoLinksOnPoint);
-        }
-        if low < 1 || high < low {
-            return Err(PartFault::BadInterval);
-        }
-        if !is_within_limit(high) {
-            return Err(PartFault::Limit(Which::Number));
-        }
-        if self.links.len() >= MOST_LINKS {
-            return Err(PartFault::Limit(Which::Links));
-        }
-        self.push_link(Link {
-            from,
-            low,
-            high,
-            to,
-        })?;
-        Ok(())
-    }
-
-    /// Room is made first, so that want of memory changes nothing.
-    pub(crate) fn push_point(&mut self, name: &Name) -> Result<(), AllocError>
-        requires fresh { point_named self.old name.now ≡ None }
-        requires room { length self.old.points < most_points }
-        ensures { Pushes self.old self.new result (record self.old { points = self.old.points ++ name.now ∷ [] }) }
-    {
-        name.sound();
-        self.points.reserve(1)?;
-        self.ending.reserve(1)?;
-        let id = PointId(self.points.len() as u32);
-        self.point_ids.insert(*name, id)?;
-        self.points.push_reserved(*name);
-        self.ending.push_reserved(None);
-        Ok(())
-    }
-
-    pub(crate) fn push_bound(&mut self, bound: Bound) -> Result<(), AllocError>
-        requires fresh { bound_named self.old bound.name ≡ None }
-        requires room { length self.old.bounds < most_bounds }
-        requires sound { IsBound self.old bound }
-        ensures { Pushes self.old self.new result (record self.old { bounds = self.old.bounds ++ bound ∷ [] }) }
-    {
-        self.bounds.reserve(1)?;
-        let id = BoundId(self.bounds.len() as u32);
-        self.bound_ids.insert(bound.name, id)?;
-        self.bounds.push_reserved(bound);
-        Ok(())
-    }
-
-    pub(crate) fn push_link(&mut self, link: Link) -> Result<(), AllocError>
-        requires fresh { activation self.old link.to ≡ None }
-        requires room { length self.old.links < most_links }
-        requires sound { IsLink self.old link }
-        ensures { Pushes self.old self.new result (record self.old { links = self.old.links ++ link ∷ [] }) }
-    {
-        self.links.reserve(1)?;
-        let id = LinkId(self.links.len() as u32);
-        self.links.push_reserved(link);
-        self.ending[link.to.0 as usize] = Some(id);
-        Ok(())
+        let place = place_of(self.bounds.as_slice(), self.bound_index.as_slice(), name)?;
+        Some(BoundId(place))
     }
 }
 

@@ -11,7 +11,7 @@ ghost use Rattle.plan_json.specs.Reading.{Gives, with_front};
 use crate::fault::{JsonFault, Member};
 use crate::place::{PartList, Place};
 use crate::read::JsonPlan;
-use net_model::{MOST_DELAY, MOST_LINES, MOST_NUMBER, Name, Part, Weight, between_parts, text};
+use net_model::{Items, MOST_DELAY, MOST_LINES, MOST_NUMBER, Name, Part, Weight, between_parts, text};
 use serde_json::Value;
 use std::alloc::Global;
 
@@ -56,16 +56,19 @@ struct LinkForm<'a> {
 /// The delay and the parts of a document.
 #[tactic(auto, unfolding(crate::specs::Document::lists_plan))]
 pub(crate) fn document_plan(alloc: Global, document: &Value) -> Result<JsonPlan, JsonFault>
-    ensures plan { Gives (λ plan. record { delay = unsigned_abs plan.delay; parts = plan.parts.items }) result (document_plan (view document.now)) }
+    ensures plan { Gives (λ plan. record { delay = unsigned_abs plan.delay; parts = plan.parts }) result (document_plan (view document.now)) }
     ensures from_nought { IfOk result (λ plan. pos 0 ≤ℤ plan.delay) }
     ensures short { IfOk result (λ plan. plan.delay ≤ℤ pos most_delay) }
-    ensures few { IfOk result (λ plan. length plan.parts.items ≤ most_lines) }
+    ensures few { IfOk result (λ plan. length plan.parts ≤ most_lines) }
 {
     let lists = top_of(document)?;
     let delay = delay_in(lists.delay)?;
     let mut parts = Vec::new(alloc);
     push_lists(&mut parts, lists)?;
-    Ok(JsonPlan { parts, delay })
+    Ok(JsonPlan {
+        parts: Items::new(parts),
+        delay,
+    })
 }
 
 /// A delay within its limit.

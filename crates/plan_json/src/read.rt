@@ -7,7 +7,7 @@ ghost use Rattle.plan_json.specs.Reading.{AnswersReading, declared, json_value};
 
 use crate::document::document_plan;
 use crate::fault::JsonFault;
-use net_model::{Part, Weight};
+use net_model::{Items, Part, Weight};
 use serde_json::Value;
 use std::alloc::Global;
 
@@ -15,7 +15,7 @@ use std::alloc::Global;
 #[derive(Debug, Drop)]
 pub struct JsonPlan {
     /// The parts, in their order.
-    pub parts: Vec<Part>,
+    pub parts: Items<Part>,
     /// The delay, in whole moments, from 0 to `MOST_DELAY`.
     pub delay: Weight,
 }
@@ -31,10 +31,10 @@ pub struct JsonPlan {
 /// answered: in the order top, points, bounds, between, links, within a list item by item, and at the top and within an item in this order.
 /// Of members of one name the last one counts. `OutOfMemory` comes only for want of memory, as which a part more than 2,147,483,648 counts.
 pub fn from_json(alloc: Global, bytes: &[u8]) -> Result<JsonPlan, JsonFault>
-    ensures says { AnswersReading (λ plan. record { delay = unsigned_abs plan.delay; parts = plan.parts.items }) result (declared bytes.now) }
+    ensures says { AnswersReading (λ plan. record { delay = unsigned_abs plan.delay; parts = plan.parts }) result (declared bytes.now) }
     ensures from_nought { IfOk result (λ plan. pos 0 ≤ℤ plan.delay) }
     ensures short { IfOk result (λ plan. plan.delay ≤ℤ pos most_delay) }
-    ensures few { IfOk result (λ plan. length plan.parts.items ≤ most_lines) }
+    ensures few { IfOk result (λ plan. length plan.parts ≤ most_lines) }
 {
     let document = parsed(alloc, bytes)?;
     document_plan(alloc, &document)

@@ -14,8 +14,8 @@ invariant_of-self c =
     let within : unsigned_abs c.args.moments ≤ most_delay = omega (arith, ints, nought, short) in
     record {
       plan = sound_with_delay (plan_of c.self.inside) (unsigned_abs (to_z w64 (of_z w64 c.args.moments))) c.self.invariant.plan (subst HasPlanNumbers (sym c.self.view_is) c.requires.numbers) (subst (λ (n : ℤ). unsigned_abs n ≤ most_delay) (sym same) within);
-      point_ids = c.self.invariant.point_ids;
-      bound_ids = c.self.invariant.bound_ids;
+      point_index = c.self.invariant.point_index;
+      bound_index = c.self.invariant.bound_index;
       ending_count = c.self.invariant.ending_count;
       ending = c.self.invariant.ending;
     }

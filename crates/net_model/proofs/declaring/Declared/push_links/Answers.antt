@@ -1,7 +1,7 @@
 use Rattle.std.proofs.Common.{get_or}
 use Rattle.std.proofs.lemmas.List.{get_or_default}
 use Rattle.net_model.proofs.FillingLemmas.{next_link_fresh, next_link_sound}
-use Rattle.net_model.proofs.network.Network.push_links.Goals as goal
+use Rattle.net_model.proofs.declaring.Declared.push_links.Goals as goal
 
 pub push_link-requires-clause-fresh : goal.push_link-requires-clause-fresh
 push_link-requires-clause-fresh c =

@@ -1,7 +1,7 @@
 use Rattle.std.proofs.Common.{sym, subst}
 use Rattle.net_model.specs.Network.{IsPlan}
 use Rattle.net_model.proofs.EditLemmas.{named_within, declared_bound}
-use Rattle.net_model.proofs.network.Network.add_bound.Goals as goal
+use Rattle.net_model.proofs.declaring.Declared.add_bound.Goals as goal
 
 pub push_bound-requires-clause-sound : goal.push_bound-requires-clause-sound
 push_bound-requires-clause-sound c =

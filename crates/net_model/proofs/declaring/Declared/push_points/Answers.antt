@@ -1,5 +1,5 @@
 use Rattle.net_model.proofs.FillingLemmas.{next_point_fresh}
-use Rattle.net_model.proofs.network.Network.push_points.Goals as goal
+use Rattle.net_model.proofs.declaring.Declared.push_points.Goals as goal
 
 pub push_point-requires-clause-fresh : goal.push_point-requires-clause-fresh
 push_point-requires-clause-fresh c =

@@ -1,5 +1,5 @@
 use Rattle.net_model.proofs.FillingLemmas.{next_bound_fresh, next_bound_sound}
-use Rattle.net_model.proofs.network.Network.push_bounds.Goals as goal
+use Rattle.net_model.proofs.declaring.Declared.push_bounds.Goals as goal
 
 pub push_bound-requires-clause-fresh : goal.push_bound-requires-clause-fresh
 push_bound-requires-clause-fresh c =

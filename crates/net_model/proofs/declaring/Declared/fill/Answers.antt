@@ -1,7 +1,7 @@
 use Rattle.std.proofs.Common.{◌++◌, refl, subst, sym}
 use Rattle.net_model.specs.Network.{Plan, IsPlan}
 use Rattle.net_model.proofs.FillingLemmas.{points_alone}
-use Rattle.net_model.proofs.network.Network.fill.Goals as goal
+use Rattle.net_model.proofs.declaring.Declared.fill.Goals as goal
 
 pub push_points-requires : goal.push_points-requires
 push_points-requires c =
