@@ -11,7 +11,9 @@ ghost use Rattle.plan_json.specs.Reading.{Gives, with_front};
 use crate::fault::{JsonFault, Member};
 use crate::place::{PartList, Place};
 use crate::read::JsonPlan;
-use net_model::{Items, MOST_DELAY, MOST_LINES, MOST_NUMBER, Name, Part, Weight, between_parts, text};
+use net_model::{
+    Items, MOST_DELAY, MOST_LINES, MOST_NUMBER, Name, Part, Weight, between_parts, text,
+};
 use serde_json::Value;
 use std::alloc::Global;
 
