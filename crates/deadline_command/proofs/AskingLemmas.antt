@@ -27,7 +27,7 @@ use Rattle.deadline_command.specs.Points.{PlanPoints, goal_number, no_room, poin
 use Rattle.deadline_command.specs.declared.points.DeadlineWords.{DeadlineWords}
 use Rattle.deadline_command.proofs.GrammarLemmas.{points_by_grammar}
 use Rattle.deadline_command.proofs.OneAnswerLemmas.{answer_one}
-use Rattle.deadline_command.proofs.SaidLemmas.{no_by, promised_by, yes_by}
+use Rattle.deadline_command.proofs.SaidLemmas.{at_lowest_by, no_by, none_by, promised_by, yes_by}
 
 pub deadline_keeps : (words : DeadlineWords) (input put : List ℕ) (end : End) → Runs deadline_machine (deadline_start words) input put end → DeadlinePromise words input put end
 deadline_keeps words input put end runs =
@@ -36,6 +36,8 @@ deadline_keeps words input put end runs =
       answers = text;
       controllable = yes_by words input put end text.answers;
       tightest = promised_by words input put end text.answers;
+      at_most = at_lowest_by words input put end text.answers;
+      none = none_by words input put end text.answers;
       refutes = no_by words input put end text.answers;
     }
 

@@ -12,6 +12,7 @@ use Rattle.net_model.specs.declared.format.FormatKind.TheVariants.{BadNumber}
 use Rattle.net_model.proofs.SpellingLemmas.{integer_spelled, printable_integer}
 use Rattle.strategy_model.specs.Control.{IsControllable}
 use Rattle.cert_format.specs.CertificateWords.{printed_certificate}
+use Rattle.cert_format.specs.declared.certificate.Certificate.{Certificate}
 use Rattle.command_engine.specs.Inputs.{AnswersLineOrRefuses, last_before}
 use Rattle.command_engine.specs.declared.endings.End.{End}
 use Rattle.command_engine.proofs.InputLemmas.{value_one}
@@ -22,8 +23,8 @@ use Rattle.deadline_search.specs.Answers.{IsAnswerOf}
 use Rattle.deadline_search.specs.Deadlines.{highest, lowest}
 use Rattle.deadline_search.specs.declared.answer.Deadline.{Deadline}
 use Rattle.deadline_search.specs.declared.answer.Deadline.TheVariants.{NotControllable, Never, Least, Floor}
-use Rattle.deadline_command.specs.Asking.{deadline_answers, deadline_line, deadline_start, deadline_text, kept_text}
-use Rattle.deadline_command.specs.DeadlinePromise.{IsPromised}
+use Rattle.deadline_command.specs.Asking.{at_lowest, deadline_answers, deadline_line, deadline_start, deadline_text, kept_text, no_deadline}
+use Rattle.deadline_command.specs.DeadlinePromise.{HasNoDeadline, IsPromised}
 use Rattle.deadline_command.specs.Points.{PlanPoints, goal_number, no_room, points_in, points_reader}
 use Rattle.deadline_command.specs.declared.points.DeadlineWords.{DeadlineWords}
 use Rattle.deadline_command.proofs.GrammarLemmas.{points_by_grammar}
@@ -114,11 +115,11 @@ number_one : (n m : ℤ) → unsigned_abs n ≤ most_number → unsigned_abs m �
 number_one n m within also same =
     let both : ◌≡◌ {A = Result ℤ FormatKind} (Ok n) (Ok m) = sym (read_number n within) ∙ (ap (integer_of most_number) same ∙ read_number m also) in cc
 
-none_is_no_number : integer_of most_number (codes "none") ≡ Err BadNumber
+none_is_no_number : integer_of most_number no_deadline ≡ Err BadNumber
 unfolding integer_of natural_of
 none_is_no_number = refl
 
-floor_is_no_number : integer_of most_number (codes "at-most " ++ signed_decimal lowest) ≡ Err BadNumber
+floor_is_no_number : integer_of most_number at_lowest ≡ Err BadNumber
 unfolding integer_of natural_of
 floor_is_no_number = refl
 
@@ -129,21 +130,49 @@ no_number word n bad within same =
 within_plan : (n : ℤ) → lowest ≤ℤ n → n ≤ℤ highest → unsigned_abs n ≤ most_number
 within_plan n low high = omega (arith, ints, low, high)
 
+none_plain : IsPlain no_deadline
+none_plain = (omega arith, (omega arith, (omega arith, (omega arith, tt))))
+
+lowest_plain : IsPlain at_lowest
+lowest_plain = (omega arith, (omega arith, (omega arith, (omega arith, (omega arith, (omega arith, (omega arith, (omega arith, plain_number lowest (omega arith)))))))))
+
+lowest_is_no_none : at_lowest ≡ no_deadline → ⊥
+lowest_is_no_none same = let byte : ◌≡◌ {A = ℕ} 97 110 = ap first_byte same in omega arith
+
 promised : (words : DeadlineWords) (asked : PlanPoints) (deadline : Deadline) → IsAnswerOf asked.net asked.from asked.to deadline → (most : ℤ) (more : List ℕ) → unsigned_abs most ≤ most_number
     → deadline_text words deadline ≡ kept_text words (signed_decimal most) more → IsPromised asked most
 promised words asked (NotControllable cert) is most more within same = absurd (refuted_is_none (printed_certificate cert) (deadline_line words (signed_decimal most) ++ more) same)
 promised words asked (Never name cert) is most more within same =
-    absurd (no_number (codes "none") most none_is_no_number within (said_one words (codes "none") (signed_decimal most) (printed_certificate cert) more (omega arith, (omega arith, (omega arith, (omega arith, tt)))) (plain_number most within) same))
+    absurd (no_number no_deadline most none_is_no_number within (said_one words no_deadline (signed_decimal most) (printed_certificate cert) more none_plain (plain_number most within) same))
 promised words asked (Least name other proof cert) is most more within same =
     let deadline = is.says.tightest.deadline in
     let small = within_plan other deadline.from_lowest deadline.to_highest in
     let one = number_one other most small within (said_one words (signed_decimal other) (signed_decimal most) (printed_certificate proof ++ printed_certificate cert) more (plain_number other small) (plain_number most within) same) in
     subst (IsPromised asked) one (record { name = name; named = is.named; tightest = is.says.tightest })
 promised words asked (Floor name proof) is most more within same =
-    absurd (no_number (codes "at-most " ++ signed_decimal lowest) most floor_is_no_number within (said_one words (codes "at-most " ++ signed_decimal lowest) (signed_decimal most) (printed_certificate proof) more floor_plain (plain_number most within) same))
-  where
-    floor_plain : IsPlain (codes "at-most " ++ signed_decimal lowest)
-    floor_plain = (omega arith, (omega arith, (omega arith, (omega arith, (omega arith, (omega arith, (omega arith, (omega arith, plain_number lowest (omega arith)))))))))
+    absurd (no_number at_lowest most floor_is_no_number within (said_one words at_lowest (signed_decimal most) (printed_certificate proof) more lowest_plain (plain_number most within) same))
+
+-- no number is said where there is none, or where it is the least
+no_number_said : (words : DeadlineWords) (said : List ℕ) (name : List ℕ) (asked : PlanPoints) (most : ℤ) (proof cert : Certificate) → IsAnswerOf asked.net asked.from asked.to (Least name most proof cert) → IsPlain said
+    → integer_of most_number said ≡ Err BadNumber → (more : List ℕ) → deadline_text words (Least name most proof cert) ≡ kept_text words said more → ⊥
+no_number_said words said name asked most proof cert is plain bad more same =
+    let deadline = is.says.tightest.deadline in
+    let small = within_plan most deadline.from_lowest deadline.to_highest in
+    no_number said most bad small (sym (said_one words (signed_decimal most) said (printed_certificate proof ++ printed_certificate cert) more (plain_number most small) plain same))
+
+at_lowest_promised : (words : DeadlineWords) (asked : PlanPoints) (deadline : Deadline) → IsAnswerOf asked.net asked.from asked.to deadline → (more : List ℕ) → deadline_text words deadline ≡ kept_text words at_lowest more
+    → IsPromised asked lowest
+at_lowest_promised words asked (NotControllable cert) is more same = absurd (refuted_is_none (printed_certificate cert) (deadline_line words at_lowest ++ more) same)
+at_lowest_promised words asked (Never name cert) is more same = absurd (lowest_is_no_none (sym (said_one words no_deadline at_lowest (printed_certificate cert) more none_plain lowest_plain same)))
+at_lowest_promised words asked (Least name most proof cert) is more same = absurd (no_number_said words at_lowest name asked most proof cert is lowest_plain floor_is_no_number more same)
+at_lowest_promised words asked (Floor name proof) is more same = record { name = name; named = is.named; tightest = is.says.tightest }
+
+none_promised : (words : DeadlineWords) (asked : PlanPoints) (deadline : Deadline) → IsAnswerOf asked.net asked.from asked.to deadline → (more : List ℕ) → deadline_text words deadline ≡ kept_text words no_deadline more
+    → HasNoDeadline asked
+none_promised words asked (NotControllable cert) is more same = absurd (refuted_is_none (printed_certificate cert) (deadline_line words no_deadline ++ more) same)
+none_promised words asked (Never name cert) is more same = record { name = name; named = is.named; none = is.says.none }
+none_promised words asked (Least name most proof cert) is more same = absurd (no_number_said words no_deadline name asked most proof cert is none_plain none_is_no_number more same)
+none_promised words asked (Floor name proof) is more same = absurd (lowest_is_no_none (said_one words at_lowest no_deadline (printed_certificate proof) more lowest_plain none_plain same))
 
 -- ---- of an input
 module _ (words : DeadlineWords) (input put : List ℕ) (end : End) (answers : AnswersLineOrRefuses (points_in words) refusing (deadline_answers words) input put end) where
@@ -169,3 +198,11 @@ module _ (words : DeadlineWords) (input put : List ℕ) (end : End) (answers : A
   pub promised_by : (most : ℤ) (more : List ℕ) → unsigned_abs most ≤ most_number → put ≡ kept_text words (signed_decimal most) more → (asked : PlanPoints) (rest : List (List ℕ)) → (points_in words).declares (lines input) asked rest → IsPromised asked most
   promised_by most more within =
       says_by (kept_text words (signed_decimal most) more) (λ fault. no_refusal_is_controllable fault (deadline_line words (signed_decimal most) ++ more)) (λ asked deadline is. promised words asked deadline is most more within)
+
+  pub at_lowest_by : (more : List ℕ) → put ≡ kept_text words at_lowest more → (asked : PlanPoints) (rest : List (List ℕ)) → (points_in words).declares (lines input) asked rest → IsPromised asked lowest
+  at_lowest_by more =
+      says_by (kept_text words at_lowest more) (λ fault. no_refusal_is_controllable fault (deadline_line words at_lowest ++ more)) (λ asked deadline is. at_lowest_promised words asked deadline is more)
+
+  pub none_by : (more : List ℕ) → put ≡ kept_text words no_deadline more → (asked : PlanPoints) (rest : List (List ℕ)) → (points_in words).declares (lines input) asked rest → HasNoDeadline asked
+  none_by more =
+      says_by (kept_text words no_deadline more) (λ fault. no_refusal_is_controllable fault (deadline_line words no_deadline ++ more)) (λ asked deadline is. none_promised words asked deadline is more)

@@ -53,6 +53,13 @@ deadline_asked arguments =
 abbrev pub deadline_line : DeadlineWords → (said : List ℕ) → List ℕ
 deadline_line words said = printed_line (codes "deadline" ∷ words.from ∷ words.to ∷ said ∷ [])
 
+-- what is said of a deadline where no number is one, and where the least number that a plan may have is one
+abbrev pub no_deadline : List ℕ
+no_deadline = codes "none"
+
+abbrev pub at_lowest : List ℕ
+at_lowest = codes "at-most " ++ signed_decimal lowest
+
 -- what is put of a controllable network: that it is, the line of the deadline, and certificates
 abbrev pub kept_text : DeadlineWords → (said certificates : List ℕ) → List ℕ
 kept_text words said certificates = controllable_line ++ (deadline_line words said ++ certificates)
@@ -60,9 +67,9 @@ kept_text words said certificates = controllable_line ++ (deadline_line words sa
 -- what is put of the tightest deadline of a network: a proof stands before a refutation
 abbrev pub deadline_text : DeadlineWords → Deadline → List ℕ
 deadline_text words (NotControllable refutation) = refuted_line ++ printed_certificate refutation
-deadline_text words (Never goal refutation) = kept_text words (codes "none") (printed_certificate refutation)
+deadline_text words (Never goal refutation) = kept_text words no_deadline (printed_certificate refutation)
 deadline_text words (Least goal most proof refutation) = kept_text words (signed_decimal most) (printed_certificate proof ++ printed_certificate refutation)
-deadline_text words (Floor goal proof) = kept_text words (codes "at-most " ++ signed_decimal lowest) (printed_certificate proof)
+deadline_text words (Floor goal proof) = kept_text words at_lowest (printed_certificate proof)
 
 -- and how the run ends then
 abbrev pub deadline_end : Deadline → End

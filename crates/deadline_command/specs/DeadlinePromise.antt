@@ -10,9 +10,9 @@ use Rattle.common_answers.specs.Faults.{fault_end, fault_line, refusing}
 use Rattle.command_frame.specs.Causes.{Causes, IsTextRefused}
 use Rattle.command_frame.specs.Programs.{Program, or_nothing, serves}
 use Rattle.common_answers.specs.VerdictLines.{controllable_line, refuted_line}
-use Rattle.deadline_search.specs.Deadlines.{IsFull, IsTightest}
+use Rattle.deadline_search.specs.Deadlines.{IsDeadline, IsFull, IsTightest, lowest}
 use Rattle.deadline_search.specs.Goals.{IsGoalName}
-use Rattle.deadline_command.specs.Asking.{deadline_answers, deadline_machine, deadline_start, kept_text}
+use Rattle.deadline_command.specs.Asking.{at_lowest, deadline_answers, deadline_machine, deadline_start, kept_text, no_deadline}
 use Rattle.deadline_command.specs.Points.{PlanPoints, goal_number, no_room, points_in}
 use Rattle.deadline_command.specs.declared.points.DeadlineWords.{DeadlineWords}
 
@@ -37,22 +37,31 @@ deadline_causes words = record {
   whole = IsWholeInput words;
 }
 
--- a number is the tightest deadline from one point of a network to another: with it as the bound of the goal some strategy controls the
--- network, and with no lower one
+-- a number is the tightest deadline from one point of a network to another: with it, or a greater one, as the bound of the goal some
+-- strategy controls the network, and with no lower one
 pub record IsPromised (asked : PlanPoints) (most : ℤ) : Type 0 where
   pub name : List ℕ
   pub named : IsGoalName asked.net name
   pub tightest : IsTightest asked.net (record { name = name; from = asked.from; to = asked.to }) most
 
+-- no number that a plan may have is a deadline from one point of a network to another
+pub record HasNoDeadline (asked : PlanPoints) : Type 0 where
+  pub name : List ℕ
+  pub named : IsGoalName asked.net name
+  pub none : (most : ℤ) → ¬ IsDeadline asked.net (record { name = name; from = asked.from; to = asked.to }) most
+
 -- What `deadline` promises. `answers`: it puts the tightest deadline between the two points of the network that the input declares, with its
 -- certificates, or that there is no room for the bound, or the first refusal of the input. `controllable`, `refutes`: where it puts first
 -- that a network is controllable, or is not, that of the input is so. `tightest`: where it puts a number then, of the size that a plan may
--- have, that is the tightest deadline.
+-- have, that is the tightest deadline; `at_most`: where it puts the least number that a plan may have, that is; `none`: where it puts that
+-- there is none, no number is a deadline.
 pub record DeadlinePromise (words : DeadlineWords) (input put : List ℕ) (end : End) : Type 0 where
   pub answers : AnswersLine (points_in words) refusing (deadline_answers words) input put end
   pub controllable : (more : List ℕ) → put ≡ controllable_line ++ more → (asked : PlanPoints) (rest : List (List ℕ)) → (points_in words).declares (lines input) asked rest → IsControllable asked.net
   pub tightest : (most : ℤ) (more : List ℕ) → unsigned_abs most ≤ most_number → put ≡ kept_text words (signed_decimal most) more
       → (asked : PlanPoints) (rest : List (List ℕ)) → (points_in words).declares (lines input) asked rest → IsPromised asked most
+  pub at_most : (more : List ℕ) → put ≡ kept_text words at_lowest more → (asked : PlanPoints) (rest : List (List ℕ)) → (points_in words).declares (lines input) asked rest → IsPromised asked lowest
+  pub none : (more : List ℕ) → put ≡ kept_text words no_deadline more → (asked : PlanPoints) (rest : List (List ℕ)) → (points_in words).declares (lines input) asked rest → HasNoDeadline asked
   pub refutes : (more : List ℕ) → put ≡ refuted_line ++ more → (asked : PlanPoints) (rest : List (List ℕ)) → (points_in words).declares (lines input) asked rest → ¬ IsControllable asked.net
 
 -- the program of `deadline`

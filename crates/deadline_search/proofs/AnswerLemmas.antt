@@ -21,7 +21,7 @@ use Rattle.deadline_search.specs.declared.answer.DeadlineFault.TheVariants.{Full
 use Rattle.deadline_search.specs.declared.answer.Deadline.TheVariants.{NotControllable, Never, Least, Floor}
 use Rattle.deadline_search.specs.declared.goal.Goal.{Goal}
 use Rattle.deadline_search.specs.declared.search.Kept.{Kept}
-use Rattle.deadline_search.proofs.GoalLemmas.{none_by_highest, tightest_by_one}
+use Rattle.deadline_search.proofs.GoalLemmas.{none_by_highest, tightest_at_lowest, tightest_by_one}
 
 -- the number before the last deadline that is kept is none, where that is not the lowest
 pub before_last : (net : Plan) (goal : Goal) (kept : Kept) (before : ℤ) → before ≡ kept.most -ℤ pos 1 → IsLastKept net goal kept → lowest <ℤ kept.most → ¬ IsDeadline net goal before
@@ -40,13 +40,13 @@ module _ (net : Plan) (goal : Goal) (controls : IsControllable net) (named : IsG
     says = record { none = none_by_highest law net goal none; refuted = refuted };
   }
 
-  pub floor_is : (kept : Kept) (proof : Certificate) → IsKept net goal kept → kept.most ≤ℤ lowest → ProvesAt net goal kept.most proof → IsAnswerOf net goal.from goal.to (Floor goal.name proof)
-  floor_is kept proof holds low proves =
+  pub floor_is : LooserBoundsKeepControl → (kept : Kept) (proof : Certificate) → IsKept net goal kept → kept.most ≤ℤ lowest → ProvesAt net goal kept.most proof → IsAnswerOf net goal.from goal.to (Floor goal.name proof)
+  floor_is law kept proof holds low proves =
       let same : kept.most ≡ lowest = omega (arith, ints, low, holds.deadline.from_lowest) in
       record {
         controllable = controls;
         named = named;
-        says = record { deadline = subst (IsDeadline net goal) same holds.deadline; proved = subst (λ (n : ℤ). ProvesAt net goal n proof) same proves };
+        says = record { tightest = tightest_at_lowest law net goal (subst (IsDeadline net goal) same holds.deadline); proved = subst (λ (n : ℤ). ProvesAt net goal n proof) same proves };
       }
 
   pub least_is : LooserBoundsKeepControl → (kept : Kept) (proof refutation : Certificate) → IsLastKept net goal kept → lowest <ℤ kept.most → ProvesAt net goal kept.most proof → RefutesAt net goal (kept.most -ℤ pos 1) refutation

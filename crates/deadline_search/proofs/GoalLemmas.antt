@@ -110,5 +110,10 @@ none_by_highest law net goal never most = λ deadline. never (put_off law net go
 pub tightest_by_one : LooserBoundsKeepControl → (net : Plan) (goal : Goal) (most before : ℤ) → before ≡ most -ℤ pos 1 → IsDeadline net goal most → (¬ IsDeadline net goal before) → IsTightest net goal most
 tightest_by_one law net goal most before is deadline never = record {
   deadline = deadline;
+  later = λ other above limit. put_off law net goal most other above limit deadline;
   least = λ other below earlier. never (put_off law net goal other before (omega (arith, ints, is, below)) (omega (arith, ints, is, deadline.to_highest)) earlier);
 }
+
+-- the least number that a plan may have is the tightest where it is a deadline
+pub tightest_at_lowest : LooserBoundsKeepControl → (net : Plan) (goal : Goal) → IsDeadline net goal lowest → IsTightest net goal lowest
+tightest_at_lowest law net goal deadline = tightest_by_one law net goal lowest (lowest -ℤ pos 1) refl deadline (λ before. absurd (omega (arith, ints, before.from_lowest)))

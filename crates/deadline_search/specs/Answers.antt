@@ -36,9 +36,9 @@ pub record IsLeast (net : Plan) (goal : Goal) (most : ℤ) (proof refutation : C
   pub proved : ProvesAt net goal most proof
   pub refuted : RefutesAt net goal (most -ℤ pos 1) refutation
 
--- the least number that a plan may have is a deadline; it is proved
+-- the least number that a plan may have is a deadline, and so the tightest; it is proved
 pub record IsFloor (net : Plan) (goal : Goal) (proof : Certificate) : Type 0 where
-  pub deadline : IsDeadline net goal lowest
+  pub tightest : IsTightest net goal lowest
   pub proved : ProvesAt net goal lowest proof
 
 -- the network is controllable, its goal between two points has the name that it is to have, and this is so of it

@@ -19,9 +19,10 @@ pub record IsDeadline (net : Plan) (goal : Goal) (most : ℤ) : Type 0 where
   pub to_highest : most ≤ℤ highest
   pub kept : IsControllable (with_goal net goal most)
 
--- a deadline with none below it
+-- a deadline with none below it; every number from it on that a plan may have is one
 pub record IsTightest (net : Plan) (goal : Goal) (most : ℤ) : Type 0 where
   pub deadline : IsDeadline net goal most
+  pub later : (other : ℤ) → most ≤ℤ other → other ≤ℤ highest → IsDeadline net goal other
   pub least : (other : ℤ) → other <ℤ most → ¬ IsDeadline net goal other
 
 -- a controllable network that has no room for one bound more
