@@ -3,11 +3,14 @@
 ghost use Rattle.std.specs.Prelude.{◌≡◌, ◌<◌, ◌^◌, ℕ, List, length, map, slice_get, IfOk};
 ghost use Rattle.std.specs.List.{IsDistinct, position};
 ghost use Rattle.std.specs.Str.{bytes_eq};
+ghost use Rattle.std.specs.Option.{option_cmp};
 ghost use Rattle.net_model.specs.NameIndex.{IsNameIndex};
+ghost use Rattle.net_model.specs.Names.{name_cmp};
 
 use crate::name::Name;
 use crate::part::Bound;
 use std::alloc::{AllocError, Global};
+use std::cmp::Ordering;
 
 /// What a list is indexed by: each of its items has a name.
 pub(crate) trait Named {
@@ -15,23 +18,23 @@ pub(crate) trait Named {
 
     ghost name_of: { Self → List ℕ };
 
-    fn name(&self) -> Name
-        ensures { result ≡ name_of self.now };
+    fn name(&self) -> &Name
+        ensures { result.now ≡ name_of self.now };
 }
 
 impl Named for Name {
     ghost name_of = { λ name. name };
 
-    fn name(&self) -> Name {
-        *self
+    fn name(&self) -> &Name {
+        self
     }
 }
 
 impl Named for Bound {
     ghost name_of = { λ bound. bound.name };
 
-    fn name(&self) -> Name {
-        self.name
+    fn name(&self) -> &Name {
+        &self.name
     }
 }
 
@@ -44,7 +47,7 @@ pub(crate) fn index_of<T: Named>(alloc: Global, items: &[T]) -> Result<Vec<u32>,
     for place in 0..items.len() as u32 {
         index.push(place)?;
     }
-    index.sort_unstable_by_key(|place| name_at(items, *place));
+    index.sort_unstable_by(|one, other| compared(items, *one, *other));
     Ok(index)
 }
 
@@ -65,5 +68,15 @@ pub(crate) fn place_of<T: Named>(items: &[T], index: &[u32], name: &Name) -> Opt
 fn name_at<T: Named>(items: &[T], place: u32) -> Option<Name>
     ensures { result ≡ slice_get (map T.name_of items.now) place }
 {
-    Some(items.get(place as usize)?.name())
+    Some(*items.get(place as usize)?.name())
+}
+
+/// How the names at two places of a list stand to each other; a place that the list does not have comes before.
+fn compared<T: Named>(items: &[T], one: u32, other: u32) -> Ordering
+    ensures { result ≡ option_cmp name_cmp (slice_get (map T.name_of items.now) one) (slice_get (map T.name_of items.now) other) }
+{
+    match (items.get(one as usize), items.get(other as usize)) {
+        (Some(first), Some(second)) => first.name().cmp(second.name()),
+        _ => name_at(items, one).cmp(&name_at(items, other)),
+    }
 }
