@@ -1,7 +1,6 @@
 -- The names of points and bounds.
 use Rattle.std.specs.Prelude.{ℕ, ◌-◌, ◌==◌, ◌&&◌, ◌||◌, Bool, false, List, [], ◌∷◌, ◌++◌, length, nat_le, nat_lt, replicate}
 use Rattle.std.specs.Cmp.Lexicographic.{slice_cmp}
-use Rattle.std.specs.Int.{w64, from_be_bytes}
 use Rattle.std.specs.List.{list_all}
 use Rattle.std.specs.Ordering.{nat_cmp, on, then_cmp}
 use Rattle.std.specs.declared.cmp.Ordering.{Ordering}
@@ -35,10 +34,6 @@ is_short_name word = is_name word && nat_le (length word) most_short
 abbrev pub padded : List ℕ → List ℕ
 padded bytes = bytes ++ replicate (32 - length bytes) 0
 
--- the first eight bytes of a name as one number
-abbrev pub name_head : List ℕ → ℕ
-name_head name = from_be_bytes w64 (padded name)
-
--- the order of names: short ones first, and those of one length by their first eight bytes and then by all
+-- the order of names: short ones first, and those of one length by their bytes
 abbrev pub name_cmp : List ℕ → List ℕ → Ordering
-name_cmp = then_cmp (then_cmp (on length nat_cmp) (on name_head nat_cmp)) (slice_cmp nat_cmp)
+name_cmp = then_cmp (on length nat_cmp) (slice_cmp nat_cmp)

@@ -4,7 +4,7 @@ ghost use Rattle.std.specs.Cmp.Rules.{comparing, hashing};
 ghost use Rattle.std.specs.Hash as fed;
 ghost use Rattle.std.proofs.Common.{rules};
 ghost use Rattle.std.specs.List.{list_all};
-ghost use Rattle.net_model.specs.Names.{is_name, is_name_byte, name_cmp, name_head, padded};
+ghost use Rattle.net_model.specs.Names.{is_name, is_name_byte, name_cmp, padded};
 ghost use Rattle.net_model.specs.NameOrder.{name_cmp_total, names_tie, names_po};
 
 use std::cmp::Ordering;
@@ -144,14 +144,6 @@ impl Name {
         let _ = &self.bytes;
     }
 
-    /// The first eight bytes as one number, which tells most names apart.
-    fn head(&self) -> u64
-        ensures { result ≡ name_head self.now }
-    {
-        let b = &self.bytes;
-        u64::from_be_bytes([b[0], b[1], b[2], b[3], b[4], b[5], b[6], b[7]])
-    }
-
     /// The bytes of the name.
     pub fn bytes(&self) -> &[u8]
         ensures text { result.now ≡ self.now }
@@ -208,11 +200,7 @@ impl Ord for Name {
     ghost matches_eq = { names_tie };
 
     fn cmp(&self, other: &Name) -> Ordering {
-        match self
-            .len
-            .cmp(&other.len)
-            .then(self.head().cmp(&other.head()))
-        {
+        match self.len.cmp(&other.len) {
             Ordering::Equal => self.bytes().cmp(other.bytes()),
             unequal => unequal,
         }
