@@ -22,7 +22,6 @@ use Rattle.execution_model.specs.Streams.{Listing, IsFaithful, Fits}
 use Rattle.execution_model.specs.Timely.{fed_all}
 use Rattle.execution_model.specs.declared.feeding.Act.{Act}
 use Rattle.execution_model.specs.declared.feeding.Why.{Why}
-use Rattle.execution_model.proofs.ShownStreamLemmas.{acts_are_shown, streams_are_shown}
 use Rattle.execution_model.proofs.StreamLemmas.{done_shows}
 use Rattle.command_engine.specs.Inputs.{texts, room_after}
 use Rattle.command_engine.specs.Limits.{most_input}
@@ -260,19 +259,19 @@ module _ (laws : ExecutionLaws) where
       puts_stated_so_far : (day : IsUnderway opens input (shown_form net) listings) (fits : FitsAsShown net (going_on listings) situation)
           → PutsSoFarAsStated net fits.schedule day.lines.before listings put
       puts_stated_so_far day fits =
-          let (shown, same) = (streams_are_shown net (going_on listings) plan).fits situation fits in
-          so_far_stated streams_are_shown acts_are_shown net plan fits.schedule day.lines.before listings put
+          let (shown, same) = (laws.streams net (going_on listings) plan).fits situation fits in
+          so_far_stated laws.streams laws.shown net plan fits.schedule day.lines.before listings put
           (subst (λ (schedule : List ℕ). PutsSoFar (shown_form net) schedule day.lines.before listings put) same
           (puts_so_far (shown_form net) listings day (shown.earliest.strategy, shown.earliest.controls) (shown_situation net situation) shown))
 
       puts_stated_day : (day : IsDay opens input (shown_form net) listings done) (fits : FitsAsShown net (ended listings) situation)
           → Satisfies net fits.schedule × PutsDayAsStated net fits.schedule day.underway.lines.before listings put end
       puts_stated_day day fits =
-          let (shown, same) = (streams_are_shown net (ended listings) plan).fits situation fits in
+          let (shown, same) = (laws.streams net (ended listings) plan).fits situation fits in
           let controls : IsControllable (shown_form net) = (shown.earliest.strategy, shown.earliest.controls) in
           let puts = puts_day (shown_form net) listings day.underway controls day.last day.others day.next day.comes day.tells (shown_situation net situation) shown in (
             earliest_satisfies net situation fits.schedule fits.earliest,
-            day_stated streams_are_shown acts_are_shown net plan fits.schedule day.underway.lines.before listings put end
+            day_stated laws.streams laws.shown net plan fits.schedule day.underway.lines.before listings put end
                 (subst (λ (schedule : List ℕ). PutsDay (shown_form net) schedule day.underway.lines.before listings put end) same puts),
           )
 
@@ -289,7 +288,7 @@ module _ (laws : ExecutionLaws) where
       stated = record {
         underway = puts_stated_so_far;
         executes = puts_stated_day;
-        refuses = λ net plan refused. refuses_by (refused_shown streams_are_shown acts_are_shown net plan opens input refused);
+        refuses = λ net plan refused. refuses_by (refused_shown laws.streams laws.shown net plan opens input refused);
       };
     }
 

@@ -7,7 +7,7 @@ use Rattle.texts.specs.Lines.{InputLine}
 use Rattle.net_model.specs.Network.{Plan, IsPlan}
 use Rattle.net_model.specs.ShownForm.{lag, shown_form, shown_situation}
 use Rattle.net_model.specs.declared.ids.PointId.{PointId}
-use Rattle.strategy_model.specs.Control.{IsEarliest}
+use Rattle.strategy_model.specs.Control.{IsControllable, IsEarliest}
 use Rattle.strategy_model.specs.Plays.{points_of}
 use Rattle.strategy_model.specs.ShownSchedules.{shown_moments, shown_schedule}
 use Rattle.strategy_model.specs.Situations.{Satisfies}
@@ -19,10 +19,10 @@ use Rattle.execution_model.specs.ShownStreams.{ActsAreShown, FitsAsShown, IsFait
 use Rattle.execution_model.specs.Streams.{Listing, IsFaithful, Shows, Stream}
 use Rattle.execution_model.specs.declared.feeding.Act.{Act}
 use Rattle.command_engine.specs.declared.endings.End.{End}
-use Rattle.event_execution.specs.Day.{Opening, IsUnfaithfulWith, IsRefusedDay, PutsListings, PutsListingsBy, PutsSoFar, PutsDay}
+use Rattle.event_execution.specs.Day.{Opening, StandIn, IsDay, IsUnfaithfulWith, IsRefusedDay, IsWholeDay, PutsListings, PutsListingsBy, PutsSoFar, PutsDay}
 use Rattle.event_execution.specs.Due.{moment_after, AnswersDue, AnswersDueAsStated, ExecutesAtBy, ExecutesNone, ExecutesNoneBy, IsDueAfter, IsDueBy, ListsNext, ShowsNext}
 use Rattle.event_execution.specs.EventAnswers.{acts_text, due_line, complete_line}
-use Rattle.event_execution.specs.StatedDay.{IsUnfaithfulAsShownWith, IsRefusedDayAsStated, PutsSoFarAsStated, PutsDayAsStated}
+use Rattle.event_execution.specs.StatedDay.{IsUnfaithfulAsShownWith, IsRefusedDayAsStated, IsWholeDayAsStated, HasStatedRefusal, HasStatedWholeDay, StatedBy, PutsSoFarAsStated, PutsDayAsStated}
 use Rattle.common_answers.specs.VerdictLines.{controllable_line}
 
 -- the earliest schedule satisfies the network
@@ -130,6 +130,11 @@ module _ (streams : StreamsAreShown) (acts : ActsAreShown) (net : Plan) (plan : 
   unfaithful_shown listings (completed moment points) never = λ faithful. never (faithful_stated (with_more listings moment points) faithful)
   unfaithful_shown listings done never = λ faithful. never (faithful_stated (ended listings) faithful)
 
+  unfaithful_stated : (listings : List Listing) (told : EventLine) → IsUnfaithfulWith (shown_form net) listings told → IsUnfaithfulAsShownWith net listings told
+  unfaithful_stated listings blank never = absurd never
+  unfaithful_stated listings (completed moment points) never = λ faithful. never (faithful_shown (with_more listings moment points) faithful)
+  unfaithful_stated listings done never = λ faithful. never (faithful_shown (ended listings) faithful)
+
   module _ (opens : Opening) (input : List InputLine) where
     abbrev pub refused_shown : IsRefusedDayAsStated opens input net → IsRefusedDay opens input
     refused_shown refused = record {
@@ -141,3 +146,72 @@ module _ (streams : StreamsAreShown) (acts : ActsAreShown) (net : Plan) (plan : 
       faithful = faithful_shown (going_on refused.listings) refused.faithful;
       unfaithful = unfaithful_shown refused.listings refused.told refused.unfaithful;
     }
+
+    abbrev refused_stated : (listings : List Listing) (told : EventLine) → IsDay opens input (shown_form net) listings told → IsControllable (shown_form net)
+        → IsFaithful (shown_form net) (going_on listings) → IsUnfaithfulWith (shown_form net) listings told → IsRefusedDayAsStated opens input net
+    refused_stated listings told day controllable faithful unfaithful = record {
+      listings = listings;
+      told = told;
+      day = day;
+      controllable = (controllable_is_shown net plan).1 controllable;
+      faithful = faithful_stated (going_on listings) faithful;
+      unfaithful = unfaithful_stated listings told unfaithful;
+    }
+
+    abbrev whole_stated : (listings : List Listing) → IsDay opens input (shown_form net) listings done → IsControllable (shown_form net) → IsFaithful (shown_form net) (ended listings)
+        → IsWholeDayAsStated opens input net listings
+    whole_stated listings day controllable faithful =
+        let fits : IsFaithfulAsShown net (ended listings) = faithful_stated (ended listings) faithful in
+        record {
+          day = day;
+          controllable = (controllable_is_shown net plan).1 controllable;
+          situation = fits.0;
+          fits = fits.1;
+          satisfied = earliest_satisfies net fits.0 fits.1.schedule fits.1.earliest;
+        }
+
+    -- ---- of a network that lines of the input state
+    module _ (states : (used rest : List InputLine) → Plan → Type 0) (shown : Plan) (same : shown ≡ shown_form net) where
+      -- the lines before, of the shown form, are those of a network that they state
+      abbrev StatedIn : Plan → List Listing → EventLine → Type 0
+      StatedIn n listings told = (day : IsDay opens input n listings told) × StatedBy day.underway.lines states net
+
+      refused_of : (listings : List Listing) (told : EventLine) (day : IsDay opens input shown listings told) → StatedBy day.underway.lines states net → IsControllable shown
+          → IsFaithful shown (going_on listings) → IsUnfaithfulWith shown listings told → HasStatedRefusal opens states input
+      refused_of listings told day has controllable faithful unfaithful =
+          let there : StatedIn (shown_form net) listings told = subst (λ (n : Plan). StatedIn n listings told) same (day, has) in (
+            net,
+            refused_stated listings told there.0 (subst IsControllable same controllable) (subst (λ (n : Plan). IsFaithful n (going_on listings)) same faithful)
+                (subst (λ (n : Plan). IsUnfaithfulWith n listings told) same unfaithful),
+            there.1,
+          )
+
+      whole_of : (listings : List Listing) (day : IsDay opens input shown listings done) → StatedBy day.underway.lines states net → IsControllable shown
+          → IsFaithful shown (ended listings) → HasStatedWholeDay opens states input
+      whole_of listings day has controllable faithful =
+          let there : StatedIn (shown_form net) listings done = subst (λ (n : Plan). StatedIn n listings done) same (day, has) in
+          (net, listings, whole_stated listings there.0 (subst IsControllable same controllable) (subst (λ (n : Plan). IsFaithful n (ended listings)) same faithful), there.1)
+
+-- lines that open an execution of a network state a sound one of which that is the shown form
+pub record ShowsStated (states : (used rest : List InputLine) → Plan → Type 0) (used rest : List InputLine) (shown : Plan) : Type 0 where
+  pub stated : Plan
+  pub sound : IsPlan stated
+  pub has : states used rest stated
+  pub same : shown ≡ shown_form stated
+
+-- what ends a run of the shown form ends it so of the network that is stated
+module _ (streams : StreamsAreShown) (acts : ActsAreShown) (opens : Opening) (input : List InputLine) (states : (used rest : List InputLine) → Plan → Type 0)
+    (stating : (used rest : List InputLine) (net : Plan) (before : List ℕ) → input ≡ used ++ rest → opens.opens used rest net before → ShowsStated states used rest net) where
+  stated_there : (net : Plan) (lines : StandIn opens input net) → ShowsStated states lines.used (lines.events ++ lines.rest) net
+  stated_there net lines = stating lines.used (lines.events ++ lines.rest) net lines.before lines.divided lines.opened
+
+  pub refused_as_stated : IsRefusedDay opens input → HasStatedRefusal opens states input
+  refused_as_stated refused =
+      let one = stated_there refused.net refused.day.underway.lines in
+      refused_of streams acts one.stated one.sound opens input states refused.net one.same refused.listings refused.told refused.day one.has refused.controllable refused.faithful
+      refused.unfaithful
+
+  pub whole_as_stated : (net : Plan) (listings : List Listing) → IsWholeDay opens input net listings → HasStatedWholeDay opens states input
+  whole_as_stated net listings whole =
+      let one = stated_there net whole.day.underway.lines in
+      whole_of streams acts one.stated one.sound opens input states net one.same listings whole.day one.has whole.controllable whole.faithful
