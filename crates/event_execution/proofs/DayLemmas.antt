@@ -16,6 +16,7 @@ use Rattle.execution_model.specs.Execution.{time_runs}
 use Rattle.net_model.specs.Limits.{most_moment}
 use Rattle.execution_model.specs.Feeding.{Execution, started, next_moment, taken, after_feed, first_open, IsWhole}
 use Rattle.execution_model.specs.Laws.{setting_of, IsDispatchedByClosure, going_on, ended, AreWithinLimit, FaithfulStreamsAreTaken, DoneWhereNoneIsOpen, EndsAreEarliest}
+use Rattle.execution_model.specs.ShownStreams.{ActsAreShown, StreamsAreShown}
 use Rattle.execution_model.specs.Streams.{Listing, Shows, IsFaithful}
 use Rattle.execution_model.specs.Timely.{fed_all}
 use Rattle.execution_model.specs.declared.feeding.Act.{Act}
@@ -43,6 +44,8 @@ pub record ExecutionLaws : Type 0 where
   pub ends : EndsAreEarliest
   pub acts : ActsAreEarliest
   pub last : LastActsAreEarliest
+  pub streams : StreamsAreShown
+  pub shown : ActsAreShown
 
 -- lines of events list no moment beyond the limit
 pub lists_within : (handing : Handing) (net : Plan) (lines : List (List ℕ)) (listings : List Listing) → ListLines handing net lines listings → AreWithinLimit listings

@@ -1,7 +1,6 @@
 -- An execution that lines of an input open keeps what is promised of it, whatever command opens it.
 use Rattle.std.proofs.Common.{◌≡◌, ◌⊎◌, ℕ, ◌+◌, List, [], ◌∷◌, ◌++◌, length, Option, Some, None, Result, Ok, Err, refl, sym, ap, ◌∙◌, subst, inl, inr, append_assoc}
 use Rattle.std.proofs.lemmas.List.{length-append}
-use Rattle.std.proofs.lemmas.Option.{same_Some}
 use Rattle.texts.specs.Lines.{InputLine}
 use Rattle.net_model.specs.Network.{Plan, IsPlan}
 use Rattle.net_model.specs.ShownForm.{shown_form, shown_situation}
@@ -9,10 +8,8 @@ use Rattle.net_model.specs.declared.fault.BuildFault.TheVariants as part
 use Rattle.net_model.specs.declared.format.FormatKind.TheVariants as kind
 use Rattle.net_model.specs.declared.ids.PointId.{PointId}
 use Rattle.closure_model.specs.Tables.{Graph}
-use Rattle.strategy_model.specs.Control.{IsControllable, IsEarliest}
-use Rattle.strategy_model.specs.ShownSchedules.{shown_schedule}
+use Rattle.strategy_model.specs.Control.{IsControllable}
 use Rattle.strategy_model.specs.Situations.{Satisfies}
-use Rattle.strategy_model.proofs.ShownFormLemmas.{satisfies_as_shown}
 use Rattle.texts.specs.Limits.{most_line}
 use Rattle.plan_port.specs.Lines.{Comes, coming}
 use Rattle.event_stream.specs.EventText.{EventLine, blank, completed, done}
@@ -25,7 +22,6 @@ use Rattle.execution_model.specs.Streams.{Listing, IsFaithful, Fits}
 use Rattle.execution_model.specs.Timely.{fed_all}
 use Rattle.execution_model.specs.declared.feeding.Act.{Act}
 use Rattle.execution_model.specs.declared.feeding.Why.{Why}
-use Rattle.execution_model.proofs.ShownStreamLemmas.{streams_are_shown}
 use Rattle.execution_model.proofs.StreamLemmas.{done_shows}
 use Rattle.command_engine.specs.Inputs.{texts, room_after}
 use Rattle.command_engine.specs.Limits.{most_input}
@@ -39,6 +35,7 @@ use Rattle.event_execution.specs.EventFaults.{event_refusal, IsNextFault, HasEve
 use Rattle.event_execution.specs.Executing.{executing_machine}
 use Rattle.event_execution.specs.Handing.{Handing, as_named, Tells}
 use Rattle.event_execution.specs.ExecutionPromise.{PutsLast, IsRefusedBy, EndsRefused, ExecutionPromise}
+use Rattle.event_execution.specs.StatedDay.{PutsSoFarAsStated, PutsDayAsStated}
 use Rattle.common_answers.specs.Faults.{fault_end}
 use Rattle.common_answers.specs.VerdictLines.{controllable_line}
 use Rattle.plan_json.specs.declared.fault.JsonFault.TheVariants as json
@@ -50,6 +47,7 @@ use Rattle.event_execution.proofs.DueLemmas.{fed_by, due_answered}
 use Rattle.event_execution.proofs.EventLemmas.{at, EndsRefused as RefusesSo, one_refused, one_done, one_unfinished}
 use Rattle.event_execution.proofs.HandingLemmas.{told_within}
 use Rattle.event_execution.proofs.ReplyLemmas.{room_both}
+use Rattle.event_execution.proofs.StatedLemmas.{earliest_satisfies, so_far_stated, day_stated, refused_shown}
 
 -- a fault ends no run as one whose event is refused, or that is whole
 pub fault_ends_so : (fault : Fault) → (fault_end fault ≡ ends.Limit) ⊎ (fault_end fault ≡ ends.Fault)
@@ -114,12 +112,6 @@ pub record IsOpened (handing : Handing) (net : Plan) (used rest : List InputLine
   pub later : RunOver executing_machine (at net (started (setting_of net table)) handing (length used) (room_after most_input used)) rest more end
 
 module _ (laws : ExecutionLaws) where
-  -- the earliest schedule satisfies the network
-  pub earliest_satisfies : (net : Plan) (situation schedule : List ℕ) → IsEarliest net situation schedule → Satisfies net schedule
-  earliest_satisfies net situation schedule earliest =
-      let controls = earliest.controls situation earliest.is_situation in
-      subst (Satisfies net) (same_Some controls.0 schedule (sym controls.1 ∙ earliest.played)) controls.2
-
   -- ---- from the lines of an input
   module _ (opens : Opening) (input : List InputLine) (put : List ℕ) (end : End)
       (leads : (used rest : List InputLine) (net : Plan) (before : List ℕ) → input ≡ used ++ rest → opens.opens used rest net before → IsControllable net → IsOpened opens.handing net used rest before put end) where
@@ -265,21 +257,22 @@ module _ (laws : ExecutionLaws) where
     -- what is promised of the network as it is stated, by its shown form
     module _ (net : Plan) (listings : List Listing) (situation : List ℕ) (plan : IsPlan net) where
       puts_stated_so_far : (day : IsUnderway opens input (shown_form net) listings) (fits : FitsAsShown net (going_on listings) situation)
-          → PutsSoFar (shown_form net) (shown_schedule net fits.schedule) day.lines.before listings put
+          → PutsSoFarAsStated net fits.schedule day.lines.before listings put
       puts_stated_so_far day fits =
-          let (shown, same) = (streams_are_shown net (going_on listings) plan).fits situation fits in
-          subst (λ (schedule : List ℕ). PutsSoFar (shown_form net) schedule day.lines.before listings put) same
-          (puts_so_far (shown_form net) listings day (shown.earliest.strategy, shown.earliest.controls) (shown_situation net situation) shown)
+          let (shown, same) = (laws.streams net (going_on listings) plan).fits situation fits in
+          so_far_stated laws.streams laws.shown net plan fits.schedule day.lines.before listings put
+          (subst (λ (schedule : List ℕ). PutsSoFar (shown_form net) schedule day.lines.before listings put) same
+          (puts_so_far (shown_form net) listings day (shown.earliest.strategy, shown.earliest.controls) (shown_situation net situation) shown))
 
       puts_stated_day : (day : IsDay opens input (shown_form net) listings done) (fits : FitsAsShown net (ended listings) situation)
-          → Satisfies net fits.schedule × PutsDay (shown_form net) (shown_schedule net fits.schedule) day.underway.lines.before listings put end
+          → Satisfies net fits.schedule × PutsDayAsStated net fits.schedule day.underway.lines.before listings put end
       puts_stated_day day fits =
-          let (shown, same) = (streams_are_shown net (ended listings) plan).fits situation fits in
+          let (shown, same) = (laws.streams net (ended listings) plan).fits situation fits in
           let controls : IsControllable (shown_form net) = (shown.earliest.strategy, shown.earliest.controls) in
-          let satisfies = earliest_satisfies (shown_form net) (shown_situation net situation) shown.schedule shown.earliest in
           let puts = puts_day (shown_form net) listings day.underway controls day.last day.others day.next day.comes day.tells (shown_situation net situation) shown in (
-            (satisfies_as_shown net fits.schedule plan).1 (subst (Satisfies (shown_form net)) same satisfies),
-            subst (λ (schedule : List ℕ). PutsDay (shown_form net) schedule day.underway.lines.before listings put end) same puts,
+            earliest_satisfies net situation fits.schedule fits.earliest,
+            day_stated laws.streams laws.shown net plan fits.schedule day.underway.lines.before listings put end
+                (subst (λ (schedule : List ℕ). PutsDay (shown_form net) schedule day.underway.lines.before listings put end) same puts),
           )
 
     pub execution_keeps : ExecutionPromise opens input put end
@@ -292,7 +285,11 @@ module _ (laws : ExecutionLaws) where
       refuses = refuses_by;
       faulty = λ fault has.
           fault_next has.net has.listings has.underway has.controllable (fed_over has.net has.listings has.underway has.controllable has.faithful) fault has.next;
-      stated = record { underway = puts_stated_so_far; executes = puts_stated_day };
+      stated = record {
+        underway = puts_stated_so_far;
+        executes = puts_stated_day;
+        refuses = λ net plan refused. refuses_by (refused_shown laws.streams laws.shown net plan opens input refused);
+      };
     }
 
   -- ---- to the lines of an input

@@ -8,5 +8,6 @@ pub mod EventLemmas
 pub mod CourseLemmas
 pub mod DueLemmas
 pub mod DayLemmas
+pub mod StatedLemmas
 pub mod ExecutionLemmas
 mod SizeLemmas

@@ -94,32 +94,43 @@ pub record IsWholeDay (opens : Opening) (input : List InputLine) (net : Plan) (l
   pub controllable : IsControllable net
   pub faithful : IsFaithful net (ended listings)
 
--- what is put by a schedule for listings after others: for each its acts of the schedule since the one before, and the next due moment
-abbrev pub PutsListings : Plan → List ℕ → (before : List Listing) → List Listing → List ℕ → Type 0
-PutsListings net schedule before [] put = put ≡ []
-PutsListings net schedule before (listing ∷ others) put =
-    (due : Option ℕ) × (more : List ℕ) × AnswersDue net (before ++ listing ∷ []) due
+-- what is put by a schedule for listings after others, where due moments are answered so: for each its acts of the schedule since the one
+-- before, and the next due moment
+abbrev pub PutsListingsBy : (dues : List Listing → Option ℕ → Type 0) → Plan → List ℕ → (before : List Listing) → List Listing → List ℕ → Type 0
+PutsListingsBy dues net schedule before [] put = put ≡ []
+PutsListingsBy dues net schedule before (listing ∷ others) put =
+    (due : Option ℕ) × (more : List ℕ) × dues (before ++ listing ∷ []) due
     × (put ≡ acts_text net (scheduled net schedule (moment_after before) (suc listing.moment - moment_after before)) ++ (due_line due ++ more))
-    × PutsListings net schedule (before ++ listing ∷ []) others more
+    × PutsListingsBy dues net schedule (before ++ listing ∷ []) others more
 
 -- what is put for a stream so far by a schedule, after what was put before: that the network is controllable, the first due moment, and
 -- then the acts of the schedule up to each listing
-pub record PutsSoFar (net : Plan) (schedule before : List ℕ) (listings : List Listing) (put : List ℕ) : Type 0 where
+pub record PutsSoFarBy (dues : List Listing → Option ℕ → Type 0) (net : Plan) (schedule before : List ℕ) (listings : List Listing) (put : List ℕ) : Type 0 where
   pub first : Option ℕ
   pub said : List ℕ
   pub more : List ℕ
-  pub due : AnswersDue net [] first
-  pub listed : PutsListings net schedule [] listings said
+  pub due : dues [] first
+  pub listed : PutsListingsBy dues net schedule [] listings said
   pub all : put ≡ before ++ (controllable_line ++ (due_line first ++ (said ++ more)))
 
 -- what is put for a whole day by a schedule, after what was put before: that the network is controllable, the acts of the schedule up to
 -- each listing, those that remain after the last one, and that the execution is complete
-pub record PutsDay (net : Plan) (schedule before : List ℕ) (listings : List Listing) (put : List ℕ) (end : End) : Type 0 where
+pub record PutsDayBy (dues : List Listing → Option ℕ → Type 0) (net : Plan) (schedule before : List ℕ) (listings : List Listing) (put : List ℕ) (end : End) : Type 0 where
   pub first : Option ℕ
   pub said : List ℕ
   pub count : ℕ
-  pub due : AnswersDue net [] first
-  pub listed : PutsListings net schedule [] listings said
+  pub due : dues [] first
+  pub listed : PutsListingsBy dues net schedule [] listings said
   pub whole : All (λ moment. moment < moment_after listings + count) schedule
   pub all : put ≡ before ++ (controllable_line ++ (due_line first ++ (said ++ (acts_text net (scheduled net schedule (moment_after listings) count) ++ complete_line))))
   pub ends : end ≡ Done
+
+-- these with the due moments of the network
+abbrev pub PutsListings : Plan → List ℕ → (before : List Listing) → List Listing → List ℕ → Type 0
+PutsListings net schedule before listings put = PutsListingsBy (AnswersDue net) net schedule before listings put
+
+abbrev pub PutsSoFar : Plan → (schedule before : List ℕ) → List Listing → (put : List ℕ) → Type 0
+PutsSoFar net schedule before listings put = PutsSoFarBy (AnswersDue net) net schedule before listings put
+
+abbrev pub PutsDay : Plan → (schedule before : List ℕ) → List Listing → (put : List ℕ) → End → Type 0
+PutsDay net schedule before listings put end = PutsDayBy (AnswersDue net) net schedule before listings put end

@@ -4,7 +4,6 @@ use Rattle.texts.specs.Lines.{InputLine}
 use Rattle.net_model.specs.Network.{Plan, IsPlan}
 use Rattle.net_model.specs.ShownForm.{shown_form}
 use Rattle.net_model.specs.declared.ids.PointId.{PointId}
-use Rattle.strategy_model.specs.ShownSchedules.{shown_schedule}
 use Rattle.strategy_model.specs.Situations.{Satisfies}
 use Rattle.event_stream.specs.EventText.{EventLine, blank, completed, done}
 use Rattle.execution_model.specs.Feeding.{Execution, taken, first_open}
@@ -14,10 +13,11 @@ use Rattle.execution_model.specs.Streams.{Listing, Fits}
 use Rattle.execution_model.specs.declared.feeding.Why.{Why}
 use Rattle.command_engine.specs.declared.endings.End.{End}
 use Rattle.command_engine.specs.declared.endings.End.TheVariants as ends
-use Rattle.event_execution.specs.Day.{Opening, IsUnderway, IsDay, IsWholeDay, IsRefusedDay, number_of, PutsSoFar, PutsDay}
+use Rattle.event_execution.specs.Day.{Opening, IsUnderway, IsDay, IsWholeDay, IsRefusedDay, next_number, number_of, PutsSoFar, PutsDay}
 use Rattle.event_execution.specs.Due.{IsFedBy}
 use Rattle.event_execution.specs.EventAnswers.{why_words, unfinished_words, event_line}
 use Rattle.event_execution.specs.EventFaults.{HasEventFault, event_refusal}
+use Rattle.event_execution.specs.StatedDay.{IsRefusedDayAsStated, PutsSoFarAsStated, PutsDayAsStated}
 use Rattle.common_answers.specs.Faults.{fault_end}
 use Rattle.common_answers.specs.declared.faults.Fault.{Fault}
 
@@ -49,13 +49,16 @@ EndsRefused refused put end = RefusesLine refused.net refused.listings refused.t
 -- What is promised of the executions of the shown form of a network that lines of an input open, of the network as it is stated. `underway`:
 -- while the stream goes on, and lists what is shown of the earliest schedule of a situation, the acts of this schedule are put. `executes`:
 -- where the stream is done, they are all put, and the schedule, in which each listed completion happened the delay before its listed moment,
--- satisfies the network. The acts of a schedule are those of it as it is shown.
+-- satisfies the network. `refuses`: the run ends by a refused event, with the number of its line and the cause in the shown form, where a line
+-- tells what is shown of no schedule that shows what the lines before it tell.
 pub record KeepsAsStated (opens : Opening) (input : List InputLine) (put : List ℕ) (end : End) : Type 0 where
   pub underway : (net : Plan) (listings : List Listing) (situation : List ℕ) → IsPlan net → (day : IsUnderway opens input (shown_form net) listings)
-      → (fits : FitsAsShown net (going_on listings) situation) → PutsSoFar (shown_form net) (shown_schedule net fits.schedule) day.lines.before listings put
+      → (fits : FitsAsShown net (going_on listings) situation) → PutsSoFarAsStated net fits.schedule day.lines.before listings put
   pub executes : (net : Plan) (listings : List Listing) (situation : List ℕ) → IsPlan net → (day : IsDay opens input (shown_form net) listings done)
       → (fits : FitsAsShown net (ended listings) situation)
-      → Satisfies net fits.schedule × PutsDay (shown_form net) (shown_schedule net fits.schedule) day.underway.lines.before listings put end
+      → Satisfies net fits.schedule × PutsDayAsStated net fits.schedule day.underway.lines.before listings put end
+  pub refuses : (net : Plan) → IsPlan net → (refused : IsRefusedDayAsStated opens input net)
+      → RefusesLine (shown_form net) refused.listings refused.told (next_number refused.day.underway.lines) put end
 
 -- What is promised of the executions that lines of an input open. `underway`: while the stream goes on and is faithful, the acts of the
 -- earliest schedule of the situation that the stream fits are put, whatever comes after. `executes`: for a controllable network and a

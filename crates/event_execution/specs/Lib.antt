@@ -5,5 +5,6 @@ pub mod Executing
 pub mod Begin
 pub mod Due
 pub mod Day
+pub mod StatedDay
 pub mod EventFaults
 pub mod ExecutionPromise

@@ -28,14 +28,15 @@ use Rattle.event_execution.specs.EventFaults.{HasEventFault}
 use Rattle.event_execution.specs.Executing.{executing_machine}
 use Rattle.common_answers.specs.Faults.{refusing, fault_end}
 use Rattle.plan_inputs.specs.PlanInput.{input_begun, input_reader, plan_in}
-use Rattle.run_command.specs.RunPromise.{OpensExecution, plan_opens, RunPromise}
+use Rattle.run_command.specs.RunPromise.{EndsAsDeclared, OpensExecution, plan_opens, plan_states, RunPromise}
 use Rattle.run_command.specs.Running.{RunForm, run_begins, run_machine, run_start}
 use Rattle.common_answers.specs.VerdictLines.{controllable_line, PutsRefuted}
 use Rattle.common_answers.specs.declared.faults.Fault.{Fault}
 use Rattle.event_execution.proofs.DayLemmas.{ExecutionLaws}
 use Rattle.event_execution.proofs.DueLemmas.{due_answered}
 use Rattle.event_execution.proofs.ExecutionLemmas.{OpenedBy, IsOpened, Lasts, lasts, execution_keeps, whole_by, refused_so, fault_so, fault_not}
-use Rattle.plan_inputs.proofs.PlanInputLemmas.{input_by}
+use Rattle.event_execution.proofs.StatedLemmas.{ShowsStated, refused_as_stated, whole_as_stated}
+use Rattle.plan_inputs.proofs.PlanInputLemmas.{input_by, input_sound}
 
 module _ (asked : RunForm) where
   -- ---- what follows on the reading of a plan
@@ -174,6 +175,20 @@ module _ (asked : RunForm) where
           by (refuted_network is) = absurd (cc (is, refused))
           by (lasted one) = refused_so laws (plan_opens asked) (input_lines input) put end one refused one.ending.decided
 
+      -- so of the network that is declared
+      stating : (used rest : List InputLine) (net : Plan) (before : List ℕ) → input_lines input ≡ used ++ rest → (plan_opens asked).opens used rest net before
+          → ShowsStated (plan_states asked) used rest net
+      stating used rest net before divided (stated, declares, as_shown, nothing) =
+          record { stated = stated; sound = input_sound asked.form _ stated _ declares.declared; has = declares; same = as_shown }
+
+      declared_by : EndsAsDeclared asked (input_lines input) end
+      declared_by = record {
+        completes = λ whole.
+            let (net, listings, day) = completes_by whole in
+            whole_as_stated laws.streams laws.shown (plan_opens asked) (input_lines input) (plan_states asked) stating net listings day;
+        refused = λ refused. refused_as_stated laws.streams laws.shown (plan_opens asked) (input_lines input) (plan_states asked) stating (refused_by_day refused);
+      }
+
       faults_by : (end ≡ ends.Fault) ⊎ (end ≡ ends.Limit)
           → (fault : Fault) × (IsFirstRefusal (plan_in asked.form) (input_lines input) fault ⊎ HasEventFault (plan_opens asked) (input_lines input) fault)
       faults_by so = by how_ended
@@ -202,4 +217,5 @@ module _ (asked : RunForm) where
           completes = completes_by input put end follows;
           refused = refused_by_day input put end follows;
           faults = faults_by input put end follows;
+          declared = declared_by input put end follows;
         }

@@ -119,6 +119,8 @@ impl Promising for Run {
         execution_laws::ends_are_earliest();
         execution_laws::acts_are_earliest();
         execution_laws::last_acts_are_earliest();
+        execution_laws::streams_are_shown();
+        execution_laws::acts_are_shown();
     }
 
     fn ends_by_its_causes() {}

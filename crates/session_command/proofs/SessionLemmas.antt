@@ -34,10 +34,11 @@ use Rattle.event_execution.specs.Day.{IsWholeDay, IsRefusedDay}
 use Rattle.event_execution.specs.EventFaults.{HasEventFault}
 use Rattle.event_execution.specs.Executing.{executing_machine}
 use Rattle.event_execution.specs.ExecutionPromise.{PutsLast}
+use Rattle.event_execution.specs.StatedDay.{HasStatedWholeDay}
 use Rattle.common_answers.specs.Faults.{refusing, fault_line, fault_end}
 use Rattle.plan_inputs.specs.PlanInput.{input_begun, input_reader, plan_in}
 use Rattle.session_command.specs.SessionAnswers.{ready_line}
-use Rattle.session_command.specs.SessionPromise.{TellSteps, IsEdited, IsNext, SaysSteps, SaysAll, SaysFirst, OpensByGo, session_opens, IsStepFault, HasStepFault, PutsReady, PutsFirstDue, IsWholeSession, SessionPromise, SaysWhole}
+use Rattle.session_command.specs.SessionPromise.{EndsAsStated, TellSteps, IsEdited, IsNext, SaysSteps, SaysAll, SaysFirst, OpensByGo, StatesByGo, session_opens, IsStepFault, HasStepFault, PutsReady, PutsFirstDue, IsWholeSession, SessionPromise, SaysWhole}
 use Rattle.session_command.specs.Sessions.{net_of, OpensOn, session_begins, session_machine, session_start, command_machine}
 use Rattle.session_command.specs.Standing.{Standing}
 use Rattle.common_answers.specs.ToRead.{Come}
@@ -50,6 +51,7 @@ use Rattle.event_execution.proofs.DayLemmas.{ExecutionLaws}
 use Rattle.event_execution.proofs.DueLemmas.{due_answered}
 use Rattle.event_execution.proofs.EventLemmas.{at}
 use Rattle.event_execution.proofs.ExecutionLemmas.{Opened, IsOpened, Lasts, lasts, execution_keeps, whole_by, refused_so, fault_so, fault_not, fault_ends_so}
+use Rattle.event_execution.proofs.StatedLemmas.{ShowsStated, refused_as_stated, whole_as_stated}
 use Rattle.plan_inputs.proofs.PlanInputLemmas.{input_by, input_sound}
 use Rattle.event_execution.proofs.ReplyLemmas.{come_first, come_then, come_both, room_both}
 use Rattle.session_command.proofs.SessionLines.{at_edit, EndsSession, HowEnds, at_end, by_fault, by_go, session_ends, over_steps, step_fault, end_there, go_there, StillEdited, still_edited, sound_then}
@@ -221,21 +223,57 @@ module _ (form : PlanForm) where
           let ended = step_fault steps so.rest one.last (length (so.plan ++ so.edits)) (room_after most_input (so.plan ++ so.edits)) one.more end fault has.next one.later in
           ((ready_line ++ one.said, one.all ∙ ap (λ (m : List ℕ). (ready_line ++ one.said) ++ m) ended.0), ended.1)
 
-      -- `go` on a controllable network opens its execution
-      leads : (used rest : List InputLine) (net : Plan) (before : List ℕ) → input_lines input ≡ used ++ rest → (session_opens form).opens used rest net before → IsControllable net → IsOpened as_named net used rest before put end
-      leads used rest net before divided opens controls =
-          let so : IsEdited form (input_lines input) opens.first opens.stated opens.steps = record {
+      -- ---- what `go` opens
+      module _ (used rest : List InputLine) (net : Plan) (before : List ℕ) (divided : input_lines input ≡ used ++ rest) (opens : OpensByGo form used rest net before) where
+        abbrev edited_so : IsEdited form (input_lines input) opens.first opens.stated opens.steps
+        edited_so = record {
+          plan = opens.plan;
+          edits = opens.edits;
+          rest = opens.go ∷ rest;
+          divided = divided ∙ (ap (λ (ls : List InputLine). ls ++ rest) opens.divided ∙ go_divides opens.plan opens.edits opens.go rest);
+          declares = opens.declares;
+          come = come_first (room_after most_input opens.plan) opens.edits (opens.go ∷ []) opens.come;
+          tell = opens.tell;
+        }
+
+        abbrev stood_so : Stood opens.first opens.stated opens.steps opens.plan opens.edits (opens.go ∷ rest)
+        stood_so = stood opens.first opens.stated opens.steps edited_so
+
+        -- the network as it stands is sound
+        sound_so : IsPlan (net_of stood_so.last)
+        sound_so =
+            let first_sound = input_sound form _ opens.first _ opens.declares.declared in
+            sound_then stood_so.opened opens.steps stood_so.said stood_so.last stood_so.says (subst IsPlan (sym (opens_net opens.first stood_so.opened stood_so.opens)) first_sound)
+
+        stated_sound : IsPlan opens.stated
+        stated_sound = subst IsPlan stood_so.stands sound_so
+
+        stated_by_go : StatesByGo form used rest opens.stated
+        stated_by_go = (
+          before,
+          record {
+            first = opens.first;
+            stated = opens.stated;
+            as_shown = refl;
+            steps = opens.steps;
             plan = opens.plan;
             edits = opens.edits;
-            rest = opens.go ∷ rest;
-            divided = divided ∙ (ap (λ (ls : List InputLine). ls ++ rest) opens.divided ∙ go_divides opens.plan opens.edits opens.go rest);
+            go = opens.go;
+            divided = opens.divided;
             declares = opens.declares;
-            come = come_first (room_after most_input opens.plan) opens.edits (opens.go ∷ []) opens.come;
+            come = opens.come;
             tell = opens.tell;
-          } in
-          let one = stood opens.first opens.stated opens.steps so in
-          let first_sound = input_sound form _ opens.first _ opens.declares.declared in
-          let sound = sound_then one.opened opens.steps one.said one.last one.says (subst IsPlan (sym (opens_net opens.first one.opened one.opens)) first_sound) in
+            goes = opens.goes;
+            says = opens.says;
+          },
+          refl,
+        )
+
+      -- on a controllable network it opens its execution
+      leads : (used rest : List InputLine) (net : Plan) (before : List ℕ) → input_lines input ≡ used ++ rest → (session_opens form).opens used rest net before → IsControllable net → IsOpened as_named net used rest before put end
+      leads used rest net before divided opens controls =
+          let one = stood_so used rest net before divided opens in
+          let sound = sound_so used rest net before divided opens in
           let comes : coming most_line (room_after most_input (opens.plan ++ opens.edits)) opens.go ≡ Comes =
           subst (λ (r : ℕ). coming most_line r opens.go ≡ Comes) (sym (room_both most_input opens.plan opens.edits)) (come_then (room_after most_input opens.plan) opens.edits (opens.go ∷ []) opens.come).0 in
           let begins =
@@ -360,6 +398,27 @@ module _ (form : PlanForm) where
           by (faulty_step fault has is) = absurd (fault_not fault end is (inl refused))
           by (lasted one) = refused_so laws (session_opens form) (input_lines input) put end one refused one.ending.decided
 
+      -- so of the network as it stands at `go`
+      stating : (used rest : List InputLine) (net : Plan) (before : List ℕ) → input_lines input ≡ used ++ rest → (session_opens form).opens used rest net before
+          → ShowsStated (StatesByGo form) used rest net
+      stating used rest net before divided opens = record {
+        stated = opens.stated;
+        sound = stated_sound used rest net before divided opens;
+        has = stated_by_go used rest net before divided opens;
+        same = opens.as_shown;
+      }
+
+      stated_by : EndsAsStated form (input_lines input) end
+      stated_by = record {
+        completes = λ whole. by (completes_by whole);
+        refused = λ refused. refused_as_stated laws.streams laws.shown (session_opens form) (input_lines input) (StatesByGo form) stating (refused_by refused);
+      }
+        where
+          by : IsWholeSession form (input_lines input) ⊎ ((net : Plan) × (listings : List Listing) × IsWholeDay (session_opens form) (input_lines input) net listings)
+              → IsWholeSession form (input_lines input) ⊎ HasStatedWholeDay (session_opens form) (StatesByGo form) (input_lines input)
+          by (inl whole) = inl whole
+          by (inr (net, listings, day)) = inr (whole_as_stated laws.streams laws.shown (session_opens form) (input_lines input) (StatesByGo form) stating net listings day)
+
       faults_by : (end ≡ ends.Fault) ⊎ (end ≡ ends.Limit)
           → (fault : Fault) × (IsFirstRefusal (plan_in form) (input_lines input) fault ⊎ (HasStepFault form (input_lines input) fault ⊎ HasEventFault (session_opens form) (input_lines input) fault))
       faults_by so = by how_ended
@@ -404,6 +463,7 @@ module _ (form : PlanForm) where
           refused = refused_by input put end follows;
           faults = faults_by input put end follows;
           never_refuted = never_refuted_by input put end follows;
+          stated = stated_by input put end follows;
         }
 
   -- ---- where memory was wanted

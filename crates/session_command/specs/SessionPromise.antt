@@ -26,6 +26,7 @@ use Rattle.event_execution.specs.Due.{AnswersDue}
 use Rattle.event_execution.specs.EventAnswers.{due_line}
 use Rattle.event_execution.specs.EventFaults.{HasEventFault}
 use Rattle.event_execution.specs.ExecutionPromise.{PutsLast, ExecutionPromise}
+use Rattle.event_execution.specs.StatedDay.{HasStatedRefusal, HasStatedWholeDay}
 use Rattle.common_answers.specs.Faults.{refusing, fault_line, fault_end}
 use Rattle.plan_inputs.specs.PlanInput.{plan_in}
 use Rattle.command_frame.specs.Programs.{Program, Promise, serves}
@@ -141,6 +142,10 @@ module _ (form : PlanForm) where
   abbrev pub session_opens : Opening
   session_opens = record { handing = as_named; opens = λ used rest net before. OpensByGo used rest net before }
 
+  -- these lines state this network, as it stands at `go`
+  abbrev pub StatesByGo : (used rest : List InputLine) → Plan → Type 0
+  StatesByGo used rest net = (before : List ℕ) × (opens : OpensByGo used rest (shown_form net) before) × (opens.stated ≡ net)
+
   -- the lines of a session have a fault after those that tell steps
   pub record HasStepFault (input : List InputLine) (fault : Fault) : Type 0 where
     pub first : Plan
@@ -154,6 +159,13 @@ module _ (form : PlanForm) where
   abbrev pub IsWholeSession : List InputLine → Type 0
   IsWholeSession input = (first : Plan) × (net : Plan) × (steps : List Step) × IsNext input first net steps step.End
 
+  -- How a session ends, of the network as it stands at `go`, with its delay. `completes`: as done only at `end`, or where the lines of events
+  -- list all that is shown of the earliest schedule of a situation, which satisfies this network. `refused`: by a refused event only where a
+  -- line tells what is shown of no schedule of it that shows what the lines before it tell.
+  pub record EndsAsStated (input : List InputLine) (end : End) : Type 0 where
+    pub completes : end ≡ ends.Done → IsWholeSession input ⊎ HasStatedWholeDay session_opens StatesByGo input
+    pub refused : end ≡ ends.EventRefused → HasStatedRefusal session_opens StatesByGo input
+
   -- What `session` promises. `opens`: it puts that the session is ready for the network that the input declares, or the first refusal of
   -- the input. `says`: each line is answered by the network as it stands after the accepted edits before it, whatever comes after.
   -- `closes`: at `end` it ends as done, and has put no more than these answers. `begins`: at `go`, where some strategy controls the network
@@ -161,7 +173,8 @@ module _ (form : PlanForm) where
   -- execution that `go` opens, of the network as it stands. `faulty`: it ends by a fault, with its line, where its lines have one.
   -- `completes`: only at `end`, or after a faithful stream of a controllable network that is done, does it end as done. `refused`: only where
   -- a line of events tells what no faithful stream does does it end by a refused event. `faults`: only where the input has a first refusal,
-  -- or its lines a fault, does it end by one. `never_refuted`: in no other way does it end.
+  -- or its lines a fault, does it end by one. `never_refuted`: in no other way does it end. `stated`:
+  -- `completes` and `refused` of the network as it stands at `go`.
   pub record SessionPromise (input put : List ℕ) (end : End) : Type 0 where
     pub opens : AnswersText (plan_in form) refusing PutsReady input put end
     pub says : (first net : Plan) (steps : List Step) → IsEdited (input_lines input) first net steps → SaysFirst first steps put
@@ -175,6 +188,7 @@ module _ (form : PlanForm) where
     pub faults : (end ≡ ends.Fault) ⊎ (end ≡ ends.Limit)
         → (fault : Fault) × (IsFirstRefusal (plan_in form) (input_lines input) fault ⊎ (HasStepFault (input_lines input) fault ⊎ HasEventFault session_opens (input_lines input) fault))
     pub never_refuted : ¬ (end ≡ ends.Refused)
+    pub stated : EndsAsStated (input_lines input) end
 
   -- What may have been put where memory was wanted: the answers to whole lines, none of which began an execution.
   pub record SaysWhole (input put : List ℕ) : Type 0 where

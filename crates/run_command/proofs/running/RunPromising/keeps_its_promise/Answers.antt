@@ -9,4 +9,6 @@ returns c = λ form. run_keeps form (record {
   ends = c.ends_are_earliest.ensures;
   acts = c.acts_are_earliest.ensures;
   last = c.last_acts_are_earliest.ensures;
+  streams = c.streams_are_shown.ensures;
+  shown = c.acts_are_shown.ensures;
 })
