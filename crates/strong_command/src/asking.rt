@@ -14,6 +14,7 @@ use net_model::Network;
 use plan_inputs::{Delay, PlanForm, PlanNetwork};
 use std::alloc::{AllocError, Global};
 use std::thread::Threads;
+use strong_plan::laws::plan_numbers_are_shown;
 use strong_plan::{Strong, strong};
 
 /// What strong schedule a network has, as it is stated: the command `strong` reads a plan, and puts its least strong schedule, or that it has
@@ -83,6 +84,7 @@ fn put_strong(alloc: Global, answer: &mut Answer, net: &Network) -> Result<End, 
     requires numbers { HasPlanNumbers net.now }
     ensures { IfOk result (PutsStrong net.now answer.new.text) }
 {
+    plan_numbers_are_shown();
     match strong(alloc, net)? {
         Strong::Times(times) => put_schedule(alloc, answer, net, times.as_slice()),
         Strong::Refuted(cert) => put_refutation(alloc, answer, &cert),
