@@ -9,6 +9,7 @@ use net_model::Network;
 use std::alloc::{AllocError, Global};
 use std::process::Abort;
 use std::test::Fail;
+use strong_plan::laws::plan_numbers_are_shown;
 use strong_plan::{Strong, StrongJudgement, judge_strong, strong};
 
 /// The lines of a plan and its answer: the moments of the executable points, or the certificate; `|` stands for a line end. In the two
@@ -69,6 +70,7 @@ fn certificate<R: Abort>(
 
 fn try_plan<R: Abort>(rt: &R, alloc: Global, lines: &str) -> Result<Vec<u8>, Fail> {
     let net = network(alloc, lines)?;
+    plan_numbers_are_shown();
     let answer = strong(alloc, &net)?;
     Ok(printed(rt, alloc, &net, &answer)?)
 }

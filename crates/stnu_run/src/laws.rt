@@ -2,7 +2,8 @@
 
 ghost use Rattle.std.specs.Prelude.{◌≡◌, ℕ, List, ◌∷◌, ◌++◌, codes, false};
 ghost use Rattle.std.specs.Str.{bytes_eq};
-ghost use Rattle.stnu_run.specs.DefinedRuns.{AreOfOneAnswer, DefinedRun, program_named, program_of, strong_word};
+ghost use Rattle.stnu_run.specs.DefinedRuns.{AreOfOneAnswer, AreOneButRefutations, DefinedRun, IsFrontOfOneButRefutations, program_named, program_of, strong_word};
+ghost use Rattle.command_frame.specs.ExactBytes.{IsFrontOfDefined};
 ghost use Rattle.command_frame.specs.Programs.{DefineSame, DefineSameWhereTaken, DefinesOne, HasOneReply, RunsEndByCause, TellsOne};
 ghost use Rattle.stnu_run.specs.WordLaws.{AreTaken, SameRuns};
 ghost use Rattle.command_frame.specs.Workers.{SpellsWorkers};
@@ -17,17 +18,21 @@ use play_command::{forge_is_lawful, play_is_lawful};
 use run_command::{feeders_decide_nothing, run_is_lawful};
 use session_command::session_is_lawful;
 use show_command::show_is_lawful;
-use strong_command::strong_is_lawful;
+use strong_command::{strong_defines_one_but_refutations, strong_is_lawful};
 
-/// For given words, but those of `strong`, and a given input at most one pair of bytes and status stands in the defined run, and to each
-/// line, and where none comes, the command of the words has at most one reply. Of a network without a strong schedule `strong` may put any
-/// refutation.
+/// For given words and a given input just one status stands in the defined runs, and one pair of bytes and status, but where the words are
+/// those of `strong` and the network of the input has no strong schedule: of such a one it may put any refutation. What is a front of what is
+/// put is a front of all that is defined, but there, where it is a front of a defined run that says so too. To each line, and where none
+/// comes, each command but `strong` has at most one reply.
 pub fn defined_run_is_one()
     ensures one { (words : List (List ℕ)) (input a b : List ℕ) (x y : Status)
-        → AreOfOneAnswer words → DefinedRun words input a x → DefinedRun words input b y → (a ≡ b) × (x ≡ y) }
+        → DefinedRun words input a x → DefinedRun words input b y → (x ≡ y) × AreOneButRefutations words input a b }
+    ensures fronts { (words : List (List ℕ)) (input put all : List ℕ) (status : Status)
+        → IsFrontOfDefined (program_of words) input put → DefinedRun words input all status → IsFrontOfOneButRefutations words input put all status }
     ensures single { (words : List (List ℕ)) → AreOfOneAnswer words → HasOneReply (program_of words) }
 {
     each_defines_one();
+    strong_defines_one_but_refutations();
 }
 
 /// Whatever the words are, without an input their program defines at most one answer, and each run of its command ends by the causes in

@@ -9,11 +9,11 @@ use Rattle.command_frame.proofs.WorkersLemmas.{asks, meant}
 use Rattle.command_words.specs.Arguments.{is_given}
 use Rattle.plan_inputs.specs.PlanInput.{in_notation, json_name, notation_by}
 use Rattle.plan_inputs.specs.declared.plan_input.PlanForm.{PlanForm}
-use Rattle.strong_command.specs.Asking.{PutsStrong, SayStrong, strong_asked, strong_syntax}
+use Rattle.strong_command.specs.Asking.{PutsStrongly, SayStrong, strong_asked, strong_syntax}
 use Rattle.strong_command.specs.declared.asking.AskStrong.{AskStrong}
 
-pub answer_ends : (net : Plan) (put : List ℕ) (end : End) → PutsStrong net put end → IsAnswer end
-answer_ends net put end (inl schedule) = subst IsAnswer (sym schedule.done) tt
+pub answer_ends : (net : Plan) (put : List ℕ) (end : End) → PutsStrongly net put end → IsAnswer end
+answer_ends net put end (inl schedule) = subst IsAnswer (sym schedule.1.done) tt
 answer_ends net put end (inr refutation) = subst IsAnswer (sym refutation.refused) tt
 
 pub strong_exactly : (words : List Text) (asked : AskStrong) → asked_by strong_syntax strong_asked words ≡ Some asked ↔ SayStrong asked words

@@ -6,7 +6,9 @@ use Rattle.net_model.specs.Network.{Plan}
 use Rattle.net_model.specs.NetworkParts.{point_name}
 use Rattle.cert_format.specs.StrongWords.{printed_strong}
 use Rattle.cert_format.specs.declared.strong_cert.StrongCert.{StrongCert}
-use Rattle.strong_plan.specs.Strong.{executable_points, IsLeastStrongSchedule}
+use Rattle.strong_plan.specs.Strong.{executable_points, IsLeastStrongSchedule, IsStronglyControllable}
+use Rattle.strategy_model.specs.Control.{IsControllable}
+use Rattle.texts.specs.Lines.{lines}
 use Rattle.strong_plan.specs.Answers.{IsRefutation}
 use Rattle.command_words.specs.Arguments.{Arguments, flag_at, is_given}
 use Rattle.command_words.specs.Spelling.{Use, Says}
@@ -58,10 +60,17 @@ pub record PutsRefutation (net : Plan) (put : List ℕ) (end : End) : Type 0 whe
 abbrev pub PutsStrong : Plan → List ℕ → End → Type 0
 PutsStrong net put end = PutsSchedule net put end ⊎ PutsRefutation net put end
 
--- What `strong` promises: it puts the least strong schedule of the network that the input declares, or that it has none and a refutation;
--- or the first refusal of the input.
-abbrev pub StrongPromise : AskStrong → (input put : List ℕ) → End → Type 0
-StrongPromise asked input put end = AnswersText (plan_in asked.form) refusing PutsStrong input put end
+-- the answer in the words of the subject: where a schedule is put some strategy controls the network too
+abbrev pub PutsStrongly : Plan → List ℕ → End → Type 0
+PutsStrongly net put end = (IsControllable net × PutsSchedule net put end) ⊎ PutsRefutation net put end
+
+-- What `strong` promises. `answers`: it puts the least strong schedule of the network that the input declares, or that it has none and a
+-- refutation; or the first refusal of the input. `strongly`, `never`: where it puts first that a network is strongly controllable, or is not,
+-- that of the input is so; in the first case some strategy controls it too.
+pub record StrongPromise (asked : AskStrong) (input put : List ℕ) (end : End) : Type 0 where
+  pub answers : AnswersText (plan_in asked.form) refusing PutsStrongly input put end
+  pub strongly : (more : List ℕ) → put ≡ strong_line ++ more → (net : Plan) (rest : List (List ℕ)) → (plan_in asked.form).declares (lines input) net rest → IsStronglyControllable net × IsControllable net
+  pub never : (more : List ℕ) → put ≡ not_strong_line ++ more → (net : Plan) (rest : List (List ℕ)) → (plan_in asked.form).declares (lines input) net rest → ¬ IsStronglyControllable net
 
 -- `strong` takes the notation of the plan, which has its own delay
 abbrev pub strong_syntax : Syntax

@@ -3,7 +3,7 @@
 ghost use Rattle.std.specs.Prelude.{◌≡◌, ◌++◌, [], IfOk};
 ghost use Rattle.net_model.specs.Network.{HasPlanNumbers};
 ghost use Rattle.cert_format.specs.StrongWords.{HasStrongWeights, OfOneKind, printed_strong};
-ghost use Rattle.strong_command.specs.Asking.{PutsStrong, StrongPromise, executable_names, not_strong_line, strong_asked, strong_line, strong_syntax, times_text};
+ghost use Rattle.strong_command.specs.Asking.{PutsStrong, PutsStrongly, StrongPromise, executable_names, not_strong_line, strong_asked, strong_line, strong_syntax, times_text};
 
 use crate::times::{executable_names, push_times};
 use cert_format::{StrongCert, print_strong};
@@ -14,6 +14,7 @@ use net_model::Network;
 use plan_inputs::{Delay, PlanForm, PlanNetwork};
 use std::alloc::{AllocError, Global};
 use std::thread::Threads;
+use strong_plan::laws::{plan_numbers_are_shown, strong_is_controllable};
 use strong_plan::{Strong, strong};
 
 /// What strong schedule a network has, as it is stated: the command `strong` reads a plan, and puts its least strong schedule, or that it has
@@ -62,7 +63,7 @@ impl Request for AskStrong {
 impl PlanQuestion for AskStrong {
     ghost form = { λ asked. asked.form };
 
-    ghost puts = { λ asked net number. PutsStrong net };
+    ghost puts = { λ asked net number. PutsStrongly net };
 
     ghost promised = { StrongPromise };
 
@@ -70,7 +71,9 @@ impl PlanQuestion for AskStrong {
         self.form
     }
 
-    fn puts_the_answer() {}
+    fn puts_the_answer() {
+        strong_is_controllable();
+    }
 
     fn answers_keep_it() {}
 
@@ -83,6 +86,7 @@ fn put_strong(alloc: Global, answer: &mut Answer, net: &Network) -> Result<End, 
     requires numbers { HasPlanNumbers net.now }
     ensures { IfOk result (PutsStrong net.now answer.new.text) }
 {
+    plan_numbers_are_shown();
     match strong(alloc, net)? {
         Strong::Times(times) => put_schedule(alloc, answer, net, times.as_slice()),
         Strong::Refuted(cert) => put_refutation(alloc, answer, &cert),

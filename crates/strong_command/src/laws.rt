@@ -6,6 +6,7 @@ ghost use Rattle.strong_command.specs.Asking.{SayStrong, strong_asked, strong_sy
 ghost use Rattle.strong_command.specs.declared.asking.AskStrong.{AskStrong};
 ghost use Rattle.command_frame.specs.Programs.{RunsEndByCause};
 ghost use Rattle.command_frame.specs.Workers.{WorkersDecideNothing};
+ghost use Rattle.strong_command.specs.OneAnswer.{DefinesOneButRefutations, FrontsAreOfOneButRefutations};
 
 use crate::asking::AskStrong;
 use command_frame::{Promising, Request};
@@ -23,4 +24,13 @@ pub fn strong_is_lawful()
     AskStrong::keeps_its_promise();
     AskStrong::ends_by_its_causes();
     AskStrong::workers_decide_nothing();
+}
+
+/// For an input `strong` defines one exit status, and the same bytes but where both say that the network has no strong schedule. A front of
+/// what it puts is a front of all that it defines, but there, where it is a front of something that says so too.
+pub fn strong_defines_one_but_refutations()
+    ensures one { (asked : AskStrong) → DefinesOneButRefutations asked }
+    ensures fronts { (asked : AskStrong) → FrontsAreOfOneButRefutations asked }
+{
+    AskStrong::keeps_its_promise();
 }

@@ -6,4 +6,4 @@ mod laws;
 mod times;
 
 pub use asking::AskStrong;
-pub use laws::{strong_is_lawful, strong_is_read_exactly};
+pub use laws::{strong_defines_one_but_refutations, strong_is_lawful, strong_is_read_exactly};

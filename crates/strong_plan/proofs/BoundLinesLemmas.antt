@@ -7,7 +7,7 @@ use Rattle.std.proofs.lemmas.Int.{ints}
 use Rattle.std.proofs.lemmas.Bool.{le-leb}
 use Rattle.std.proofs.lemmas.Option.{slice_get-get_or}
 use Rattle.net_model.specs.Limits.{most_weight}
-use Rattle.net_model.specs.Network.{Plan, IsPlan, HasPlanNumbers, point_named}
+use Rattle.net_model.specs.Network.{Plan, IsPlan, point_named}
 use Rattle.net_model.specs.NetworkParts.{point_name}
 use Rattle.net_model.specs.declared.ids.PointId.{PointId}
 use Rattle.net_model.specs.declared.part.Bound.{Bound}
@@ -19,6 +19,7 @@ use Rattle.cert_checker.specs.Lines.{Passes, bound_of, names_point}
 use Rattle.cert_checker.specs.declared.judgement.CertFault.TheVariants.{WalkBroken, WalkNotNegative}
 use Rattle.cert_checker.proofs.Naming.{bytes_same}
 use Rattle.least_moments.specs.Rounds.{edge_at, no_edge}
+use Rattle.strong_plan.specs.Numbers.{HasShownNumbers}
 use Rattle.strong_plan.specs.Reducing.{reduced_edge}
 use Rattle.strong_plan.specs.Judgement.{AllPass, refusal, at_place, line_passes, lines_pass, returns_to, total_of, walk_passes, cert_passes}
 use Rattle.strong_plan.specs.Answers.{AreReduced, reduced_line, lines_at}
@@ -40,7 +41,7 @@ least_itself w = grind (arith, ints)
 below_zero : (w : ℤ) → w <ℤ pos 0 → int_lt w (pos 0) ≡ true
 below_zero w less = grind (arith, ints, less)
 
-module _ (net : Plan) (plan : IsPlan net) (numbers : HasPlanNumbers net) (edges : List Edge) (are : AreReduced net edges) where
+module _ (net : Plan) (plan : IsPlan net) (numbers : HasShownNumbers net) (edges : List Edge) (are : AreReduced net edges) where
   abbrev name_of : PointId → List ℕ
   name_of point = point_name net.points point
 

@@ -4,7 +4,7 @@ use Rattle.std.specs.List.{All, AllByRecursion}
 use Rattle.std.specs.Prelude.{unsigned_abs}
 use Rattle.std.proofs.lemmas.List.{append-nil, length-map, get_or-map}
 use Rattle.std.proofs.lemmas.List.Elements.{recursion_from_All, All-from_recursion}
-use Rattle.net_model.specs.Network.{Plan, IsPlan, HasPlanNumbers}
+use Rattle.net_model.specs.Network.{Plan, IsPlan}
 use Rattle.net_model.specs.NetworkParts.{point_name}
 use Rattle.net_model.specs.declared.ids.PointId.{PointId}
 use Rattle.net_model.specs.declared.part.Edge.{Edge}
@@ -14,6 +14,7 @@ use Rattle.cert_format.specs.declared.strong_cert.StrongLine.{StrongLine}
 use Rattle.least_moments.specs.Rounds.{edge_at, no_edge}
 use Rattle.least_moments.specs.Least.{IsLoop, IsLoopFromLowest}
 use Rattle.least_moments.proofs.TurnLemmas.{loop_some}
+use Rattle.strong_plan.specs.Numbers.{HasShownNumbers}
 use Rattle.strong_plan.specs.Judgement.{AllPass, cert_passes, judged, judgement_of}
 use Rattle.strong_plan.specs.Answers.{down_edge, AreReduced, HasNoRing, points_at, names_at, lines_at, IsFromLowest, IsRefutation}
 use Rattle.strong_plan.specs.declared.judgement.StrongJudgement.TheVariants.{Accepted}
@@ -89,7 +90,7 @@ ring_refutes net plan places from_lowest = record {
     accepted : judgement_of net cert ≡ Accepted
     accepted = accept net cert (cert_passes net [] (names_at net edges places)) refl passes
 
-pub bounds_refute : (net : Plan) → IsPlan net → HasPlanNumbers net → HasNoRing net → (edges : List Edge) → AreReduced net edges → (places : List ℕ) → IsLoopFromLowest edges places → IsRefutation net (record { by = lines_at net edges places; ring = [] })
+pub bounds_refute : (net : Plan) → IsPlan net → HasShownNumbers net → HasNoRing net → (edges : List Edge) → AreReduced net edges → (places : List ℕ) → IsLoopFromLowest edges places → IsRefutation net (record { by = lines_at net edges places; ring = [] })
 bounds_refute net plan numbers no_ring edges are places from_lowest = record {
   accepted = accepted;
   excludes = λ strongly. accepted_excludes net cert plan accepted strongly;
@@ -125,7 +126,7 @@ bounds_refute net plan numbers no_ring edges are places from_lowest = record {
     accepted = accept net cert (cert_passes net (lines_at net edges places) []) refl passes
 
 -- the weights of all reduced edges
-pub edges_small : (net : Plan) → IsPlan net → HasPlanNumbers net → (edges : List Edge) → AreReduced net edges → All (λ edge. unsigned_abs edge.weight ≤ 5000000000000) edges
+pub edges_small : (net : Plan) → IsPlan net → HasShownNumbers net → (edges : List Edge) → AreReduced net edges → All (λ edge. unsigned_abs edge.weight ≤ 5000000000000) edges
 edges_small net plan numbers edges are k e inside =
     let (bound, declared, reduced) = reduced_at net plan edges are k e inside in
     let size = reduced_size net plan numbers bound (get_or edges k e) declared reduced in

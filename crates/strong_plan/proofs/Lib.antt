@@ -8,6 +8,7 @@ pub mod ExcludeLemmas
 pub mod JudgeLemmas
 pub mod HeightLemmas
 pub mod EdgesLemmas
+pub mod NumberLemmas
 pub mod SizeLemmas
 pub mod NameLemmas
 pub mod RingLemmas

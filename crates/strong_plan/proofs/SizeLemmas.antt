@@ -2,19 +2,19 @@
 use Rattle.std.proofs.Common.{◌≡◌, ℕ, ◌+◌, ◌*◌, ◌<◌, ◌≤◌, ℤ, pos, ◌≤ℤ◌, Bool, true, false, cond, not, List, [], ◌∷◌, ◌++◌, length, slice_get, eqb, refl, ap, sym, subst, ◌∙◌, inl, inr, arith}
 use Rattle.std.specs.List.{AllByRecursion, Contains, IsDistinct, filter, list_any}
 use Rattle.std.specs.Prelude.{unsigned_abs}
-use Rattle.std.proofs.lemmas.Bool.{leb-true, eqb-true, eqb-false, ne_eqb, or_cases, true≢false}
+use Rattle.std.proofs.lemmas.Bool.{eqb-true, eqb-false, ne_eqb, or_cases, true≢false}
 use Rattle.std.proofs.lemmas.Int.{ints}
 use Rattle.std.proofs.lemmas.List.{length-append}
 use Rattle.std.proofs.lemmas.List.Elements.{All-contains}
 use Rattle.std.proofs.lemmas.Option.{same_Some, slice_get_within, get_or_from_slice_get}
 use Rattle.std.proofs.lemmas.Map.Steps.{length-le_from_distinct_below}
-use Rattle.net_model.specs.Limits.{within_limit}
-use Rattle.net_model.specs.Network.{Plan, IsPlan, HasPlanNumbers}
+use Rattle.net_model.specs.Network.{Plan, IsPlan}
 use Rattle.net_model.specs.declared.part.Bound.{Bound}
 use Rattle.net_model.specs.declared.part.Edge.{Edge}
 use Rattle.net_model.specs.declared.part.Link.{Link}
 use Rattle.strategy_model.proofs.PlayLemmas.{link_sound}
 use Rattle.strong_plan.specs.Chains.{same_end, apart, sum_of, IsReduced}
+use Rattle.strong_plan.specs.Numbers.{HasShownNumbers, most_shown}
 use Rattle.strong_plan.proofs.StrongLemmas.{IsNetLink, chain_links}
 use Rattle.strong_plan.proofs.SumLemmas.{kept_all, test_fails}
 use Rattle.strong_plan.proofs.ReducingLemmas.{ends_of, each_other, distinct}
@@ -117,23 +117,22 @@ few_apart net plan bound edge reduced =
     others [] d test all = tt
     others (link ∷ links) d test all = (other_kept link.to.0 test d (each_other link d (test_fails (list_any (same_end link) d) all.0.1)), others links d test all.1)
 
--- the sum of numbers of a plan over links
-sum_small : (net : Plan) (Q : Link → Type 0) (f : Link → ℤ) → ((link : Link) → IsNetLink net link → (pos 0 ≤ℤ f link) × (f link ≤ℤ pos 1000000000)) → (links : List Link) → AllByRecursion (λ link. IsNetLink net link × Q link) links
-    → (pos 0 ≤ℤ sum_of f links) × (sum_of f links ≤ℤ pos (1000000000 * length links))
+-- the sum over links of numbers that the shown form of a plan may have
+sum_small : (net : Plan) (Q : Link → Type 0) (f : Link → ℤ) → ((link : Link) → IsNetLink net link → (pos 0 ≤ℤ f link) × (f link ≤ℤ pos 1001000000)) → (links : List Link) → AllByRecursion (λ link. IsNetLink net link × Q link) links
+    → (pos 0 ≤ℤ sum_of f links) × (sum_of f links ≤ℤ pos (1001000000 * length links))
 sum_small net Q f fits [] all = (omega (arith, ints), omega (arith, ints))
 sum_small net Q f fits (link ∷ links) all =
     let (least, most) = sum_small net Q f fits links all.1 in
     let (here, here_most) = fits link all.0.0 in
     (omega (arith, ints, least, here), omega (arith, ints, most, here_most))
 
-module _ (net : Plan) (plan : IsPlan net) (numbers : HasPlanNumbers net) where
-  high_size : (link : Link) → IsNetLink net link → unsigned_abs link.high ≤ 1000000000
+module _ (net : Plan) (plan : IsPlan net) (numbers : HasShownNumbers net) where
+  high_size : (link : Link) → IsNetLink net link → unsigned_abs link.high ≤ most_shown
   high_size link its =
       let within = slice_get_within net.links its.0.0 link its.1 in
-      let number : within_limit link.high ≡ true = subst (λ (l : Link). within_limit l.high ≡ true) (get_or_from_slice_get net.links its.0.0 link link its.1) (numbers.links its.0.0 link within) in
-      leb-true (unsigned_abs link.high) 1000000000 number
+      subst (λ (l : Link). unsigned_abs l.high ≤ most_shown) (get_or_from_slice_get net.links its.0.0 link link its.1) (numbers.links its.0.0 link within)
 
-  low_fits : (link : Link) → IsNetLink net link → (pos 0 ≤ℤ link.low) × (link.low ≤ℤ pos 1000000000)
+  low_fits : (link : Link) → IsNetLink net link → (pos 0 ≤ℤ link.low) × (link.low ≤ℤ pos 1001000000)
   low_fits link its =
       let sound = link_sound net plan its.0.0 link its.1 in
       let positive = sound.positive in
@@ -141,7 +140,7 @@ module _ (net : Plan) (plan : IsPlan net) (numbers : HasPlanNumbers net) where
       let size = high_size link its in
       (omega (arith, ints, positive), omega (arith, ints, positive, interval, size))
 
-  high_fits : (link : Link) → IsNetLink net link → (pos 0 ≤ℤ link.high) × (link.high ≤ℤ pos 1000000000)
+  high_fits : (link : Link) → IsNetLink net link → (pos 0 ≤ℤ link.high) × (link.high ≤ℤ pos 1001000000)
   high_fits link its =
       let sound = link_sound net plan its.0.0 link its.1 in
       let positive = sound.positive in
@@ -158,6 +157,6 @@ module _ (net : Plan) (plan : IsPlan net) (numbers : HasPlanNumbers net) where
       let (high_least, high_most) = sum_small net (λ link. not (list_any (same_end link) c) ≡ true) (λ link. link.high) high_fits (apart d c) (kept_all (IsNetLink net) (λ link. not (list_any (same_end link) c)) d (chain_links net bound.to d edge.to reduced.to)) in
       let own = few_apart net plan bound edge reduced in
       let links = plan.few_links in
-      let most = leb-true (unsigned_abs bound.most) 1000000000 (All-contains (λ (b : Bound). within_limit b.most ≡ true) net.bounds bound numbers.bounds declared) in
+      let most = All-contains (λ (b : Bound). unsigned_abs b.most ≤ most_shown) net.bounds bound numbers.bounds declared in
       let weight = reduced.weight in
       omega (arith, ints, low_least, low_most, high_least, high_most, own, links, most, weight)

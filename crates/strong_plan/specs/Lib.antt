@@ -1,6 +1,7 @@
 pub mod Strong
 pub mod Chains
 pub mod Reducing
+pub mod Numbers
 pub mod Judgement
 pub mod Answers
 pub mod Laws

@@ -2,9 +2,10 @@
 
 ghost use Rattle.std.specs.Prelude.{◌≡◌, ◌<◌, length, map, IfOk};
 ghost use Rattle.std.specs.List.{All};
-ghost use Rattle.net_model.specs.Network.{IsPoint, HasPlanNumbers};
+ghost use Rattle.net_model.specs.Network.{IsPoint};
 ghost use Rattle.least_moments.specs.History.{AreWithin};
 ghost use Rattle.least_moments.specs.Least.{IsLoopFromLowest};
+ghost use Rattle.strong_plan.specs.Numbers.{HasShownNumbers};
 ghost use Rattle.strong_plan.specs.Answers.{down_edge, reduced_line, lines_at, names_at, AreReduced, HasNoRing, IsRefutation};
 
 use cert_format::{StrongCert, StrongLine};
@@ -40,7 +41,7 @@ pub(crate) fn bound_certificate(
     requires edges { AreReduced net.now edges.now }
     requires round { IsLoopFromLowest edges.now places.now }
     requires no_ring { HasNoRing net.now }
-    requires numbers { HasPlanNumbers net.now }
+    requires numbers { HasShownNumbers net.now }
     ensures { IfOk result (IsRefutation net.now) }
 {
     net.sound();

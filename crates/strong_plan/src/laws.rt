@@ -1,6 +1,7 @@
 //! Laws about strong schedules, each the contract of a function without parameters.
 
 ghost use Rattle.strong_plan.specs.Laws.{ReducedEdgesSuffice, ReducedEdgesHold, StrongIsControllable, LoopsExcludeStrong, RingsExcludeStrong, LeastKeptIsLeast, AcceptedExcludes};
+ghost use Rattle.strong_plan.specs.Numbers.{PlanNumbersAreShown, ShownFormsHaveShownNumbers};
 
 use strategy_model::laws::dispatch;
 
@@ -39,4 +40,14 @@ pub fn least_kept_is_least()
 /// An accepted strong certificate excludes every strong schedule, whoever wrote it.
 pub fn accepted_excludes()
     ensures { AcceptedExcludes }
+{}
+
+/// The numbers of a plan are numbers that the shown form of a plan may have.
+pub fn plan_numbers_are_shown()
+    ensures { PlanNumbersAreShown }
+{}
+
+/// And so are those of its shown form, whatever its delay.
+pub fn shown_forms_have_shown_numbers()
+    ensures { ShownFormsHaveShownNumbers }
 {}

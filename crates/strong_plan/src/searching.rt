@@ -1,10 +1,11 @@
 //! The least strong schedule of a network, or a certificate that it has none.
 
 ghost use Rattle.std.specs.Prelude.{◌≡◌, map, filter, length, is_none, IfOk};
-ghost use Rattle.net_model.specs.Network.{activation, HasPlanNumbers};
+ghost use Rattle.net_model.specs.Network.{activation};
 ghost use Rattle.strategy_model.specs.Situations.{moment_in};
 ghost use Rattle.strong_plan.specs.Strong.{executed_in};
 ghost use Rattle.strong_plan.specs.Laws.{HasRoots};
+ghost use Rattle.strong_plan.specs.Numbers.{HasShownNumbers};
 ghost use Rattle.strong_plan.specs.Answers.{down_edge, AreReduced, HasNoRing, IsAnswer};
 
 use crate::answer::Strong;
@@ -16,9 +17,9 @@ use std::alloc::{AllocError, Global};
 
 /// The least strong schedule of a network as it is stated, whatever its delay, exactly where it has one; else a certificate that
 /// `judge_strong` accepts: a ring where the links have one, else a loop. No point comes twice in it, and it begins at its lowest point.
-/// The network has the numbers of a plan. `AllocError` comes only for want of memory.
+/// The network has numbers that the shown form of a plan may have. `AllocError` comes only for want of memory.
 pub fn strong(alloc: Global, net: &Network) -> Result<Strong, AllocError>
-    requires { HasPlanNumbers net.now }
+    requires { HasShownNumbers net.now }
     ensures { IfOk result (IsAnswer net.now) }
 {
     let points = net.points().len();
@@ -36,7 +37,7 @@ pub fn strong(alloc: Global, net: &Network) -> Result<Strong, AllocError>
 fn by_bounds(alloc: Global, net: &Network) -> Result<Strong, AllocError>
     requires roots { HasRoots net.now }
     requires no_ring { HasNoRing net.now }
-    requires numbers { HasPlanNumbers net.now }
+    requires numbers { HasShownNumbers net.now }
     ensures { IfOk result (IsAnswer net.now) }
 {
     let edges = reduced_edges(alloc, net)?;

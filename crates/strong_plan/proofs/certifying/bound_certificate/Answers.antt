@@ -1,8 +1,9 @@
 use Rattle.std.proofs.Common.{◌≡◌, ℕ, List, [], sym, subst, ◌∙◌}
-use Rattle.net_model.specs.Network.{Plan, IsPlan, HasPlanNumbers}
+use Rattle.net_model.specs.Network.{Plan, IsPlan}
 use Rattle.net_model.specs.declared.part.Edge.{Edge}
 use Rattle.cert_format.specs.declared.strong_cert.StrongLine.{StrongLine}
 use Rattle.least_moments.specs.Least.{IsLoopFromLowest}
+use Rattle.strong_plan.specs.Numbers.{HasShownNumbers}
 use Rattle.strong_plan.specs.Answers.{IsRefutation, AreReduced, HasNoRing, lines_at}
 use Rattle.strong_plan.proofs.EdgesLemmas.{edges_within, count}
 use Rattle.strong_plan.proofs.CertificateLemmas.{bounds_refute}
@@ -15,7 +16,7 @@ pub lines-requires-clause-bounds : goal.lines-requires-clause-bounds
 lines-requires-clause-bounds c = count c.args.net.now c.sound.ensures c.args.edges.now c.requires.edges
 
 -- the certificate of these lists
-made : (net : Plan) → IsPlan net → HasPlanNumbers net → HasNoRing net → (edges : List Edge) (places : List ℕ) (by : List StrongLine) (ring : List (List ℕ)) → AreReduced net edges → IsLoopFromLowest edges places → by ≡ lines_at net edges places → ring ≡ [] → IsRefutation net (record { by = by; ring = ring })
+made : (net : Plan) → IsPlan net → HasShownNumbers net → HasNoRing net → (edges : List Edge) (places : List ℕ) (by : List StrongLine) (ring : List (List ℕ)) → AreReduced net edges → IsLoopFromLowest edges places → by ≡ lines_at net edges places → ring ≡ [] → IsRefutation net (record { by = by; ring = ring })
 made net plan numbers no_ring edges places by ring are loop lines none =
     let first = bounds_refute net plan numbers no_ring edges are places loop in
     let second = subst (λ (ls : List StrongLine). IsRefutation net (record { by = ls; ring = [] })) (sym lines) first in
