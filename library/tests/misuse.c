@@ -149,7 +149,7 @@ struct decided {
 
 static void *decides(void *context) {
     struct decided *it = context;
-    static const char lines[] = "set bound whole 994\nverdict\n";
+    static const char lines[] = "set bound whole 494\nverdict\n";
     do
         it->status = stnu_feed(it->run, lines, strlen(lines));
     while (it->status == STNU_RUNNING && !atomic_load(&it->is_enough));
@@ -160,13 +160,13 @@ static stnu large_session(void) {
     char line[128];
     stnu run = stnu_open(edit);
     stnu_feed(run, "stnu 1\n", 7);
-    for (int n = 0; n < 200; n++)
+    for (int n = 0; n < 100; n++)
         stnu_feed(run, line, (size_t)sprintf(line, "point p%d\n", n));
-    for (int n = 0; n < 199; n++)
+    for (int n = 0; n < 99; n++)
         stnu_feed(
             run, line,
             (size_t)sprintf(line, "bound most%d p%d p%d 10\nbound least%d p%d p%d -5\n", n, n, n + 1, n, n + 1, n));
-    stnu_feed(run, "bound whole p0 p199 994\nend\n", 28);
+    stnu_feed(run, "bound whole p0 p99 494\nend\n", 27);
     return run;
 }
 

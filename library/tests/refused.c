@@ -3,6 +3,7 @@
  * as ever, and nothing that it took is left. refused WORD.. <INPUT, for example: refused run < input */
 #define _GNU_SOURCE
 #include <errno.h>
+#include <stdatomic.h>
 #include <stdio.h>
 #include <stdlib.h>
 #include <string.h>
@@ -16,12 +17,13 @@ void *__real_realloc(void *at, size_t size);
 void __real_free(void *at);
 void *__real_mmap(void *at, size_t size, int may, int kind, int file, off_t from);
 
-/* How many allocations come before the one that is refused, from -1 on none; how many blocks are held. */
-static __thread long left = -1, held;
-static __thread int is_counted;
+/* Of the calls within the library: how many allocations come before the one that is refused, from -1 on none; and how
+ * many blocks are held. (Of all threads: a run may start some, and gives back what they took.) */
+static atomic_long left = -1, held;
+static atomic_int is_counted;
 
 static int is_refused(void) {
-    if (!is_counted || left < 0 || left-- > 0)
+    if (!is_counted || left < 0 || atomic_fetch_sub(&left, 1) > 0)
         return 0;
     errno = ENOMEM;
     return 1;
@@ -125,7 +127,7 @@ static int try_each(int (*way)(char *), const char *name) {
         is_counted = 0;
         if (!is_right(status, said, wanted, whole) || held != 0) {
             wrong++;
-            printf("WRONG: %s, allocation %ld: status %d, %ld blocks left\n", name, number, status, held);
+            printf("WRONG: %s, allocation %ld: status %d, %ld blocks left\n", name, number, status, (long)held);
         }
         if (!was_refused)
             break;
