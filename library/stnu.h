@@ -12,8 +12,9 @@
  *     ..
  *     stnu_close(day);
  *
- * Errors: what a call gives says all. No function ends the process, prints, or sets errno to tell anything; whatever
- * numbers and pointers to nothing it is given, misuse is answered by STNU_MISUSE, and then nothing was done.
+ * Errors: what a call gives says all. No function prints, or tells anything by errno. Whatever numbers and pointers to
+ * nothing a call is given, misuse is answered by STNU_MISUSE, and then nothing was done. What ends the process: a run
+ * that wants more than its stack, and, where the library is checked and not proved, a check that fails.
  *
  * Ownership: what you hand over stays yours, and is not looked at after the call. An answer is the run's until the next
  * call with that run, but for that of stnu_run, which is yours until stnu_free.
@@ -35,26 +36,24 @@
 extern "C" {
 #endif
 
-/* The version of this header. A program that was made with it runs with each library of the same major number and no
+/* The version of this header. A program that was made with it runs with each library of the same major number, and no
  * lesser minor one. */
 #define STNU_MAJOR 1
 #define STNU_MINOR 0
 
 /* How a run stands. From STNU_YES on these are the statuses of the program, with which a run ends. */
 enum stnu_status {
-    STNU_MISUSE = -2, /* no open run has this number, another thread is using it, or a pointer is NULL that must not be:
-                         nothing was done */
+    STNU_MISUSE = -2,  /* no open run, one that another thread is using, or a pointer to nothing */
     STNU_RUNNING = -1, /* more lines are wanted: feed them, or end the input */
     STNU_YES = 0,      /* controllable, accepted, executed to the end, shown; the session or the fleet was ended */
-    STNU_NO =
-        1, /* not controllable, or a certificate is refused: the answer has the refutation, or the line at fault */
-    STNU_WORDS = 2,  /* the words are those of no command */
-    STNU_FORMAT = 3, /* a line of the input, or a part of the plan, is at fault: the answer names it */
-    STNU_LIMIT = 4,  /* a limit is passed: the answer names it */
-    STNU_READ = 5,   /* your `take` failed */
-    STNU_WRITE = 6,  /* your `put` failed, or there was no memory to keep the answer */
-    STNU_EVENT = 7,  /* an event is refused: the answer names it, and the execution is over */
-    STNU_MEMORY = 8  /* there was no memory, or the run was stopped */
+    STNU_NO = 1,       /* not controllable, with the refutation, or a certificate is refused, with the line at fault */
+    STNU_WORDS = 2,    /* the words are those of no command */
+    STNU_FORMAT = 3,   /* a line of the input, or a part of the plan, is at fault: the answer names it */
+    STNU_LIMIT = 4,    /* a limit is passed: the answer names it */
+    STNU_READ = 5,     /* your `take` failed */
+    STNU_WRITE = 6,    /* your `put` failed, or there was no memory to keep the answer */
+    STNU_EVENT = 7,    /* an event is refused: the answer names it, and the execution is over */
+    STNU_MEMORY = 8    /* there was no memory, or the run was stopped */
 };
 
 /* A run goes by a number that is given to no other, so one that was closed is known as such. 0 is no run. */
@@ -63,8 +62,7 @@ typedef uint64_t stnu;
 /* The version of the library, as "1.0". Never NULL. */
 const char *stnu_version(void);
 
-/* How the library was made: "proved" or "checked", and then by which kit, as "proved, rattle-kit-13f ..". Never NULL.
- */
+/* How the library was made: "proved" or "checked", and then by which kit and of which sources. Never NULL. */
 const char *stnu_made(void);
 
 /* What a status says, in a few words, without a line end. Never NULL, whatever the number. */

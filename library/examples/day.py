@@ -1,7 +1,6 @@
 """The rover's day, on which the drive takes 68 minutes."""
 from pathlib import Path
 import stnu
-
 rover = Path("examples/rover")
 print("in the cold season", stnu.why(rover / "variant.stnu"))
 print("images at most", stnu.deadline(rover / "plan.stnu", "sunrise", "images").moments, "after sunrise")

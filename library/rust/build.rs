@@ -11,5 +11,9 @@ fn main() {
     println!("cargo:rustc-link-lib=static=stnu");
     println!("cargo:rerun-if-env-changed=STNU_LIB");
     println!("cargo:rerun-if-changed={}", archive.display());
-    assert!(archive.is_file(), "there is no {}: tools/make-library makes it", archive.display());
+    assert!(
+        archive.is_file(),
+        "there is no {}: tools/make-library makes it",
+        archive.display()
+    );
 }

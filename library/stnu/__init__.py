@@ -9,9 +9,9 @@
     ...     day.at(128, "arrive")
     [Act(moment=0, point='sunrise')]
 
-A plan is a `Plan`, or a text of it, a JSON document of it, or the path of a file with one of these. What is refused is raised as a `Fault` with
-the line, the word, and what is known of it. Each call may be made in any thread; one run is used by one thread at a time. While the library
-works other threads go on. docs/LIBRARY.md tells what is proved of it; `made()` how this copy was made.
+A plan is a `Plan`, or a text of it, a JSON document of it, or the path of a file with one of these. What is refused is raised as
+a `Fault` with the line, the word, and what is known of it. Each call may be made in any thread; one run is used by one thread at
+a time. While the library works other threads go on. docs/LIBRARY.md tells what is proved of it; `made()` how this copy was made.
 """
 
 from ._library import Answer, Closed, Run, Status, made, run, version
@@ -22,7 +22,8 @@ from .talks import Act, After, Execution, Fleet, Report, Session, Wait
 
 __version__ = version()
 __all__ = [
-    "Act", "After", "Answer", "Bound", "Closed", "Deadline", "EditRefused", "EventRefused", "Execution", "Fault", "Fleet", "InputFault",
-    "Judgement", "LimitPassed", "Link", "NotControllable", "Plan", "PlanLike", "Refutation", "Report", "Run", "Session", "Status", "Stopped",
-    "Verdict", "Wait", "WordsRefused", "between", "check", "deadline", "judge", "made", "play", "run", "strong", "version", "why",
-]  # fmt: skip
+    *("Act", "After", "Answer", "Bound", "Closed", "Deadline", "EditRefused", "EventRefused", "Execution", "Fault", "Fleet"),
+    *("InputFault", "Judgement", "LimitPassed", "Link", "NotControllable", "Plan", "PlanLike", "Refutation", "Report", "Run"),
+    *("Session", "Status", "Stopped", "Verdict", "Wait", "WordsRefused", "between", "check", "deadline", "judge", "made", "play"),
+    *("run", "strong", "version", "why"),
+]

@@ -1,6 +1,7 @@
 """The C interface of the library, which lies beside this file, and a run of it."""
 
 import ctypes
+from collections.abc import Iterable
 from dataclasses import dataclass
 from enum import IntEnum
 from pathlib import Path
@@ -54,17 +55,17 @@ class Closed(RuntimeError):
     """The run is closed, or another thread is using it: nothing was done."""
 
 
-def version():
+def version() -> str:
     """The version of the library."""
     return _version().decode()
 
 
-def made():
+def made() -> str:
     """How the library was made: `proved` or `checked`, and then by which kit and of which sources."""
     return _made().decode()
 
 
-def _bytes(text):
+def _bytes(text: str | bytes) -> bytes:
     """What is fed: text, or bytes as they are."""
     return text if isinstance(text, bytes) else text.encode("utf-8", "surrogateescape")
 
@@ -72,11 +73,11 @@ def _bytes(text):
 class Run:
     """A run of the workbench: what the program `stnu` does with these words, over lines that are fed.
 
-    It answers each whole line before it takes more, so what `feed` gives is the whole answer to the lines that were fed. A run is used by one
-    thread at a time. It is closed by `close`, by the end of a `with`, or when nothing refers to it any more.
+    It answers each whole line before it takes more, so what `feed` gives is the whole answer to the lines that were fed. A run is
+    used by one thread at a time. It is closed by `close`, by the end of a `with`, or when nothing refers to it any more.
     """
 
-    def __init__(self, *words):
+    def __init__(self, *words: str):
         given = [word.encode("utf-8", "surrogateescape") for word in words]
         if any(b"\0" in word for word in given):
             raise ValueError("a word with a zero byte in it")
@@ -87,28 +88,28 @@ class Run:
         self.status = Status.RUNNING
         self._size = ctypes.c_size_t()
 
-    def _answered(self, status):
+    def _answered(self, status: int) -> Answer:
         at = None if status == _MISUSE else _answer(self._number, ctypes.byref(self._size))
         if at is None:
             raise Closed("the run is closed, or another thread is using it")
         self.status = Status(status)
         return Answer(self.status, ctypes.string_at(at, self._size.value).decode("utf-8", "surrogateescape"))
 
-    def feed(self, text):
+    def feed(self, text: str | bytes) -> Answer:
         """Hands over input, a `str` or `bytes`, lines whole or not, and gives the answer to the whole lines among it."""
         given = _bytes(text)
         return self._answered(_feed(self._number, given, len(given)))
 
-    def end(self):
+    def end(self) -> Answer:
         """Says that the input ends here."""
         return self._answered(_end(self._number))
 
-    def stop(self):
+    def stop(self) -> None:
         """Has the run end soon, with `Status.MEMORY`: the one call that another thread may make while the run works."""
         if _stop(self._number) == _MISUSE:
             raise Closed("the run is closed")
 
-    def close(self):
+    def close(self) -> None:
         """Ends the run, where it has not ended, and gives back what it held. Once it is closed nothing is done."""
         number, self._number = self._number, 0
         if number and _close(number) == _MISUSE:
@@ -125,7 +126,7 @@ class Run:
         _close(getattr(self, "_number", 0))
 
 
-def run(words, text=""):
+def run(words: Iterable[str], text: str | bytes = "") -> Answer:
     """A run over a whole input: the same as the program gives for these words and this text."""
     with Run(*words) as it:
         answer = it.feed(text)

@@ -58,7 +58,7 @@ MEANINGS = {
 _LINE_KINDS = ("format", "plan", "event")
 
 
-def meaning_of(word):
+def meaning_of(word: str) -> str:
     """What is known of a word, in a sentence without an end."""
     return MEANINGS.get(word, "")
 
@@ -81,7 +81,7 @@ class Fault(Exception):
         self.meaning = meaning_of(word)
         super().__init__(self.told())
 
-    def told(self):
+    def told(self) -> str:
         """The fault in a line."""
         place = "" if self.line is None else f"line {self.line}"
         place += "" if self.source is None else f" `{self.source}`"
@@ -101,11 +101,11 @@ class EventRefused(Fault):
     """An event is refused, and the execution is over. `name` and `moment` are those that the refusal names, where it does."""
 
     @property
-    def name(self):
+    def name(self) -> str | None:
         return next((word for word in self.details if not word.isdigit()), None)
 
     @property
-    def moment(self):
+    def moment(self) -> int | None:
         return next((int(word) for word in self.details if word.isdigit()), None)
 
 
@@ -124,7 +124,7 @@ class Stopped(Exception):
 class NotControllable(Exception):
     """The plan cannot be kept, whatever is done. `certificate` shows why, where there is one; `stnu.why` reads it."""
 
-    def __init__(self, certificate=""):
+    def __init__(self, certificate: str = ""):
         self.certificate = certificate
         super().__init__("no way of working keeps every bound of the plan, whatever nature does")
 

@@ -8,18 +8,14 @@ from pathlib import Path
 from ._library import Status, run
 from .faults import fault_of
 
-# What a function takes for a plan: a `Plan`, a text of it, a JSON document of it, or the path of a file with one of these.
-PlanLike = "Plan | str | bytes | os.PathLike"
-
-
-def word(text):
+def word(text: str) -> str:
     """A name as one word of a line; whether it is a name is for the workbench to say."""
     if not isinstance(text, str) or text.split() != [text]:
         raise ValueError(f"a name is one word, and {text!r} is none")
     return text
 
 
-def whole(number):
+def whole(number: int) -> str:
     """A whole number as a word of a line."""
     if not isinstance(number, int) or isinstance(number, bool):
         raise TypeError(f"a number is whole, and {number!r} is none")
@@ -35,7 +31,7 @@ class Bound:
     end: str
     most: int
 
-    def line(self):
+    def line(self) -> str:
         return f"bound {word(self.name)} {word(self.start)} {word(self.end)} {whole(self.most)}"
 
 
@@ -48,11 +44,11 @@ class Link:
     high: int
     end: str
 
-    def line(self):
+    def line(self) -> str:
         return f"link {word(self.start)} {whole(self.low)} {whole(self.high)} {word(self.end)}"
 
 
-def between(name, start, low, high, end):
+def between(name: str, start: str, low: int, high: int, end: str) -> tuple[Bound, Bound]:
     """The two bounds that say that `end` comes `low` to `high` after `start`: `name.max` and `name.min`."""
     return Bound(f"{name}.max", start, end, high), Bound(f"{name}.min", end, start, -low)
 
@@ -74,7 +70,7 @@ class Plan:
             object.__setattr__(self, part, tuple(getattr(self, part)))
 
     @classmethod
-    def parse(cls, text):
+    def parse(cls, text: "PlanLike") -> "Plan":
         """The plan of a text or of a JSON document, as the workbench reads it. Raises `InputFault` or `LimitPassed`."""
         source = Source.of(text)
         answer = run(["show", "--print-json", *source.words], source.text)
@@ -86,27 +82,31 @@ class Plan:
         return cls(told["points"], bounds, links, told.get("delay", 0))
 
     @classmethod
-    def read(cls, path):
+    def read(cls, path: str | os.PathLike) -> "Plan":
         """The plan of a file."""
         return cls.parse(Path(path))
 
-    def __str__(self):
+    def __str__(self) -> str:
         """The plan as a text of version 2."""
         lines = ["stnu 2", *[f"delay {whole(self.delay)}"] * bool(self.delay), *(f"point {word(name)}" for name in self.points)]
         lines += [it.line() for it in (*self.bounds, *self.links)]
         return "".join(f"{line}\n" for line in [*lines, "end"])
 
-    def with_bound(self, name, most):
+    def with_bound(self, name: str, most: int) -> "Plan":
         """The same plan, where the bound of this name has this number."""
         if name not in (it.name for it in self.bounds):
             raise KeyError(name)
         return replace(self, bounds=[replace(it, most=most) if it.name == name else it for it in self.bounds])
 
-    def with_link(self, end, low, high):
+    def with_link(self, end: str, low: int, high: int) -> "Plan":
         """The same plan, where the link that ends in this point has this interval."""
         if end not in (it.end for it in self.links):
             raise KeyError(end)
         return replace(self, links=[replace(it, low=low, high=high) if it.end == end else it for it in self.links])
+
+
+# What a function takes for a plan: a `Plan`, a text of it, a JSON document of it, or the path of a file with one of these.
+PlanLike = Plan | str | bytes | os.PathLike
 
 
 @dataclass(frozen=True)
@@ -117,7 +117,7 @@ class Source:
     words: tuple[str, ...]
 
     @classmethod
-    def of(cls, plan):
+    def of(cls, plan: PlanLike) -> "Source":
         if isinstance(plan, Plan):
             plan = str(plan)
         text = Path(plan).read_bytes() if isinstance(plan, os.PathLike) else plan
@@ -127,7 +127,7 @@ class Source:
             return cls(text.rstrip() + b"\nend\n", ("--json",))
         return cls(text if text.endswith(b"\n") or not text else text + b"\n", ())
 
-    def line(self, number):
+    def line(self, number: int) -> str | None:
         """The text of a line, by its number from 1, but of a document, of which a number counts parts."""
         lines = self.text.split(b"\n")
         if self.words or not 1 <= number <= len(lines):

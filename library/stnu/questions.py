@@ -59,7 +59,7 @@ class Refutation:
     links: tuple[str, ...]
 
     @classmethod
-    def of(cls, text):
+    def of(cls, text: str) -> "Refutation":
         """The refutation in a certificate."""
         lines = [line.split() for line in text.splitlines()]
         bounds = dict.fromkeys(words[1] for words in lines if words[:1] == ["bound"])
@@ -76,8 +76,9 @@ class Refutation:
 class Judgement:
     """What a certificate shows of a plan. True where it is accepted.
 
-    claim: what it shows, as "controllable" or "not controllable"; None where it is refused, and then `line` is the line of the certificate
-    that does not pass (0 where it lacks something as a whole), `word` what is wrong, `details` the words after it, and `meaning` what it says.
+    claim: what it shows, as "controllable" or "not controllable"; None where it is refused.
+    line: the line of the certificate that does not pass, or 0 where it lacks something as a whole.
+    word, details, meaning: what is wrong, the words after that, and what it says.
     """
 
     accepted: bool
@@ -90,7 +91,7 @@ class Judgement:
         return self.accepted
 
     @property
-    def meaning(self):
+    def meaning(self) -> str:
         return meaning_of(self.word)
 
 
@@ -98,8 +99,10 @@ class Judgement:
 class Deadline:
     """The least number of moments after `start` within which `end` can be promised, and the certificates of both sides.
 
-    moments: that number; None where there is none up to 1,000,000,000. `is_free` says that nothing holds `end` back, so that any number
-    would do. proof: the certificate that the plan can be kept with it; refutation: that it cannot with one moment less.
+    moments: that number; None where there is none up to 1,000,000,000.
+    is_free: whether nothing holds `end` back, so that -1,000,000,000 would do.
+    proof: the certificate that the plan can be kept with that number; empty where there is none.
+    refutation: the certificate that it cannot with one moment less, or with 1,000,000,000; empty where nothing holds `end` back.
     """
 
     moments: int | None
@@ -108,7 +111,9 @@ class Deadline:
     refutation: str
 
 
-def check(plan: PlanLike, *, proof: bool = False, delay: int | None = None, workers: int | None = None, engine: str | None = None) -> Verdict:
+def check(
+    plan: PlanLike, *, proof: bool = False, delay: int | None = None, workers: int | None = None, engine: str | None = None
+) -> Verdict:
     """Whether the plan can be kept, whatever nature does. With `proof` a yes has its certificate too; a no always has one."""
     answer = ask(["check", *options(proof=proof, delay=delay, workers=workers, engine=engine)], Source.of(plan))
     return Verdict(answer.status is Status.YES, answer.text.partition("\n")[2])

@@ -20,7 +20,7 @@ class Act(NamedTuple):
 class Talk:
     """A run, with the number of lines that were told to it. Used as a context manager it is closed at the end."""
 
-    def __init__(self, *words):
+    def __init__(self, *words: str):
         self._run = Run(*words)
         self._lines = 0
         self._is_stopped = False
@@ -37,7 +37,8 @@ class Talk:
         if self._is_stopped and answer.status is Status.MEMORY:
             raise Stopped("the run was stopped")
         told = given.decode("utf-8", "replace").split("\n")
-        raise fault_of(answer.status, lines[-1] if lines else "", lambda line: told[line - before - 1].strip() if line > before else None)
+        said = lines[-1] if lines else ""
+        raise fault_of(answer.status, said, lambda line: told[line - before - 1].strip() or None if line > before else None)
 
     @property
     def status(self) -> Status:
@@ -87,7 +88,7 @@ def end_of_plan(source):
 
 
 class Execution:
-    """A plan that is executed as the day goes on.
+    """A plan that is executed as the day goes on. Raises `NotControllable` where it cannot be kept.
 
     due: the moment at which something is executed if nothing completes before, or None.
     is_over: whether the day came to its end.
@@ -98,25 +99,27 @@ class Execution:
     ...     day.done()
     """
 
+    due: int | None
+    is_over: bool
+
     def __init__(
-        self, plan: PlanLike, *, delay: int | None = None, workers: int | None = None, feeders: int | None = None, talk: Talk | None = None
+        self, plan: PlanLike, *, delay: int | None = None, workers: int | None = None, feeders: int | None = None
     ):
-        self.due, self.is_over, self._talk = None, False, talk
-        if talk is None:
-            source = Source.of(plan)
-            self._talk = Talk("run", *options(delay=delay, workers=workers, feeders=feeders), *source.words)
-            self._begin(self._talk.tell(end_of_plan(source)))
+        source = Source.of(plan)
+        talk = Talk("run", *options(delay=delay, workers=workers, feeders=feeders), *source.words)
+        self._begin(talk, talk.tell(end_of_plan(source)))
 
     @classmethod
     def _of(cls, talk, lines):
         """The execution that a session goes on as."""
-        it = cls("", talk=talk)
-        it._begin(lines)
+        it = cls.__new__(cls)
+        it._begin(talk, lines)
         return it
 
-    def _begin(self, lines):
+    def _begin(self, talk, lines):
+        self._talk = talk
         if lines[:1] == ["not controllable"]:
-            self._talk.close()
+            talk.close()
             raise NotControllable("".join(f"{line}\n" for line in lines[1:]))
         self._take(lines)
 
@@ -125,7 +128,10 @@ class Execution:
         return acts
 
     def at(self, moment: int, *completed: str) -> list[Act]:
-        """Tells that it is this moment, and all that completes at it. Gives what is executed. Raises `EventRefused`: the day is over then."""
+        """Tells that it is this moment, and all that completes at it. Gives what is executed.
+
+        Raises `EventRefused` where the event is none of a day that the plan describes: the day is over then.
+        """
         return self._take(self._talk.tell(at_line(moment, completed) + "\n"))
 
     def done(self) -> list[Act]:
@@ -173,7 +179,9 @@ class Report:
 
 
 class Session(Talk):
-    """A plan that is edited and asked about, and executed in the end. An edit that is refused raises `EditRefused`, and the session goes on.
+    """A plan that is edited and asked about, and executed in the end.
+
+    An edit that is refused raises `EditRefused`, or `LimitPassed`, and the session goes on.
 
     >>> with Session(plan) as session:
     ...     session.set_bound("still-warm", 50)
@@ -276,7 +284,8 @@ class Fleet(Talk):
 
     def __init__(self, plans: Mapping[str, PlanLike] | Iterable[tuple[str, PlanLike]]):
         super().__init__("fleet")
-        self.due, self.why_not = {}, {}
+        self.due: dict[str, int | None] = {}
+        self.why_not: dict[str, str] = {}
         text = b"fleet 1\n"
         for name, plan in dict(plans).items():
             source = Source.of(plan)

@@ -11,7 +11,10 @@ const BROKEN: &str = "stnu 1\npoint leave\npoint arrive\npoint images\nlink leav
 
 fn main() -> Result<(), Box<dyn Error>> {
     let refused = run(&["check"], BROKEN.as_bytes())?;
-    let certificate = refused.text.strip_prefix(b"not controllable\n").ok_or("the plan can be kept")?;
+    let certificate = refused
+        .text
+        .strip_prefix(b"not controllable\n")
+        .ok_or("the plan can be kept")?;
     let judged = run(&["judge"], &[BROKEN.as_bytes(), certificate].concat())?;
     print!("judge: {}", String::from_utf8(judged.text)?);
 
@@ -22,5 +25,9 @@ fn main() -> Result<(), Box<dyn Error>> {
         status = day.feed(line.as_bytes());
         print!("> {line}{}", std::str::from_utf8(day.answer())?);
     }
-    if status == Status::Yes { Ok(()) } else { Err("the day did not come to its end".into()) }
+    if status == Status::Yes {
+        Ok(())
+    } else {
+        Err("the day did not come to its end".into())
+    }
 }

@@ -115,7 +115,8 @@ impl Stopper {
 impl Run {
     /// Begins a run with these words, those of the program without its name.
     pub fn open(words: &[&str]) -> Result<Run, Error> {
-        let words: Vec<CString> = words.iter().map(|it| CString::new(*it)).collect::<Result<_, _>>().map_err(|_| Error::ZeroInWord)?;
+        let words: Result<Vec<CString>, _> = words.iter().map(|it| CString::new(*it)).collect();
+        let words = words.map_err(|_| Error::ZeroInWord)?;
         let mut places: Vec<*const c_char> = words.iter().map(|it| it.as_ptr()).collect();
         places.push(std::ptr::null());
         // SAFETY: the words end with zero bytes, their list with a null, and both are copied by the call.

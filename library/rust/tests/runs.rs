@@ -9,10 +9,16 @@ const PLAN: &[u8] = b"stnu 1\npoint A\npoint C\npoint D\nbound b1 D C 4\nlink A 
 #[test]
 fn statuses_are_those_of_the_program() {
     let answer = |words: &[&str], input: &[u8]| run(words, input).unwrap();
-    let of = |status, text: &[u8]| Answer { status, text: text.to_vec() };
+    let of = |status, text: &[u8]| Answer {
+        status,
+        text: text.to_vec(),
+    };
     assert_eq!(answer(&["check"], PLAN), of(Status::Yes, b"controllable\n"));
     assert_eq!(answer(&["chek"], PLAN), of(Status::Words, b"error words\n"));
-    assert_eq!(answer(&["check"], b"stnu 1\npoint A"), of(Status::Format, b"error format 3 no-end\n"));
+    assert_eq!(
+        answer(&["check"], b"stnu 1\npoint A"),
+        of(Status::Format, b"error format 3 no-end\n")
+    );
     assert_eq!(answer(&["run"], &[PLAN, b"at 9 C\n"].concat()).status, Status::Event);
 }
 
