@@ -1,22 +1,31 @@
-/* Replays inputs in this process, cut anyhow, in several threads at once, and compares what is answered with what the
- * program answered. replay FILE THREADS SEED FILE has for each input a line `WORDS STATUS INPUT ANSWER`, four numbers,
- * then so many words with a zero byte after each, and the bytes of the input and of the answer. Each is run four ways:
- * fed line by line, fed in pieces, all at once, and over a source and a sink that take pieces. */
+/* Has inputs answered by the program, each in a process of its own, and by the library in this process, cut anyhow, in
+ * several threads at once, and compares the bytes and the statuses. replay PROGRAM FILE THREADS SEED FILE has for each
+ * input a line `WORDS INPUT`, two numbers, then so many words with a zero byte after each, and the bytes of the input.
+ * The library has each four ways: fed line by line, fed in pieces, all at once, and over a source and a sink that take
+ * pieces. */
 #define _GNU_SOURCE
 #include <pthread.h>
+#include <spawn.h>
 #include <stdatomic.h>
 #include <stdio.h>
 #include <stdlib.h>
 #include <string.h>
+#include <sys/mman.h>
+#include <sys/wait.h>
+#include <unistd.h>
 
 #include "stnu.h"
 
 #define MOST_WORDS 16
 
+extern char **environ;
+
+/* An input, and what the program answers to it. */
 struct input {
     const char *words[MOST_WORDS + 1];
     int status;
-    const char *bytes, *answer;
+    const char *bytes;
+    char *answer;
     size_t size, answered;
 };
 
@@ -25,6 +34,7 @@ struct text {
     size_t size, room;
 };
 
+static const char *program;
 static struct input *inputs;
 static size_t count;
 static atomic_size_t next, wrong;
@@ -164,14 +174,47 @@ static void by_serving(const struct input *it, struct text *said, unsigned *stat
     compare(it, "over a source and a sink", stnu_serve(it->words, take, put, &talk), said);
 }
 
+static void demand(int holds) {
+    if (!holds) {
+        perror("replay");
+        abort();
+    }
+}
+
+/* Has the program answer an input, over two files in memory. */
+static void ask_program(struct input *it) {
+    const char *words[MOST_WORDS + 2] = {"stnu"};
+    int given = memfd_create("given", MFD_CLOEXEC), said = memfd_create("said", MFD_CLOEXEC), status;
+    posix_spawn_file_actions_t acts;
+    pid_t child;
+    memcpy(words + 1, it->words, sizeof it->words);
+    for (size_t at = 0; at < it->size;) {
+        ssize_t some = write(given, it->bytes + at, it->size - at);
+        demand(some > 0);
+        at += (size_t)some;
+    }
+    demand(given >= 0 && said >= 0 && lseek(given, 0, SEEK_SET) == 0);
+    posix_spawn_file_actions_init(&acts);
+    posix_spawn_file_actions_adddup2(&acts, given, STDIN_FILENO);
+    posix_spawn_file_actions_adddup2(&acts, said, STDOUT_FILENO);
+    demand(!posix_spawn(&child, program, &acts, NULL, (char **)words, environ) && waitpid(child, &status, 0) == child);
+    posix_spawn_file_actions_destroy(&acts);
+    it->status = WIFEXITED(status) ? WEXITSTATUS(status) : -1;
+    it->answered = (size_t)lseek(said, 0, SEEK_END);
+    it->answer = malloc(it->answered + 1);
+    demand(it->answer && pread(said, it->answer, it->answered, 0) == (ssize_t)it->answered);
+    close(given);
+    close(said);
+}
+
 static void *replay(void *seed) {
     unsigned state = *(unsigned *)seed;
     struct text said = {0};
     for (size_t number; (number = atomic_fetch_add(&next, 1)) < count;) {
-        const struct input *it = &inputs[number];
+        struct input *it = &inputs[number];
         size_t *answered = calloc(it->size + 1, sizeof *answered);
-        if (!answered)
-            abort();
+        demand(answered != NULL);
+        ask_program(it);
         by_lines(it, &said, answered);
         said.size = 0;
         by_pieces(it, &said, answered, &state);
@@ -181,6 +224,7 @@ static void *replay(void *seed) {
         by_serving(it, &said, &state);
         said.size = 0;
         free(answered);
+        free(it->answer);
     }
     free(said.bytes);
     return NULL;
@@ -208,8 +252,7 @@ static void list_inputs(char *at, const char *last) {
         if (!inputs)
             abort();
         struct input *it = memset(&inputs[count++], 0, sizeof *it);
-        if (sscanf(at, "%d %d %zu %zu%n", &words, &it->status, &it->size, &it->answered, &taken) != 4 ||
-            words > MOST_WORDS)
+        if (sscanf(at, "%d %zu%n", &words, &it->size, &taken) != 2 || words > MOST_WORDS)
             exit(2);
         at += taken + 1;
         for (int n = 0; n < words; n++) {
@@ -217,23 +260,23 @@ static void list_inputs(char *at, const char *last) {
             at += strlen(at) + 1;
         }
         it->bytes = at;
-        it->answer = at + it->size;
-        at += it->size + it->answered;
+        at += it->size;
     }
 }
 
 int main(int given, char **words) {
-    if (given != 4)
+    if (given != 5)
         return 2;
-    size_t size, threads = strtoul(words[2], NULL, 10);
-    char *bytes = contents(words[1], &size);
+    program = words[1];
+    size_t size, threads = strtoul(words[3], NULL, 10);
+    char *bytes = contents(words[2], &size);
     list_inputs(bytes, bytes + size);
     pthread_t *started = calloc(threads, sizeof *started);
     unsigned *seeds = calloc(threads, sizeof *seeds);
     if (!started || !seeds)
         return 2;
     for (size_t n = 0; n < threads; n++) {
-        seeds[n] = (unsigned)(strtoul(words[3], NULL, 10) + n);
+        seeds[n] = (unsigned)(strtoul(words[4], NULL, 10) + n);
         if (pthread_create(&started[n], NULL, replay, &seeds[n]))
             return 2;
     }
