@@ -1,7 +1,9 @@
 """The C interface of the library, which lies beside this file, and a run of it."""
 
 import ctypes
+import threading
 from collections.abc import Iterable
+from contextlib import contextmanager
 from dataclasses import dataclass
 from enum import IntEnum
 from pathlib import Path
@@ -52,7 +54,7 @@ class Answer:
 
 
 class Closed(RuntimeError):
-    """The run is closed, or another thread is using it: nothing was done."""
+    """The run is closed, or has ended, or another thread is using it: nothing was done."""
 
 
 def version() -> str:
@@ -81,28 +83,41 @@ class Run:
         given = [word.encode("utf-8", "surrogateescape") for word in words]
         if any(b"\0" in word for word in given):
             raise ValueError("a word with a zero byte in it")
-        self._number = 0
+        self._number, self._used = 0, threading.Lock()
         self._number = _open((ctypes.c_char_p * (len(given) + 1))(*given, None))
         if not self._number:
             raise MemoryError("there is no memory for a run")
         self.status = Status.RUNNING
-        self._size = ctypes.c_size_t()
 
-    def _answered(self, status: int) -> Answer:
-        at = None if status == _MISUSE else _answer(self._number, ctypes.byref(self._size))
-        if at is None:
-            raise Closed("the run is closed, or another thread is using it")
-        self.status = Status(status)
-        return Answer(self.status, ctypes.string_at(at, self._size.value).decode("utf-8", "surrogateescape"))
+    @contextmanager
+    def _alone(self):
+        """No other thread changes the answer while it is copied."""
+        if not self._used.acquire(blocking=False):
+            raise Closed("another thread is using the run")
+        try:
+            yield
+        finally:
+            self._used.release()
+
+    def _answered(self, call, *given) -> Answer:
+        """The answer to a call of the library."""
+        size = ctypes.c_size_t()
+        with self._alone():
+            status = call(self._number, *given)
+            if status == _MISUSE:
+                raise Closed("the run is closed")
+            self.status = Status(status)
+            text = ctypes.string_at(_answer(self._number, ctypes.byref(size)), size.value)
+        return Answer(self.status, text.decode("utf-8", "surrogateescape"))
 
     def feed(self, text: str | bytes) -> Answer:
         """Hands over input, a `str` or `bytes`, lines whole or not, and gives the answer to the whole lines among it."""
         given = _bytes(text)
-        return self._answered(_feed(self._number, given, len(given)))
+        return self._answered(_feed, given, len(given))
 
     def end(self) -> Answer:
         """Says that the input ends here."""
-        return self._answered(_end(self._number))
+        return self._answered(_end)
 
     def stop(self) -> None:
         """Has the run end soon, with `Status.MEMORY`: the one call that another thread may make while the run works."""
@@ -111,10 +126,9 @@ class Run:
 
     def close(self) -> None:
         """Ends the run, where it has not ended, and gives back what it held. Once it is closed nothing is done."""
-        number, self._number = self._number, 0
-        if number and _close(number) == _MISUSE:
-            self._number = number
-            raise Closed("another thread is using the run")
+        with self._alone():
+            _close(self._number)
+            self._number = 0
 
     def __enter__(self):
         return self

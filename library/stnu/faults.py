@@ -40,6 +40,7 @@ MEANINGS = {
     "too-soon": "the link cannot be over before this moment",
     "overdue": "the link is over by this moment at the latest",
     "unfinished": "the point has not completed",
+    "idle": "the plan is not executed: it is complete, over, cannot be kept, or was refused",
     # of a certificate
     "unknown-item": "the plan does not have what this line names",
     "weight-range": "a weight is beyond its limit",

@@ -127,6 +127,12 @@ class Source:
             return cls(text.rstrip() + b"\nend\n", ("--json",))
         return cls(text if text.endswith(b"\n") or not text else text + b"\n", ())
 
+    def alone(self) -> bytes:
+        """The text without what stands after its line `end`, which belongs to no plan."""
+        lines = self.text.split(b"\n")
+        ends = next((place for place, line in enumerate(lines) if line.split() == [b"end"]), len(lines) - 2)
+        return b"".join(line + b"\n" for line in lines[: ends + 1])
+
     def line(self, number: int) -> str | None:
         """The text of a line, by its number from 1, but of a document, of which a number counts parts."""
         lines = self.text.split(b"\n")

@@ -25,7 +25,7 @@ def options(**given):
 
 def ask(command, source, further=b"", wanted=(Status.YES, Status.NO)):
     """The answer of a command to a plan and what stands after it. Raises what it is refused by."""
-    answer = run([*command, *source.words], source.text + further)
+    answer = run([*command, *source.words], source.alone() + further)
     if answer.status not in wanted:
         raise fault_of(answer.status, answer.text, source.line)
     return answer

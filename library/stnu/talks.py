@@ -4,7 +4,7 @@ from collections.abc import Iterable, Mapping
 from dataclasses import dataclass
 from typing import NamedTuple
 
-from ._library import Run, Status
+from ._library import Closed, Run, Status
 from .faults import EditRefused, EventRefused, LimitPassed, NotControllable, Stopped, fault_of
 from .plans import Plan, PlanLike, Source, whole, word
 from .questions import options
@@ -27,6 +27,8 @@ class Talk:
 
     def tell(self, text: str | bytes) -> list[str]:
         """Tells whole lines, and gives those of the answer. Raises what the run ended by, where that is a fault."""
+        if self._run.status is not Status.RUNNING:
+            raise Closed("the run has ended")
         before = self._lines
         given = text if isinstance(text, bytes) else text.encode("utf-8", "surrogateescape")
         self._lines += given.count(b"\n")
@@ -80,13 +82,6 @@ def at_line(moment, completed):
     return " ".join(["at", whole(moment), *map(word, completed)])
 
 
-def end_of_plan(source):
-    """A text that ends with the plan: what stands after its line `end` belongs to no plan, and is left out."""
-    lines = source.text.split(b"\n")
-    ends = next((place for place, line in enumerate(lines) if line.split() == [b"end"]), len(lines))
-    return b"".join(line + b"\n" for line in lines[: ends + 1])
-
-
 class Execution:
     """A plan that is executed as the day goes on. Raises `NotControllable` where it cannot be kept.
 
@@ -107,7 +102,7 @@ class Execution:
     ):
         source = Source.of(plan)
         talk = Talk("run", *options(delay=delay, workers=workers, feeders=feeders), *source.words)
-        self._begin(talk, talk.tell(end_of_plan(source)))
+        self._begin(talk, talk.tell(source.alone()))
 
     @classmethod
     def _of(cls, talk, lines):
@@ -192,7 +187,7 @@ class Session(Talk):
     def __init__(self, plan: PlanLike, *, delay: int | None = None, workers: int | None = None):
         source = Source.of(plan)
         super().__init__("session", *options(delay=delay, workers=workers), *source.words)
-        self.tell(end_of_plan(source))
+        self.tell(source.alone())
 
     def _edit(self, *words):
         line = " ".join(words)
@@ -291,7 +286,7 @@ class Fleet(Talk):
             source = Source.of(plan)
             if source.words:
                 source = Source.of(Plan.parse(plan))
-            text += f"plan {word(name)}\n".encode() + end_of_plan(source)
+            text += f"plan {word(name)}\n".encode() + source.alone()
         for line in self.tell(text + b"go\n"):
             match line.split():
                 case [name, "due", moment]:

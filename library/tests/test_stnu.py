@@ -14,6 +14,13 @@ PLAN = "stnu 1\npoint A\npoint C\npoint D\nbound b1 D C 4\nlink A 3 8 C\nend\n"
 BROKEN = "stnu 1\npoint A\npoint C\npoint D\nbound b1 D C 1\nbound b2 C D -1\nlink A 3 8 C\nend\n"
 
 
+def large_plan():
+    """A chain of a hundred points, which is held to a length that it cannot keep."""
+    lines = ["stnu 1", *(f"point p{i}" for i in range(100))]
+    lines += [f"bound most{i} p{i} p{i + 1} 10\nbound least{i} p{i + 1} p{i} -5" for i in range(99)]
+    return "\n".join([*lines, "bound whole p0 p99 494", "end\n"])
+
+
 class Runs(unittest.TestCase):
     def test_a_run_answers_whole_lines(self):
         with stnu.Run("run") as run:
@@ -29,6 +36,26 @@ class Runs(unittest.TestCase):
         run.close()
         for call in (lambda: run.feed(PLAN), run.end, run.stop):
             self.assertRaises(stnu.Closed, call)
+
+    def test_one_thread_at_a_time(self):
+        refused = []
+        with stnu.Run("session") as run:
+            run.feed(large_plan())
+
+            def ask():
+                for _ in range(5):
+                    try:
+                        run.feed("set bound whole 494\nverdict\n")
+                    except stnu.Closed:
+                        refused.append(1)
+
+            threads = [threading.Thread(target=ask) for _ in range(4)]
+            for thread in threads:
+                thread.start()
+            for thread in threads:
+                thread.join()
+            self.assertLess(len(refused), 20)
+            self.assertEqual(run.feed("verdict\n").text, "not controllable\n")
 
     def test_words_are_tried(self):
         self.assertEqual(stnu.run(["chek"]), stnu.Answer(stnu.Status.WORDS, "error words\n"))
@@ -105,6 +132,7 @@ class Questions(unittest.TestCase):
         self.assertEqual((bool(refused), refused.line, refused.word), (False, 1, "too-low"))
         self.assertTrue(refused.meaning)
         self.assertEqual(str(why), "the bounds b1, b2 and the links that end in C cannot be kept together")
+        self.assertTrue(stnu.judge(BROKEN + "what stands after the plan\n", why))
 
     def test_delays_workers_and_engines(self):
         rover = ROVER / "plan.stnu"
@@ -176,6 +204,7 @@ class Faults(unittest.TestCase):
             self.assertIsInstance(fault, stnu.EventRefused)
             self.assertEqual((fault.line, fault.word, fault.name, fault.moment), (9, "overdue", "C", 8))
             self.assertEqual(fault.source, "at 9 C")
+            self.assertRaises(stnu.Closed, day.at, 10)
 
     def test_each_word_of_the_page_has_a_meaning(self):
         page = (ROOT / "docs" / "ANSWERS.md").read_text(encoding="utf-8")
@@ -195,6 +224,7 @@ class Executions(unittest.TestCase):
             self.assertEqual((day.due, day.is_over), (240, False))
             self.assertEqual(day.done(), [stnu.Act(240, "relay")])
             self.assertEqual((day.due, day.is_over), (None, True))
+            self.assertRaises(stnu.Closed, day.at, 300)
 
     def test_a_plan_that_cannot_be_kept(self):
         with self.assertRaises(stnu.NotControllable) as raised:
@@ -257,13 +287,11 @@ class Sessions(unittest.TestCase):
             self.assertEqual(session.plan(), stnu.Plan.parse(PLAN))
 
     def test_a_session_is_stopped_by_another_thread(self):
-        lines = ["stnu 1", *(f"point p{i}" for i in range(200))]
-        lines += [f"bound most{i} p{i} p{i + 1} 10\nbound least{i} p{i + 1} p{i} -5" for i in range(199)]
-        session = stnu.Session("\n".join([*lines, "bound whole p0 p199 994", "end"]))
+        session = stnu.Session(large_plan())
 
         def decide():
             while True:
-                session.set_bound("whole", 994)
+                session.set_bound("whole", 494)
                 session.verdict()
 
         thread = threading.Timer(0.1, session.stop)

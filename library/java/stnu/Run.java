@@ -6,8 +6,8 @@ import java.nio.charset.StandardCharsets;
  * A run of the workbench in this process: what the program {@code stnu} does with the same words and the same input. It answers each whole
  * line before it takes more, so what {@link #feed} gives is the whole answer to the lines that were fed.
  *
- * <p>A run is used by one thread at a time; a call that comes while another thread is in one, or after {@link #close}, throws an
- * {@link IllegalStateException}. The library {@code stnu_jni} is looked for in {@code java.library.path}.
+ * <p>A run is used by one thread at a time; others wait. A call after {@link #close} throws an {@link IllegalStateException}. The library
+ * {@code stnu_jni} is looked for in {@code java.library.path}.
  */
 public final class Run implements AutoCloseable {
     static {
@@ -65,13 +65,13 @@ public final class Run implements AutoCloseable {
     public static native String version();
 
     /** Hands over input, lines whole or not, and gives the answer to the whole lines among it. */
-    public Answer feed(String lines) {
+    public synchronized Answer feed(String lines) {
         byte[] bytes = lines.getBytes(StandardCharsets.UTF_8);
         return answer("", feed(number, bytes, bytes.length));
     }
 
     /** Says that the input ends here. */
-    public Answer end() {
+    public synchronized Answer end() {
         return end("");
     }
 
@@ -82,7 +82,7 @@ public final class Run implements AutoCloseable {
 
     /** Ends the run, where it has not ended, and gives back what it held. */
     @Override
-    public void close() {
+    public synchronized void close() {
         close(number);
     }
 
@@ -93,7 +93,7 @@ public final class Run implements AutoCloseable {
     private Answer answer(String before, int status) {
         byte[] bytes = status == MISUSE ? null : answer(number);
         if (bytes == null) {
-            throw new IllegalStateException("the run is closed, or another thread uses it");
+            throw new IllegalStateException("the run is closed");
         }
         return new Answer(Status.values()[status + 1], before + new String(bytes, StandardCharsets.UTF_8));
     }
