@@ -3,7 +3,6 @@
 import ctypes
 import threading
 from collections.abc import Iterable
-from contextlib import contextmanager
 from dataclasses import dataclass
 from enum import IntEnum
 from pathlib import Path
@@ -89,25 +88,23 @@ class Run:
             raise MemoryError("there is no memory for a run")
         self.status = Status.RUNNING
 
-    @contextmanager
-    def _alone(self):
-        """No other thread changes the answer while it is copied."""
+    def _enter(self) -> None:
+        """Until the run is left no other thread changes the answer, which is copied meanwhile."""
         if not self._used.acquire(blocking=False):
             raise Closed("another thread is using the run")
-        try:
-            yield
-        finally:
-            self._used.release()
 
     def _answered(self, call, *given) -> Answer:
         """The answer to a call of the library."""
         size = ctypes.c_size_t()
-        with self._alone():
+        self._enter()
+        try:
             status = call(self._number, *given)
             if status == _MISUSE:
                 raise Closed("the run is closed")
             self.status = Status(status)
             text = ctypes.string_at(_answer(self._number, ctypes.byref(size)), size.value)
+        finally:
+            self._used.release()
         return Answer(self.status, text.decode("utf-8", "surrogateescape"))
 
     def feed(self, text: str | bytes) -> Answer:
@@ -126,9 +123,10 @@ class Run:
 
     def close(self) -> None:
         """Ends the run, where it has not ended, and gives back what it held. Once it is closed nothing is done."""
-        with self._alone():
-            _close(self._number)
-            self._number = 0
+        self._enter()
+        _close(self._number)
+        self._number = 0
+        self._used.release()
 
     def __enter__(self):
         return self

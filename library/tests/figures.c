@@ -162,7 +162,7 @@ static void feeds(int is_library) {
 /* What this process holds, in KiB. */
 static long held(void) {
     FILE *file = fopen("/proc/self/statm", "r");
-    long all, held;
+    long all = 0, held = 0;
     demand(file && fscanf(file, "%ld %ld", &all, &held) == 2);
     fclose(file);
     return held * (sysconf(_SC_PAGESIZE) / 1024);

@@ -184,7 +184,7 @@ static void demand(int holds) {
 /* Has the program answer an input, over two files in memory. */
 static void ask_program(struct input *it) {
     const char *words[MOST_WORDS + 2] = {"stnu"};
-    int given = memfd_create("given", MFD_CLOEXEC), said = memfd_create("said", MFD_CLOEXEC), status;
+    int given = memfd_create("given", MFD_CLOEXEC), said = memfd_create("said", MFD_CLOEXEC), status = 0;
     posix_spawn_file_actions_t acts;
     pid_t child;
     memcpy(words + 1, it->words, sizeof it->words);
