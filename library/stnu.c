@@ -261,8 +261,7 @@ HIDDEN int stnu_program_main(int count, char **words);
 
 static void work(void) { stnu_program_exit(stnu_program_main(0, NULL)); }
 
-/* ---- Stacks: a new one takes as long as a small plan, so some are kept, and their memory is the system's to take ----
- */
+/* ---- Stacks: a new one takes as long as a small plan, so some are kept; their memory is the system's to take ---- */
 
 static char *kept_stacks[MOST_KEPT];
 static size_t kept_count;
