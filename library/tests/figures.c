@@ -1,5 +1,6 @@
-/* The same work in this process, and by the program over pipes and in a process each, in processor time of both sides;
- * and the memory of runs. figures PROGRAM */
+/* The same work in this process, and by the program over pipes and in a process each, in processor time of both sides:
+ * the median of rounds, in which the ways take turns. And the memory of runs.
+ *     figures PROGRAM */
 #define _GNU_SOURCE
 #include <fcntl.h>
 #include <spawn.h>
@@ -12,9 +13,10 @@
 
 #include "stnu.h"
 
-#define MANY 20000
-#define FEW 1000
-#define FEEDS 100000
+#define ROUNDS 5
+#define MANY 4000
+#define FEW 200
+#define FEEDS 20000
 #define OPEN 500
 
 extern char **environ;
@@ -24,7 +26,6 @@ static const char *program;
 
 /* A run over one of two ways: the library, or the program over two pipes. */
 struct way {
-    const char *name;
     stnu run;
     pid_t child;
     int to, from;
@@ -38,11 +39,6 @@ static double seconds_of(int who) {
 }
 
 static double used(void) { return seconds_of(RUSAGE_SELF) + seconds_of(RUSAGE_CHILDREN); }
-
-static void tell(const char *what, const char *way, int count, double took) {
-    printf("%-32s %-22s %8.2f us\n", what, way, took / count * 1e6);
-    fflush(stdout);
-}
 
 static void demand(int holds) {
     if (!holds)
@@ -62,7 +58,7 @@ static pid_t begin(const char *word, int in, int out) {
 
 static void begin_way(struct way *it, const char *word, int is_library) {
     int given[2], said[2];
-    *it = (struct way){.name = is_library ? "in process" : "over pipes"};
+    *it = (struct way){0};
     if (is_library) {
         it->run = stnu_open((const char *const[]){word, NULL});
         return;
@@ -103,7 +99,7 @@ static void talk(struct way *it, const char *lines, size_t size, const char *wan
     demand(have == length && !memcmp(said, wanted, length));
 }
 
-static void checks_in_process(void) {
+static double check_in_process(void) {
     double began = used();
     for (int n = 0; n < MANY; n++) {
         char *answer;
@@ -111,10 +107,10 @@ static void checks_in_process(void) {
         demand(!strcmp(answer, "controllable\n"));
         stnu_free(answer);
     }
-    tell("check of a small plan", "in process", MANY, used() - began);
+    return (used() - began) / MANY;
 }
 
-static void checks_by_processes(void) {
+static double check_by_process(void) {
     FILE *given = tmpfile();
     int nowhere = open("/dev/null", O_WRONLY), status;
     demand(given && fwrite(plan, 1, strlen(plan), given) == strlen(plan) && !fflush(given));
@@ -124,11 +120,14 @@ static void checks_by_processes(void) {
         waitpid(begin("check", fileno(given), nowhere), &status, 0);
         demand(status == 0);
     }
-    tell("check of a small plan", "a process each", FEW, used() - began);
+    double took = used() - began;
+    fclose(given);
+    close(nowhere);
+    return took / FEW;
 }
 
 /* The same question in a session: the plan is edited, and its verdict asked. */
-static void edits(int is_library) {
+static double edit(int is_library) {
     struct way it;
     char lines[64];
     double began = used();
@@ -137,10 +136,10 @@ static void edits(int is_library) {
     for (int n = 0; n < MANY; n++)
         talk(&it, lines, (size_t)sprintf(lines, "set bound b1 %d\nverdict\n", 4 + n % 2), "ok\ncontrollable\n");
     end_way(&it);
-    tell("edit and verdict of a session", it.name, MANY, used() - began);
+    return (used() - began) / MANY;
 }
 
-static void feeds(int is_library) {
+static double tell_line(int is_library) {
     struct way it;
     char line[64];
     double began = used();
@@ -156,7 +155,7 @@ static void feeds(int is_library) {
     }
     talk(&it, "done\n", 5, "complete\n");
     end_way(&it);
-    tell("line of an execution", it.name, FEEDS, used() - began);
+    return (used() - began) / FEEDS;
 }
 
 /* What this process holds, in KiB. */
@@ -181,17 +180,44 @@ static void memory(void) {
         stnu_close(runs[n]);
 }
 
+static double edit_in_process(void) { return edit(1); }
+static double edit_over_pipes(void) { return edit(0); }
+static double line_in_process(void) { return tell_line(1); }
+static double line_over_pipes(void) { return tell_line(0); }
+
+static const struct {
+    const char *what, *way;
+    double (*measure)(void);
+} figures[] = {
+    {"check of a small plan", "in process", check_in_process},
+    {"check of a small plan", "a process each", check_by_process},
+    {"edit and verdict of a session", "in process", edit_in_process},
+    {"edit and verdict of a session", "over pipes", edit_over_pipes},
+    {"line of an execution", "in process", line_in_process},
+    {"line of an execution", "over pipes", line_over_pipes},
+};
+#define FIGURES (sizeof figures / sizeof *figures)
+
+static int in_order(const void *one, const void *other) {
+    double difference = *(const double *)one - *(const double *)other;
+    return (difference > 0) - (difference < 0);
+}
+
 int main(int count, char **words) {
+    static double took[FIGURES][ROUNDS];
     if (count != 2)
         return 2;
     program = words[1];
     printf("%s\n", stnu_made());
     memory();
-    checks_in_process();
-    checks_by_processes();
-    edits(1);
-    edits(0);
-    feeds(1);
-    feeds(0);
+    for (int round = 0; round < ROUNDS; round++)
+        for (size_t n = 0; n < FIGURES; n++)
+            took[n][round] = figures[n].measure() * 1e6;
+    for (size_t n = 0; n < FIGURES; n++) {
+        double *of = took[n];
+        qsort(of, ROUNDS, sizeof *of, in_order);
+        printf("%-32s %-22s %8.2f us (%.2f to %.2f)\n", figures[n].what, figures[n].way, of[ROUNDS / 2], of[0],
+               of[ROUNDS - 1]);
+    }
     return 0;
 }
