@@ -1,5 +1,5 @@
-"""How the program is made of its sources, for `compile-checked`, `prove-and-build` and `ready-program`: the crates, the kit's words, what was
-read, and which program is made of the sources as they stand."""
+"""How the program is made of its sources, for `compile-checked`, `prove-and-build`, `ready-program` and `make-library`: the crates, the kit's
+words, what was read, and which program is made of the sources as they stand."""
 
 import contextlib
 import fcntl
@@ -16,6 +16,8 @@ PROGRAM = "stnu_cli"
 PROVED = ROOT / "crates" / PROGRAM / "out" / PROGRAM
 # What the proved program was made of, beside it: the sum of the sources, and that of the program itself.
 PROVED_OF = PROVED.with_suffix(".proved")
+# The object file of which it was linked.
+PROVED_OBJECT = PROVED.with_suffix(".o")
 START = ROOT / "out" / "start"
 CHECKED = START / PROGRAM
 CHECKED_OF = START / "checked-of"
@@ -38,6 +40,12 @@ def kit():
     if not found:
         raise NoKit("there is no command rt, which the Rattle kit has")
     return Path(found).resolve().parent.parent
+
+
+def words_of_link(to):
+    """The words by which the kit links the proved program of its object file."""
+    words = [kit() / "bin/rattle-link", "--target", "x86_64-unknown-linux-gnu", "--toolchain", kit() / "toolchain", "-o", to]
+    return [*words, PROVED_OBJECT, kit() / "c/libos_c.a", kit() / "c/liblibc_c.a"]
 
 
 def libraries_of_kit(names):

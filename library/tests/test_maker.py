@@ -1,0 +1,60 @@
+"""Which object files tools/make-library takes for the program."""
+
+import importlib.machinery
+import importlib.util
+import pathlib
+import shutil
+import subprocess
+import sys
+import tempfile
+import unittest
+
+TOOLS = pathlib.Path(__file__).resolve().parents[2] / "tools"
+
+
+def loaded(name):
+    """A tool as a module."""
+    loader = importlib.machinery.SourceFileLoader(name, str(TOOLS / name))
+    module = importlib.util.module_from_spec(importlib.util.spec_from_loader(name, loader))
+    loader.exec_module(module)
+    return module
+
+
+@unittest.skipUnless(shutil.which("cc") and shutil.which("readelf"), "there is no C compiler")
+class Objects(unittest.TestCase):
+    @classmethod
+    def setUpClass(cls):
+        sys.path.insert(0, str(TOOLS))
+        cls.maker = loaded("make-library")
+
+    def tried(self, text, which="proved"):
+        """Why a program of C is refused, or nothing where it is taken."""
+        with tempfile.TemporaryDirectory() as work:
+            made = f"{work}/program.o"
+            subprocess.run(["cc", "-x", "c", "-O1", "-fPIC", "-c", "-", "-o", made], input=text, text=True, check=True)
+            try:
+                self.maker.known(made, which)
+            except self.maker.NotMade as why:
+                return str(why)
+        return ""
+
+    def test_what_the_program_calls_is_known(self):
+        reads = "#include <unistd.h>\nint main(void) { char byte; return read(0, &byte, 1) != 1; }\n"
+        self.assertEqual(self.tried(reads), "")
+        asks = "#include <stdlib.h>\nint main(void) { return getenv(\"HOME\") != 0; }\n"
+        self.assertIn("getenv", self.tried(asks))
+
+    def test_it_keeps_nothing_of_its_own(self):
+        counts = "static int count; int main(void) { return ++count; }\n"
+        self.assertIn("4 bytes of its own", self.tried(counts))
+        self.assertTrue(self.tried(counts.replace("static", "static _Thread_local")))
+        notes = "static char failed; int main(void) { failed = !failed; return failed; }\n"
+        self.assertEqual(self.tried(notes, "checked"), "")
+        self.assertIn("1 bytes of its own", self.tried(notes))
+
+    def test_it_has_a_main(self):
+        self.assertIn("no main", self.tried("int begin(void) { return 0; }\n"))
+
+
+if __name__ == "__main__":
+    unittest.main()
