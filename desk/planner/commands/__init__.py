@@ -1,0 +1,7 @@
+"""The commands: each is a module of this package, with `EXAMPLE`, `add_words(parser)` and `run(args)`, which returns the status."""
+
+# Each command by its name, and what it is for.
+COMMANDS = {
+    "check": "whether a plan can be kept, with a proof or a refutation",
+    "lint": "all faults of a plan, and what is mostly a slip",
+}

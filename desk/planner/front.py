@@ -1,0 +1,72 @@
+"""The front: finds the command that is meant, reads its words, and runs it."""
+
+import argparse
+import importlib
+
+from planner import faults, options, output
+from planner.commands import COMMANDS
+from planner.program import Program
+from planner.reader import nearest
+
+
+class Parser(argparse.ArgumentParser):
+    """A parser whose complaints are one line, and which knows the nearest command."""
+
+    def error(self, message):
+        raise faults.Fault(f"{message}\nplanner: '{self.prog} --help' has the words and an example")
+
+
+def module_of(name):
+    """The module of a command."""
+    return importlib.import_module(f"planner.commands.{name}")
+
+
+def parser_of(name):
+    """The parser of a command, with all its words."""
+    module = module_of(name)
+    about, _, more = module.__doc__.partition("\n\n")
+    epilog = f"example:\n{module.EXAMPLE.rstrip()}\n\n{faults.table()}"
+    described = "\n\n".join(filter(None, [about, more.strip()]))
+    parser = Parser(
+        prog=f"planner {name}",
+        description=described,
+        epilog=epilog,
+        formatter_class=argparse.RawDescriptionHelpFormatter,
+        allow_abbrev=False,
+    )
+    module.add_words(parser)
+    options.add_common(parser)
+    return parser
+
+
+def overview():
+    """The help of the front itself."""
+    widest = max(map(len, COMMANDS))
+    lines = ["usage: planner COMMAND WORDS ..", "", "commands:"]
+    lines += [f"  {name:<{widest}}  {summary}" for name, summary in COMMANDS.items()]
+    lines += ["", "'planner COMMAND --help' tells the words of a command, with an example.", "", faults.table()]
+    return "\n".join(lines)
+
+
+def run(words):
+    """Runs the command that these words call, and returns its status."""
+    output.prepare()
+    match words:
+        case [] | [("-h" | "--help" | "help")]:
+            output.tell(overview())
+            return faults.Status.KEPT if words else faults.Status.WORDS
+        case ["help", name]:
+            return run([name, "--help"])
+    name, *rest = words
+    if name not in COMMANDS:
+        near = nearest(name, COMMANDS)
+        meant = f"; was '{near}' meant?" if near else ""
+        raise faults.Fault(f"there is no command '{name}'{meant}\nplanner: 'planner --help' lists the commands")
+    args = parser_of(name).parse_args(rest)
+    args.program = Program.found(args.program, args.show_calls)
+    return module_of(name).run(args)
+
+
+def main(words):
+    """Runs a command. Whatever goes wrong is told in a line and by a status."""
+    return faults.ended(lambda: run(words))
