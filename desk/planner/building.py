@@ -26,11 +26,14 @@ class Builder:
         # Where each point is declared, be it later.
         self.declared = {}
         for it in statements:
-            if it.kind == Kind.POINT:
+            if it.kind == Kind.POINT and it.is_whole():
                 self.declared.setdefault(it["NAME"], it.line)
 
     def build(self):
         for statement in self.statements:
+            if not statement.is_whole():
+                self.are_known(statement)
+                continue
             match statement.kind:
                 case Kind.POINT:
                     self.point(statement)
@@ -77,7 +80,7 @@ class Builder:
 
     def are_known(self, statement):
         """Whether both points of a statement stand above it; each that does not is found."""
-        return all([self.is_known(statement, place) for place in ("FROM", "TO")])
+        return all([self.is_known(statement, place) for place in ("FROM", "TO") if place in statement.words])
 
     def is_known(self, statement, place):
         name = statement[place]

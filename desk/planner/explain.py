@@ -1,24 +1,20 @@
 """Tells what is the matter with a plan that the program refuses: each fault with its line, the word at fault and the form that was wanted."""
 
 from planner.faults import Fault, Status
-from planner.plan import STANDARD_INPUT, read
-from planner.reader import quoted
+from planner.plan import read, told
 
 
-def told(path, finding):
-    """A finding as a line for people."""
-    place = f"{'standard input' if path == STANDARD_INPUT else path}:{finding.line}"
-    kind = "" if finding.is_fault else "warning: "
-    token = f"{quoted(finding.token)}: " if finding.token is not None else ""
-    wanted = f"; wanted: {finding.wanted}" if finding.wanted else ""
-    return f"{place}: {kind}{token}{finding.message}{wanted}"
+def said_by(answer):
+    """The line with which the program refused its input."""
+    return answer.lines[-1] if answer.lines else "nothing"
 
 
 def refusal(source, answer, path):
     """The fault with which a command ends where the program has refused its plan: what it said, and each fault that is found in the plan."""
-    said = answer.lines[-1] if answer.lines else "nothing"
+    said = said_by(answer)
     lines = [f"the program says: {said}"]
     if answer.status in (Status.PLAN, Status.LIMIT):
-        _, _, findings = read(source)
-        lines += [told(path, it) for it in findings if it.is_fault]
+        faults = [it for it in read(source)[2] if it.is_fault]
+        # What planner finds stands beside what the program says only where both find the same first.
+        lines += [told(path, it) for it in faults] if faults and faults[0].told == said else []
     return Fault("\n".join(lines), answer.status)

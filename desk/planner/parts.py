@@ -47,7 +47,10 @@ class Word:
 
 @dataclass(frozen=True)
 class Statement:
-    """A statement with the words of its places; its line, and the number that the program tells of it, which of a document is a part's."""
+    """A statement with the words of its places; its line, and the number that the program tells of it, which of a document is a part's.
+
+    Words that are not as their place wants them are left out: then the statement is not whole, and declares nothing.
+    """
 
     kind: Kind
     line: int
@@ -59,6 +62,9 @@ class Statement:
 
     def number(self, place):
         return int(self.words[place].text)
+
+    def is_whole(self):
+        return len(self.words) == len(FORMS[self.kind])
 
 
 @dataclass(frozen=True)
@@ -118,9 +124,9 @@ class Link:
 
 @dataclass(frozen=True)
 class Finding:
-    """A fault of a plan, or a warning, whose `told` is empty: the line, the word at fault, and what is the matter with it.
+    """A fault of a plan, or a warning: the line, the word at fault, and what is the matter with it.
 
-    `told` is the line that the program answers where this fault is the first one.
+    Of a fault `told` is the line that the program answers where this one is the first; of a warning `slip` is what kind it is of.
     """
 
     line: int
@@ -128,6 +134,7 @@ class Finding:
     told: str = ""
     token: str | None = None
     wanted: str | None = None
+    slip: str | None = None
 
     @property
     def is_fault(self):
@@ -140,8 +147,6 @@ class Reading:
 
     statements: list[Statement] = field(default_factory=list)
     findings: list[Finding] = field(default_factory=list)
-    # Names that a remark `# fixed` holds, and lines of statements that one above them holds.
-    held_names: set[str] = field(default_factory=set)
+    # Names that a remark `# fixed` holds, with its line, and lines of statements that one above them holds.
+    held_names: dict[str, int] = field(default_factory=dict)
     held_lines: set[int] = field(default_factory=set)
-    # The number that the program tells of what it refuses of the plan as a whole.
-    last_line: int = 0

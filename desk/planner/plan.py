@@ -1,19 +1,21 @@
 """A plan as data: out of a file or standard input, with numbers that can be changed where they stand, so that all else of its text is kept."""
 
-import json
+import re
 import shlex
 import sys
 from dataclasses import dataclass
 
 from planner.building import Builder
 from planner.document import DocumentReader
-from planner.faults import Fault, Status, told_by_system
+from planner.faults import Fault, Status, say, told_by_system
 from planner.output import ENCODING
-from planner.parts import Bound, Finding, Kind, Link, Point, Statement
+from planner.parts import Bound, Kind, Link, Point, Statement
 from planner.program import Source
-from planner.reader import TextReader
+from planner.reader import TextReader, quoted
 
 STANDARD_INPUT = "-"
+# The line that ends a plan, and all that stands after the JSON document of one.
+END_LINE = re.compile(r"^[ \t\r]*end[ \t\r]*(?:\n|\Z)", re.MULTILINE)
 # What the system says of a path that is no file to be read.
 NO_FILE = (FileNotFoundError, IsADirectoryError, NotADirectoryError, PermissionError)
 
@@ -32,10 +34,31 @@ def text_of(path):
 
 
 def load(path=STANDARD_INPUT, delay=None):
-    """The plan of a file or of standard input, as the program is given it: a plan text up to its line `end`, or a JSON document."""
+    """The plan of a file or of standard input, as the program is given it: a plan text up to its line `end`, or a JSON document.
+
+    Whoever has written more after the line `end` is told that it is not read.
+    """
     text = text_of(path)
-    file = None if path == STANDARD_INPUT else path
-    return (document_source if is_document(text) else text_source)(text, file).with_delay(delay)
+    source = source_of(text, path)
+    if len(text) > len(source.text) and "--json" not in source.words:
+        for finding in TextReader(text).read().findings:
+            if not finding.is_fault:
+                say(told(path, finding))
+    return source.with_delay(delay)
+
+
+def source_of(text, path):
+    """A text that was read from a file or from standard input, as the program is given it."""
+    return (document_source if is_document(text) else text_source)(text, None if path == STANDARD_INPUT else path)
+
+
+def told(path, finding):
+    """A finding as a line for people."""
+    place = f"{'standard input' if path == STANDARD_INPUT else path}:{finding.line}"
+    kind = "" if finding.is_fault else "warning: "
+    token = f"{quoted(finding.token)}: " if finding.token is not None else ""
+    wanted = f"; wanted: {finding.wanted}" if finding.wanted else ""
+    return f"{place}: {kind}{token}{finding.message}{wanted}"
 
 
 def is_document(text):
@@ -44,36 +67,27 @@ def is_document(text):
 
 def text_source(text, file):
     """A plan text up to its line `end`: what stands after it is read by no command that answers once."""
-    start = stop = 0
-    count = 0
-    while start < len(text):
-        stop = text.find("\n", start) + 1 or len(text)
-        count += 1
-        if text[start:stop].strip(" \t\r\n") == "end":
-            break
-        start = stop
+    end = END_LINE.search(text)
+    stop = end.end() if end else len(text)
     if file is None or stop == len(text):
         return Source(text[:stop], file=file)
-    return Source(text[:stop], origin=f"head -n {count} {shlex.quote(file)}")
+    return Source(text[:stop], origin=heading(text[:stop], file))
 
 
 def document_source(text, file):
     """A JSON document, with the line `end` that the program wants after it."""
-    try:
-        stop = json.JSONDecoder().raw_decode(text, len(text) - len(text.lstrip()))[1]
-    except (ValueError, RecursionError):
-        stop = len(text)
-    after = text[stop:].strip(" \t\r\n")
-    if after != "end":
-        # What else stands there is for the program to refuse.
-        stop = len(text)
-    body = text[:stop] if text[:stop].endswith("\n") else text[:stop] + "\n"
-    whole = body + "end\n"
-    if file is None:
-        return Source(whole, ("--json",))
-    count, quoted = body.count("\n"), shlex.quote(file)
-    printed = f"cat {quoted}" if body == text else f"head -n {count} {quoted}" if after == "end" else f"cat {quoted}; echo"
-    return Source(whole, ("--json",), origin=f"{printed}; echo end")
+    end = END_LINE.search(text)
+    body = text[: end.start()] if end else text if text.endswith("\n") else text + "\n"
+    printed = None
+    if file is not None:
+        whole = f"cat {shlex.quote(file)}" + ("" if text == body else "; echo")
+        printed = f"{heading(body, file) if end else whole}; echo end"
+    return Source(body + "end\n", ("--json",), origin=printed)
+
+
+def heading(text, file):
+    """A command of the shell that prints the first lines of a file, which are this text."""
+    return f"head -n {text.count(chr(10)) + (not text.endswith(chr(10)))} {shlex.quote(file)}"
 
 
 def read(source):
@@ -97,7 +111,8 @@ class Plan:
     links: dict[str, Link]
     delay: int
     held: frozenset[str]
-    warnings: list[Finding]
+    # Names in remarks `# fixed` that stand for nothing in the plan, with their lines.
+    unknown_held: dict[str, int]
 
     @classmethod
     def of(cls, source):
@@ -107,8 +122,8 @@ class Plan:
         if fault:
             raise Fault(f"the program took a plan that planner reads as: {fault.told}", Status.DEFECT)
         delay = int(source.words[source.words.index("--delay") + 1]) if "--delay" in source.words else built.delay
-        held = held_of(reading, built)
-        return cls(source, reading.statements, built.points, built.bounds, built.links, delay, held, findings)
+        held, unknown = held_of(reading, built)
+        return cls(source, reading.statements, built.points, built.bounds, built.links, delay, held, unknown)
 
     def with_numbers(self, most=None, spans=None, delay=None):
         """This plan as a source with other numbers of bounds, by name, intervals of links, by end, or another delay.
@@ -137,13 +152,13 @@ class Plan:
 
 
 def held_of(reading, built):
-    """The names of bounds and links, and `delay`, that remarks `# fixed` hold."""
-    parts = [*built.bounds.items(), *built.links.items()]
-    held = {name for name, part in parts if part.line in reading.held_lines or not names_of(name, part).isdisjoint(reading.held_names)}
-    is_delay_held = "delay" in reading.held_names or any(
-        it.kind == Kind.DELAY and it.line in reading.held_lines for it in reading.statements
-    )
-    return frozenset(held | ({"delay"} if is_delay_held else set()))
+    """The names of bounds and links, and `delay`, that remarks `# fixed` hold; and names there that stand for nothing."""
+    names = {name: names_of(name, part) for part in (built.bounds, built.links) for name, part in part.items()}
+    lines = {name: part.line for part in (built.bounds, built.links) for name, part in part.items()}
+    names["delay"], lines["delay"] = {"delay"}, next((it.line for it in reading.statements if it.kind == Kind.DELAY), None)
+    held = {name for name, called in names.items() if lines[name] in reading.held_lines or not called.isdisjoint(reading.held_names)}
+    known = set().union(*names.values())
+    return frozenset(held), {name: line for name, line in reading.held_names.items() if name not in known}
 
 
 def names_of(name, part):

@@ -55,7 +55,6 @@ class TextReader:
             number += 1
             self.line(number, self.text[start:stop], start)
             start = stop + 1
-        self.reading.last_line = number
         if self.version is None:
             self.no_header(number + 1, "the plan does not begin with a line 'stnu 1' or 'stnu 2'")
         elif not self.is_over:
@@ -73,19 +72,19 @@ class TextReader:
         if not words:
             return
         if words[0].text.startswith("#"):
-            self.remark([word.text for word in words])
+            self.remark(number, [word.text for word in words])
         elif self.version is None:
             self.header(number, words)
         else:
             self.statement(number, words)
             self.is_first = False
 
-    def remark(self, words):
+    def remark(self, number, words):
         """A remark `# fixed` holds the statement below it, `# fixed NAME ..` those of these names."""
         if words[0] == "#":
             words = words[1:]
         if words and words[0].lstrip("#").rstrip(":").lower() == "fixed":
-            self.reading.held_names |= {word.strip(",") for word in words[1:]}
+            self.reading.held_names |= {word.strip(","): number for word in words[1:]}
             self.holds_next = self.holds_next or not words[1:]
 
     def header(self, number, words):
@@ -141,17 +140,16 @@ class TextReader:
         return f"this begins no line of a plan{meant}"
 
     def places(self, number, kind, words):
-        """Takes the words of a line of this kind, if they are as its form wants them."""
+        """Takes the words of a line of this kind that are as its form wants them."""
         names, given = FORMS[kind], words[1:]
         if len(given) != len(names):
             self.fault(number, "word-count", count_of_words(kind, [word.text for word in given]), extra_word(names, given), form(kind))
             return
-        if not all([self.word(number, kind, name, word.text) for name, word in zip(names, given)]):
-            return
+        words = {name: word for name, word in zip(names, given) if self.word(number, kind, name, word.text)}
         if self.holds_next:
             self.reading.held_lines.add(number)
             self.holds_next = False
-        self.reading.statements.append(Statement(kind, number, number, dict(zip(names, given))))
+        self.reading.statements.append(Statement(kind, number, number, words))
 
     def word(self, number, kind, name, text):
         """Whether a word may stand in this place."""
@@ -176,7 +174,7 @@ class TextReader:
             words = words_of(line)
             if words and not words[0].text.startswith("#"):
                 message = "this stands after the line 'end' and is not read: move 'end' below it"
-                self.reading.findings.append(Finding(number, message, token=line.strip(BLANKS)))
+                self.reading.findings.append(Finding(number, message, token=line.strip(BLANKS), slip="after-end"))
 
     def no_header(self, number, why, token=None):
         self.fault(number, "no-header", why, token, "stnu 2")
