@@ -52,9 +52,14 @@ def source_of(text, path):
     return (document_source if is_document(text) else text_source)(text, None if path == STANDARD_INPUT else path)
 
 
+def called(path):
+    """A path as people are told it."""
+    return "standard input" if path == STANDARD_INPUT else path
+
+
 def told(path, finding):
     """A finding as a line for people."""
-    place = f"{'standard input' if path == STANDARD_INPUT else path}:{finding.line}"
+    place = f"{called(path)}:{finding.line}"
     kind = "" if finding.is_fault else "warning: "
     token = f"{quoted(finding.token)}: " if finding.token is not None else ""
     wanted = f"; wanted: {finding.wanted}" if finding.wanted else ""

@@ -52,8 +52,9 @@ class Order:
     def __init__(self, plan):
         self.plan = plan
         self.place = {name: place for place, name in enumerate(plan.points)}
-        # From each point to those that come no sooner, each with the line that says so.
+        # From each point to those that come no sooner, each with the line that says so; and lines that look wrong themselves.
         self.later = defaultdict(list)
+        self.doubted = set()
         for link in plan.links.values():
             self.later[link.start].append((link.end, link.line))
         for bound in plan.bounds.values():
@@ -62,12 +63,12 @@ class Order:
 
     def suspects(self):
         """Bounds whose ends look exchanged, or whose sign looks forgotten."""
-        for bound in self.plan.bounds.values():
-            if bound.start == bound.end:
-                continue
-            if bound.most < 0:
-                yield from self.against_order(bound)
-            elif bound.most > 0 and bound.statement.kind == Kind.BOUND:
+        bounds = [bound for bound in self.plan.bounds.values() if bound.start != bound.end]
+        exchanged = [finding for bound in bounds if bound.most < 0 for finding in self.against_order(bound)]
+        self.doubted = {finding.line for finding in exchanged}
+        yield from exchanged
+        for bound in bounds:
+            if bound.most > 0 and bound.statement.kind == Kind.BOUND:
                 yield from self.without_effect(bound)
 
     def against_order(self, bound):
@@ -100,7 +101,7 @@ class Order:
         while left:
             point = left.pop()
             for after, line in self.later[point]:
-                if line != without and after not in came:
+                if line != without and line not in self.doubted and after not in came:
                     came[after] = (point, line)
                     left.append(after)
         if end not in came:

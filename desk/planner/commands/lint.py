@@ -10,7 +10,7 @@ from collections import defaultdict
 from planner.explain import said_by
 from planner.faults import Status, say
 from planner.output import hand_on, tell
-from planner.plan import STANDARD_INPUT, Plan, read, source_of, text_of, told
+from planner.plan import STANDARD_INPUT, Plan, called, read, source_of, text_of, told
 from planner.reader import TextReader
 from planner.warnings import warnings_of
 
@@ -67,7 +67,7 @@ def lines_told(path, findings):
             yield told(path, finding)
     for slip, alike in by_slip.items():
         if slip and len(alike) > OFTEN:
-            yield f"{path}: {len(alike) - OFTEN} more warnings of this kind ({slip}), the next on line {alike[OFTEN].line}; --json lists all"
+            yield f"{called(path)}: {len(alike) - OFTEN} more warnings of this kind ({slip}), the next on line {alike[OFTEN].line}; --json lists all"
 
 
 def described(finding):
@@ -87,4 +87,4 @@ def summary(path, findings, answer):
     faults = sum(it.is_fault for it in findings)
     counts = f"{faults} fault{'' if faults == 1 else 's'}, {len(findings) - faults} warning{'' if len(findings) - faults == 1 else 's'}"
     said = "the program takes this plan" if answer.is_kept else f"the program says: {said_by(answer)}"
-    return f"{path}: {counts}; {said}"
+    return f"{called(path)}: {counts}; {said}"
