@@ -5,4 +5,5 @@ COMMANDS = {
     "check": "whether a plan can be kept, with a proof or a refutation",
     "lint": "all faults of a plan, and what is mostly a slip",
     "why": "why a plan cannot be kept, in sentences",
+    "repair": "what can be changed of a plan, so that it can be kept",
 }
