@@ -105,6 +105,16 @@ def read(source):
     return reading, built, reading.findings + built.findings
 
 
+def written_out(program, source):
+    """A source whose delay stands in its text, as commands want it that take none in their words: the plan as a session prints it."""
+    if "--delay" not in source.words:
+        return source
+    answer = program.call(["session"], source, Source("plan\nend\n"), is_shown=False)
+    text = "".join(f"{line}\n" for line in answer.lines[1:])
+    # Of a plan that is refused the fault is told by its own lines.
+    return Source(text, origin=f"{answer.call} | sed 1d") if answer.is_kept else source.with_delay(None)
+
+
 @dataclass(frozen=True)
 class Plan:
     """A plan in which there is no fault: its points, bounds and links, in order, its delay, and what may not be changed of it."""

@@ -137,6 +137,16 @@ class Program:
                 return f"{grouped([source.printed()])} | {command}"
         return f"{grouped([source.printed() for source in sources])} | {command}"
 
+    def quick(self):
+        """This program without the launcher in front of it, which takes longer than a small plan: for many calls one after another."""
+        tool = Path(self.path).parent / "tools" / "ready-program"
+        if not tool.is_file():
+            return self
+        words = [tool, *filter(None, [os.environ.get("STNU_PROGRAM")])]
+        done = subprocess.run(words, stdin=subprocess.DEVNULL, stdout=subprocess.PIPE, check=False, env=quiet(), **ENCODING)
+        inner = {"proved": "crates/stnu_cli/out/stnu_cli", "checked": "out/start/stnu_cli"}.get(done.stdout.strip())
+        return Program(relative(tool.parents[1].resolve() / inner), self.shows_calls) if done.returncode == 0 and inner else self
+
     def show(self, call):
         """Shows a call, where calls are to be shown."""
         if self.shows_calls:

@@ -4,7 +4,7 @@ import re
 from dataclasses import dataclass
 from enum import Enum
 
-from planner.parts import LARGEST
+from planner.parts import LARGEST, Kind
 
 # So end the names of bounds that tell what has come already, and that nothing comes before now.
 OF_THE_PAST = re.compile(r"\.(came|from-now)(\.\d+)?(\.(min|max))?")
@@ -130,7 +130,8 @@ class Repairs:
             delay = self.base.delay
             less = self.trials.least(lambda amount: self.base.other(delay=delay - amount), delay)
             if less is not None:
-                line = next((it.line for it in self.plan.statements if it.kind.value == "delay"), None)
+                given = "--delay" in self.plan.source.words
+                line = None if given else next(it.line for it in self.plan.statements if it.kind == Kind.DELAY)
                 change = Change("delay", line, delay, delay - less)
                 yield Repair(Sort.DELAY, (change,), self.base.other(delay=delay - less))
 

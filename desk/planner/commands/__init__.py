@@ -6,4 +6,7 @@ COMMANDS = {
     "lint": "all faults of a plan, and what is mostly a slip",
     "why": "why a plan cannot be kept, in sentences",
     "repair": "what can be changed of a plan, so that it can be kept",
+    "deadline": "by when a point can be promised, and how far a number may go",
+    "fixed": "one schedule for every day",
+    "many": "many plans at once, a line for each",
 }
