@@ -83,4 +83,4 @@ def ending(certificate):
     weights = [int(line.split()[-1]) for line in certificate if line.startswith("by ")]
     if not weights:
         return "        So each of these waits for another, and none comes."
-    return f"        Together these want a point to come {-sum(weights)} before itself."
+    return f"        These cannot be together: {-sum(weights)} {'is' if sum(weights) == -1 else 'are'} wanting."

@@ -17,12 +17,15 @@ from planner.faults import Fault, Status, say
 from planner.options import whole_number
 from planner.output import hand_on, tell
 from planner.plan import load, read
+from planner.reader import quoted
 
 EXAMPLE = """
   planner many examples
   planner many --json plans/monday.stnu plans/tuesday.json"""
 
 ENDINGS = (".stnu", ".json")
+# For so few plans it takes longer to look for the program behind its launcher than to launch it.
+FEW = 50
 
 
 def add_words(parser):
@@ -32,7 +35,7 @@ def add_words(parser):
 
 def run(args):
     files = files_of(args.paths)
-    quick = args.program.quick()
+    quick = args.program.quick() if len(files) > FEW else args.program
     counts, worst = {}, Status.KEPT
     with ThreadPoolExecutor(args.jobs) as pool:
         try:
@@ -82,4 +85,6 @@ def report(args, file, source, answer):
 def first_fault(source, said):
     """What is the matter with a plan that was refused, if planner finds the same fault first."""
     fault = next((it for it in read(source)[2] if it.is_fault), None)
-    return f"{fault.token}: {fault.message}" if fault and fault.told == said and fault.token else fault.message if fault and fault.told == said else None
+    if fault is None or fault.told != said:
+        return None
+    return fault.message if fault.token is None else f"{quoted(fault.token)}: {fault.message}"

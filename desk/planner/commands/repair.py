@@ -13,7 +13,7 @@ import time
 
 from planner.certificate import Refutation
 from planner.explain import refusal
-from planner.faults import Fault, Status, say
+from planner.faults import Fault, Status
 from planner.options import add_plan
 from planner.output import hand_on, tell
 from planner.plan import Plan, called, load
@@ -58,6 +58,8 @@ def run(args):
     if answer.is_kept:
         report_kept(args)
         return Status.KEPT
+    if over := next(overdue(plan), None):
+        raise Fault(told_overdue(plan, *over), Status.PLAN)
     report = Report(args, plan)
     report.begin()
     refutation = Refutation(plan, answer.certificate())
@@ -80,6 +82,15 @@ def known(plan, names):
     return names
 
 
+def told_overdue(plan, end, began, last, now):
+    """What is the matter with a plan of the rest of a day in which a link is over already: whatever else is changed, that stays wrong."""
+    least = now + 1 - began - plan.delay
+    return (
+        f"{end} began at {began}, and by its line {plan.line(end)} it is over by {last} at the latest; but it is {now} now: "
+        f"say how long it may take, at least {least} (planner rest .. --link {end} {least} HIGH)"
+    )
+
+
 def report_kept(args):
     if args.json:
         hand_on({"plan": args.plan, "answer": "controllable"})
@@ -97,11 +108,6 @@ class Report:
     def begin(self):
         if not self.args.json:
             tell("the plan cannot be kept")
-        for end, began, last, now in overdue(self.plan):
-            say(
-                f"{end} began at {began} and is over by {last} by this plan, and it is {now} now: "
-                f"how long it may take is to be said anew, by 'planner rest' and --link {end} {now + 1 - began - self.plan.delay} HIGH"
-            )
 
     def add(self, repair, source):
         if self.args.json:

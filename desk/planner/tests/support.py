@@ -7,6 +7,7 @@ import sys
 import tempfile
 import unittest
 from dataclasses import dataclass
+from functools import cache
 from pathlib import Path
 
 from planner.front import main
@@ -55,9 +56,10 @@ def repeated(shown):
     return done.returncode, done.stdout
 
 
+@cache
 def program():
-    """The program that the tests ask."""
-    return Program.found()
+    """The program that the tests ask, without its launcher."""
+    return Program.found().quick()
 
 
 class Case(unittest.TestCase):
