@@ -3,12 +3,14 @@
 import json
 
 NAMES = ["A", "B", "C", "a-1", "x.y_z", "end", "A" * 32]
+ENDS = [b"\nend\n", b"\nend\n", b"\n end\t\r\n", b"\nend", b"\nend\nmore\n", b"\nend x\nend\n", b"\n", b"\n# end\nend\n"]
 DELAYS = ["0", "1", "5", "1000000"]
-BAD_DELAYS = ["1000001", "-1", "-0", "1.0", "9223372036854775807", "9223372036854775808", "null", '"1"', "[]", "true"]
+BAD_ENDS = [b"\nend\n", b"\nend\n", b"\n end\t\r\n", b"\nend", b"\nend\nmore\n", b"\nend x\nend\n", b"\n", b"\n# end\nend\n"]
+DELAYS = ["1000001", "-1", "-0", "1.0", "9223372036854775807", "9223372036854775808", "null", '"1"', "[]", "true"]
 BAD_NAMES = ["", "9", "A b", "A\n", "é", "A" * 33, "-A"]
 NUMBERS = ["0", "1", "-1", "1000000000", "-1000000000"]
-BAD_NUMBERS = ["1000000001", "-1000000001", "-0", "1.0", "1e0", "1.5", "9223372036854775807", "9223372036854775808", "-9223372036854775809", "18446744073709551616", "1e400",
-               "9" * 400, "01", "+1", "null", "true", '"1"', "[]", "{}", "NaN", "0e5", "1e-400"]
+BAD_NUMBERS = ["1000000001", "-1000000001", "-0", "1.0", "1e0", "1.5", "9223372036854775807", "9223372036854775808",
+               "-9223372036854775809", "18446744073709551616", "1e400", "9" * 400, "01", "+1", "null", "true", '"1"', "[]", "{}", "NaN", "0e5", "1e-400"]
 
 
 def name(draw, broken):
@@ -63,16 +65,24 @@ def drawn(draw):
     count = draw.randint(0, 6)
     points = draw.sample(NAMES, count) if draw.random() < 0.8 else [draw.choice(NAMES) for _ in range(count)]
     end = draw.sample(points, len(points))
-    bounds = [[("name", json.dumps(f"b{place}") if draw.random() < 0.9 else name(draw, faults())), ("from", name(draw, faults())), ("to", name(draw, faults())), ("most", number(draw, faults()))] for place in range(draw.randint(0, 4))]
+    bounds = []
+    for place in range(draw.randint(0, 4)):
+        called = json.dumps(f"b{place}") if draw.random() < 0.9 else name(draw, faults())
+        ends = [("from", name(draw, faults())), ("to", name(draw, faults()))]
+        bounds.append([("name", called), *ends, ("most", number(draw, faults()))])
     links = []
     for to in end[: draw.randint(0, 2)]:
         low = draw.randint(0 if faults() else 1, 5)
-        links.append([("from", name(draw, faults())), ("low", number(draw, True) if faults() else str(low)), ("high", number(draw, True) if faults() else str(low + draw.randint(-1 if faults() else 0, 9))), ("to", name(draw, True) if faults() else json.dumps(to))])
+        start = ("from", name(draw, faults()))
+        least = ("low", number(draw, True) if faults() else str(low))
+        most = ("high", number(draw, True) if faults() else str(low + draw.randint(-1 if faults() else 0, 9)))
+        links.append([start, least, most, ("to", name(draw, True) if faults() else json.dumps(to))])
     version = draw.choice(["1", "2", "2"])
     between = []
     for place in range(draw.randint(0, 3) if version == "2" or faults() else 0):
         called = json.dumps(draw.choice([f"w{place}", f"w{place}", "b" * 28, "b" * (29 if faults() else 27)]))
-        between.append([("name", called if not faults() else name(draw, True)), ("from", name(draw, faults())), ("to", name(draw, faults())), ("low", number(draw, faults())), ("high", number(draw, faults()))])
+        ends = [("name", called if not faults() else name(draw, True)), ("from", name(draw, faults())), ("to", name(draw, faults()))]
+        between.append([*ends, ("low", number(draw, faults())), ("high", number(draw, faults()))])
     for one in [*bounds, *between, *links]:
         for place, (key, value) in enumerate(one):
             if key in ("from", "to") and points and value not in map(json.dumps, points) and draw.random() < 0.95 and not faults():
@@ -114,5 +124,4 @@ def given(draw):
     text = drawn(draw).encode()
     if draw.random() < 0.02:
         text += b"\xff"
-    end = draw.choice([b"\nend\n", b"\nend\n", b"\n end\t\r\n", b"\nend", b"\nend\nmore\n", b"\nend x\nend\n", b"\n", b"\n# end\nend\n"]) if draw.random() < 0.2 else b"\nend\n"
-    return text + end
+    return text + (draw.choice(ENDS) if draw.random() < 0.2 else ENDS[0])

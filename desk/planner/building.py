@@ -72,7 +72,8 @@ class Builder:
             self.fault(statement, "link-to-itself", "a link from a point to itself: give it another end", end)
         elif end in self.built.links:
             line = self.built.links[end].line
-            self.fault(statement, "two-links-on-point", f"a link ends in this point already, on line {line}: give each an end of its own", end)
+            message = f"a link ends in this point already, on line {line}: give each an end of its own"
+            self.fault(statement, "two-links-on-point", message, end)
         elif not 1 <= link.low <= link.high:
             self.fault(statement, "bad-interval", about_interval(link), f"{link.low} {link.high}")
         elif self.has_room(statement, "links", self.built.links, MOST_LINKS):

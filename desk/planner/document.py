@@ -79,6 +79,10 @@ def finite(digits):
     return value
 
 
+def whole_or_finite(digits):
+    return finite(digits) if len(digits) > 20 else int(digits)
+
+
 def no_constant(word):
     raise ValueError(f"{word} is no number of JSON")
 
@@ -97,7 +101,7 @@ def depth(value):
 def flaw(text):
     """Why a text is no JSON text, and its line; None where it is one."""
     try:
-        value = json.loads(text, parse_int=lambda digits: finite(digits) if len(digits) > 20 else int(digits), parse_float=finite, parse_constant=no_constant)
+        value = json.loads(text, parse_int=whole_or_finite, parse_float=finite, parse_constant=no_constant)
         json.dumps(value, ensure_ascii=False).encode()
         text.encode()
     except json.JSONDecodeError as why:
@@ -177,7 +181,8 @@ class DocumentReader:
         if not node.is_whole() or node.value < 0:
             self.top(node, "the delay is a whole number from 0 on", "delay")
         elif node.value > LARGEST_DELAY:
-            self.fault(node, f"the delay is beyond {LARGEST_DELAY:,}: choose a coarser unit of time", "error limit top 0 number", str(node.value))
+            message = f"the delay is beyond {LARGEST_DELAY:,}: choose a coarser unit of time"
+            self.fault(node, message, "error limit top 0 number", str(node.value))
         else:
             self.reading.statements.append(Statement(Kind.DELAY, self.line_of(node.start), 0, {"N": self.word(node)}))
 

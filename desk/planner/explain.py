@@ -1,4 +1,4 @@
-"""Tells what is the matter with a plan that the program refuses: each fault with its line, the word at fault and the form that was wanted."""
+"""Tells what is the matter with a plan that the program refuses: each fault with its line, its word and the form that was wanted."""
 
 from planner.faults import Fault, Status
 from planner.plan import read, told
@@ -10,7 +10,7 @@ def said_by(answer):
 
 
 def refusal(source, answer, path):
-    """The fault with which a command ends where the program has refused its plan: what it said, and each fault that is found in the plan."""
+    """The fault with which a command ends if the program has refused its plan: what it said, and each fault that is found in it."""
     said = said_by(answer)
     lines = [f"the program says: {said}"]
     if answer.status in (Status.PLAN, Status.LIMIT):

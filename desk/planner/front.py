@@ -2,6 +2,7 @@
 
 import argparse
 import importlib
+import textwrap
 
 from planner import faults, options, output
 from planner.commands import COMMANDS
@@ -24,19 +25,22 @@ def module_of(name):
 def parser_of(name):
     """The parser of a command, with all its words."""
     module = module_of(name)
-    about, _, more = module.__doc__.partition("\n\n")
-    epilog = f"example:\n{module.EXAMPLE.rstrip()}\n\n{faults.table()}"
-    described = "\n\n".join(filter(None, [about, more.strip()]))
     parser = Parser(
         prog=f"planner {name}",
-        description=described,
-        epilog=epilog,
+        description=wrapped(module.__doc__),
+        epilog=f"example:\n{module.EXAMPLE.strip(chr(10))}\n\n{faults.table()}",
         formatter_class=argparse.RawDescriptionHelpFormatter,
         allow_abbrev=False,
     )
     module.add_words(parser)
     options.add_common(parser)
     return parser
+
+
+def wrapped(text):
+    """The paragraphs of a text in lines of the terminal's width; those that are indented stay as they are."""
+    paragraphs = text.strip().split("\n\n")
+    return "\n\n".join(it if it.startswith(" ") else textwrap.fill(" ".join(it.split()), output.width()) for it in paragraphs)
 
 
 def overview():

@@ -19,10 +19,12 @@ def whole_number(low, high):
 def add_common(parser):
     """Adds what each command takes."""
     group = parser.add_argument_group("common to all commands")
-    group.add_argument("--program", metavar="PATH", help="the program stnu, where it is not the one beside planner or on the search path")
-    group.add_argument("--delay", type=whole_number(0, LARGEST_DELAY), metavar="N", help="completions are seen N moments late, whatever the plan says")
+    delay = whole_number(0, LARGEST_DELAY)
+    calls = "show on standard error, as lines of the shell, the calls that gave what is printed"
+    group.add_argument("--program", metavar="PATH", help="the program stnu (the one beside planner, else that of the search path)")
+    group.add_argument("--delay", type=delay, metavar="N", help="completions are seen N moments late, whatever the plan says")
     group.add_argument("--json", action="store_true", help="print one JSON object a line, for programs")
-    group.add_argument("--show-calls", action="store_true", help="show on standard error, as lines of the shell, the calls that gave what is printed")
+    group.add_argument("--show-calls", action="store_true", help=calls)
 
 
 def add_plan(parser):

@@ -1,4 +1,4 @@
-"""A plan as data: out of a file or standard input, with numbers that can be changed where they stand, so that all else of its text is kept."""
+"""A plan as data, out of a file or standard input. Its numbers can be changed where they stand, so that all else of its text is kept."""
 
 import re
 import shlex

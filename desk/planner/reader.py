@@ -3,7 +3,20 @@
 import difflib
 import re
 
-from planner.parts import FORMS, LARGEST, LARGEST_DELAY, LONGEST_BETWEEN, LONGEST_NAME, NUMBERS, Finding, Kind, Reading, Statement, Word, form
+from planner.parts import (
+    FORMS,
+    LARGEST,
+    LARGEST_DELAY,
+    LONGEST_BETWEEN,
+    LONGEST_NAME,
+    NUMBERS,
+    Finding,
+    Kind,
+    Reading,
+    Statement,
+    Word,
+    form,
+)
 
 BLANKS = " \t\r"
 WORD = re.compile(f"[^{BLANKS}]+")

@@ -145,7 +145,7 @@ class Repairs:
                 yield Repair(Sort.LINK, (change,), self.base.other(spans={end: span}))
 
     def narrowed(self, end):
-        """The intervals of a link with its shortest duration as it is, and with its longest; where neither is enough, one with two others."""
+        """The intervals of a link with its shortest duration as it is, and with its longest; if neither is enough, one with two others."""
         low, high = self.base.spans[end]
         less = self.least_span(lambda amount: (low, high - amount), end, high - low)
         more = self.least_span(lambda amount: (low + amount, high), end, high - low)
@@ -161,8 +161,8 @@ class Repairs:
         return self.trials.least(lambda amount: self.base.other(spans={end: interval(amount)}), limit)
 
     def sets(self):
-        """Smallest sets of bounds that are enough together, each with amounts of its own: in the order of the permits each bound is loosened
-        as little as is enough while those after it are as loose as they may be."""
+        """Smallest sets of bounds that are enough together, each with an amount of its own: in the order of the permits each bound is
+        loosened as little as is enough while those after it are as loose as they may be."""
         told = 0
         for names in self.smallest_sets():
             numbers = self.tightened(sorted(names, key=self.permits.place))

@@ -19,7 +19,8 @@ def unbound(plan):
         if name in bound or name in begins:
             continue
         if name in plan.links:
-            yield Finding(plan.links[name].line, "nothing waits for the end of this link, and nothing bounds it", token=name, slip="unbound")
+            message = "nothing waits for the end of this link, and nothing bounds it"
+            yield Finding(plan.links[name].line, message, token=name, slip="unbound")
         else:
             yield Finding(point.line, "nothing binds this point: no bound and no link names it", token=name, slip="unbound")
 
@@ -72,7 +73,7 @@ class Order:
                 yield from self.without_effect(bound)
 
     def against_order(self, bound):
-        """A lower bound on two points that are declared in the other order, where others contradict it or it begins with the first point."""
+        """A lower bound on two points declared in the other order, which others contradict, or which puts a point before the first."""
         if self.place[bound.start] > self.place[bound.end]:
             return
         if lines := self.way(bound.start, bound.end, bound.line):

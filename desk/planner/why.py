@@ -18,7 +18,7 @@ class Sentence:
 
 
 class Telling:
-    """Tells the steps of a refutation. A sum that one other sum uses is told within that one's sentence."""
+    """Tells the steps of a refutation. Bounds and links are told where they are used, and a sum that one other sum uses within that one."""
 
     def __init__(self, refutation):
         self.refutation = refutation
@@ -33,14 +33,15 @@ class Telling:
         last = self.refutation.step(self.refutation.walk[0])
         # What the walk is told by needs no sentence of its own.
         ends_so = len(self.refutation.walk) == 1 and last.start == last.end
-        told = [self.sentence(step) for step in self.refutation.steps if not (ends_so and step is last) and not self.is_told_within(step)]
+        steps = [step for step in self.refutation.steps if not self.is_told_within(step) and not (ends_so and step is last)]
+        told = [self.sentence(step) for step in steps]
         return [*told, self.clash(last) if ends_so else self.walk()]
 
     def is_told_within(self, step):
         """Whether the sentence of another step tells this one."""
         users = self.users[step.number]
         if step.rule in (Rule.BOUND, Rule.LINK):
-            return bool(users)
+            return True
         is_used_once = len(users) == 1 and step.number not in self.refutation.walk
         return step.rule in SUMS and is_used_once and users[0].rule in SUMS and users[0].start != users[0].end
 
@@ -63,8 +64,6 @@ class Telling:
 
     def sentence(self, step):
         match step.rule:
-            case Rule.BOUND | Rule.LINK:
-                return Sentence(step.number, f"{self.condition(step)}{self.fact(step)} ({self.source(step)}).")
             case Rule.NO | Rule.UP if step.start == step.end and step.weight < 0:
                 return self.clash(step)
             case Rule.NO | Rule.UP:
@@ -92,11 +91,11 @@ class Telling:
         premise = self.refutation.step(step.premises[0])
         link = self.plan.links[premise.label]
         if step.weight == premise.weight:
-            why = f"Nobody knows by then that {premise.label} won't take {link.high} (line {premise.number})"
+            why = f"Nobody knows by then that {premise.label} won't take {link.high}"
         else:
-            why = f"{premise.label} comes no sooner than {link.low} after {link.start}, and nobody knows before that it won't take {link.high}"
-            why += f" (line {premise.number})"
-        return f"{why}, so on every day {self.claim(step)}."
+            soonest = f"{premise.label} comes no sooner than {link.low} after {link.start}"
+            why = f"{soonest}, and nobody knows before that it won't take {link.high}"
+        return f"{why} (line {premise.number}), so on every day {self.claim(step)}."
 
     def clash(self, step):
         """The sentence of a step by which a point must come before itself."""

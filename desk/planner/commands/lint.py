@@ -67,7 +67,8 @@ def lines_told(path, findings):
             yield told(path, finding)
     for slip, alike in by_slip.items():
         if slip and len(alike) > OFTEN:
-            yield f"{called(path)}: {len(alike) - OFTEN} more warnings of this kind ({slip}), the next on line {alike[OFTEN].line}; --json lists all"
+            rest, line = len(alike) - OFTEN, alike[OFTEN].line
+            yield f"{called(path)}: {rest} more warnings of this kind ({slip}), the next on line {line}; --json lists all"
 
 
 def described(finding):
@@ -83,8 +84,12 @@ def described(finding):
     }
 
 
+def counted(count, what):
+    return f"{count} {what}{'' if count == 1 else 's'}"
+
+
 def summary(path, findings, answer):
     faults = sum(it.is_fault for it in findings)
-    counts = f"{faults} fault{'' if faults == 1 else 's'}, {len(findings) - faults} warning{'' if len(findings) - faults == 1 else 's'}"
+    counts = f"{counted(faults, 'fault')}, {counted(len(findings) - faults, 'warning')}"
     said = "the program takes this plan" if answer.is_kept else f"the program says: {said_by(answer)}"
     return f"{called(path)}: {counts}; {said}"

@@ -30,7 +30,10 @@ FEW = 50
 
 def add_words(parser):
     parser.add_argument("paths", nargs="+", metavar="PATH", help="files with plans, and folders of such files")
-    parser.add_argument("--jobs", type=whole_number(1, 1000), default=os.cpu_count(), metavar="N", help="so many at once (as there are processors)")
+    processors = os.cpu_count() or 1
+    parser.add_argument(
+        "--jobs", type=whole_number(1, 1000), default=processors, metavar="N", help="so many at once (as there are processors)"
+    )
 
 
 def run(args):

@@ -40,10 +40,9 @@ def names(word):
 
 def add_words(parser):
     add_plan(parser)
-    parser.add_argument("--fixed", type=names, action="extend", default=[], metavar="NAME", help="a bound, a link or 'delay' that nobody may change")
-    parser.add_argument(
-        "--among", type=names, action="extend", default=[], metavar="NAME", help="a bound that may be loosened, and no others; those given first the least"
-    )
+    lists = {"type": names, "action": "extend", "default": [], "metavar": "NAME"}
+    parser.add_argument("--fixed", **lists, help="a bound, a link or 'delay' that nobody may change")
+    parser.add_argument("--among", **lists, help="a bound that may be loosened, and no others; those given first the least")
 
 
 def run(args):

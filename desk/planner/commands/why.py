@@ -1,7 +1,7 @@
 """Tells why a plan cannot be kept, in sentences.
 
-The refutation that 'check' prints is first judged by 'judge'. Each sentence bears in front the line of the certificate that it tells, counted as
-the judge counts; what it rests on is told by the bounds and links of the plan, or by earlier lines.
+The refutation that 'check' prints is first judged by 'judge'. Each sentence bears in front the line of the certificate that it tells,
+counted as the judge counts; what it rests on is told by the bounds and links of the plan, or by earlier lines.
 """
 
 import textwrap

@@ -46,7 +46,7 @@ SLIPS = [
     ("point relay", "point größe", ["'größe'", "letters of ASCII"]),
     ("point relay", "point 2relay", ["'2relay'", "begins with a letter"]),
     ("point relay", "point " + "r" * 33, ["a name of 33 characters; at most 32"]),
-    ("link leave 40 90 arrive", "link leave 40 90 arrive\nlink sunrise 1 2 arrive", ["'arrive'", "a link ends in this point already, on line 17"]),
+    ("90 arrive\n", "90 arrive\nlink sunrise 1 2 arrive\n", ["'arrive'", "a link ends in this point already, on line 17"]),
 ]
 
 # The same of what the program takes.
@@ -88,7 +88,8 @@ class Slips(Case):
                 self.assertEqual(len(told), 1, done.out)
 
     def test_low_above_high(self):
-        done = planner("lint", given=ROVER.replace("stnu 1", "stnu 2").replace("bound relay-comes sunrise relay 240", "between pass sunrise 250 240 relay"))
+        text = ROVER.replace("stnu 1", "stnu 2").replace("bound relay-comes sunrise relay 240", "between pass sunrise 250 240 relay")
+        done = planner("lint", given=text)
         self.assertIn("'250 240': LOW is above HIGH, so this cannot be kept", done.out)
 
     def test_faults_after_the_first_are_told_too(self):

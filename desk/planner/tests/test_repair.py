@@ -8,6 +8,7 @@ import sys
 import unittest
 
 from planner.faults import Status
+from planner.parts import LARGEST
 from planner.plan import Plan, load
 from planner.repair import OF_THE_PAST, hitting
 from planner.tests.support import EXAMPLES, ROOT, Case, planner, program, repeated
@@ -48,6 +49,13 @@ class ByHand(Case):
         self.assertEqual(of_sort("bound", found), [])
         self.assertEqual(of_sort("set", found)[0], {"child.max": (390, 442), "shift.max": (540, 542)})
 
+    def test_nothing_of_the_past_is_offered(self):
+        for plan in ("theatre", "laboratory-rest"):
+            names = {name for _, changes in repairs(PLANS / f"{plan}.stnu") for name in changes}
+            self.assertFalse([name for name in names if OF_THE_PAST.search(name)])
+        for name in ("in-1.came", "in-1.came.min", "in-1.came.max", "in-1.came.2.min", "in-1.from-now", "in-1.from-now.1"):
+            self.assertTrue(OF_THE_PAST.search(name), name)
+
     def test_theatre_where_the_operation_is_over_by_its_line(self):
         text = (PLANS / "theatre.stnu").read_text()
         for line, least in (("link cut-1 100 120 closed-1", 131), ("link cut-1 100 130 closed-1", 131)):
@@ -65,7 +73,8 @@ class ByHand(Case):
         self.assertIn({"ripe": ([240, 360], [240, 247])}, of_sort("link", found))
 
     def test_examples(self):
-        self.assertEqual(of_sort("bound", repairs(EXAMPLES / "spacecraft" / "variant.stnu")), [{"not-alone": (10, 11)}, {"warmed-up": (-5, -4)}])
+        found = repairs(EXAMPLES / "spacecraft" / "variant.stnu")
+        self.assertEqual(of_sort("bound", found), [{"not-alone": (10, 11)}, {"warmed-up": (-5, -4)}])
         found = repairs(EXAMPLES / "rover" / "plan.json", "--delay", 16)
         self.assertEqual(found[:2], [("bound", {"before-shadow": (15, 16)}), ("delay", {"delay": (16, 15)})])
 
@@ -79,7 +88,7 @@ class Held(Case):
 
     def test_by_a_remark_above_the_line_or_by_name(self):
         text = (EXAMPLES / "rover" / "variant.stnu").read_text()
-        above = text.replace("bound warm ", "# fixed\nbound warm ").replace("link leave", "# Fixed: the ground decides.\n# fixed\n\nlink leave")
+        above = text.replace("bound warm ", "# fixed\nbound warm ").replace("link leave", "# fixed\n\n# A road.\nlink leave")
         self.assertEqual([set(changes) for _, changes in repairs(given=above)], [{"still-warm"}, {"before-shadow"}])
         named = text.replace("stnu 1", "stnu 1\n# fixed warm, arrive")
         self.assertEqual([set(changes) for _, changes in repairs(given=named)], [{"still-warm"}, {"before-shadow"}])
@@ -143,10 +152,11 @@ class Checked(Case):
         for sort, changes in found:
             for name, (old, new) in changes.items():
                 if sort in ("bound", "set"):
-                    self.assertTrue(new > old and (old > 0 or new <= 0) and not OF_THE_PAST.search(name), (plan.source.text, name, old, new))
+                    self.assertTrue(new > old and (old > 0 or new <= 0), (plan.source.text, name, old, new))
             self.assertTrue(self.is_kept(plan, sort, changes), (plan.source.text, changes))
             for name in changes:
-                self.assertFalse(self.is_kept(plan, sort, {**changes, name: self.less(sort, changes[name])}), (plan.source.text, changes, name))
+                less = {**changes, name: self.less(sort, changes[name])}
+                self.assertFalse(self.is_kept(plan, sort, less), (plan.source.text, changes, name))
 
     @staticmethod
     def less(sort, change):
@@ -180,8 +190,9 @@ class Checked(Case):
                 continue
             tried += 1
             plan = Plan.of(source)
-            limits = {name: 0 if it.most < 0 else 1_000_000_000 for name, it in plan.bounds.items() if it.most and it.start != it.end}
-            enough = {name for name, limit in limits.items() if program().call(["check"], plan.with_numbers({name: limit})).is_kept}
+            bounds = [it for it in plan.bounds.values() if it.most]
+            limits = {it.name: 0 if it.most < 0 else LARGEST for it in bounds}
+            enough = {name for name in limits if program().call(["check"], plan.with_numbers({name: limits[name]})).is_kept}
             found = {name for changes in of_sort("bound", repairs(path)) for name in changes}
             self.assertEqual(found, enough, plan.source.text)
 
@@ -195,5 +206,6 @@ class Sets(unittest.TestCase):
             size = draw.randint(1, 3)
             found = set(hitting(conflicts, size, str))
             self.assertTrue(all(len(it) <= size and not any(it.isdisjoint(conflict) for conflict in conflicts) for it in found))
-            every = [frozenset(it) for it in itertools.combinations(names, size) if not any(set(it).isdisjoint(conflict) for conflict in conflicts)]
-            self.assertTrue(all(any(part <= it for part in found) for it in every))
+            for chosen in map(frozenset, itertools.combinations(names, size)):
+                hits = not any(chosen.isdisjoint(conflict) for conflict in conflicts)
+                self.assertEqual(hits, any(part <= chosen for part in found))
