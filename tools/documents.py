@@ -5,8 +5,7 @@ import json
 NAMES = ["A", "B", "C", "a-1", "x.y_z", "end", "A" * 32]
 ENDS = [b"\nend\n", b"\nend\n", b"\n end\t\r\n", b"\nend", b"\nend\nmore\n", b"\nend x\nend\n", b"\n", b"\n# end\nend\n"]
 DELAYS = ["0", "1", "5", "1000000"]
-BAD_ENDS = [b"\nend\n", b"\nend\n", b"\n end\t\r\n", b"\nend", b"\nend\nmore\n", b"\nend x\nend\n", b"\n", b"\n# end\nend\n"]
-DELAYS = ["1000001", "-1", "-0", "1.0", "9223372036854775807", "9223372036854775808", "null", '"1"', "[]", "true"]
+BAD_DELAYS = ["1000001", "-1", "-0", "1.0", "9223372036854775807", "9223372036854775808", "null", '"1"', "[]", "true"]
 BAD_NAMES = ["", "9", "A b", "A\n", "é", "A" * 33, "-A"]
 NUMBERS = ["0", "1", "-1", "1000000000", "-1000000000"]
 BAD_NUMBERS = ["1000000001", "-1000000001", "-0", "1.0", "1e0", "1.5", "9223372036854775807", "9223372036854775808",
