@@ -25,5 +25,5 @@ def hand_on(value):
 
 
 def width(most=100):
-    """How many characters a line of the terminal has, but at most so many."""
-    return min(shutil.get_terminal_size().columns, most)
+    """How many characters a line of the terminal has, but at most so many; 80 where standard output is no terminal."""
+    return min(shutil.get_terminal_size().columns, most) if sys.stdout.isatty() else 80

@@ -40,6 +40,7 @@ def names(word):
 
 def add_words(parser):
     add_plan(parser)
+    parser.add_argument("--first", action="store_true", help="end with the first repair that is found")
     lists = {"type": names, "action": "extend", "default": [], "metavar": "NAME"}
     parser.add_argument("--fixed", **lists, help="a bound, a link or 'delay' that nobody may change")
     parser.add_argument("--among", **lists, help="a bound that may be loosened, and no others; those given first the least")
@@ -67,6 +68,8 @@ def run(args):
         for repair in repairs.all():
             trials.checked(repair.numbers)
             report.add(repair, trials.source_with(repair.numbers))
+            if args.first:
+                return Status.NOT_KEPT
     report.end(refutation, permits)
     return Status.NOT_KEPT
 
