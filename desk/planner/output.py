@@ -4,13 +4,17 @@ import json
 import shutil
 import sys
 
+from planner.faults import Fault, Status
+
 # Names are ASCII; remarks may have any bytes, which are handed on as they are.
 ENCODING = {"encoding": "utf-8", "errors": "surrogateescape"}
 
 
 def prepare():
     """Standard input and output take any bytes, with line ends as they are."""
-    for stream in (sys.stdin, sys.stdout):
+    if sys.stdout is None:
+        raise Fault("standard output is closed", Status.WRITE)
+    for stream in filter(None, (sys.stdin, sys.stdout)):
         stream.reconfigure(newline="\n", **ENCODING)
 
 

@@ -22,9 +22,11 @@ NO_FILE = (FileNotFoundError, IsADirectoryError, NotADirectoryError, PermissionE
 
 def text_of(path):
     """The text of a file, or of standard input."""
-    if path == STANDARD_INPUT:
-        return sys.stdin.read()
+    if path == STANDARD_INPUT and sys.stdin is None:
+        raise Fault("standard input is closed", Status.READ)
     try:
+        if path == STANDARD_INPUT:
+            return sys.stdin.read()
         with open(path, newline="\n", **ENCODING) as file:
             return file.read()
     except NO_FILE as why:

@@ -31,6 +31,11 @@ class Source:
             return f"cat {shlex.quote(self.file)}" + ("" if self.text.endswith("\n") else "; echo")
         return self.origin if self.origin is not None else lines_printed(self.text.removesuffix("\n").split("\n"))
 
+    def cut(self, count):
+        """This source, whose text is that of its file without so many lines in front."""
+        printed = None if self.file is None else f"sed 1,{count}d {shlex.quote(self.file)}"
+        return Source(self.text, self.words, origin=printed)
+
     def changed(self, text):
         """This source with another text of as many lines, of which only some differ."""
         before, after = self.text.split("\n"), text.split("\n")

@@ -49,6 +49,26 @@ class Check(Case):
             judged = program().call(["judge"], source, certificate)
             self.assertEqual(judged.lines, [f"accepted {said}"])
 
+    def test_a_certificate_is_judged(self):
+        for plan, status in ((ROVER, Status.KEPT), (VARIANT, Status.NOT_KEPT)):
+            planner("check", plan, "--proof", "certificate")
+            done = planner("check", plan, "--judge", "certificate")
+            shown = "can" if status == Status.KEPT else "cannot"
+            self.assertEqual((done.status, done.out), (status, f"the certificate shows that the plan {shown} be kept\n"))
+            # With the verdict above it, as check prints it.
+            answer = program().call(["check", "--proof"], load(str(plan)))
+            self.write("answer", "\n".join(answer.lines) + "\n")
+            done = planner("check", plan, "--judge", "answer", "--show-calls")
+            self.assertEqual(done.status, status)
+            self.assertEqual(repeated(done.err), (0, f"accepted {answer.first}\n"))
+        done = planner("check", EXAMPLES / "spacecraft" / "plan.stnu", "--judge", EXAMPLES / "spacecraft" / "mistaken.cert")
+        self.assertEqual((done.status, done.out), (Status.PLAN, ""))
+        self.assertIn("refused 6 too-low", done.err)
+        for text in ("", "controllable\n", "certificate 1\ntable\n", "nonsense\n"):
+            self.write("none", text)
+            done = planner("check", ROVER, "--judge", "none")
+            self.assertEqual((done.status, done.out), (Status.PLAN, ""), text)
+
     def test_a_certificate_that_cannot_be_written(self):
         done = planner("check", ROVER, "--proof", "nowhere/certificate")
         self.assertEqual((done.status, done.err.count("\n")), (Status.WRITE, 1))

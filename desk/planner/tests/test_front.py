@@ -58,6 +58,11 @@ class Ends(Case):
             done = self.run_launcher("check", ROVER, stdout=full)
         self.assertEqual((done.returncode, done.stderr.count("\n")), (Status.WRITE, 1))
 
+    def test_closed_streams_are_one_line(self):
+        for redirection, status in ((">&-", Status.WRITE), ("<&-", Status.READ)):
+            done = subprocess.run(f"{LAUNCHER} check {redirection}", shell=True, input="", capture_output=True, text=True, check=False)
+            self.assertEqual((done.returncode, done.stderr.count("\n")), (status, 1), done.stderr)
+
     def test_an_interrupt_is_one_line(self):
         slow = self.write("slow", "#!/bin/sh\necho asked >&2\nexec sleep 60\n")
         slow.chmod(0o755)
