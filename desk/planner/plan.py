@@ -162,8 +162,8 @@ class Plan:
         found = self.bounds.get(name) or self.links.get(name) or self.points.get(name)
         return found.line if found else None
 
-    def end_of(self, name):
-        """The name by which an edit goes: `cut` of a line `between cut`, whose bounds are `cut.max` and `cut.min`."""
+    def name_on_line(self, name):
+        """The name that stands on the line of a bound: `cut` of a line `between cut`, whose bounds are `cut.max` and `cut.min`."""
         bound = self.bounds.get(name)
         return bound.statement["NAME"] if bound else name
 

@@ -7,7 +7,8 @@ from enum import Enum
 from planner.parts import LARGEST, Kind
 
 # So end the names of bounds that tell what has come already, and that nothing comes before now.
-OF_THE_PAST = re.compile(r"\.(came|from-now)(\.\d+)?(\.(min|max))?")
+OF_THE_PAST = re.compile(r"\.(came|from-now)(\.\d+)?(\.(min|max))?\Z")
+FROM_NOW = re.compile(r"\.from-now(\.\d+)?\Z")
 # Of an interval that must be narrowed at both ends so many lengths are tried.
 LENGTHS = 64
 # So many bounds are changed together at the most, and so many sets are told.
@@ -58,11 +59,11 @@ class Permits:
         return 0 if bound.most <= 0 else LARGEST
 
     def is_loosenable(self, name):
-        is_meant = not self.among or name in self.among or self.plan.end_of(name) in self.among
+        is_meant = not self.among or name in self.among or self.plan.name_on_line(name) in self.among
         return is_meant and self.limit(name) > self.plan.bounds[name].most
 
     def is_fixed(self, name):
-        return name in self.fixed or self.plan.end_of(name) in self.fixed
+        return name in self.fixed or self.plan.name_on_line(name) in self.fixed
 
     def reason(self, name):
         """Why a bound is not loosened, or not far enough."""
@@ -83,10 +84,8 @@ class Permits:
 
     def place(self, name):
         """The place of a bound in the order in which bounds are changed together: that of the call, else that of the plan."""
-        for place, given in enumerate(self.among):
-            if given in (name, self.plan.end_of(name)):
-                return place, self.plan.bounds[name].line
-        return len(self.among), self.plan.bounds[name].line
+        called = (place for place, given in enumerate(self.among) if given in (name, self.plan.name_on_line(name)))
+        return next(called, len(self.among)), self.plan.line(name)
 
 
 class Repairs:
@@ -95,7 +94,6 @@ class Repairs:
     def __init__(self, trials, permits, progress):
         self.trials, self.permits, self.progress = trials, permits, progress
         self.plan, self.base = trials.plan, trials.base
-        self.is_hopeless = False
 
     def all(self):
         """All repairs: single bounds, the delay, sets of bounds if no bound alone is enough, and links."""
@@ -109,14 +107,17 @@ class Repairs:
         yield from self.links()
 
     def loosenable(self, refutation):
-        """The bounds of a refutation that may be loosened, those first that count most in it."""
+        """The bounds of a refutation that may be loosened."""
+        return frozenset(filter(self.permits.is_loosenable, refutation.bounds))
+
+    def likeliest(self, refutation):
+        """The bounds of a refutation that may be loosened: upper ones first, and those that count most in it."""
         uses = refutation.uses(self.base)
-        names = [name for name in refutation.bounds if self.permits.is_loosenable(name)]
-        return sorted(names, key=lambda name: (self.base.most[name] <= 0, -uses.get(name, 0)))
+        return sorted(self.loosenable(refutation), key=lambda name: (self.base.most[name] <= 0, -uses.get(name, 0), self.plan.line(name)))
 
     def bounds(self):
         """Each bound that alone is enough, with the least number."""
-        names = self.loosenable(self.trials.refutations[0])
+        names = self.likeliest(self.trials.refutations[0])
         for tried, name in enumerate(names):
             self.progress.doing = f"{tried} of {len(names)} bounds tried"
             number = self.trials.loosened(name, self.permits.limit(name))
@@ -187,7 +188,7 @@ class Repairs:
 
     def smallest_sets(self):
         """The sets of as few bounds as can be that are enough together, if each is as loose as it may be."""
-        conflicts = [frozenset(self.loosenable(refutation)) for refutation in self.trials.refutations if refutation.stands(self.base)]
+        conflicts = [self.loosenable(refutation) for refutation in self.trials.refutations if refutation.stands(self.base)]
         for size in range(1, MOST_TOGETHER + 1):
             self.progress.doing = f"sets of {size} bounds are tried"
             found = set()
@@ -198,9 +199,9 @@ class Repairs:
                     yield names
                 else:
                     refutation = next(it for it in reversed(self.trials.refutations) if it.stands(numbers))
-                    conflicts.append(frozenset(self.loosenable(refutation)) - names)
-            self.is_hopeless = not all(conflicts)
-            if found or self.is_hopeless:
+                    conflicts.append(self.loosenable(refutation) - names)
+            # Where one conflict has no bound that may be loosened, or loosened further, no set is enough.
+            if found or not all(conflicts):
                 return
 
     def rank(self, name):
@@ -232,7 +233,7 @@ def overdue(plan):
     """The links that are over already by what a plan of the rest of a day says: each with the moment at which it began, that by which
     it is over, and that before which nothing comes any more."""
     began = {it.end: it.most for it in plan.bounds.values() if it.name.endswith(".max") and OF_THE_PAST.search(it.name)}
-    now = max((-it.most for it in plan.bounds.values() if ".from-now" in it.name), default=0)
+    now = max((-it.most for it in plan.bounds.values() if it.most < 0 and FROM_NOW.search(it.name)), default=0)
     for end, link in plan.links.items():
         if link.start in began and end not in began and began[link.start] + link.high + plan.delay <= now:
             yield end, began[link.start], began[link.start] + link.high + plan.delay, now

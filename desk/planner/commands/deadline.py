@@ -103,7 +103,7 @@ def sentence(start, end, number):
 
 def tightest(args, plan, name):
     """Tells the least number of a bound of the plan: the deadline of its two points where the bound itself says nothing."""
-    bound = plan.bounds.get(name) or next((it for it in plan.bounds.values() if plan.end_of(it.name) == name), None)
+    bound = plan.bounds.get(name) or next((it for it in plan.bounds.values() if plan.name_on_line(it.name) == name), None)
     if bound is None:
         raise unknown(name, "bound", plan.bounds)
     source = written_out(args.program, plan.with_numbers({bound.name: LARGEST}))

@@ -76,7 +76,7 @@ def run(args):
 
 def known(plan, names):
     """These names, each of which is one of the plan's bounds, of its lines `between` or links, or `delay`."""
-    all_names = {"delay", *plan.bounds, *plan.links, *map(plan.end_of, plan.bounds)}
+    all_names = {"delay", *plan.bounds, *plan.links, *map(plan.name_on_line, plan.bounds)}
     for name in names:
         if name not in all_names:
             near = nearest(name, all_names)

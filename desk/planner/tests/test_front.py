@@ -7,7 +7,9 @@ import subprocess
 from planner.commands import COMMANDS
 from planner.faults import Status
 from planner.front import parser_of
-from planner.tests.support import EXAMPLES, ROOT, Case, planner, repeated
+from planner.plan import STANDARD_INPUT, load, source_of
+from planner.program import Session
+from planner.tests.support import EXAMPLES, ROOT, Case, planner, program, repeated
 
 LAUNCHER = ROOT / "planner"
 ROVER = EXAMPLES / "rover" / "plan.stnu"
@@ -88,6 +90,18 @@ class Calls(Case):
                 done = planner("check", name, "--show-calls")
                 self.assertEqual((done.status, done.out), (Status.KEPT, "the plan can be kept\n"))
                 self.assertEqual(repeated(done.err), (0, "controllable\n"))
+
+    def test_a_talk_that_is_shown_can_be_repeated(self):
+        for source in (load(str(ROVER)), load(str(EXAMPLES / "rover" / "plan.json"), 5), source_of(ROVER.read_text(), STANDARD_INPUT)):
+            with Session(program(), source) as session:
+                session.edit("set bound still-warm 45")
+                is_kept = session.is_kept()
+                certificate = session.certificate()
+                session.send("end")
+                shown, status = session.shell(), session.close()
+            self.assertEqual((is_kept, status), (False, Status.KEPT))
+            wanted = ["ready", "ok", "not controllable", *certificate]
+            self.assertEqual(repeated(shown), (0, "\n".join(wanted) + "\n"))
 
     def test_a_call_over_standard_input_can_be_repeated(self):
         done = planner("check", "--show-calls", given=ROVER.read_text())

@@ -53,6 +53,7 @@ class ByHand(Case):
         for plan in ("theatre", "laboratory-rest"):
             names = {name for _, changes in repairs(PLANS / f"{plan}.stnu") for name in changes}
             self.assertFalse([name for name in names if OF_THE_PAST.search(name)])
+        self.assertFalse(OF_THE_PAST.search("cut.cameras") or OF_THE_PAST.search("came") or OF_THE_PAST.search("a.came.late"))
         for name in ("in-1.came", "in-1.came.min", "in-1.came.max", "in-1.came.2.min", "in-1.from-now", "in-1.from-now.1"):
             self.assertTrue(OF_THE_PAST.search(name), name)
 
@@ -124,6 +125,14 @@ class Held(Case):
         self.assertEqual(done.status, Status.NOT_KEPT)
         self.assertIn("nothing that may be changed is enough\n", done.out)
         self.assertIn("slot.max (fixed)", done.out)
+
+
+class First(Case):
+    def test_the_first_repair_alone(self):
+        done = planner("repair", "--first", EXAMPLES / "rover" / "variant.stnu")
+        self.assertEqual((done.status, len(done.lines)), (Status.NOT_KEPT, 3))
+        done = planner("repair", "--first", EXAMPLES / "rover" / "plan.stnu")
+        self.assertEqual((done.status, done.out), (Status.KEPT, "the plan can be kept\n"))
 
 
 class Checked(Case):
