@@ -57,11 +57,23 @@ def table():
 
 def say(message):
     """Tells the user something that is no result, on standard error."""
+    to_standard_error(f"planner: {message}")
+
+
+def to_standard_error(line):
+    """Prints a line on standard error, if there is somebody to tell."""
+    if sys.stderr is None:
+        return
     try:
-        print(f"planner: {message}", file=sys.stderr, flush=True)
+        print(line, file=sys.stderr, flush=True)
     except OSError:
-        # There is nobody to tell.
         pass
+
+
+def hint(message):
+    """Tells somebody at a terminal what may be of use next."""
+    if sys.stderr is not None and sys.stderr.isatty():
+        say(message)
 
 
 def told_by_system(why):

@@ -8,7 +8,7 @@ import sys
 from dataclasses import dataclass, field
 from pathlib import Path
 
-from planner.faults import Fault, Status
+from planner.faults import Fault, Status, to_standard_error
 from planner.output import ENCODING
 
 
@@ -156,7 +156,7 @@ class Program:
         """Shows a call, where calls are to be shown."""
         if self.shows_calls:
             sys.stdout.flush()
-            print(f"$ {call}", file=sys.stderr, flush=True)
+            to_standard_error(f"$ {call}")
 
     def talk(self, command, source):
         """A talk with the program, by `run`, `session` or `fleet`, that begins with this text."""

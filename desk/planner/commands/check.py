@@ -5,7 +5,7 @@ is decided anew, and the status is that of what the certificate shows.
 """
 
 from planner.explain import refusal, said_by
-from planner.faults import Fault, Status, told_by_system
+from planner.faults import Fault, Status, hint, told_by_system
 from planner.options import add_plan
 from planner.output import ENCODING, hand_on, tell
 from planner.plan import load, text_of
@@ -40,6 +40,8 @@ def run(args):
         hand_on({"plan": args.plan, "answer": answer.first, "certificate": args.proof})
     else:
         tell("the plan can be kept" if answer.is_kept else "the plan cannot be kept")
+    if not answer.is_kept:
+        hint("'planner why' tells why, and 'planner repair' what can be changed")
     return Status(answer.status)
 
 
