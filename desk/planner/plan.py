@@ -42,11 +42,18 @@ def load(path=STANDARD_INPUT, delay=None):
     """
     text = text_of(path)
     source = source_of(text, path)
-    if len(text) > len(source.text) and "--json" not in source.words:
-        for finding in TextReader(text).read().findings:
-            if not finding.is_fault:
-                say(told(path, finding))
+    after_end = lines_after_end(text, source)
+    if after_end:
+        more = f" (and {len(after_end) - 1} more)" if len(after_end) > 1 else ""
+        say(told(path, after_end[0]) + more)
     return source.with_delay(delay)
+
+
+def lines_after_end(text, source):
+    """The warnings of what stands in a plan text after its line `end`, which its source leaves out."""
+    if "--json" in source.words or len(text) <= len(source.text):
+        return []
+    return [it for it in TextReader(text).read().findings if not it.is_fault]
 
 
 def source_of(text, path):

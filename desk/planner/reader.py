@@ -45,7 +45,8 @@ def nearest(word, names):
 def quoted(word):
     """A word as it is shown to its writer, with no byte that a terminal takes for another thing."""
     shown = word if len(word) <= 40 else word[:37] + ".."
-    return "'" + "".join(it if it.isprintable() else it.encode("utf-8", "surrogateescape").hex().join(["\\x", ""]) for it in shown) + "'"
+    printable = (it if it.isprintable() else f"\\x{it.encode('utf-8', 'surrogateescape').hex()}" for it in shown)
+    return f"'{''.join(printable)}'"
 
 
 class TextReader:

@@ -10,8 +10,7 @@ from collections import defaultdict
 from planner.explain import said_by
 from planner.faults import Status, say
 from planner.output import hand_on, tell
-from planner.plan import STANDARD_INPUT, Plan, called, read, source_of, text_of, told
-from planner.reader import TextReader
+from planner.plan import STANDARD_INPUT, Plan, called, lines_after_end, read, source_of, text_of, told
 from planner.warnings import warnings_of
 
 EXAMPLE = """
@@ -52,9 +51,8 @@ def findings_of(source, answer, text):
     if (faults[0].told if faults else "") != ("" if answer.is_kept else said_by(answer)):
         say(f"planner reads this plan otherwise than the program, which says: {said_by(answer)}")
         faults = []
-    after_end = [] if "--json" in source.words else [it for it in TextReader(text).read().findings if not it.is_fault]
     slips = warnings_of(Plan.of(source)) if answer.is_kept else []
-    return sorted([*faults, *slips, *after_end], key=lambda finding: finding.line)
+    return sorted([*faults, *slips, *lines_after_end(text, source)], key=lambda finding: finding.line)
 
 
 def lines_told(path, findings):
