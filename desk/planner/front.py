@@ -66,7 +66,8 @@ def run(words):
         near = nearest(name, COMMANDS)
         meant = f"; was '{near}' meant?" if near else ""
         raise faults.Fault(f"there is no command '{name}'{meant}\nplanner: 'planner --help' lists the commands")
-    args = parser_of(name).parse_args(rest)
+    # (options may stand between the words)
+    args = parser_of(name).parse_intermixed_args(rest)
     args.program = Program.found(args.program, args.show_calls)
     return module_of(name).run(args)
 
