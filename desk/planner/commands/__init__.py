@@ -2,6 +2,7 @@
 
 # Each command by its name, and what it is for.
 COMMANDS = {
+    "new": "a plan to begin with, one for each kind of day",
     "draw": "days of a plan as a picture",
     "check": "whether a plan can be kept, with a proof or a refutation",
     "lint": "all faults of a plan, and what is mostly a slip",
