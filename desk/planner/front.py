@@ -4,7 +4,7 @@ import argparse
 import importlib
 import textwrap
 
-from planner import faults, options, output
+from planner import faults, options, output, version
 from planner.commands import COMMANDS
 from planner.program import Program
 from planner.reader import nearest
@@ -48,7 +48,8 @@ def overview():
     widest = max(map(len, COMMANDS))
     lines = ["usage: planner COMMAND WORDS ..", "", "commands:"]
     lines += [f"  {name:<{widest}}  {summary}" for name, summary in COMMANDS.items()]
-    lines += ["", "'planner COMMAND --help' tells the words of a command, with an example.", "", faults.table()]
+    lines += ["", "'planner COMMAND --help' tells the words of a command, with an example, and 'planner --version' which version this is."]
+    lines += ["", faults.table()]
     return "\n".join(lines)
 
 
@@ -59,6 +60,10 @@ def run(words):
         case [] | [("-h" | "--help" | "help")]:
             output.tell(overview())
             return faults.Status.KEPT if words else faults.Status.WORDS
+        case ["--version"]:
+            for line in version.told():
+                output.tell(line)
+            return faults.Status.KEPT
         case ["help", name]:
             return run([name, "--help"])
     name, *rest = words

@@ -28,6 +28,8 @@ EXAMPLE = """
   ./stnu play longest < examples/rover/plan.stnu | planner draw examples/rover/plan.stnu --played -"""
 
 MOST_DAYS = 8
+# Words of the call that a shell may complete.
+COMPLETED = {"days": daily.WORDS}
 
 
 def add_words(parser):

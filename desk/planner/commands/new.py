@@ -24,6 +24,10 @@ def kinds():
     return {path.stem: path for path in sorted(PLANS.glob("*.stnu"))}
 
 
+# Words of the call that a shell may complete.
+COMPLETED = {"kind": tuple(kinds())}
+
+
 def about(path):
     """What a plan is about: the first remark in it."""
     lines = path.read_text(encoding="utf-8").splitlines()
