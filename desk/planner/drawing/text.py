@@ -55,17 +55,17 @@ class Terminal:
     def drawn(self, mark):
         """What a day has in a row. A limit at the very place of the mark stands beside it."""
         places = [" "] * self.width
-        first, last = 0, -1
+        here = None
         if self.chart.shows(mark):
             first, letters = self.bar(mark)
-            last = first + len(letters) - 1
-            places[first : last + 1] = letters
+            places[first : first + len(letters)] = letters
+            here = self.place(mark.moment)
         for limit in self.chart.limits(mark):
-            here = self.place(limit.moment)
-            if first <= here <= last:
-                here = last + 1 if limit.is_latest else first - 1
-            if 0 <= here < self.width and places[here] == " ":
-                places[here] = MARKS[limit.shape]
+            place = self.place(limit.moment)
+            if place == here:
+                place += 1 if limit.is_latest else -1
+            if 0 <= place < self.width and places[place] != MARKS[Shape.LIMIT]:
+                places[place] = MARKS[limit.shape]
         return "".join(places).rstrip()
 
     def lines(self):
