@@ -1,5 +1,6 @@
 """What a picture of days shows: for each point a row, and on each day in it a bar or a mark, and the limits that the plan sets it."""
 
+from collections import Counter
 from dataclasses import dataclass
 from enum import Enum
 
@@ -51,8 +52,8 @@ class Mark:
 def beginning(plan, days):
     """The point from which the day is counted: of those that come at moment 0 that which most bounds name; None where there is none."""
     at_zero = [name for name in plan.points if name not in plan.links and all(day.moments[name] == 0 for day in days)]
-    named = [name for bound in plan.bounds.values() for name in (bound.start, bound.end)]
-    return max(at_zero, key=named.count, default=None)
+    named = Counter(name for bound in plan.bounds.values() for name in (bound.start, bound.end))
+    return max(at_zero, key=named.__getitem__, default=None)
 
 
 class Distances:
