@@ -231,6 +231,26 @@ class Pictures(Case):
             begin = {"start": left, "middle": left - size // 2, "end": left - size}[it.get("text-anchor")]
             self.assertTrue(0 <= begin and begin + size <= width and int(it.get("y")) <= height, it.text)
 
+    def test_rows_of_a_terminal(self):
+        points = "".join(f"point {name}\n" for name in "abcd")
+        plan = self.write("plan.stnu", f"stnu 2\n{points}between w a 10 30 b\nlink b 3 5 c\nbetween e c 4 8 d\nend\n")
+        lines = planner("draw", plan, "--width", "36", "--delay", "2").lines
+        self.assertEqual(
+            lines[:6],
+            [
+                "     0         10        20       30",
+                "     |---------|---------|---------|",
+                "a  0 o",
+                "b 10          |o                   |",
+                "c 15           [====]~~",
+                "d 19                (---)   :",
+            ],
+        )
+        self.assertEqual([line[:5].strip() for line in lines[6:]], ["[==]", "~~", "(--)", "o", "|", ":"])
+        part = planner("draw", plan, "--width", "36", "--from", "12", "--to", "18").lines
+        self.assertEqual([line.split()[0] for line in part[2:4]], ["c", "d"])
+        self.assertTrue(part[2].endswith("]") and "<" in part[2] and part[3].endswith(">"), part)
+
     def test_a_part_of_a_day(self):
         done = planner("draw", self.write("plan.stnu", AIRPORT), "--clock", "6:00", "--from", "7:00", "--to", "7:20")
         names = [line.split()[0] for line in done.lines[2:] if not line.startswith(("[", "~", "(", "o ", "|", ":"))]
