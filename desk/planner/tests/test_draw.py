@@ -160,6 +160,15 @@ class Charts(Case):
         marks = self.marks((EXAMPLES / "spacecraft" / "plan.stnu").read_text())
         self.assertEqual([(it.moment, it.bound) for it in marks["dumped"].limits], [(88, "in-time")])
 
+    def test_the_strictest_limit_of_each_kind_is_drawn(self):
+        marks = self.marks(
+            "stnu 2\npoint day\npoint train\nbetween leaves day 20 20 train\npoint a\nlink day 3 6 a\npoint b\n"
+            "bound late day b 40\nbound sooner train b 15\nbound after-day b day -8\nbound after-train b train 4\n"
+            "bound loose a b 35\nbound tight a b 30\nend\n"
+        )
+        limits = [(it.moment, it.bound, it.is_latest, it.is_of_day) for it in marks["b"].limits]
+        self.assertEqual(limits, [(16, "after-train", False, True), (35, "sooner", True, True), (36, "tight", True, False)])
+
     def test_no_limit_is_passed(self):
         for path in (*sorted(EXAMPLES.glob("*/plan.stnu")), LARGE):
             plan = plan_of(path)
