@@ -126,5 +126,6 @@ def positionals(parser):
 
 
 def option_of(action):
-    value = None if action.nargs == 0 else action.metavar or action.dest.upper()
+    named = action.metavar or action.dest.upper()
+    value = None if action.nargs == 0 else " ".join(named) if isinstance(named, tuple) else named
     return Option(tuple(action.option_strings), "" if action.help is argparse.SUPPRESS else action.help or "", value)

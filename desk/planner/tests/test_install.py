@@ -1,5 +1,6 @@
 """tools/install, tried as somebody new would: in an empty home, into a folder with a blank in its name, and through links."""
 
+import argparse
 import json
 import os
 import shutil
@@ -110,6 +111,14 @@ class Told(Case):
                 call = [ROOT / "stnu", it.name, *operands.get(it.name, []), option, *values.get(option, [])]
                 done = subprocess.run(call, input="", capture_output=True, text=True, check=False, env=os.environ | {"STNU_QUIET": "1"})
                 self.assertEqual(done.stdout == "error words\n", option not in own, call)
+
+    def test_options_with_a_value_with_several_and_with_none(self):
+        parser = argparse.ArgumentParser()
+        parser.add_argument("--link", nargs=3, metavar=("END", "LOW", "HIGH"), help="three")
+        parser.add_argument("--out", metavar="FILE")
+        parser.add_argument("--quick", action="store_true")
+        found = {it.names[0]: (it.value, it.takes_file) for it in map(words.option_of, words.optionals(parser))}
+        self.assertEqual(found, {"-h": (None, False), "--link": ("END LOW HIGH", False), "--out": ("FILE", True), "--quick": (None, False)})
 
     def test_each_command_and_option_is_in_the_manual(self):
         pages = dict(manuals.pages("1"))
