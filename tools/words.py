@@ -13,7 +13,7 @@ from planner import front
 from planner.commands import COMMANDS
 
 # Words of a call that stand for files.
-FILES = {"FILE", "PLAN", "PATH", "DIR"}
+FILES = {"FILE", "PLAN", "PATH", "DIR", "SOURCE", "FLEET"}
 HELP = ("-h", "--help")
 
 
