@@ -77,13 +77,17 @@ def played(program, plan, which, path):
 
 
 def at_random(program, plan, seed, how_many, path):
-    """Days drawn at random: by their numbers, or where the number is beyond those that `play` takes, executed by `run`."""
+    """Days drawn at random."""
     for place, durations in enumerate(drawn(plan, seed, how_many), 1):
-        number = number_of(plan, durations)
-        if number <= LARGEST_NUMBER:
-            yield played(program, plan, str(number), path)
-        else:
-            yield executed(program, plan, durations, f"random {place}, seed {seed}", path)
+        yield day_of(program, plan, durations, f"random {place}, seed {seed}", path)
+
+
+def day_of(program, plan, durations, title, path):
+    """The day on which links last so: by its number, or if that is beyond those that `play` takes, executed by `run`."""
+    number = number_of(plan, durations)
+    if number <= LARGEST_NUMBER:
+        return played(program, plan, str(number), path)
+    return executed(program, plan, durations, title, path)
 
 
 def given(plan, text):

@@ -84,6 +84,16 @@ class Days(Case):
         acts = {line.split()[2]: int(line.split()[1]) for line in answer.splitlines() if line.startswith("act ")}
         self.assertEqual((status, acts), (0, {name: it for name, it in day["moments"].items() if name not in plan.links}))
 
+    def test_the_last_day_with_a_number_is_played_and_the_next_is_executed(self):
+        links = "".join(f"point {end}\nlink a 1 1000000000 {end}\n" for end in "bcd")
+        plan = plan_of(self.write("plan.stnu", f"stnu 1\npoint a\n{links}end\n"))
+        durations = {"b": 709_551_616, "c": 446_744_074, "d": 19}
+        for longer, title in ((0, f"day {daily.LARGEST_NUMBER}"), (1, "executed")):
+            lasting = durations | {"b": durations["b"] + longer}
+            self.assertEqual(daily.number_of(plan, lasting), daily.LARGEST_NUMBER + longer)
+            day = daily.day_of(program(), plan, lasting, "executed", "plan.stnu")
+            self.assertEqual((day.title, day.moments), (title, {"a": 0} | lasting))
+
     def test_the_same_seed_draws_the_same_days(self):
         words = ["draw", ROVER, "--random", "3", "--json", "--seed"]
         first, again, other = (planner(*words, seed).lines for seed in ("4", "4", "5"))
