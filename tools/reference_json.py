@@ -205,11 +205,13 @@ def fits(value, schema, root):
     if value != schema.get("const", value) or value not in schema.get("enum", [value]):
         return False
     if type(value) is str:
-        return re.fullmatch(schema["pattern"].strip("^$"), value) is not None
+        return re.search(schema["pattern"], value) is not None
     if type(value) is int:
         return schema.get("minimum", value) <= value <= schema.get("maximum", value)
     if type(value) is list:
-        return all(fits(one, schema["items"], root) for one in value)
+        return len(value) <= schema.get("maxItems", len(value)) and all(fits(one, schema["items"], root) for one in value)
+    if type(value) is not dict:
+        return True
     if "if" in schema and fits(value, schema["if"], root) and not fits(value, schema["then"], root):
         return False
     known = schema["properties"]
