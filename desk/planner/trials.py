@@ -50,8 +50,8 @@ class Trials:
         self.program, self.plan = program, plan
         self.base = Numbers.of(plan)
         self.refutations = refutations
-        # How long a question took lately, by each way of asking it; 0 where it was not tried.
-        self.took = {self.ask_session: 0.0 if took < SHORT else took, self.ask_anew: took}
+        # How long a question took lately, by each way of asking it; 0 where it was not tried. To open a session takes longer than `check`.
+        self.took = {self.ask_anew: took, self.ask_session: 0.0 if took < SHORT else took}
         self.session, self.now = None, self.base
         # The last answer of `check` by yes, and its numbers.
         self.kept = (None, None)
