@@ -5,6 +5,8 @@ import random
 import re
 import resource
 import sys
+import unittest
+from pathlib import Path
 
 from planner.certificate import Numbers, Refutation
 from planner.faults import Status
@@ -238,6 +240,14 @@ class Many(Case):
         for path in ("nowhere", "."):
             done = planner("many", path)
             self.assertEqual((done.status, done.out, done.err.count("\n")), (Status.WORDS, "", 1))
+
+    @unittest.skipUnless(Path("/proc/self/mem").exists(), "a file that cannot be read is wanted")
+    def test_a_file_that_cannot_be_read_keeps_no_other_from_being_decided(self):
+        Path("a.stnu").symlink_to("/proc/self/mem")
+        self.write("b.stnu", ROVER.read_text())
+        done = planner("many", ".")
+        self.assertEqual((done.status, done.lines[1:]), (Status.READ, ["b.stnu: controllable"]))
+        self.assertTrue(done.lines[0].startswith("a.stnu: "), done.out)
 
     def test_two_hundred_are_quicker_than_two_hundred_launches(self):
         text = ROVER.read_text()
