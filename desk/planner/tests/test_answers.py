@@ -12,7 +12,7 @@ from planner.certificate import Numbers, Refutation
 from planner.faults import Status
 from planner.plan import Plan, load
 from planner.program import Program
-from planner.tests.support import EXAMPLES, ROOT, Case, planner, program, repeated
+from planner.tests.support import EXAMPLES, ROOT, Case, planner, program, repeated, shown_calls
 from planner.why import Telling
 
 sys.path.insert(0, str(ROOT / "tools"))
@@ -186,13 +186,13 @@ class Deadline(Case):
         self.assertEqual((value["shortest"], value["longest"]), (35, 95))
         done = planner("deadline", VARIANT, "--link", "arrive", "--show-calls")
         self.assertEqual(done.out, "arrive may come up to 80 after leave (in the plan up to 90, line 17)\n")
-        verdicts = [repeated(call)[0] for call in done.err.splitlines()]
+        verdicts = [repeated(call)[0] for call in shown_calls(done.err)]
         self.assertEqual(verdicts, [0, 1])
 
     def test_how_late_completions_may_be_seen(self):
         done = planner("deadline", ROVER, "--seen", "--show-calls")
         self.assertEqual(done.out, "completions may be seen up to 15 late (in the plan 0)\n")
-        self.assertEqual([repeated(call)[0] for call in done.err.splitlines()], [0, 1])
+        self.assertEqual([repeated(call)[0] for call in shown_calls(done.err)], [0, 1])
         self.assertEqual(planner("deadline", VARIANT, "--seen").status, Status.NOT_KEPT)
 
 
