@@ -11,8 +11,9 @@ from planner.program import Session
 
 # If a session answers sooner than this, it is asked (seconds).
 SOON = 0.05
-# A session is opened over a plan that `check` answers sooner than this (seconds).
+# A session is opened over a plan that `check` answers sooner than this (seconds), and over one of so few points.
 SHORT = 0.5
+FEW = 200
 # How often it is told what is being tried (seconds).
 EACH = 5
 # For so long the number of one bound is sought, and after so many answers by no, before `deadline` is asked (seconds).
@@ -50,8 +51,9 @@ class Trials:
         self.program, self.plan = program, plan
         self.base = Numbers.of(plan)
         self.refutations = refutations
-        # How long a question took lately, by each way of asking it; 0 where it was not tried.
-        self.took = {self.ask_session: 0.0 if took < SHORT else took, self.ask_anew: took}
+        # How long a question took lately, by each way of asking it; 0 where it was not tried. To open a session takes longer than `check`.
+        is_small = took < SHORT or len(plan.points) <= FEW
+        self.took = {self.ask_anew: took, self.ask_session: 0.0 if is_small else took}
         self.session, self.now = None, self.base
         # The last answer of `check` by yes, and its numbers.
         self.kept = (None, None)

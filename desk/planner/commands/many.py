@@ -11,6 +11,7 @@ put what they print together, by GNU parallel for example:
 
 import os
 from concurrent.futures import ThreadPoolExecutor
+from dataclasses import dataclass
 from pathlib import Path
 
 from planner.faults import Fault, Status, say
@@ -42,12 +43,13 @@ def run(args):
     counts, worst = {}, Status.KEPT
     with ThreadPoolExecutor(args.jobs) as pool:
         try:
-            for file, (source, answer) in zip(files, pool.map(lambda file: decided(quick, file, args.delay), files)):
-                quick.show(answer.call)
-                report(args, file, source, answer)
-                kind = "refused" if answer.is_refused else answer.first
+            for decision in pool.map(lambda file: decided(quick, file, args.delay), files):
+                if decision.call:
+                    quick.show(decision.call)
+                report(args, decision)
+                kind = "refused" if decision.status > Status.NOT_KEPT else decision.said
                 counts[kind] = counts.get(kind, 0) + 1
-                worst = max(worst, answer.status)
+                worst = max(worst, decision.status)
         except BaseException:
             pool.shutdown(wait=False, cancel_futures=True)
             raise
@@ -70,19 +72,33 @@ def files_of(paths):
     return files
 
 
+@dataclass(frozen=True)
+class Decision:
+    """What is said of a plan, with its status, what is the matter with it, and the call that said so."""
+
+    file: str
+    said: str
+    status: int
+    fault: str | None = None
+    call: str | None = None
+
+
 def decided(program, file, delay):
-    """A plan, and what the program answers to it."""
-    source = load(file, delay)
-    return source, program.call(["check"], source, is_shown=False)
+    """What the program answers to a plan, or why the plan cannot be read."""
+    try:
+        source = load(file, delay)
+    except Fault as fault:
+        return Decision(file, str(fault).removeprefix(f"{file}: "), fault.status)
+    answer = program.call(["check"], source, is_shown=False)
+    fault = first_fault(source, answer.first) if answer.is_refused else None
+    return Decision(file, answer.first or "nothing", answer.status, fault, answer.call)
 
 
-def report(args, file, source, answer):
-    said = answer.first or "nothing"
-    fault = first_fault(source, said) if answer.is_refused else None
+def report(args, decision):
     if args.json:
-        hand_on({"plan": file, "answer": said, "status": answer.status, "fault": fault})
+        hand_on({"plan": decision.file, "answer": decision.said, "status": decision.status, "fault": decision.fault})
     else:
-        tell(f"{file}: {said}" + (f" ({fault})" if fault else ""))
+        tell(f"{decision.file}: {decision.said}" + (f" ({decision.fault})" if decision.fault else ""))
 
 
 def first_fault(source, said):

@@ -49,9 +49,14 @@ def planner(*words, given=""):
     return Done(status, *told)
 
 
+def shown_calls(err):
+    """The calls that were shown on standard error, where other things may be told too."""
+    return [line.removeprefix("$ ") for line in err.splitlines() if line.startswith("$ ")]
+
+
 def repeated(shown):
-    """The status and the answer of the last call that was shown, made once more by the shell."""
-    call = shown.rstrip("\n").rpartition("\n")[2].removeprefix("$ ")
+    """The status and the answer of a call, or of the last one that was shown, made once more by the shell."""
+    call = (shown_calls(shown) or [shown])[-1]
     done = subprocess.run(call, shell=True, stdout=subprocess.PIPE, text=True, check=False, env=os.environ | {"STNU_QUIET": "1"})
     return done.returncode, done.stdout
 

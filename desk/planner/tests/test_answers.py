@@ -3,14 +3,16 @@
 import json
 import random
 import re
+import resource
 import sys
-import time
+import unittest
+from pathlib import Path
 
 from planner.certificate import Numbers, Refutation
 from planner.faults import Status
 from planner.plan import Plan, load
 from planner.program import Program
-from planner.tests.support import EXAMPLES, ROOT, Case, planner, program, repeated
+from planner.tests.support import EXAMPLES, ROOT, Case, planner, program, repeated, shown_calls
 from planner.why import Telling
 
 sys.path.insert(0, str(ROOT / "tools"))
@@ -184,13 +186,13 @@ class Deadline(Case):
         self.assertEqual((value["shortest"], value["longest"]), (35, 95))
         done = planner("deadline", VARIANT, "--link", "arrive", "--show-calls")
         self.assertEqual(done.out, "arrive may come up to 80 after leave (in the plan up to 90, line 17)\n")
-        verdicts = [repeated(call)[0] for call in done.err.splitlines()]
+        verdicts = [repeated(call)[0] for call in shown_calls(done.err)]
         self.assertEqual(verdicts, [0, 1])
 
     def test_how_late_completions_may_be_seen(self):
         done = planner("deadline", ROVER, "--seen", "--show-calls")
         self.assertEqual(done.out, "completions may be seen up to 15 late (in the plan 0)\n")
-        self.assertEqual([repeated(call)[0] for call in done.err.splitlines()], [0, 1])
+        self.assertEqual([repeated(call)[0] for call in shown_calls(done.err)], [0, 1])
         self.assertEqual(planner("deadline", VARIANT, "--seen").status, Status.NOT_KEPT)
 
 
@@ -239,22 +241,36 @@ class Many(Case):
             done = planner("many", path)
             self.assertEqual((done.status, done.out, done.err.count("\n")), (Status.WORDS, "", 1))
 
+    @unittest.skipUnless(Path("/proc/self/mem").exists(), "a file that cannot be read is wanted")
+    def test_a_file_that_cannot_be_read_keeps_no_other_from_being_decided(self):
+        Path("a.stnu").symlink_to("/proc/self/mem")
+        self.write("b.stnu", ROVER.read_text())
+        done = planner("many", ".")
+        self.assertEqual((done.status, done.lines[1:]), (Status.READ, ["b.stnu: controllable"]))
+        self.assertTrue(done.lines[0].startswith("a.stnu: "), done.out)
+
     def test_two_hundred_are_quicker_than_two_hundred_launches(self):
         text = ROVER.read_text()
         for number in range(200):
             self.write(f"plan-{number:03}.stnu", re.sub("(bound still-warm .*) 60", rf"\1 {45 + number % 20}", text))
-        began = time.monotonic()
+        began = processor_seconds()
         done = planner("many", ".")
-        took = time.monotonic() - began
+        took = processor_seconds() - began
         self.assertEqual((len(done.lines), done.status), (200, Status.NOT_KEPT))
         self.assertEqual([line.endswith(": controllable") for line in done.lines], [number % 20 >= 10 for number in range(200)])
         self.assertLess(took, 10 * self.launches(20))
 
     @staticmethod
     def launches(count):
-        """How long so many calls by the launcher take, one after another (seconds)."""
+        """What so many calls by the launcher take, one after another (seconds of the processor)."""
         launcher, source = Program.found(), load(str(ROVER))
-        began = time.monotonic()
+        began = processor_seconds()
         for _ in range(count):
             launcher.call(["check"], source)
-        return time.monotonic() - began
+        return processor_seconds() - began
+
+
+def processor_seconds():
+    """What this process and those that it started have taken so far."""
+    usages = [resource.getrusage(of) for of in (resource.RUSAGE_SELF, resource.RUSAGE_CHILDREN)]
+    return sum(usage.ru_utime + usage.ru_stime for usage in usages)

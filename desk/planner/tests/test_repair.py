@@ -11,7 +11,7 @@ from planner.faults import Status
 from planner.parts import LARGEST
 from planner.plan import Plan, load
 from planner.repair import OF_THE_PAST, hitting
-from planner.tests.support import EXAMPLES, ROOT, Case, planner, program, repeated
+from planner.tests.support import EXAMPLES, ROOT, Case, planner, program, repeated, shown_calls
 
 sys.path.insert(0, str(ROOT / "tools"))
 from drawn import random_plan  # noqa: E402 (the path comes first)
@@ -140,7 +140,7 @@ class Checked(Case):
 
     def test_the_call_of_each_repair_is_shown_and_gives_its_verdict(self):
         done = planner("repair", PLANS / "airport.stnu", "--show-calls")
-        calls = done.err.splitlines()
+        calls = shown_calls(done.err)
         self.assertEqual(len(calls), 1 + done.out.count(" -> "))
         self.assertEqual(repeated(calls[0])[0], 1)
         for call in calls[1:]:
