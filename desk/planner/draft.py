@@ -70,8 +70,11 @@ class Draft:
 
     def add(self, *texts):
         """Adds lines before the line `end`."""
-        place = next(place for place, line in enumerate(self.lines) if line.words == ["end"])
-        self.lines[place:place] = [Line(text) for text in texts]
+        self.insert(next(place for place, line in enumerate(self.lines) if line.words == ["end"]), *texts)
+
+    def insert(self, place, *texts):
+        """Inserts lines before the one of this place."""
+        self.lines[place:place] = map(Line, texts)
 
     def edit(self, words):
         """Edits the text as the program has edited its plan; a line `between` of an edit is one here too."""

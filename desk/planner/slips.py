@@ -32,7 +32,7 @@ def unknown(words, known):
 
 def slip_of_word(word, known):
     """A first word that is none."""
-    return f"{quoted(word)} begins no line here{meant(word.lower(), known)}; 'help' lists the lines"
+    return f"{quoted(word)} begins no line here{meant(word.lower(), known) or ';'} 'help' lists the lines"
 
 
 def slip_of_edit(words, said, draft):

@@ -13,4 +13,5 @@ COMMANDS = {
     "many": "many plans at once, a line for each",
     "edit": "edit a plan at a terminal, with nothing lost by a slip",
     "day": "execute a plan at a terminal, with nothing lost by a slip",
+    "rest": "the plan of what is left of a day that went another way",
 }

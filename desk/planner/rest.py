@@ -1,0 +1,168 @@
+"""What is left of a day as a new plan: the text of the plan, in which what has come stays where it came."""
+
+from dataclasses import dataclass, field
+
+from planner.desk_session import negated
+from planner.draft import ENDINGS, Draft
+from planner.faults import Fault
+from planner.parts import Kind
+from planner.plan import Plan
+from planner.program import Session, Source
+from planner.slips import meant, unknown
+
+# The endings of the names of what this adds.
+CAME, FROM_NOW = "came", "from-now"
+
+
+@dataclass(frozen=True)
+class Amendments:
+    """What somebody knows of a day that its lines do not tell."""
+
+    now: int | None = None
+    spans: dict[str, tuple[int, int]] = field(default_factory=dict)
+    came: dict[str, int] = field(default_factory=dict)
+    not_yet: tuple[str, ...] = ()
+
+
+class Unsaid(Fault):
+    """Links are overdue of which nobody has said how long they now may last."""
+
+
+def fresh(name, names):
+    """The first of NAME, NAME.1, NAME.2 and so on that is none of these."""
+    return next(it for it in (f"{name}.{number}" if number else name for number in range(len(names) + 1)) if it not in names)
+
+
+def listed(names):
+    return ", ".join(names)
+
+
+class Rest:
+    """What is left of a day that stands at a moment."""
+
+    def __init__(self, source, moments, last, amendments):
+        self.plan, self.draft = Plan.of(source), Draft.of(source)
+        self.amendments = amendments
+        self.fit(last)
+        self.now = last if amendments.now is None else amendments.now
+        self.moments = {point: it for point, it in (moments | amendments.came).items() if point not in amendments.not_yet}
+        self.fit_moments()
+        # The point at which the day began: one that came at 0, else a new one.
+        self.begin = next((point for point in self.plan.points if self.moments.get(point) == 0), None)
+        self.names = set(self.plan.bounds) | {name.removesuffix(ending) for name in self.plan.bounds for ending in ENDINGS}
+
+    def fit(self, last):
+        """Sees that what somebody says can be so, by the plan."""
+        told, links = self.amendments, self.plan.links
+        if missing := [name for name in [*told.came, *told.not_yet] if name not in self.plan.points]:
+            raise Fault(unknown(missing, self.plan.points))
+        if missing := [name for name in told.spans if name not in links]:
+            raise Fault("; ".join(f"no link ends in '{name}'{meant(name, links)}" for name in missing))
+        if told.now is not None and told.now < last:
+            raise Fault(f"the lines of the day go on until {last}, so that it cannot be {told.now} now")
+        for end, (low, high) in told.spans.items():
+            if not 1 <= low <= high:
+                raise Fault(f"{end}: LOW is at least 1 and at most HIGH, and they are {low} and {high}")
+
+    def fit_moments(self):
+        """Sees that nothing has come that is still to come."""
+        for point, moment in self.amendments.came.items():
+            if moment > self.now:
+                raise Fault(f"{point} cannot have come at {moment}, since it is {self.now} now")
+        for end in self.amendments.spans:
+            if end in self.moments:
+                raise Fault(f"{end} has come at {self.moments[end]}, so that its link lasts no longer: --not-yet {end} takes that back")
+
+    def text(self, program):
+        """The text of the plan of the rest."""
+        overdue = [f"--link {end} {low} HIGH" for end, low in self.links()]
+        if overdue:
+            raise Unsaid(f"overdue at {self.now}; say how long each may last now, from where it began: {listed(overdue)}")
+        self.bounds(program)
+        self.head()
+        self.draft.add("", "# What has come stays where it came, and what is still to come does so no sooner than now.", *self.came())
+        return self.draft.source().text
+
+    def head(self):
+        """The first lines: what this is, the version, the delay, and a point for the beginning of the day where none came at 0."""
+        header = next(line for line in self.draft.lines if line.words)
+        header.text = "stnu 2"
+        place = self.draft.lines.index(header) + 1
+        if old := next((line for line in self.draft.lines if line.words[:1] == ["delay"]), None):
+            self.draft.lines.remove(old)
+        self.draft.words_of_call = ()
+        added = [f"delay {self.plan.delay}"] if self.plan.delay else []
+        if self.begin is None:
+            self.begin = fresh("began", self.plan.points)
+            added.append(f"point {self.begin}")
+        self.draft.insert(place, *added)
+        self.draft.insert(0, f"# What is left of a day at {self.now}.")
+
+    def name(self, point, ending):
+        """A name for a bound that no other has."""
+        found = fresh(f"{point[:16]}.{ending}", self.names)
+        self.names.add(found)
+        return found
+
+    def came(self):
+        """The lines by which what has come stays where it came, and what is still to come does not do so before now."""
+        for point, moment in sorted(self.moments.items(), key=lambda it: it[1]):
+            if point != self.begin:
+                yield f"between {self.name(point, CAME)} {self.begin} {moment} {moment} {point}"
+        for point in self.plan.points:
+            if point not in self.moments and point not in self.plan.links:
+                yield f"bound {self.name(point, FROM_NOW)} {point} {self.begin} {-self.now}"
+
+    def links(self):
+        """Gives the links that still run the durations that are left, and leaves out those that are over. Yields those overdue."""
+        for end, link in self.plan.links.items():
+            line = self.draft.find("link", 4, end)
+            if end in self.moments:
+                line.text = f"# over: {line.text.strip()}"
+                continue
+            low, high = self.amendments.spans.get(end, (link.low, link.high))
+            if link.start in self.moments:
+                # What is seen at this moment or before was told.
+                lasted = self.now - self.plan.delay - self.moments[link.start]
+                if end in self.amendments.spans and high <= lasted:
+                    raise Fault(f"{end} has lasted {lasted} already; HIGH is at least {lasted + 1}, and not {high}")
+                low = max(low, lasted + 1)
+            if low > high:
+                yield end, low
+            else:
+                line.replace(3, high)
+                line.replace(2, low)
+
+    def bounds(self, program):
+        """Leaves out the bounds between points that have come; a remark tells what the program says of each, whether it was kept."""
+        over = [it for it in self.plan.statements if it.kind in (Kind.BOUND, Kind.BETWEEN) and {it["FROM"], it["TO"]} <= self.moments.keys()]
+        own = [it for it in over if it["NAME"].endswith((f".{CAME}", f".{FROM_NOW}"))]
+        for it in own:
+            self.draft.lines.remove(self.line(it))
+        others = [it for it in over if it not in own]
+        with Session(program, self.past()) as session:
+            for it in others:
+                line = self.line(it)
+                line.text = f"# {'kept' if is_kept(session, line.words) else 'not kept'}: {line.text.strip()}"
+            session.show()
+
+    def line(self, statement):
+        return self.draft.find(statement.kind.value, 1, statement["NAME"])
+
+    def past(self):
+        """A plan of what has come alone, each point at its moment."""
+        begin = fresh("began", self.plan.points)
+        points = [f"point {name}" for name in [begin, *self.moments]]
+        came = [f"between at{number} {begin} {moment} {moment} {name}" for number, (name, moment) in enumerate(self.moments.items())]
+        return Source("\n".join(["stnu 2", *points, *came, "end", ""]))
+
+
+def is_kept(session, words):
+    """Whether the points of a statement with these words came as it says."""
+    bounds = [["b", *words[2:]]] if words[0] == "bound" else [["b", words[2], words[5], words[4]], ["c", words[5], words[2], negated(words[3])]]
+    for bound in bounds:
+        session.edit(f"add bound {' '.join(bound)}")
+    kept = session.is_kept()
+    for name, *_ in bounds:
+        session.edit(f"drop bound {name}")
+    return kept
