@@ -59,6 +59,16 @@ class Draft:
         """The draft as the program is given it."""
         return Source("".join(f"{line.text}\n" for line in self.lines), self.words_of_call)
 
+    def write_delay(self, delay):
+        """Writes the delay with which the plan is read into its text, which is one of version 2 then. Returns the place after it."""
+        header = next(line for line in self.lines if line.words)
+        header.text = "stnu 2"
+        place = self.lines.index(header) + 1
+        self.lines = [line for line in self.lines if line.words[:1] != ["delay"]]
+        self.words_of_call = ()
+        self.insert(place, *([f"delay {delay}"] if delay else []))
+        return place + bool(delay)
+
     def find(self, kind, place, name):
         """The first statement of this kind that has the name in this place; None where there is none."""
         return next((line for line in self.lines if line.words[:1] == [kind] and line.words[place] == name), None)

@@ -99,6 +99,10 @@ class Execution:
         """Begins anew with these lines. Returns the first that is refused, with what is said to it; None where none is."""
         self.lines = []
         self.begin()
+        return self.tell_again(lines)
+
+    def tell_again(self, lines):
+        """Tells lines that were told before."""
         for line in lines:
             told = self.tried(line)
             if told.refused:
@@ -159,14 +163,13 @@ class Execution:
             self.program.show(talk.shell())
         return Told.of(answer).why
 
+    def moments(self):
+        """What has come at which moment, as it happened: before it was seen, if the plan has a delay."""
+        return self.acts | {name: moment - self.plan.delay for name, moment in self.seen.items()}
+
     def close(self):
         if not self.channel.before:
             self.channel.talk.close()
-
-    def is_late(self, now):
-        """Whether a moment that was due, or the latest of a link's end, has passed untold at this moment."""
-        due = self.told.due
-        return not self.is_complete and (due is not None and due < now or any(self.window(it.end).last < now for it in self.running()))
 
 
 def slip_of_event(line, told, execution):

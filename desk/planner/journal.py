@@ -17,7 +17,7 @@ from planner.output import ENCODING
 
 # The word that takes the last kept line back: it stands in the journal, since nothing in there is ever written over.
 UNDO = "undo"
-HEAD = re.compile(r"# planner (?P<kind>\w+) 1, plan (?P<plan>[0-9a-f]{64})(, delay (?P<delay>\d+))?")
+HEAD = re.compile(r"# planner (?P<kind>\w+) 1(, plan (?P<plan>[0-9a-f]{64}))?(, delay (?P<delay>\d+))?")
 
 
 def sum_of(text):
@@ -27,15 +27,16 @@ def sum_of(text):
 
 @dataclass(frozen=True)
 class Head:
-    """What a journal is kept for: the command, the sum of the plan, and the delay of the call where it has one."""
+    """What a journal is kept for: the command, the sum of its plan if it has one, and the delay of the call if there is one."""
 
     kind: str
-    plan: str
+    plan: str | None = None
     delay: int | None = None
 
     def __str__(self):
         delay = "" if self.delay is None else f", delay {self.delay}"
-        return f"# planner {self.kind} 1, plan {self.plan}{delay}"
+        plan = "" if self.plan is None else f", plan {self.plan}"
+        return f"# planner {self.kind} 1{plan}{delay}"
 
     @classmethod
     def of(cls, line):

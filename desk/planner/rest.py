@@ -85,17 +85,10 @@ class Rest:
 
     def head(self):
         """The first lines: what this is, the version, the delay, and a point for the beginning of the day where none came at 0."""
-        header = next(line for line in self.draft.lines if line.words)
-        header.text = "stnu 2"
-        place = self.draft.lines.index(header) + 1
-        if old := next((line for line in self.draft.lines if line.words[:1] == ["delay"]), None):
-            self.draft.lines.remove(old)
-        self.draft.words_of_call = ()
-        added = [f"delay {self.plan.delay}"] if self.plan.delay else []
+        place = self.draft.write_delay(self.plan.delay)
         if self.begin is None:
             self.begin = fresh("began", self.plan.points)
-            added.append(f"point {self.begin}")
-        self.draft.insert(place, *added)
+            self.draft.insert(place, f"point {self.begin}")
         self.draft.insert(0, f"# What is left of a day at {self.now}.")
 
     def name(self, point, ending):

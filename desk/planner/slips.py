@@ -1,5 +1,8 @@
 """What was most likely meant by a line that the program refuses, in a sentence for whoever typed it."""
 
+import difflib
+import re
+
 from planner.reader import WHOLE, TextReader, about_number, is_name, nearest, quoted
 
 EDIT_FORMS = {
@@ -23,6 +26,17 @@ def meant(word, names):
     """What a word was most likely to be, as the end of a sentence."""
     near = nearest(word, names)
     return f"; was '{near}' meant?" if near else ""
+
+
+def alike(word, names, most=4):
+    """The names that may have been meant by a word: the one that has it but for noughts in front of its numbers, else those most like it."""
+    same = [name for name in names if short(name) == short(word)]
+    return same if len(same) == 1 else difflib.get_close_matches(word, names, n=most, cutoff=0.6)
+
+
+def short(name):
+    """A name in small letters, with no noughts in front of its numbers."""
+    return re.sub(r"(?<![0-9])0+(?=[0-9])", "", name.lower())
 
 
 def unknown(words, known):

@@ -14,4 +14,5 @@ COMMANDS = {
     "edit": "edit a plan at a terminal, with nothing lost by a slip",
     "day": "execute a plan at a terminal, with nothing lost by a slip",
     "rest": "the plan of what is left of a day that went another way",
+    "room": "several vehicles in one room, with a table and a page for the wall",
 }

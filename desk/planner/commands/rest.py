@@ -74,8 +74,10 @@ def run(args):
         raise Fault("the plan and the lines of the day cannot both be read from standard input")
     source, lines = load(args.plan, args.delay), lines_of(args)
     source, execution, last = played(args.program, source, lines)
+    execution.channel.talk.show()
+    execution.close()
     try:
-        text = Rest(source, moments_of(execution), last, amendments_of(args)).text(args.program)
+        text = Rest(source, execution.moments(), last, amendments_of(args)).text(args.program)
     except Unsaid as why:
         say(why)
         return Status.NOT_KEPT
@@ -111,14 +113,6 @@ def played(program, source, lines):
     if line != events[-1] or why.why[:1] not in [[word] for word in ANOTHER_DAY]:
         raise Fault(f"'{line}' is refused; the program says: {why.refused}; {slip_of_event(line, why, execution)}", Status.EVENT)
     return source, execution, int(line.split()[1])
-
-
-def moments_of(execution):
-    """What has come at which moment, as it happened."""
-    execution.channel.talk.show()
-    seen = {name: moment - execution.plan.delay for name, moment in execution.seen.items()}
-    execution.close()
-    return execution.acts | seen
 
 
 def told(args, text):
