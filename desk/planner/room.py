@@ -34,13 +34,12 @@ class Vehicle:
         return bool(self.lines) or len(self.days) > 1
 
     def take_back(self):
-        """Takes back what was told last, a line or the plan of a rest. Returns it, or None where there is nothing."""
-        if self.lines:
-            return self.lines.pop()
-        if len(self.days) > 1:
-            self.days.pop()
-            return "the plan of the rest"
-        return None
+        """Takes back what was told last, and returns it: a line, or the plan of a rest with the line that began it."""
+        line = self.lines.pop() if self.lines else ""
+        if self.lines or len(self.days) == 1:
+            return line
+        self.days.pop()
+        return "the plan of the rest"
 
 
 @dataclass(frozen=True)

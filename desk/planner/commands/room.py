@@ -5,8 +5,9 @@ looked at before any is begun: one that is refused, or cannot be kept, is told a
 first plan, before it is answered: whatever happens, the same call goes on where the room stood, by the plans as they were.
 
   vehicles   NAME at MOMENT POINT ..  it is MOMENT for this vehicle, and these points are seen to have come; NAME done  no more will come
-  the room   table (an empty line too), now MOMENT, undo NAME, add FILE or add NAME=FILE (a plan more, or one that was mended),
-             rest NAME --link END LOW HIGH .. (what is left of its day takes its place; the words of 'planner rest'), help, end
+  plans      add FILE, add NAME=FILE (a plan more), add NAME (one that was left out and is mended since),
+             rest NAME --link END LOW HIGH .. (what is left of its day takes its place; the words of 'planner rest')
+  the room   table (an empty line too), now MOMENT, undo NAME (takes its last line back), help, end
 
 The table tells of each vehicle the last moment told, the next one that is due, and which links may end from when until when. A vehicle is
 late if such a moment is before that of the room, which is the latest told of any.
@@ -83,6 +84,8 @@ class RoomDesk:
         self.args, self.room = args, Room(args.program)
         self.path = path_of(args)
         self.statuses = {Status.KEPT}
+        # The word of the call that brought each plan, by the plan's name.
+        self.brought = {}
         # A line whose vehicle nobody knows, as it was most likely meant: it waits for a yes.
         self.asked, self.is_page_old, self.page_written = None, True, -PAGE_EACH
 
@@ -95,7 +98,7 @@ class RoomDesk:
         self.room.remember(line for line in self.journal.lines if not line.startswith("#"))
         if self.room.vehicles:
             say(f"{self.path}: {len(self.room.vehicles)} vehicles and their lines are there again")
-        plans = [plan for word in self.args.plans for plan in offered(word, self.args.delay)]
+        plans = [plan for word in self.args.plans for plan in self.offered(word)]
         fit = [plan for plan in map(self.looked_at, filter(self.is_new, plans)) if not plan.why]
         if self.args.all_or_none and self.room.left_out:
             raise Fault(f"none is begun, since not each plan can be kept: {', '.join(self.room.left_out)}", max(self.statuses))
@@ -108,12 +111,21 @@ class RoomDesk:
         self.put_table()
         self.put_page()
 
+    def offered(self, word):
+        """The plans that a word brings: a file's, or one that was left out by its name, from where it came."""
+        if word in self.brought and not Path(word).exists():
+            return [plan for plan in offered(self.brought[word], self.args.delay) if plan.name == word]
+        plans = offered(word, self.args.delay)
+        self.brought |= {plan.name: word for plan in plans}
+        return plans
+
     def is_new(self, plan):
         """Whether a plan of the call is not in the room yet; one that is goes on as it was."""
         vehicle = self.room.vehicles.get(plan.name)
         if vehicle is None:
             return True
-        if Source(vehicle.days[0][0]).text != looked_at(self.args.program, plan, ()).text:
+        found = looked_at(self.args.program, plan, ())
+        if found.source is None or found.source.text != vehicle.days[0][0]:
             say(f"{plan.name}: {plan.path} is another plan now; the room goes on with the one that it has")
         return False
 
@@ -122,7 +134,8 @@ class RoomDesk:
         found = looked_at(self.args.program, plan, self.room.vehicles)
         if found.why:
             say(f"{found.name} is left out: {found.why}")
-            self.room.left_out[found.name] = found.reason
+            if found.name not in self.room.vehicles:
+                self.room.left_out[found.name] = found.reason
             self.statuses.add(found.status)
         else:
             self.room.left_out.pop(found.name, None)
@@ -179,8 +192,8 @@ class RoomDesk:
         near = alike(name, [*self.room.vehicles, *WORDS])
         again = " ".join([near[0], *line.split()[1:]]) if len(near) == 1 else ""
         self.asked = again if again and is_terminal() else None
-        which = again or " or ".join(near)
-        how = (f"; was '{which}' meant?" if which else "; type it again") + (" 'yes' sends that" if self.asked else "")
+        which = " or ".join(f"'{it}'" for it in ([again] if again else near))
+        how = (f"; was {which} meant?" if which else "; type it again") + (" 'yes' sends that" if self.asked else "")
         self.refuse(line, f"there is no vehicle '{name}', and nothing is sent{how}")
 
     def event(self, name, line):
@@ -222,7 +235,7 @@ class RoomDesk:
         """Takes plans into the room while others go."""
         try:
             for word in shlex.split(line)[1:]:
-                for plan in offered(word, self.args.delay):
+                for plan in self.offered(word):
                     self.add_one(line, self.looked_at(plan))
         except (Fault, ValueError) as why:
             self.refuse(line, str(why))
