@@ -96,11 +96,12 @@ class Desk:
         return answer
 
     def is_as_the_session_has_it(self):
-        """Whether the program reads the draft as the plan that its session has, with its parts in any order."""
+        """Whether the program reads the draft as the plan that its session has, but for the delay of the call."""
         self.talk.send("plan")
         held = self.talk.lines(lambda line: line == "end")
-        shown = self.program.call(["show"], self.draft.source(), is_shown=False)
-        return shown.is_kept and sorted(shown.lines) == sorted(held)
+        shown = self.program.call(["show"], self.draft.source().with_delay(None), is_shown=False)
+        without_delay = [[line for line in lines if not line.startswith("delay ")] for lines in (shown.lines, held)]
+        return shown.is_kept and without_delay[0] == without_delay[1]
 
     def close(self):
         self.talk.send("end")

@@ -27,7 +27,7 @@ def plan_of(args):
         source = source_of("".join(lines_up_to_end()), STANDARD_INPUT).with_delay(args.delay)
     else:
         source = load(args.plan, args.delay)
-    answer = args.program.call(["show"], source, is_shown=False)
+    answer = args.program.call(["show"], source.with_delay(None), is_shown=False)
     if answer.is_refused:
         args.program.show(answer.call)
         raise refusal(source, answer, args.plan)
@@ -48,8 +48,13 @@ def journal_of(args, kind, ending, source):
     path = Path(args.lines or beside(args.plan, ending))
     if args.plan != STANDARD_INPUT and path.exists() and os.path.samefile(path, args.plan):
         raise Fault(f"{path} is the plan itself, which is never written: name another file by --lines")
-    journal = Journal(path, Head(kind, sum_of(source.text), args.delay))
-    fit(journal, Head(kind, sum_of(source.text), args.delay), args)
+    head = Head(kind, sum_of(source.text), args.delay)
+    journal = Journal(path, head)
+    try:
+        fit(journal, head, args)
+    except Fault:
+        journal.close()
+        raise
     return journal
 
 

@@ -1,5 +1,6 @@
 """What is left of a day as a new plan: the text of the plan, in which what has come stays where it came."""
 
+import re
 from dataclasses import dataclass, field
 
 from planner.desk_session import negated
@@ -10,8 +11,11 @@ from planner.plan import Plan
 from planner.program import Session, Source
 from planner.slips import meant, unknown
 
-# The endings of the names of what this adds.
+# The endings of the names of what this adds, and the remarks above it.
 CAME, FROM_NOW = "came", "from-now"
+OWN = re.compile(rf".*\.({CAME}|{FROM_NOW})(\.[0-9]+)?(\.max|\.min)?")
+HEAD = "# What is left of a day at"
+ADDED = "# What has come stays where it came, and what is still to come does so no sooner than now."
 
 
 @dataclass(frozen=True)
@@ -49,7 +53,8 @@ class Rest:
         self.fit_moments()
         # The point at which the day began: one that came at 0, else a new one.
         self.begin = next((point for point in self.plan.points if self.moments.get(point) == 0), None)
-        self.names = set(self.plan.bounds) | {name.removesuffix(ending) for name in self.plan.bounds for ending in ENDINGS}
+        bounds = [name for name in self.plan.bounds if not OWN.fullmatch(name)]
+        self.names = {*bounds, *(name.removesuffix(ending) for name in bounds for ending in ENDINGS)}
 
     def fit(self, last):
         """Sees that what somebody says can be so, by the plan."""
@@ -78,9 +83,10 @@ class Rest:
         overdue = [f"--link {end} {low} HIGH" for end, low in self.links()]
         if overdue:
             raise Unsaid(f"overdue at {self.now}; say how long each may last now, from where it began: {listed(overdue)}")
+        self.leave_out_own()
         self.bounds(program)
         self.head()
-        self.draft.add("", "# What has come stays where it came, and what is still to come does so no sooner than now.", *self.came())
+        self.draft.add("", ADDED, *self.came())
         return self.draft.source().text
 
     def head(self):
@@ -89,7 +95,7 @@ class Rest:
         if self.begin is None:
             self.begin = fresh("began", self.plan.points)
             self.draft.insert(place, f"point {self.begin}")
-        self.draft.insert(0, f"# What is left of a day at {self.now}.")
+        self.draft.insert(0, f"{HEAD} {self.now}.")
 
     def name(self, point, ending):
         """A name for a bound that no other has."""
@@ -99,7 +105,8 @@ class Rest:
 
     def came(self):
         """The lines by which what has come stays where it came, and what is still to come does not do so before now."""
-        for point, moment in sorted(self.moments.items(), key=lambda it: it[1]):
+        order = list(self.plan.points)
+        for point, moment in sorted(self.moments.items(), key=lambda it: (it[1], order.index(it[0]))):
             if point != self.begin:
                 yield f"between {self.name(point, CAME)} {self.begin} {moment} {moment} {point}"
         for point in self.plan.points:
@@ -126,17 +133,22 @@ class Rest:
                 line.replace(3, high)
                 line.replace(2, low)
 
+    def leave_out_own(self):
+        """Leaves out what an earlier rest of the same day has added."""
+        added = next((place for place, line in enumerate(self.draft.lines) if line.text == ADDED), None)
+        if added is not None and not self.draft.lines[added - 1].text:
+            del self.draft.lines[added - 1]
+        own = [it for it in self.draft.lines if it.text == ADDED or it.text.startswith(HEAD)]
+        own += [it for it in self.draft.lines if it.words[:1] in (["bound"], ["between"]) and OWN.fullmatch(it.words[1])]
+        self.draft.lines = [it for it in self.draft.lines if it not in own]
+
     def bounds(self, program):
         """Leaves out the bounds between points that have come; a remark tells what the program says of each, whether it was kept."""
         over = [it for it in self.plan.statements if it.kind in (Kind.BOUND, Kind.BETWEEN) and {it["FROM"], it["TO"]} <= self.moments.keys()]
-        own = [it for it in over if it["NAME"].endswith((f".{CAME}", f".{FROM_NOW}"))]
-        for it in own:
-            self.draft.lines.remove(self.line(it))
-        others = [it for it in over if it not in own]
         with Session(program, self.past()) as session:
-            for it in others:
-                line = self.line(it)
-                line.text = f"# {'kept' if is_kept(session, line.words) else 'not kept'}: {line.text.strip()}"
+            for it in over:
+                if line := self.line(it):
+                    line.text = f"# {'kept' if is_kept(session, line.words) else 'not kept'}: {line.text.strip()}"
             session.show()
 
     def line(self, statement):

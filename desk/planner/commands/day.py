@@ -135,7 +135,7 @@ class Day:
             return
         if note:
             tell(note)
-        for moment, point in told.acts:
+        for moment, point in [] if note else told.acts:
             tell(f"at {moment}: {point}")
         tell(self.next(told))
 

@@ -94,6 +94,7 @@ class RoomDesk:
         head = Head("room", None, self.args.delay)
         self.journal = Journal(self.path, head)
         if self.journal.head != head:
+            self.journal.close()
             raise Fault(f"the lines of {self.path} were told with another --delay: call it so, or name another file by --lines")
         self.room.remember(line for line in self.journal.lines if not line.startswith("#"))
         if self.room.vehicles:
