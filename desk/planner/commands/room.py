@@ -93,24 +93,35 @@ class RoomDesk:
         """Has the room stand as it stood; looks at the plans of the call, and has those go that can be kept."""
         head = Head("room", None, self.args.delay)
         self.journal = Journal(self.path, head)
-        if self.journal.head != head:
+        try:
+            if self.journal.head != head:
+                raise Fault(f"the lines of {self.path} were told with another --delay: call it so, or name another file by --lines")
+            self.room.remember(line for line in self.journal.lines if not line.startswith("#"))
+            if self.room.vehicles:
+                say(f"{self.path}: {len(self.room.vehicles)} vehicles and their lines are there again")
+            self.take_plans()
+        except Fault:
             self.journal.close()
-            raise Fault(f"the lines of {self.path} were told with another --delay: call it so, or name another file by --lines")
-        self.room.remember(line for line in self.journal.lines if not line.startswith("#"))
-        if self.room.vehicles:
-            say(f"{self.path}: {len(self.room.vehicles)} vehicles and their lines are there again")
-        plans = [plan for word in self.args.plans for plan in self.offered(word)]
-        fit = [plan for plan in map(self.looked_at, filter(self.is_new, plans)) if not plan.why]
-        if self.args.all_or_none and self.room.left_out:
-            raise Fault(f"none is begun, since not each plan can be kept: {', '.join(self.room.left_out)}", max(self.statuses))
-        if not fit and not self.room.vehicles:
-            raise Fault("there is no plan that can be executed", max(self.statuses))
-        for plan in fit:
-            self.journal.keep(plan_entry(plan.name, plan.source.text))
-            self.room.add(plan.name, plan.source.text)
+            raise
         self.room.start()
         self.put_table()
         self.put_page()
+
+    def take_plans(self):
+        """Takes the plans of the call into the room, and keeps them in the journal."""
+        plans = [plan for word in self.args.plans for plan in self.offered(word)]
+        fit = {}
+        for plan in filter(self.is_new, plans):
+            found = self.looked_at(plan, {*self.room.vehicles, *fit})
+            if not found.why:
+                fit[found.name] = found.source.text
+        if self.args.all_or_none and len(self.statuses) > 1:
+            raise Fault(f"none is begun, since not each plan can be: {', '.join(self.room.left_out)}", max(self.statuses))
+        if not fit and not self.room.vehicles:
+            raise Fault("there is no plan that can be executed", max(self.statuses))
+        for name, text in fit.items():
+            self.journal.keep(plan_entry(name, text))
+            self.room.add(name, text)
 
     def offered(self, word):
         """The plans that a word brings: a file's, or one that was left out by its name, from where it came."""
@@ -130,12 +141,12 @@ class RoomDesk:
             say(f"{plan.name}: {plan.path} is another plan now; the room goes on with the one that it has")
         return False
 
-    def looked_at(self, plan):
-        """A plan as the program finds it; whoever cannot be in the room is told why."""
-        found = looked_at(self.args.program, plan, self.room.vehicles)
+    def looked_at(self, plan, taken):
+        """A plan as the program finds it, and as its name is free; why one cannot be in the room is told."""
+        found = looked_at(self.args.program, plan, taken)
         if found.why:
             say(f"{found.name} is left out: {found.why}")
-            if found.name not in self.room.vehicles:
+            if found.name not in taken:
                 self.room.left_out[found.name] = found.reason
             self.statuses.add(found.status)
         else:
@@ -237,7 +248,7 @@ class RoomDesk:
         try:
             for word in shlex.split(line)[1:]:
                 for plan in self.offered(word):
-                    self.add_one(line, self.looked_at(plan))
+                    self.add_one(line, self.looked_at(plan, self.room.vehicles))
         except (Fault, ValueError) as why:
             self.refuse(line, str(why))
 

@@ -55,7 +55,9 @@ class Terminal:
     def type(self, line, wanted):
         """Types a line, and returns what is shown up to these words."""
         os.write(self.ours, f"{line}\n".encode())
-        self.until(line)
+        if line:
+            # What is typed is shown first.
+            self.until(line)
         return self.until(wanted)
 
     def leave(self):
