@@ -55,6 +55,9 @@ class Window:
     first: int | None
     last: int
 
+    def __str__(self):
+        return f"from {'now on' if self.first is None else self.first} until {self.last}"
+
 
 class Channel:
     """A talk of which the lines of one plan begin with its name, in a fleet, or are its lines alone, in a run."""
@@ -141,15 +144,18 @@ class Execution:
         came = self.acts.keys() | self.seen.keys()
         return [link for end, link in self.plan.links.items() if link.start in came and end not in self.seen]
 
+    def coming(self):
+        """From when until when the program takes the end of each link that is running."""
+        windows = {link.end: self.window(link.end) for link in self.running()}
+        return {end: window for end, window in windows.items() if window is not None}
+
     def window(self, end):
-        """From when until when the program takes the end of a link that is running."""
+        """From when until when the program takes the end of a link; None where no moment is left at which it could be told."""
         if end not in self.windows:
             early = self.refusal(f"at {(-1 if self.last is None else self.last) + 1} {end}")
             late = self.refusal(f"at {LAST_MOMENT} {end}")
             first = int(early[2]) if early[:2] == ["too-soon", end] else None
-            if late[:2] != ["overdue", end]:
-                raise Fault(f"the program does not say until when {end} may come: {' '.join(late)}", Status.DEFECT)
-            self.windows[end] = Window(first, int(late[2]))
+            self.windows[end] = Window(first, int(late[2])) if late[:2] == ["overdue", end] else None
         return self.windows[end]
 
     def refusal(self, line):

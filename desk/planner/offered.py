@@ -1,5 +1,6 @@
 """Plans that are offered to a room: each out of a file of its own, or several out of the text of a fleet, and what the program says of each."""
 
+import shlex
 from dataclasses import dataclass
 from pathlib import Path
 
@@ -39,7 +40,7 @@ def offered(word, delay):
     text = text_of(path)
     lines = text.split("\n")
     if next(filter(None, map(words, lines)), []) == ["fleet", "1"]:
-        return [Offered(each, path, Source(text).with_delay(delay)) for each, text in fleet_plans(lines, path)]
+        return [Offered(each, path, source.with_delay(delay)) for each, source in fleet_plans(lines, path)]
     return [Offered(name or Path(path).stem, path, source_of(text, path).with_delay(delay))]
 
 
@@ -50,21 +51,23 @@ def fleet_plans(lines, path):
         match words(line):
             case ["plan", other] | [("go") as other]:
                 if name is not None:
-                    yield name, text_from(lines, start, place)
+                    yield name, source_from(path, lines, start, place)
                 if other == "go":
                     return
                 name, start, is_over = other, place + 1, False
             case ["end"] if name is not None:
-                yield name, text_from(lines, start, place + 1)
+                yield name, source_from(path, lines, start, place + 1)
                 name, is_over = None, True
             case [_, *_] if is_over:
                 say(f"{path}:{place + 1}: this stands between two plans and is not read: {line.strip()}")
     if name is not None:
-        yield name, text_from(lines, start, len(lines))
+        yield name, source_from(path, lines, start, len(lines))
 
 
-def text_from(lines, start, stop):
-    return "\n" * start + "".join(f"{line}\n" for line in lines[start:stop])
+def source_from(path, lines, start, stop):
+    """The plan on these lines of a file, as the shell takes it out of there."""
+    text = "\n" * start + "".join(f"{line}\n" for line in lines[start:stop])
+    return Source(text, origin=f"sed -e '1,{start}s/.*//' -e {stop}q {shlex.quote(path)}")
 
 
 def looked_at(program, plan, taken):
@@ -78,8 +81,14 @@ def looked_at(program, plan, taken):
         why = refusal(plan.source, answer, plan.path)
         return Offered(plan.name, plan.path, None, str(why), Status(answer.status))
     if not answer.is_kept:
-        return Offered(plan.name, plan.path, None, f"the program says: {answer.first}; 'planner why' and 'planner repair' tell more", Status.NOT_KEPT)
+        why = f"the program says: {answer.first}; why, and what can be done: {piped(plan.source, 'why')}; {piped(plan.source, 'repair')}"
+        return Offered(plan.name, plan.path, None, why, Status.NOT_KEPT)
     return Offered(plan.name, plan.path, fleet_source(plan.source))
+
+
+def piped(source, command):
+    """A call of planner about this plan."""
+    return f"planner {command} {source.file}" if source.file else f"{source.printed()} | planner {command}"
 
 
 def fleet_source(source):

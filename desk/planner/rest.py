@@ -41,6 +41,11 @@ def listed(names):
     return ", ".join(names)
 
 
+def came_before(plan):
+    """The points that had come already at the moment of which a plan is the rest."""
+    return {bound.end for name, bound in plan.bounds.items() if (own := OWN.fullmatch(name)) and own[1] == CAME and name.endswith(".max")}
+
+
 class Rest:
     """What is left of a day that stands at a moment."""
 

@@ -2,6 +2,7 @@
 
 import json
 from dataclasses import dataclass, field, replace
+from enum import Enum
 
 from planner.execution import Channel, Execution, Window
 from planner.faults import Fault, Status
@@ -9,8 +10,14 @@ from planner.program import Source
 
 # So many plans a fleet of the program has at most.
 MOST = 64
-# The lines of a journal that are no vehicle's: no name begins so.
-PLAN, TAKEN_BACK, NOW = "+plan", "+undo", "+now"
+
+
+class Mark(str, Enum):
+    """How the lines of a journal begin that are no vehicle's: no name begins so."""
+
+    PLAN = "+plan"
+    TAKEN_BACK = "+undo"
+    NOW = "+now"
 
 
 @dataclass
@@ -65,16 +72,21 @@ class Row:
 
 
 def entry(line):
-    """A line of a journal as what it does: its word, the vehicle, and the rest of the line."""
+    """A line of a journal: its mark, or None of a vehicle's line; the vehicle; and the rest of the line."""
     first, _, rest = line.partition(" ")
-    if first in (PLAN, TAKEN_BACK, NOW):
-        name, _, rest = rest.partition(" ")
-        return first, name, rest
-    return "", first, rest
+    if first not in set(Mark):
+        return None, first, rest
+    name, _, rest = rest.partition(" ")
+    return Mark(first), name, rest
+
+
+def marked(mark, *words):
+    """A line of a journal that is no vehicle's."""
+    return " ".join([mark.value, *words])
 
 
 def plan_entry(name, text):
-    return f"{PLAN} {name} {json.dumps(text)}"
+    return marked(Mark.PLAN, name, json.dumps(text))
 
 
 class Room:
@@ -88,16 +100,22 @@ class Room:
     def remember(self, lines):
         """Takes the vehicles and their lines out of a journal."""
         for line in lines:
-            word, name, rest = entry(line)
-            match word:
-                case "+plan":
-                    self.vehicles.setdefault(name, Vehicle(name)).days.append((json.loads(rest), []))
-                case "+undo":
-                    self.vehicles[name].take_back()
-                case "+now":
-                    self.now = int(name)
-                case _:
-                    self.vehicles[name].lines.append(rest)
+            try:
+                self.remember_line(line)
+            except (KeyError, IndexError, ValueError) as why:
+                raise Fault(f"this line of the journal is none of a room: {line}") from why
+
+    def remember_line(self, line):
+        mark, name, rest = entry(line)
+        match mark:
+            case Mark.PLAN:
+                self.vehicles.setdefault(name, Vehicle(name)).days.append((json.loads(rest), []))
+            case Mark.TAKEN_BACK:
+                self.vehicles[name].take_back()
+            case Mark.NOW:
+                self.now = int(name)
+            case _:
+                self.vehicles[name].lines.append(rest)
 
     def add(self, name, text):
         """A vehicle more, which does not go yet."""
@@ -159,7 +177,7 @@ class Room:
     def row(self, vehicle):
         execution = vehicle.execution
         came, links = execution.acts | execution.seen, execution.plan.links.values()
-        coming = {link.end: execution.window(link.end) for link in execution.running()}
+        coming = execution.coming()
         begun = {end: came[execution.plan.links[end].start] for end in coming}
         over = [(came[link.start], came[link.end]) for link in links if link.end in came and link.start in came]
         row = Row(vehicle.name, "over" if execution.is_complete else "goes on", execution.last, execution.told.due, coming, came, begun, over)

@@ -10,6 +10,7 @@ After each line the points to be executed are told, the next moment that is to b
 """
 
 import argparse
+from dataclasses import asdict
 
 from planner.execution import EVENTS, Execution, slip_of_event
 from planner.faults import Fault, Status, say, told_by_system
@@ -17,6 +18,7 @@ from planner.journal import UNDO
 from planner.kept import add_words as add_shared
 from planner.kept import journal_of, plan_of
 from planner.output import hand_on, tell
+from planner.rest import came_before
 from planner.slips import slip_of_word
 from planner.typed import is_terminal, typed
 
@@ -135,35 +137,30 @@ class Day:
             return
         if note:
             tell(note)
+        before = came_before(self.execution.plan)
         for moment, point in [] if note else told.acts:
-            tell(f"at {moment}: {point}")
+            tell(f"at {moment}: {point}" + (", as it came before" if point in before else ""))
         tell(self.next(told))
 
     def next(self, told):
         """What comes next, in a sentence."""
         if told.is_complete:
             return "the day is over: all has come"
-        coming = [self.coming(link.end) for link in self.execution.running()]
+        coming = [f"{end} may be seen {window}" for end, window in self.execution.coming().items()]
         if told.due is None:
             due = "nothing is due" if coming else "nothing is due any more: 'done' ends the day"
         else:
             due = f"next: at {told.due}"
         return "; ".join([due, *coming])
 
-    def coming(self, end):
-        window = self.execution.window(end)
-        first = "from now on" if window.first is None else f"from {window.first}"
-        return f"{end} may be seen {first} until {window.last}"
-
     def described(self, line, told):
         """An answer as a value for programs."""
-        windows = {link.end: self.execution.window(link.end) for link in self.execution.running()}
         return {
             "line": line,
             "taken": True,
             "acts": [{"moment": moment, "point": point} for moment, point in told.acts],
             "due": told.due,
-            "coming": {end: {"first": it.first, "last": it.last} for end, it in windows.items()},
+            "coming": {end: asdict(window) for end, window in self.execution.coming().items()},
             "complete": told.is_complete,
         }
 

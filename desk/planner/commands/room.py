@@ -30,7 +30,7 @@ from planner.page import page
 from planner.plan import STANDARD_INPUT
 from planner.program import Source
 from planner.rest import Rest
-from planner.room import NOW, TAKEN_BACK, Room, plan_entry
+from planner.room import Mark, Room, marked, plan_entry
 from planner.slips import alike, meant
 from planner.table import coming, lines
 from planner.typed import is_terminal
@@ -88,6 +88,8 @@ class RoomDesk:
         self.brought = {}
         # A line whose vehicle nobody knows, as it was most likely meant: it waits for a yes.
         self.asked, self.is_page_old, self.page_written = None, True, -PAGE_EACH
+        # The lines that were taken since the table was printed.
+        self.since_table = 0
 
     def begin(self):
         """Has the room stand as it stood; looks at the plans of the call, and has those go that can be kept."""
@@ -234,12 +236,12 @@ class RoomDesk:
     def undo(self, name):
         if not self.room.vehicles[name].can_take_back():
             self.refuse(f"undo {name}", "there is no line to take back")
-        elif self.keep(f"{TAKEN_BACK} {name}", f"undo {name}"):
+        elif self.keep(marked(Mark.TAKEN_BACK, name), f"undo {name}"):
             taken = self.room.forget_last(name)
             self.answer(name, "undo", [], f"taken back: {taken}")
 
     def set_now(self, line, moment):
-        if self.keep(f"{NOW} {moment}", line):
+        if self.keep(marked(Mark.NOW, str(moment)), line):
             self.room.now = moment
             self.put_table()
 
@@ -288,6 +290,7 @@ class RoomDesk:
     def keep(self, line, told):
         """Keeps a line in the journal; whether it is on the disk."""
         self.is_page_old = True
+        self.since_table += 1
         try:
             self.journal.keep(line)
         except OSError as why:
@@ -316,6 +319,7 @@ class RoomDesk:
             say(f"'{line}' is not taken: {why}")
 
     def put_table(self, names=None):
+        self.since_table = 0
         rows = [row for row in self.room.rows() if names is None or row.name in names]
         if self.args.json:
             hand_on({"now": self.room.now, "rows": [described(row) for row in rows]})
@@ -336,7 +340,8 @@ class RoomDesk:
         self.is_page_old, self.page_written = False, time.monotonic()
 
     def end(self):
-        self.put_table()
+        if self.since_table:
+            self.put_table()
         self.put_page(is_last=True)
         self.room.close()
         self.journal.close()
