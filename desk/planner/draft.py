@@ -59,9 +59,12 @@ class Draft:
         """The draft as the program is given it."""
         return Source("".join(f"{line.text}\n" for line in self.lines), self.words_of_call)
 
+    def header(self):
+        return next(line for line in self.lines if line.words)
+
     def write_delay(self, delay):
         """Writes the delay with which the plan is read into its text, which is one of version 2 then. Returns the place after it."""
-        header = next(line for line in self.lines if line.words)
+        header = self.header()
         header.text = "stnu 2"
         place = self.lines.index(header) + 1
         self.lines = [line for line in self.lines if line.words[:1] != ["delay"]]
@@ -90,6 +93,8 @@ class Draft:
         """Edits the text as the program has edited its plan; a line `between` of an edit is one here too."""
         match words:
             case ["add", *rest]:
+                if rest[0] == "between":
+                    self.header().replace(1, "2")
                 self.add(" ".join(rest))
             case ["set", "bound", name, most]:
                 self.set_bound(name, int(most))
@@ -138,3 +143,7 @@ class Draft:
     def bounds(self):
         """The names of all bounds, those of lines `between` too."""
         return [*self.names("bound", 1), *(name + ending for name in self.names("between", 1) for ending in ENDINGS)]
+
+    def all_names(self):
+        """All names by which an edit may call something."""
+        return [*self.names("point", 1), *self.names("between", 1), *self.bounds()]

@@ -2,6 +2,14 @@
 
 import sys
 
+from planner.reader import BLANKS
+
+try:
+    import readline
+except ImportError:
+    # Then lines are typed without a history, and names in full.
+    readline = None
+
 LEAVE = ("end", "quit", "exit", "bye")
 
 
@@ -12,14 +20,24 @@ def is_terminal():
 def prompted(prompt):
     """The next line of a terminal, which can be edited while it is typed; None at the end of the input."""
     try:
-        import readline  # noqa: F401 (input() uses it)
-    except ImportError:
-        pass
-    try:
         return input(prompt)
     except EOFError:
         print(flush=True)
         return None
+
+
+def complete_by(names):
+    """Has the tabulator complete words at the terminal to those that a function gives."""
+    if readline is None or not is_terminal():
+        return
+
+    def fitting(word, number):
+        found = [f"{name} " for name in dict.fromkeys(names()) if name.startswith(word)]
+        return found[number] if number < len(found) else None
+
+    readline.set_completer_delims(BLANKS)
+    readline.set_completer(fitting)
+    readline.parse_and_bind("tab: complete")
 
 
 def typed(prompt="> "):

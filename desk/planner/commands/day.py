@@ -20,7 +20,7 @@ from planner.kept import journal_of, plan_of
 from planner.output import hand_on, tell
 from planner.rest import came_before
 from planner.slips import slip_of_word
-from planner.typed import is_terminal, typed
+from planner.typed import complete_by, is_terminal, typed
 
 EXAMPLE = """
   planner day examples/rover/plan.stnu --lines today.day
@@ -51,6 +51,7 @@ def run(args):
     journal = journal_of(args, "day", ENDING, source)
     day = Day(args, Execution(args.program, source), journal)
     day.play_again()
+    complete_by(lambda: [*WORDS, *(link.end for link in day.execution.running())])
     for line in typed():
         day.take(line)
     return day.end()

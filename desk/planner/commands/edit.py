@@ -20,7 +20,7 @@ from planner.kept import journal_of, plan_of, write_own
 from planner.output import hand_on, tell
 from planner.plan import STANDARD_INPUT
 from planner.slips import EDITS, slip_of_edit, slip_of_word
-from planner.typed import is_terminal, typed
+from planner.typed import complete_by, is_terminal, typed
 
 EXAMPLE = """
   planner edit examples/rover/plan.stnu --lines tomorrow.edits --out tomorrow.stnu
@@ -30,6 +30,7 @@ ENDING = ".edits"
 # Questions that a call answers of the plan as it stands.
 CALLS = ("deadline", "play", "strong")
 VERDICTS = {"controllable": "the plan can be kept", "not controllable": "the plan cannot be kept: 'proof' says why"}
+KINDS = ("point", "bound", "between", "link")
 WORDS = (*EDITS, *QUESTIONS, "plan", *CALLS, UNDO, "write", "go", "help", "end")
 
 
@@ -43,6 +44,7 @@ def run(args):
     journal = journal_of(args, "edit", ENDING, source)
     editing = Editing(args, Desk(args.program, source), journal)
     editing.play_again()
+    complete_by(lambda: [*WORDS, *KINDS, *editing.desk.draft.all_names()])
     for line in typed():
         if line.strip().lower() == "go":
             if editing.is_ready():

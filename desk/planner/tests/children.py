@@ -56,8 +56,8 @@ class Terminal:
         """Types a line, and returns what is shown up to these words."""
         os.write(self.ours, f"{line}\n".encode())
         if line:
-            # What is typed is shown first.
-            self.until(line)
+            # What is typed is shown first; what the tabulator completes is shown otherwise.
+            self.until(line.rstrip("\t"))
         return self.until(wanted)
 
     def leave(self):

@@ -153,6 +153,6 @@ class AtATerminal(Case):
             terminal.type("undo", "taken back: at 127\n")
             terminal.type("help", "the day   at MOMENT NAME")
             terminal.type("at 160", "planner rest")
-            terminal.type("at 127 arrive", "at 127: images")
+            terminal.type("at 127 ar\t", "at 127: images")
             terminal.type("end", "the same call goes on with it")
             self.assertEqual(terminal.child.wait(20), 0)

@@ -170,6 +170,12 @@ class Texts(Case):
         self.assertEqual(program().call(["show"], load("ward.edited.stnu")).status, 0)
 
 
+    def test_a_plan_of_version_1_to_which_a_between_is_added_is_one_of_version_2(self):
+        self.write("p.stnu", "# A remark.\n  stnu   1\npoint a\npoint b\nend\n")
+        self.assertEqual(planner("edit", "p.stnu", given="add between x a 1 2 b\n").status, 0)
+        self.assertEqual((self.folder / "p.edited.stnu").read_text(), "# A remark.\n  stnu   2\npoint a\npoint b\nbetween x a 1 2 b\nend\n")
+
+
 class AtATerminal(Case):
     def test_a_session_and_the_day_that_it_begins(self):
         self.write("ward.stnu", PLAN)

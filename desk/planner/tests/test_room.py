@@ -221,6 +221,5 @@ class AtATerminal(Case):
             terminal.type("yes", "nothing is sent")
             terminal.type("", "vehicle")
             terminal.type("v02", "v02              0")
-            terminal.type("end", "v03")
-            self.assertEqual(terminal.child.wait(20), 0)
+            self.assertEqual(terminal.leave(), 0)
         self.assertEqual([line for line in (self.folder / "fleet.room").read_text().split("\n") if " at " in line and "+" not in line], ["v01 at 0"])
