@@ -4,12 +4,13 @@ import itertools
 from dataclasses import dataclass
 from html import escape
 
-from planner.table import STATES, coming, moment
+from planner.table import HEADS, STATES, coming, moment
 
 SECONDS = 5
-# Heights in a strip: of a bar, from one bar to the next, and of what is free above and below.
-THICK, LANE, TOP = 14, 20, 7
-COLUMNS = ("vehicle", "", "told", "due", "may still come")
+# So many vehicles stand below each other at most, and from so many on the lines are closer; so many that are late are named above.
+MOST_LINES, MOST_WIDE, MOST_NAMED = 32, 22, 12
+BADGES = {"goes on": "", "late": '<span class="badge">late</span>', "over": '<span class="ended">over</span>'}
+LEGEND = "dots: what has come; hatched: when the end of a link may be seen; diamond: the next moment that is due; upright line: now."
 STYLE = """
 :root { color-scheme: light dark; --paper: #ffffff; --ink: #15191e; --soft: #5b6672; --rule: #d4dae0; --band: #f3f5f7;
   --over: #a9b4bf; --run: #1f6feb; --due: #9a5b00; --now: #c2255c; --late: #b3261e; --on-late: #ffffff; }
@@ -28,6 +29,9 @@ td.number, th.number { text-align: right; } td.name { font-weight: 700; font-siz
 td.coming { white-space: normal; min-width: 12rem; } td.why { color: var(--soft); white-space: normal; }
 td.strip, th.strip { width: 46%; padding-right: 0; }
 .badge { background: var(--late); color: var(--on-late); border-radius: .3rem; padding: .1rem .5rem; font-weight: 700; }
+main { display: grid; gap: 0 2rem; align-items: start; } main.two { grid-template-columns: 1fr 1fr; }
+.close { font-size: .95rem; } .close td { padding: .08rem .5rem .08rem .2rem; } .close td.name { font-size: 1rem; }
+.two td.coming { min-width: 7rem; } .two td.strip, .two th.strip { width: 40%; }
 .ended { color: var(--soft); } svg { display: block; width: 100%; overflow: visible; }
 svg text { fill: var(--ink); font-size: 13px; paint-order: stroke; stroke: var(--paper); stroke-width: 3px; }
 svg .tick { fill: var(--soft); } svg .grid { stroke: var(--rule); } svg .now { stroke: var(--now); stroke-width: 2; }
@@ -74,66 +78,115 @@ def element(name, text="", **attributes):
     return f"<{name} {words}>{text}</{name}>"
 
 
-def bar(scale, start, end, lane, kind):
-    y = TOP + lane * LANE
-    return element("rect", x=scale.at(start), width=scale.length(start, end), y=y, height=THICK, rx=2, class_=kind)
+@dataclass(frozen=True)
+class Shape:
+    """Heights in a strip: of a bar, from one bar to the next, and of what is free above and below."""
+
+    thick: int
+    lane: int
+    free: int
+
+    def height(self, lanes):
+        return self.free * 2 + self.thick + self.lane * max(0, lanes - 1)
+
+    @property
+    def middle(self):
+        return self.free + self.thick // 2
 
 
-def strip(row, scale, now):
-    """The day of a vehicle: what is over, what runs and may end in the hatched time, what came, what is due."""
-    height = TOP * 2 + THICK + LANE * max(0, len(row.coming) - 1)
-    middle = TOP + THICK // 2
-    parts = [element("line", x1=scale.at(tick), x2=scale.at(tick), y1=0, y2=height, class_="grid") for tick in scale.ticks()]
-    parts += [bar(scale, start, end, 0, "over") for start, end in row.over]
-    for lane, (end, window) in enumerate(row.coming.items()):
-        start = row.begun[end]
-        first = max(start, min(now, window.last) if window.first is None else window.first)
-        parts += [bar(scale, start, first, lane, "run"), bar(scale, first, window.last, lane, "may")]
-        parts.append(element("text", escape(end), x=scale.at(start), dx=5, y=TOP + lane * LANE + 12))
-    for point, came in row.came.items():
-        parts.append(element("circle", element("title", f"{escape(point)} {came}"), cx=scale.at(came), cy=middle, r=4, class_="point"))
-    if row.due is not None:
-        mark = element("path", f"<title>due {row.due}</title>", d="M0,-8 L7,0 L0,8 L-7,0 Z", class_="due")
-        parts.append(element("svg", mark, x=scale.at(row.due), y=middle, width=1, height=1))
-    parts.append(element("line", x1=scale.at(now), x2=scale.at(now), y1=0, y2=height, class_="now"))
-    return element("svg", "".join(parts), height=height, role="img", aria_label=escape(f"the day of {row.name}"))
+WIDE, CLOSE = Shape(14, 20, 7), Shape(10, 13, 4)
 
 
-def axis(scale, now):
-    """The moments above the strips."""
-    parts = [element("text", str(tick), x=scale.at(tick), y=14, text_anchor="middle", class_="tick") for tick in scale.ticks()]
-    return element("svg", "".join(parts), height=18, aria_hidden="true")
+@dataclass(frozen=True)
+class Strips:
+    """The days of vehicles as strips of one scale."""
+
+    scale: Scale
+    now: int
+    shape: Shape
+
+    def strip(self, row):
+        """The day of a vehicle: what is over, what runs and may end in the hatched time, what came, what is due."""
+        height = self.shape.height(len(row.coming))
+        parts = [self.upright(tick, height, "grid") for tick in self.scale.ticks()]
+        parts += [self.bar(start, end, 0, "over") for start, end in row.over]
+        for lane, (end, window) in enumerate(row.coming.items()):
+            parts += self.running(end, row.begun[end], window, lane)
+        parts += [self.point(point, came) for point, came in row.came.items()]
+        parts += [] if row.due is None else [self.due(row.due)]
+        parts.append(self.upright(self.now, height, "now"))
+        return element("svg", "".join(parts), height=height, role="img", aria_label=escape(f"the day of {row.name}"))
+
+    def upright(self, moment, height, kind):
+        return element("line", x1=self.scale.at(moment), x2=self.scale.at(moment), y1=0, y2=height, class_=kind)
+
+    def bar(self, start, end, lane, kind):
+        y = self.shape.free + lane * self.shape.lane
+        place = {"x": self.scale.at(start), "width": self.scale.length(start, end), "y": y}
+        return element("rect", **place, height=self.shape.thick, rx=2, class_=kind)
+
+    def running(self, end, start, window, lane):
+        """A link that runs: the time in which it cannot be over, and the hatched time in which its end may be seen."""
+        first = max(start, min(self.now, window.last) if window.first is None else window.first)
+        yield self.bar(start, first, lane, "run")
+        yield self.bar(first, window.last, lane, "may")
+        yield element("text", escape(end), x=self.scale.at(start), dx=6, y=self.shape.middle + lane * self.shape.lane + 4)
+
+    def point(self, name, came):
+        title = element("title", f"{escape(name)} {came}")
+        return element("circle", title, cx=self.scale.at(came), cy=self.shape.middle, r=self.shape.thick * 0.3, class_="point")
+
+    def due(self, moment):
+        mark = element("path", f"<title>due {moment}</title>", d="M0,-8 L7,0 L0,8 L-7,0 Z", class_="due")
+        return element("svg", mark, x=self.scale.at(moment), y=self.shape.middle, width=1, height=1)
+
+    def axis(self):
+        """The moments above the strips."""
+        ticks = self.scale.ticks()
+        parts = [element("text", str(tick), x=self.scale.at(tick), y=14, text_anchor="middle", class_="tick") for tick in ticks]
+        return element("svg", "".join(parts), height=18, aria_hidden="true")
+
+    def line(self, row):
+        """A line of the table."""
+        name = cell(escape(row.name), "name")
+        if row.state not in STATES:
+            return f'<tr>{name}{cell(row.state, "ended")}<td class="why" colspan="4">{escape(row.why)}</td></tr>'
+        cells = [name, cell(BADGES[row.state], "state"), cell(moment(row.last), "number"), cell(moment(row.due), "number due")]
+        return f'<tr>{"".join(cells)}{cell(escape(coming(row)), "coming")}{cell(self.strip(row), "strip")}</tr>'
+
+    def table(self, rows):
+        heads = "".join(f'<th class="{"number" if head in ("told", "due") else "text"}">{head}</th>' for head in HEADS)
+        body = "\n".join(map(self.line, rows))
+        return f'<table><thead><tr>{heads}<th class="strip">{self.axis()}</th></tr></thead><tbody>\n{body}\n</tbody></table>'
 
 
 def cell(text, kind):
     return f'<td class="{kind}">{text}</td>'
 
 
-def line(row, scale, now):
-    """A line of the table."""
-    name = cell(escape(row.name), "name")
-    if row.state not in STATES:
-        return f'<tr>{name}{cell(row.state, "ended")}<td class="why" colspan="4">{escape(row.why)}</td></tr>'
-    state = {"late": '<span class="badge">late</span>', "over": '<span class="ended">over</span>'}.get(row.state, "")
-    cells = [name, cell(state, "state"), cell(moment(row.last), "number"), cell(moment(row.due), "number due")]
-    return f'<tr>{"".join(cells)}{cell(escape(coming(row)), "coming")}{cell(strip(row, scale, now), "strip")}</tr>'
+def warning(rows):
+    """Who is late, as far as there is room for the names."""
+    late = [row.name for row in rows if row.state == "late"]
+    more = f" and {len(late) - MOST_NAMED} more" if len(late) > MOST_NAMED else ""
+    if not late:
+        return "<span>nobody is late</span>"
+    return f'<span class="late">late: {escape(", ".join(late[:MOST_NAMED]))}{more}</span>'
 
 
 def page(rows, now, title, written):
     """The page of a room that stands at this moment; `written` tells when the page was."""
-    scale = Scale.of(rows, now)
-    late = [row.name for row in rows if row.state == "late"]
-    warning = f'<span class="late">late: {escape(", ".join(late))}</span>' if late else "<span>nobody is late</span>"
-    heads = "".join(f'<th class="{"number" if head in ("told", "due") else "text"}">{head}</th>' for head in COLUMNS)
-    body = "\n".join(line(row, scale, now) for row in rows)
-    legend = "dots: what has come; hatched: when the end of a link may be seen; diamond: the next moment that is due; upright line: now."
+    is_close = len(rows) > MOST_WIDE
+    strips = Strips(Scale.of(rows, now), now, CLOSE if is_close else WIDE)
+    half = len(rows) if len(rows) <= MOST_LINES else -(-len(rows) // 2)
+    kind = " ".join([*(["close"] if is_close else []), *(["two"] if half < len(rows) else [])])
+    tables = "\n".join(strips.table(part) for part in (rows[:half], rows[half:]) if part)
     return f"""<!DOCTYPE html>
 <html lang="en"><head><meta charset="utf-8"><meta name="viewport" content="width=device-width">
 <meta http-equiv="refresh" content="{SECONDS}"><title>{escape(title)} at {now}</title><style>{STYLE}</style></head><body>
-{PATTERN}<header><h1>{escape(title)}</h1><span>now <b>{now}</b></span>{warning}</header>
-<table><thead><tr>{heads}<th class="strip">{axis(scale, now)}</th></tr></thead><tbody>
-{body}
-</tbody></table>
-<footer>{legend} Written {escape(written)}; loads itself anew each {SECONDS} seconds.</footer>
+{PATTERN}<header><h1>{escape(title)}</h1><span>now <b>{now}</b></span>{warning(rows)}</header>
+<main class="{kind}">
+{tables}
+</main>
+<footer>{LEGEND} Written {escape(written)}; loads itself anew each {SECONDS} seconds.</footer>
 </body></html>
 """

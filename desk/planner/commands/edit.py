@@ -193,13 +193,15 @@ class Editing:
     def go(self):
         """Goes on with the day of the plan that was written."""
         self.close()
-        return day.run(day.words_of_call(self.args, str(self.out())))
+        return day.run(day.words_of_call(self.args, str(self.out()))) or self.status()
 
     def end(self):
         is_written = not self.journal.kept() or self.write(self.out())
         self.close()
-        if not is_written:
-            return Status.WRITE
+        return self.status() if is_written else Status.WRITE
+
+    def status(self):
+        """Whether a line was refused, where nobody at a terminal saw it."""
         return Status.EVENT if self.is_refused and not is_terminal() else Status.KEPT
 
     def close(self):
