@@ -50,7 +50,7 @@ class Told:
 
 @dataclass(frozen=True)
 class Window:
-    """From when until when the end of a link may be seen: the moments by which the program refuses others. From now on where `first` is None."""
+    """From when until when the end of a link may be seen, by what the program refuses; from now on if `first` is None."""
 
     first: int | None
     last: int

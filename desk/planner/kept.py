@@ -1,4 +1,4 @@
-"""What `edit` and `day` share: a plan and the lines after it, the journal beside the plan, and files that are written whole or not at all."""
+"""What `edit` and `day` share: a plan and the lines after it, the journal beside it, and files that are written whole or not at all."""
 
 import os
 import sys
@@ -16,8 +16,10 @@ WROTE = "# wrote"
 
 def add_words(parser, ending):
     """Adds the words for a plan and its journal."""
-    parser.add_argument("plan", metavar="PLAN", help="the file of a plan, a plan text or a JSON document; - is standard input up to its line end")
-    parser.add_argument("--lines", metavar="FILE", help=f"the file in which the lines are kept (beside the plan, with the ending {ending})")
+    plan_help = "a file with a plan text or a JSON document; - is standard input up to its line 'end'"
+    parser.add_argument("plan", metavar="PLAN", help=plan_help)
+    lines_help = f"the file in which the lines are kept (beside the plan, with the ending {ending})"
+    parser.add_argument("--lines", metavar="FILE", help=lines_help)
     parser.add_argument("--plan-changed", action="store_true", help="play the kept lines again though the plan was changed since")
 
 

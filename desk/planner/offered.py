@@ -1,4 +1,4 @@
-"""Plans that are offered to a room: each out of a file of its own, or several out of the text of a fleet, and what the program says of each."""
+"""Plans that are offered to a room, out of files or out of the text of a fleet, and what the program says of each."""
 
 import shlex
 from dataclasses import dataclass
@@ -45,7 +45,7 @@ def offered(word, delay):
 
 
 def fleet_plans(lines, path):
-    """The plans of a fleet with their names. Each text has as many empty lines before it as it needs for its lines to keep their numbers."""
+    """The plans of a fleet with their names. Empty lines before each text let its lines keep their numbers."""
     name, start, is_over = None, 0, False
     for place, line in enumerate(lines):
         match words(line):

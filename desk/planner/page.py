@@ -1,4 +1,4 @@
-"""A page for a screen on the wall: the table of a room, each vehicle with its day as a strip, in plain HTML and SVG that loads itself anew."""
+"""A page for a screen on the wall: the table of a room, each vehicle with its day as a strip; HTML and SVG that load themselves anew."""
 
 import itertools
 from dataclasses import dataclass

@@ -3,7 +3,7 @@
 import re
 from dataclasses import dataclass, field
 
-from planner.desk_session import negated
+from planner.desk_session import sent
 from planner.draft import ENDINGS, Draft
 from planner.faults import Fault
 from planner.parts import Kind
@@ -149,7 +149,8 @@ class Rest:
 
     def bounds(self, program):
         """Leaves out the bounds between points that have come; a remark tells what the program says of each, whether it was kept."""
-        over = [it for it in self.plan.statements if it.kind in (Kind.BOUND, Kind.BETWEEN) and {it["FROM"], it["TO"]} <= self.moments.keys()]
+        bounds = [it for it in self.plan.statements if it.kind in (Kind.BOUND, Kind.BETWEEN)]
+        over = [it for it in bounds if {it["FROM"], it["TO"]} <= self.moments.keys()]
         with Session(program, self.past()) as session:
             for it in over:
                 if line := self.line(it):
@@ -169,10 +170,10 @@ class Rest:
 
 def is_kept(session, words):
     """Whether the points of a statement with these words came as it says."""
-    bounds = [["b", *words[2:]]] if words[0] == "bound" else [["b", words[2], words[5], words[4]], ["c", words[5], words[2], negated(words[3])]]
-    for bound in bounds:
-        session.edit(f"add bound {' '.join(bound)}")
+    kind, _, *rest = words
+    for line in sent(["add", kind, "tried", *rest]):
+        session.edit(line)
     kept = session.is_kept()
-    for name, *_ in bounds:
-        session.edit(f"drop bound {name}")
+    for line in sent(["drop", kind, "tried"]):
+        session.edit(line)
     return kept

@@ -180,9 +180,10 @@ class Room:
         coming = execution.coming()
         begun = {end: came[execution.plan.links[end].start] for end in coming}
         over = [(came[link.start], came[link.end]) for link in links if link.end in came and link.start in came]
-        row = Row(vehicle.name, "over" if execution.is_complete else "goes on", execution.last, execution.told.due, coming, came, begun, over)
-        is_late = not execution.is_complete and row.next is not None and row.next < self.now
-        return replace(row, state="late") if is_late else row
+        row = Row(vehicle.name, "goes on", execution.last, execution.told.due, coming, came, begun, over)
+        if execution.is_complete:
+            return replace(row, state="over")
+        return replace(row, state="late") if row.next is not None and row.next < self.now else row
 
     def talks(self):
         """The talks that go on, each once."""

@@ -29,7 +29,7 @@ def meant(word, names):
 
 
 def alike(word, names, most=4):
-    """The names that may have been meant by a word: the one that has it but for noughts in front of its numbers, else those most like it."""
+    """The names that may have been meant: the one that differs by noughts before its numbers alone, else those most like the word."""
     same = [name for name in names if short(name) == short(word)]
     return same if len(same) == 1 else difflib.get_close_matches(word, names, n=most, cutoff=0.6)
 

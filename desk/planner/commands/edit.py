@@ -36,7 +36,8 @@ WORDS = (*EDITS, *QUESTIONS, "plan", *CALLS, UNDO, "write", "go", "help", "end")
 
 def add_words(parser):
     add_shared(parser, ENDING)
-    parser.add_argument("--out", metavar="FILE", help="the file for the plan with its edits (beside the plan, with the ending .edited.stnu)")
+    out_help = "the file for the plan with its edits (beside the plan, with the ending .edited.stnu)"
+    parser.add_argument("--out", metavar="FILE", help=out_help)
 
 
 def run(args):

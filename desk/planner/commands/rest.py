@@ -48,9 +48,12 @@ def add_amendments(parser):
     """Adds the words for what the lines of a day do not tell."""
     moment = whole_number(0, LARGEST)
     parser.add_argument("--now", type=moment, metavar="MOMENT", help="what moment it is (that of the last line)")
-    parser.add_argument("--link", nargs=3, action=Numbers, metavar=("END", "LOW", "HIGH"), help="how long a link may last now, from where it began")
-    parser.add_argument("--came", nargs=2, action=Numbers, metavar=("POINT", "MOMENT"), help="a point that came at another moment")
-    parser.add_argument("--not-yet", action="append", default=[], metavar="POINT", help="a point that has come by the lines, and is still to come")
+    link_help = "how long a link may last now, from where it began"
+    parser.add_argument("--link", nargs=3, action=Numbers, metavar=("END", "LOW", "HIGH"), help=link_help)
+    came_help = "a point that came at another moment"
+    parser.add_argument("--came", nargs=2, action=Numbers, metavar=("POINT", "MOMENT"), help=came_help)
+    not_yet_help = "a point that has come by the lines, and is still to come"
+    parser.add_argument("--not-yet", action="append", default=[], metavar="POINT", help=not_yet_help)
 
 
 class Numbers(argparse.Action):

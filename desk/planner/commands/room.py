@@ -47,10 +47,14 @@ PAGE_EACH = 1
 
 
 def add_words(parser):
-    parser.add_argument("plans", nargs="+", metavar="PLAN", help="FILE or NAME=FILE: a plan text, a JSON document, or the text of a fleet")
-    parser.add_argument("--lines", metavar="FILE", help=f"the file in which the room is kept (beside the first plan, with the ending {ENDING})")
-    parser.add_argument("--from", dest="sources", action="append", default=[], metavar="SOURCE", help="a file, a pipe or a device with lines")
-    parser.add_argument("--page", metavar="DIR", help="keep a page for a screen on the wall in this folder, index.html, which loads itself anew")
+    plans_help = "FILE or NAME=FILE: a plan text, a JSON document, or the text of a fleet"
+    parser.add_argument("plans", nargs="+", metavar="PLAN", help=plans_help)
+    lines_help = f"the file in which the room is kept (beside the first plan, with the ending {ENDING})"
+    parser.add_argument("--lines", metavar="FILE", help=lines_help)
+    sources_help = "a file, a pipe or a device with lines"
+    parser.add_argument("--from", dest="sources", action="append", default=[], metavar="SOURCE", help=sources_help)
+    page_help = "keep a page for a screen on the wall in this folder, index.html, which loads itself anew"
+    parser.add_argument("--page", metavar="DIR", help=page_help)
     parser.add_argument("--all-or-none", action="store_true", help="begin only if each plan can be kept")
 
 
@@ -276,7 +280,8 @@ class RoomDesk:
             self.refuse(line, str(why).split("\n")[0])
             return
         if not self.args.program.call(["check"], Source(text)).is_kept:
-            self.refuse(line, "the program says that what is left cannot be kept; 'planner rest' writes its plan, 'planner repair' finds a way")
+            more = "'planner rest' writes its plan, and 'planner repair' finds what can be done"
+            self.refuse(line, f"the program says that what is left cannot be kept; {more}")
         elif self.keep(plan_entry(name, text), line):
             self.room.go_on(name, text)
             self.go_on(name, f"at {rest.now}", before)
@@ -303,11 +308,13 @@ class RoomDesk:
         execution = self.room.vehicles[name].execution
         if self.args.json:
             acts = [{"moment": moment, "point": point} for moment, point in acts]
-            hand_on({"vehicle": name, "line": line, "taken": True, "acts": acts, "due": execution.told.due, "complete": execution.is_complete})
+            said = {"vehicle": name, "line": line, "taken": True, "acts": acts}
+            hand_on({**said, "due": execution.told.due, "complete": execution.is_complete})
             return
         for moment, point in acts:
             tell(f"{name} at {moment}: {point}")
-        due = "its day is over" if execution.is_complete else "nothing is due" if execution.told.due is None else f"next at {execution.told.due}"
+        due = "nothing is due" if execution.told.due is None else f"next at {execution.told.due}"
+        due = "its day is over" if execution.is_complete else due
         may = coming(self.room.row(self.room.vehicles[name])) if is_terminal() else ""
         tell(f"{name}: " + "; ".join(filter(None, [note, due, may and f"may still come: {may}"])))
 

@@ -10,6 +10,8 @@ from planner.tests.children import Terminal
 from planner.tests.support import EXAMPLES, Case, planner, program
 
 ROVER = EXAMPLES / "rover" / "plan.stnu"
+# What is told after `at 60` of the rover's day.
+AT_60 = ["at 60: leave", "next: at 90; arrive may be seen from 100 until 150"]
 
 
 class Days(Case):
@@ -43,7 +45,7 @@ the day is over: all has come"""
     def test_it_goes_on_where_it_was(self):
         self.day("at 0", "at 60")
         done = self.day("at 90")
-        self.assertEqual(done.lines[:3], ["at 60: leave", "next: at 90; arrive may be seen from 100 until 150", "at 90: warm-up"])
+        self.assertEqual(done.lines[:3], [*AT_60, "at 90: warm-up"])
         self.assertIn("2 lines told again", done.err)
 
     def test_a_moment_told_without_its_name_can_be_taken_back(self):
@@ -62,7 +64,8 @@ the day is over: all has come"""
     def test_a_day_overdue_says_in_one_line_what_to_do_then(self):
         done = self.day("at 0", "at 60", "at 160")
         line = done.err.split("\n")[0]
-        wanted = "planner: 'at 160' is not taken: the program says: error event 34 overdue arrive 150; arrive was to be seen by 150 at the latest"
+        wanted = "planner: 'at 160' is not taken: the program says: error event 34 overdue arrive 150"
+        wanted += "; arrive was to be seen by 150 at the latest"
         then = f"planner rest {ROVER} today.day --now 160 --link arrive LOW HIGH"
         self.assertEqual(line, f"{wanted}. If the day went so, what is left of it is a new plan: {then}")
         words = then.replace("LOW HIGH", "101 140").split()[1:]
@@ -86,7 +89,7 @@ the day is over: all has come"""
         for line, wanted in slips.items():
             with self.subTest(line):
                 done = self.day(line, "status")
-                self.assertEqual((done.status, done.lines), (Status.EVENT, ["at 60: leave", "next: at 90; arrive may be seen from 100 until 150"] * 2))
+                self.assertEqual((done.status, done.lines), (Status.EVENT, AT_60 * 2))
                 self.assertIn(wanted, done.err)
                 self.assertEqual(done.err.count("is not taken"), 1)
 
@@ -100,7 +103,8 @@ the day is over: all has come"""
         other = self.write("other.stnu", ROVER.read_text().replace("leave sunrise -60", "leave sunrise -61"))
         self.assertEqual(self.day(plan=other).status, Status.WORDS)
         other.write_text(ROVER.read_text().replace("sunrise", "dawn"))
-        self.assertEqual(self.day("at 61", plan=other, words=["--plan-changed"]).lines, ["at 60: leave"] + ["next: at 90; arrive may be seen from 100 until 150"] * 2)
+        done = self.day("at 61", plan=other, words=["--plan-changed"])
+        self.assertEqual(done.lines, [*AT_60, AT_60[1]])
 
     def test_a_plan_and_its_lines_may_come_in_one_input(self):
         text = ROVER.read_text() + "at 0\nat 60\n"

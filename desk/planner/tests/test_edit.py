@@ -40,14 +40,16 @@ class Edits(Case):
         self.assertEqual(self.plan.read_text(), PLAN)
 
     def test_what_is_added_stands_before_the_end_and_a_half_of_a_between_may_go(self):
-        done = self.edit("add point rest", "add between pause closed 10 20 rest", "drop bound early.min", "drop bound shift", "add bound b rest cut -5")
+        added = ["add point rest", "add between pause closed 10 20 rest"]
+        done = self.edit(*added, "drop bound early.min", "drop bound shift", "add bound b rest cut -5")
         self.assertEqual((done.status, done.lines), (0, ["ok"] * 5))
         lines = self.written().split("\n")
         self.assertEqual(lines[7], "bound early.max begin cut 30")
         self.assertEqual(lines[8:], ["point rest", "between pause closed 10 20 rest", "bound b rest cut -5", "end", ""])
 
     def test_one_half_of_a_between_is_set_and_it_is_dropped_and_added_as_one(self):
-        done = self.edit("set bound early.min -7", "set bound early.max 25", "plan", "drop between early", "add between early begin 1 2 cut")
+        anew = ["drop between early", "add between early begin 1 2 cut"]
+        done = self.edit("set bound early.min -7", "set bound early.max 25", "plan", *anew)
         self.assertIn("between  early begin 7 25 cut   ", done.lines)
         self.assertIn("between early begin 1 2 cut\nend\n", self.written())
 
@@ -83,7 +85,8 @@ class Edits(Case):
                 self.assertIn(wanted, done.err)
 
     def test_capitals_are_understood(self):
-        self.assertEqual(self.edit("Verdict", "SET Bound shift 50", "VERDICT").lines[0::2], ["the plan can be kept", "the plan cannot be kept: 'proof' says why"])
+        done = self.edit("Verdict", "SET Bound shift 50", "VERDICT")
+        self.assertEqual(done.lines, ["the plan can be kept", "ok", "the plan cannot be kept: 'proof' says why"])
 
     def test_undo_takes_back_the_last_edit_and_is_kept(self):
         done = self.edit("set bound shift 50", "set bound shift 40", "undo", "plan")

@@ -90,7 +90,7 @@ end
     def test_a_bound_that_was_not_kept_is_told_by_the_program(self):
         done = self.rest("--link", "closed", "140", "250", "--came", "cut", "30", "--show-calls")
         self.assertIn("# not kept: between cut-1 asleep 0 0 cut", done.lines)
-        self.assertIn("'add bound b asleep cut 0' 'add bound c cut asleep 0' verdict", done.err)
+        self.assertIn("'add bound tried.max asleep cut 0' 'add bound tried.min cut asleep 0' verdict", done.err)
 
     def test_a_rest_that_cannot_be_kept_says_so(self):
         done = self.rest("--link", "closed", "140", "290")

@@ -71,7 +71,8 @@ class Rooms(RoomCase):
         self.assertEqual(self.row(done, "v01"), ["1", "40", "there", "20", "to", "40"])
 
     def test_a_refused_line_leaves_its_vehicle_and_the_others_as_they_were(self):
-        done = self.room("v01 at 0", "v02 at 0", "v01 at 10 there", "v01 at 10 their", "v01 9", "v01 at 22 there", "v02 at 25 there", "v01 done", "v01 at 99")
+        slips = ["v01 at 10 there", "v01 at 10 their", "v01 9"]
+        done = self.room("v01 at 0", "v02 at 0", *slips, "v01 at 22 there", "v02 at 25 there", "v01 done", "v01 at 99")
         self.assertEqual(done.err.count("is not taken"), 4)
         for wanted in ("there cannot be seen before 20", "was 'there' meant?", "a line of a day is", "its day is over"):
             self.assertIn(wanted, done.err)
@@ -92,7 +93,8 @@ class Rooms(RoomCase):
         self.assertEqual([line.split()[:2] for line in done.lines[-3:]], [["v03", "LATE"], ["v01", "LATE"], ["v02", "30"]])
 
     def test_a_plan_more_and_one_that_was_mended_come_in_during_the_day(self):
-        self.write("late.json", json.dumps({"stnu": 2, "delay": 2, "points": ["a", "b"], "links": [{"from": "a", "low": 3, "high": 9, "to": "b"}]}))
+        link = {"from": "a", "low": 3, "high": 9, "to": "b"}
+        self.write("late.json", json.dumps({"stnu": 2, "delay": 2, "points": ["a", "b"], "links": [link]}))
         os.mkfifo("pipe")
 
         def tell():
@@ -112,7 +114,8 @@ class Rooms(RoomCase):
         self.assertIn("a plan of this name is in the room", done.err)
 
     def test_the_rest_of_a_day_comes_into_the_same_room(self):
-        done = self.room("v01 at 0", "v02 at 0", "v01 at 45", "rest v01 --now 45", "rest v01 --now 45 --link there 46 48", "v02 at 30 there", "v01 at 47 there")
+        rests = ["rest v01 --now 45", "rest v01 --now 45 --link there 46 48"]
+        done = self.room("v01 at 0", "v02 at 0", "v01 at 45", *rests, "v02 at 30 there", "v01 at 47 there")
         self.assertIn("If the day went so: rest v01 --now 45 --link there LOW HIGH", done.err)
         self.assertIn("say how long each may last now, from where it began: --link there 46 HIGH", done.err)
         self.assertIn("v01 at 47: leave", done.lines)
@@ -169,8 +172,9 @@ class Fleets(RoomCase):
 
 
 class Pages(RoomCase):
+    WINDOWS = {"there": Window(50, 60), "back": Window(None, 70)}
     ROWS = [
-        Row("v<1>", "late", 30, 42, {"there": Window(50, 60), "back": Window(None, 70)}, {"go": 10, "a": 30}, {"there": 10, "back": 30}, [(0, 10)]),
+        Row("v<1>", "late", 30, 42, WINDOWS, {"go": 10, "a": 30}, {"there": 10, "back": 30}, [(0, 10)]),
         Row("v2", "over", 22, came={"go": 0, "there": 22}, over=[(0, 22)]),
         Row("v5", "left out", why="it cannot be kept & more"),
     ]
@@ -222,4 +226,5 @@ class AtATerminal(Case):
             terminal.type("", "vehicle")
             terminal.type("v02", "v02              0")
             self.assertEqual(terminal.leave(), 0)
-        self.assertEqual([line for line in (self.folder / "fleet.room").read_text().split("\n") if " at " in line and "+" not in line], ["v01 at 0"])
+        lines = (self.folder / "fleet.room").read_text().split("\n")
+        self.assertEqual([line for line in lines if " at " in line and not line.startswith("+")], ["v01 at 0"])
