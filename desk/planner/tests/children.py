@@ -1,4 +1,4 @@
-"""Commands as processes of their own: over pipes, at a terminal, ended at any moment."""
+"""Commands that ask the program without its launcher: in this process, over pipes, at a terminal, ended at any moment."""
 
 import os
 import pty
@@ -6,15 +6,25 @@ import select
 import subprocess
 import time
 
-from planner.tests.support import ROOT
+from planner.tests.support import ROOT, planner, program
 
 LAUNCHER = ROOT / "planner"
 # So long an answer is waited for before a test fails (seconds).
 PATIENCE = 20
 
 
+def quick():
+    """The words by which a command asks the program without its launcher."""
+    return ["--program", str(ROOT / program().path)]
+
+
+def quickly(*words, given=""):
+    """Runs a command with these words and this standard input, in this process."""
+    return planner(*words, *quick(), given=given)
+
+
 def words_of(words):
-    return [LAUNCHER, *map(str, words)]
+    return [LAUNCHER, *map(str, words), *quick()]
 
 
 def run(*words, given="", **more):

@@ -6,8 +6,8 @@ import random
 from planner.execution import Execution
 from planner.faults import Status
 from planner.plan import Plan, load
-from planner.tests.children import Terminal
-from planner.tests.support import EXAMPLES, Case, planner, program
+from planner.tests.children import Terminal, quickly
+from planner.tests.support import EXAMPLES, Case, program
 
 ROVER = EXAMPLES / "rover" / "plan.stnu"
 # What is told after `at 60` of the rover's day.
@@ -16,7 +16,7 @@ AT_60 = ["at 60: leave", "next: at 90; arrive may be seen from 100 until 150"]
 
 class Days(Case):
     def day(self, *lines, words=(), plan=ROVER):
-        return planner("day", plan, "--lines", "today.day", *words, given="".join(f"{line}\n" for line in lines))
+        return quickly("day", plan, "--lines", "today.day", *words, given="".join(f"{line}\n" for line in lines))
 
     def test_a_day_tells_what_is_done_what_is_next_and_what_may_come_until_when(self):
         done = self.day("at 0", "at 60", "at 90", "at 127 arrive", "at 240", "done")
@@ -69,7 +69,7 @@ the day is over: all has come"""
         then = f"planner rest {ROVER} today.day --now 160 --link arrive LOW HIGH"
         self.assertEqual(line, f"{wanted}. If the day went so, what is left of it is a new plan: {then}")
         words = then.replace("LOW HIGH", "101 140").split()[1:]
-        self.assertIn("the rest can", planner(*words, "--not-yet", "warm-up").err)
+        self.assertIn("the rest can", quickly(*words, "--not-yet", "warm-up").err)
 
     def test_slips_are_told_in_one_line_each_and_change_nothing(self):
         slips = {
@@ -108,9 +108,9 @@ the day is over: all has come"""
 
     def test_a_plan_and_its_lines_may_come_in_one_input(self):
         text = ROVER.read_text() + "at 0\nat 60\n"
-        done = planner("day", "-", "--lines", "today.day", given=text)
+        done = quickly("day", "-", "--lines", "today.day", given=text)
         self.assertEqual((done.status, done.lines[-2]), (0, "at 60: leave"))
-        self.assertEqual(planner("day", "-", given=text).status, Status.WORDS)
+        self.assertEqual(quickly("day", "-", given=text).status, Status.WORDS)
 
     def test_a_json_line_answers_each_line(self):
         said = [json.loads(line) for line in self.day("at 0", "at 60", "at 60", words=["--json"]).lines]
@@ -123,7 +123,7 @@ class Windows(Case):
     """What may come until when: each moment is one by which the program refuses others."""
 
     def test_they_are_those_of_the_links(self):
-        plans = [EXAMPLES / "shift" / "plan.stnu", EXAMPLES / "laboratory" / "plan.stnu", EXAMPLES / "shift" / "late.json"]
+        plans = [EXAMPLES / "laboratory" / "plan.stnu", EXAMPLES / "shift" / "late.json"]
         for path in plans:
             source = load(str(path))
             plan, draw = Plan.of(source), random.Random(3)

@@ -4,8 +4,8 @@ import json
 
 from planner.faults import Status
 from planner.plan import load
-from planner.tests.children import Terminal
-from planner.tests.support import EXAMPLES, Case, planner, program
+from planner.tests.children import Terminal, quickly
+from planner.tests.support import EXAMPLES, Case, program
 
 PLAN = """\
 # A ward. Moments are minutes.
@@ -27,7 +27,7 @@ class Edits(Case):
         self.plan = self.write("ward.stnu", PLAN)
 
     def edit(self, *lines, words=()):
-        return planner("edit", "ward.stnu", *words, given="".join(f"{line}\n" for line in lines))
+        return quickly("edit", "ward.stnu", *words, given="".join(f"{line}\n" for line in lines))
 
     def written(self):
         return (self.folder / "ward.edited.stnu").read_text()
@@ -129,7 +129,7 @@ class Edits(Case):
         document = (EXAMPLES / "shift" / "late.json").read_text()
         self.write("late.json", document)
         between = json.loads(document)["between"][0]
-        done = planner("edit", "late.json", given=f"set between {between['name']} 0 99\n")
+        done = quickly("edit", "late.json", given=f"set between {between['name']} 0 99\n")
         self.assertEqual(done.status, 0)
         text = (self.folder / "late.edited.stnu").read_text()
         self.assertIn(f"between {between['name']} {between['from']} 0 99 {between['to']}\n", text)
@@ -154,7 +154,7 @@ class Texts(Case):
     def test_each_example_comes_back_as_the_program_reads_it(self):
         for path in [*EXAMPLES.glob("*/plan.stnu"), *EXAMPLES.glob("small/*.stnu")]:
             with self.subTest(path.parent.name):
-                done = planner("edit", path, "--lines", "e.edits", "--out", "o.stnu", given="add point more\nadd bound m more more 5\n")
+                done = quickly("edit", path, "--lines", "e.edits", "--out", "o.stnu", given="add point more\nadd bound m more more 5\n")
                 self.assertEqual(done.status, 0)
                 wanted = path.read_text().rstrip("\n").removesuffix("end") + "point more\nbound m more more 5\nend\n"
                 self.assertEqual((self.folder / "o.stnu").read_text(), wanted)
@@ -167,7 +167,7 @@ class Texts(Case):
         edits += ["drop between t{}", "drop bound t{}.min", "set between t{} 3 {}", "undo", "set bound t{}.min -{}", "drop point p{}"]
         self.write("ward.stnu", PLAN)
         lines = [edits[number * 7 % len(edits)].format(number % 4, number % 30) for number in range(120)]
-        done = planner("edit", "ward.stnu", given="".join(f"{line}\n" for line in lines))
+        done = quickly("edit", "ward.stnu", given="".join(f"{line}\n" for line in lines))
         self.assertGreater(done.lines.count("ok"), 30)
         self.assertIn("ward.edited.stnu is written", done.err)
         self.assertEqual(program().call(["show"], load("ward.edited.stnu")).status, 0)
@@ -175,7 +175,7 @@ class Texts(Case):
 
     def test_a_plan_of_version_1_to_which_a_between_is_added_is_one_of_version_2(self):
         self.write("p.stnu", "# A remark.\n  stnu   1\npoint a\npoint b\nend\n")
-        self.assertEqual(planner("edit", "p.stnu", given="add between x a 1 2 b\n").status, 0)
+        self.assertEqual(quickly("edit", "p.stnu", given="add between x a 1 2 b\n").status, 0)
         self.assertEqual((self.folder / "p.edited.stnu").read_text(), "# A remark.\n  stnu   2\npoint a\npoint b\nbetween x a 1 2 b\nend\n")
 
 
@@ -193,7 +193,7 @@ class AtATerminal(Case):
 
     def test_a_plan_that_was_changed_is_asked_about(self):
         plan = self.write("ward.stnu", PLAN)
-        planner("edit", "ward.stnu", given="set bound shift 50\n")
+        quickly("edit", "ward.stnu", given="set bound shift 50\n")
         plan.write_text(PLAN + "# one remark more\n")
         plan.write_text(PLAN.replace("A ward", "The ward"))
         with Terminal("edit", "ward.stnu") as terminal:

@@ -1,7 +1,8 @@
 """What is left of a day: its plan, and what nobody can say of it."""
 
 from planner.faults import Status
-from planner.tests.support import EXAMPLES, Case, planner
+from planner.tests.children import quickly
+from planner.tests.support import EXAMPLES, Case
 
 ROVER = EXAMPLES / "rover"
 # An operation that began at 22 and was to be over by 152.
@@ -30,7 +31,7 @@ class Theatre(Case):
         self.write("lines", LINES)
 
     def rest(self, *words):
-        return planner("rest", "theatre.stnu", "lines", *words)
+        return quickly("rest", "theatre.stnu", "lines", *words)
 
     def test_a_link_overdue_wants_to_be_said_how_long_it_lasts(self):
         done = self.rest()
@@ -100,7 +101,7 @@ end
     def test_the_rest_of_a_rest_has_no_line_of_the_first(self):
         self.rest("--link", "closed", "140", "250", "--out", "rest.stnu")
         self.write("more", "at 152\nat 180\n")
-        done = planner("rest", "rest.stnu", "more", "--link", "closed", "160", "240")
+        done = quickly("rest", "rest.stnu", "more", "--link", "closed", "160", "240")
         self.assertEqual(done.status, 0)
         self.assertEqual(sum("asleep.came" in line for line in done.lines), 1)
         self.assertIn("bound cleaned.from-now cleaned begin -180", done.lines)
@@ -111,8 +112,8 @@ end
         self.assertIn("between asleep.came begin 22 22 asleep", done.lines)
 
     def test_a_day_that_planner_kept_with_what_it_took_back(self):
-        planner("day", "theatre.stnu", "--lines", "lines.day", given="at 0\nat 20\nundo\nat 21 asleep\n")
-        done = planner("rest", "theatre.stnu", "lines.day")
+        quickly("day", "theatre.stnu", "--lines", "lines.day", given="at 0\nat 20\nundo\nat 21 asleep\n")
+        done = quickly("rest", "theatre.stnu", "lines.day")
         self.assertIn("between asleep.came begin 21 21 asleep", done.lines)
 
     def test_lines_that_the_program_refuses_are_told(self):
@@ -125,16 +126,16 @@ end
 class Rover(Case):
     def test_the_broken_day(self):
         words = ["rest", ROVER / "plan.stnu", ROVER / "late.events", "--link", "arrive", "115", "140", "--not-yet", "warm-up"]
-        done = planner(*words)
+        done = quickly(*words)
         self.assertEqual((done.status, done.out), (0, (ROVER / "left.stnu").read_text()))
 
     def test_edits_of_a_session_are_made_before_the_day(self):
         self.write("lines", "set between ready 1 2\nset bound warm -15\nverdict\ngo\nat 0\nat 60\n")
-        done = planner("rest", ROVER / "plan.stnu", "lines")
+        done = quickly("rest", ROVER / "plan.stnu", "lines")
         self.assertIn("bound warm images warm-up -15", done.lines)
         self.assertIn("'set between ready 1 2' is refused, as it was then: refused unknown-name", done.err)
 
     def test_a_document_gives_a_text(self):
         self.write("lines", "at 0\n")
-        done = planner("rest", ROVER / "plan.json", "lines", "--delay", "3")
+        done = quickly("rest", ROVER / "plan.json", "lines", "--delay", "3")
         self.assertEqual((done.status, done.lines[:3]), (0, ["# What is left of a day at 0.", "stnu 2", "delay 3"]))

@@ -10,8 +10,8 @@ from planner.faults import Status
 from planner.page import Scale, page
 from planner.room import Row
 from planner.execution import Window
-from planner.tests.children import Terminal
-from planner.tests.support import EXAMPLES, Case, planner
+from planner.tests.children import Terminal, quickly
+from planner.tests.support import EXAMPLES, Case
 
 FLEET = (EXAMPLES / "fleet" / "plans.fleet").read_text()
 LEG = """\
@@ -30,7 +30,7 @@ class RoomCase(Case):
     def told(self, *words, given):
         """A room that is told these lines by a file."""
         self.write("given.lines", given)
-        return planner("room", *words, "--from", "given.lines")
+        return quickly("room", *words, "--from", "given.lines")
 
 
 class Rooms(RoomCase):
@@ -106,7 +106,7 @@ class Rooms(RoomCase):
 
         teller = threading.Thread(target=tell)
         teller.start()
-        done = planner("room", "v01.stnu", "v08.stnu", "--lines", "day.room", "--from", "pipe")
+        done = quickly("room", "v01.stnu", "v08.stnu", "--lines", "day.room", "--from", "pipe")
         teller.join()
         self.assertEqual(self.row(done, "relief"), ["4", "b", "by", "11"])
         self.assertIn("v08 at 0: go", done.lines)
@@ -145,9 +145,9 @@ class Rooms(RoomCase):
     def test_sources_are_read_side_by_side_and_missing_ones_keep_it_from_beginning(self):
         self.write("a.lines", "v01 at 0\nv01 at 22 there")
         self.write("b.lines", "v02 at 0\n# a remark\nv02 at 23 there\n")
-        done = planner("room", "v01.stnu", "v02.stnu", "--from", "a.lines", "--from", "b.lines")
+        done = quickly("room", "v01.stnu", "v02.stnu", "--from", "a.lines", "--from", "b.lines")
         self.assertEqual((done.status, self.row(done, "v01")[0], self.row(done, "v02")[0]), (0, "22", "23"))
-        done = planner("room", "v01.stnu", "--lines", "other.room", "--from", "nowhere.lines")
+        done = quickly("room", "v01.stnu", "--lines", "other.room", "--from", "nowhere.lines")
         self.assertEqual((done.status, (self.folder / "other.room").exists()), (Status.WORDS, False))
 
 
