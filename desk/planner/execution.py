@@ -2,6 +2,7 @@
 
 from dataclasses import dataclass, field
 
+from planner.drawing.scale import TIME, Clock, Numbers
 from planner.faults import Fault, Status
 from planner.plan import Plan
 from planner.reader import quoted
@@ -10,6 +11,7 @@ from planner.slips import meant, unknown
 # The latest moment that can be told.
 LAST_MOMENT = 4_000_000_000_000
 EVENTS = ("at", "done")
+NUMBERS = Numbers()
 # The words with which an answer to an event is over.
 OVER = ("due", "complete", "error", "idle", "refused", "not")
 
@@ -55,8 +57,8 @@ class Window:
     first: int | None
     last: int
 
-    def __str__(self):
-        return f"from {'now on' if self.first is None else self.first} until {self.last}"
+    def text(self, scale):
+        return f"from {'now on' if self.first is None else scale.text(self.first)} until {scale.text(self.last)}"
 
 
 class Channel:
@@ -178,7 +180,15 @@ class Execution:
             self.channel.talk.close()
 
 
-def slip_of_event(line, told, execution):
+def in_numbers(words, scale):
+    """The words of an event, in which a time of day is a moment as the plan counts it, if there is a clock."""
+    match words:
+        case ["at", time, *names] if isinstance(scale, Clock) and TIME.fullmatch(time):
+            return ["at", str(scale.read(time)), *names]
+    return words
+
+
+def slip_of_event(line, told, execution, scale=NUMBERS):
     """What is the matter with an event that was refused, in a sentence for whoever told it."""
     words, plan = line.split(), execution.plan
     match told.why:
@@ -187,21 +197,21 @@ def slip_of_event(line, told, execution):
         case ["word-count"]:
             return "wanted: at MOMENT NAME .., or done alone"
         case ["bad-number"]:
-            return f"{quoted(words[1])} is no moment: a whole number in the unit of the plan"
+            return f"{quoted(words[1])} is no moment: a whole number in the unit of the plan, or with --clock a time of day"
         case ["unknown-name"] | ["bad-name"]:
             return unknown(words[2:], plan.points)
         case ["not-later", last]:
-            return f"{last} was told already, and a moment is told once, with all that is seen at it; 'undo' takes the last line back"
+            return f"{scale.text(int(last))} was told already, and a moment is told once, with all that is seen at it; 'undo' takes the last line back"
         case ["not-contingent", name]:
             return f"no link ends in {name}: it is executed at the moment that the program tells, and not told"
         case ["twice", name, moment]:
-            return f"{name} was told at {moment}"
+            return f"{name} was told at {scale.text(int(moment))}"
         case ["not-active", name]:
             return f"{name} cannot come yet: {plan.links[name].start}, with which it begins, has not come before this moment"
         case ["too-soon", name, earliest]:
-            return f"{name} cannot be seen before {earliest}"
+            return f"{name} cannot be seen before {scale.text(int(earliest))}"
         case ["overdue", name, latest]:
-            return f"{name} was to be seen by {latest} at the latest"
+            return f"{name} was to be seen by {scale.text(int(latest))} at the latest"
         case ["unfinished", name]:
             return f"{name} is still to come: tell it first"
     return ""

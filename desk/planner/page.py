@@ -1,10 +1,11 @@
 """A page for a screen on the wall: the table of a room, each vehicle with its day as a strip; HTML and SVG that load themselves anew."""
 
-import itertools
 from dataclasses import dataclass
 from html import escape
 
-from planner.table import HEADS, STATES, coming, moment
+from planner.drawing.scale import Clock, Numbers
+from planner.table import HEADS, STATES, coming
+from planner.table import moment as moment_text
 
 SECONDS = 5
 # So many vehicles stand below each other at most, and from so many on the lines are closer; so many that are late are named above.
@@ -45,19 +46,20 @@ PATTERN = (
 
 
 @dataclass(frozen=True)
-class Scale:
-    """Where moments stand in a strip."""
+class Axis:
+    """Where moments stand in a strip, and how they are written."""
 
     first: int
     last: int
+    scale: Numbers | Clock
 
     @classmethod
-    def of(cls, rows, now):
+    def of(cls, rows, now, scale):
         moments = [now]
         for row in rows:
             moments += [*row.came.values(), *([] if row.due is None else [row.due]), *(window.last for window in row.coming.values())]
         first, last = min(0, *moments), max(moments)
-        return cls(first, last + max(1, (last - first) // 20))
+        return cls(first, last + max(1, (last - first) // 20), scale)
 
     def at(self, moment):
         return f"{100 * (moment - self.first) / (self.last - self.first):.2f}%"
@@ -67,9 +69,11 @@ class Scale:
 
     def ticks(self):
         """Round moments, eight at most."""
-        steps = (factor * 10**power for power in itertools.count() for factor in (1, 2, 5))
-        step = next(step for step in steps if (self.last - self.first) / step <= 8)
-        return range(-(-self.first // step) * step, self.last + 1, step)
+        step = next(step for step in self.scale.steps() if (self.last - self.first) / step <= 8)
+        return range(self.scale.first_tick(self.first, step), self.last + 1, step)
+
+    def text(self, moment):
+        return moment_text(moment, self.scale)
 
 
 def element(name, text="", **attributes):
@@ -101,14 +105,14 @@ WIDE, CLOSE = Shape(14, 20, 7), Shape(10, 13, 4)
 class Strips:
     """The days of vehicles as strips of one scale."""
 
-    scale: Scale
+    axis: Axis
     now: int
     shape: Shape
 
     def strip(self, row):
         """The day of a vehicle: what is over, what runs and may end in the hatched time, what came, what is due."""
         height = self.shape.height(len(row.coming))
-        parts = [self.upright(tick, height, "grid") for tick in self.scale.ticks()]
+        parts = [self.upright(tick, height, "grid") for tick in self.axis.ticks()]
         parts += [self.bar(start, end, 0, "over") for start, end in row.over]
         for lane, (end, window) in enumerate(row.coming.items()):
             parts += self.running(end, row.begun[end], window, lane)
@@ -118,11 +122,11 @@ class Strips:
         return element("svg", "".join(parts), height=height, role="img", aria_label=escape(f"the day of {row.name}"))
 
     def upright(self, moment, height, kind):
-        return element("line", x1=self.scale.at(moment), x2=self.scale.at(moment), y1=0, y2=height, class_=kind)
+        return element("line", x1=self.axis.at(moment), x2=self.axis.at(moment), y1=0, y2=height, class_=kind)
 
     def bar(self, start, end, lane, kind):
         y = self.shape.free + lane * self.shape.lane
-        place = {"x": self.scale.at(start), "width": self.scale.length(start, end), "y": y}
+        place = {"x": self.axis.at(start), "width": self.axis.length(start, end), "y": y}
         return element("rect", **place, height=self.shape.thick, rx=2, class_=kind)
 
     def running(self, end, start, window, lane):
@@ -130,34 +134,37 @@ class Strips:
         first = max(start, min(self.now, window.last) if window.first is None else window.first)
         yield self.bar(start, first, lane, "run")
         yield self.bar(first, window.last, lane, "may")
-        yield element("text", escape(end), x=self.scale.at(start), dx=6, y=self.shape.middle + lane * self.shape.lane + 4)
+        yield element("text", escape(end), x=self.axis.at(start), dx=6, y=self.shape.middle + lane * self.shape.lane + 4)
 
     def point(self, name, came):
-        title = element("title", f"{escape(name)} {came}")
-        return element("circle", title, cx=self.scale.at(came), cy=self.shape.middle, r=self.shape.thick * 0.3, class_="point")
+        title = element("title", f"{escape(name)} {self.axis.text(came)}")
+        return element("circle", title, cx=self.axis.at(came), cy=self.shape.middle, r=self.shape.thick * 0.3, class_="point")
 
     def due(self, moment):
-        mark = element("path", f"<title>due {moment}</title>", d="M0,-8 L7,0 L0,8 L-7,0 Z", class_="due")
-        return element("svg", mark, x=self.scale.at(moment), y=self.shape.middle, width=1, height=1)
+        mark = element("path", f"<title>due {self.axis.text(moment)}</title>", d="M0,-8 L7,0 L0,8 L-7,0 Z", class_="due")
+        return element("svg", mark, x=self.axis.at(moment), y=self.shape.middle, width=1, height=1)
 
-    def axis(self):
+    def moments(self):
         """The moments above the strips."""
-        ticks = self.scale.ticks()
-        parts = [element("text", str(tick), x=self.scale.at(tick), y=14, text_anchor="middle", class_="tick") for tick in ticks]
+        parts = [self.tick(moment) for moment in self.axis.ticks()]
         return element("svg", "".join(parts), height=18, aria_hidden="true")
+
+    def tick(self, moment):
+        place = {"x": self.axis.at(moment), "y": 14, "text_anchor": "middle"}
+        return element("text", self.axis.text(moment), **place, class_="tick")
 
     def line(self, row):
         """A line of the table."""
         name = cell(escape(row.name), "name")
         if row.state not in STATES:
             return f'<tr>{name}{cell(row.state, "ended")}<td class="why" colspan="4">{escape(row.why)}</td></tr>'
-        cells = [name, cell(BADGES[row.state], "state"), cell(moment(row.last), "number"), cell(moment(row.due), "number due")]
-        return f'<tr>{"".join(cells)}{cell(escape(coming(row)), "coming")}{cell(self.strip(row), "strip")}</tr>'
+        cells = [name, cell(BADGES[row.state], "state"), cell(self.axis.text(row.last), "number"), cell(self.axis.text(row.due), "number due")]
+        return f'<tr>{"".join(cells)}{cell(escape(coming(row, self.axis.scale)), "coming")}{cell(self.strip(row), "strip")}</tr>'
 
     def table(self, rows):
         heads = "".join(f'<th class="{"number" if head in ("told", "due") else "text"}">{head}</th>' for head in HEADS)
         body = "\n".join(map(self.line, rows))
-        return f'<table><thead><tr>{heads}<th class="strip">{self.axis()}</th></tr></thead><tbody>\n{body}\n</tbody></table>'
+        return f'<table><thead><tr>{heads}<th class="strip">{self.moments()}</th></tr></thead><tbody>\n{body}\n</tbody></table>'
 
 
 def cell(text, kind):
@@ -173,17 +180,17 @@ def warning(rows):
     return f'<span class="late">late: {escape(", ".join(late[:MOST_NAMED]))}{more}</span>'
 
 
-def page(rows, now, title, written):
+def page(rows, now, title, written, scale):
     """The page of a room that stands at this moment; `written` tells when the page was."""
     is_close = len(rows) > MOST_WIDE
-    strips = Strips(Scale.of(rows, now), now, CLOSE if is_close else WIDE)
+    strips = Strips(Axis.of(rows, now, scale), now, CLOSE if is_close else WIDE)
     half = len(rows) if len(rows) <= MOST_LINES else -(-len(rows) // 2)
     kind = " ".join([*(["close"] if is_close else []), *(["two"] if half < len(rows) else [])])
     tables = "\n".join(strips.table(part) for part in (rows[:half], rows[half:]) if part)
     return f"""<!DOCTYPE html>
 <html lang="en"><head><meta charset="utf-8"><meta name="viewport" content="width=device-width">
-<meta http-equiv="refresh" content="{SECONDS}"><title>{escape(title)} at {now}</title><style>{STYLE}</style></head><body>
-{PATTERN}<header><h1>{escape(title)}</h1><span>now <b>{now}</b></span>{warning(rows)}</header>
+<meta http-equiv="refresh" content="{SECONDS}"><title>{escape(title)} at {scale.text(now)}</title><style>{STYLE}</style></head><body>
+{PATTERN}<header><h1>{escape(title)}</h1><span>now <b>{scale.text(now)}</b></span>{warning(rows)}</header>
 <main class="{kind}">
 {tables}
 </main>

@@ -9,26 +9,31 @@ HEADS = ("vehicle", "", "told", "due", "may still come")
 STATES = {"goes on": "", "late": "LATE", "over": "over"}
 
 
-def moment(number):
-    return "" if number is None else str(number)
+def moment(number, scale):
+    return "" if number is None else scale.text(number)
 
 
-def coming(row):
+def coming(row, scale):
     """What may come of a vehicle, and until when."""
-    return ", ".join(f"{end} {'by' if it.first is None else f'{it.first} to'} {it.last}" for end, it in row.coming.items())
+    return ", ".join(f"{end} {told(window, scale)}" for end, window in row.coming.items())
 
 
-def cells(row):
+def told(window, scale):
+    last = scale.text(window.last)
+    return f"by {last}" if window.first is None else f"{scale.text(window.first)} to {last}"
+
+
+def cells(row, scale):
     if row.state not in STATES:
         return (row.name, "-", "", "", f"{row.state}: {row.why}")
-    return (row.name, STATES[row.state], moment(row.last), moment(row.due), coming(row))
+    return (row.name, STATES[row.state], moment(row.last, scale), moment(row.due, scale), coming(row, scale))
 
 
-def lines(rows, now):
+def lines(rows, now, scale):
     """The lines of the table."""
-    table = [HEADS, *map(cells, rows)]
+    table = [HEADS, *(cells(row, scale) for row in rows)]
     widths = [max(len(line[column]) for line in table) for column in range(len(HEADS) - 1)]
-    yield f"now {now}"
+    yield f"now {scale.text(now)}"
     for line in table:
         front = "  ".join(f"{cell:<{wide}}" for cell, wide in zip(line, widths))
         yield cut(f"{front}  {line[-1]}".rstrip())

@@ -12,7 +12,8 @@ After each line the points to be executed are told, the next moment that is to b
 import argparse
 from dataclasses import asdict
 
-from planner.execution import EVENTS, Execution, slip_of_event
+from planner.drawing.scale import CLOCK_HELP, scale_of
+from planner.execution import EVENTS, Execution, in_numbers, slip_of_event
 from planner.faults import Fault, Status, say, told_by_system
 from planner.journal import UNDO
 from planner.kept import add_words as add_shared
@@ -34,12 +35,13 @@ ANOTHER_DAY = ("too-soon", "overdue")
 
 def add_words(parser):
     add_shared(parser, ENDING)
+    parser.add_argument("--clock", metavar="TIME", help=CLOCK_HELP)
 
 
 def words_of_call(args, plan):
     """The words of a call for the day of a plan, with what is common to all commands."""
     common = {name: getattr(args, name) for name in ("program", "delay", "json", "show_calls")}
-    return argparse.Namespace(**common, plan=plan, lines=None, plan_changed=False)
+    return argparse.Namespace(**common, plan=plan, lines=None, plan_changed=False, clock=None)
 
 
 def run(args):
@@ -62,7 +64,7 @@ class Day:
 
     def __init__(self, args, execution, journal):
         self.args, self.execution, self.journal = args, execution, journal
-        self.is_refused = False
+        self.scale, self.is_refused = scale_of(args.clock), False
 
     def play_again(self):
         """Tells again what is kept of the day, and where it stands."""
@@ -90,7 +92,7 @@ class Day:
                 for said in __doc__.split("\n\n")[2].split("\n"):
                     tell(said)
             case [word, *rest] if word.lower() in EVENTS:
-                self.event(" ".join([word.lower(), *rest]))
+                self.event(" ".join(in_numbers([word.lower(), *rest], self.scale)))
             case [word, *_]:
                 self.refuse(line, slip_of_word(word, WORDS))
 
@@ -100,7 +102,7 @@ class Day:
             return
         told = self.execution.take(line)
         if told.refused:
-            slip = slip_of_event(line, told, self.execution)
+            slip = slip_of_event(line, told, self.execution, self.scale)
             self.refuse(line, f"the program says: {told.refused}" + (f"; {slip}" if slip else "") + self.what_then(line, told))
         elif self.keep(line):
             self.answer(line, told)
@@ -140,18 +142,18 @@ class Day:
             tell(note)
         before = came_before(self.execution.plan)
         for moment, point in [] if note else told.acts:
-            tell(f"at {moment}: {point}" + (", as it came before" if point in before else ""))
+            tell(f"at {self.scale.text(moment)}: {point}" + (", as it came before" if point in before else ""))
         tell(self.next(told))
 
     def next(self, told):
         """What comes next, in a sentence."""
         if told.is_complete:
             return "the day is over: all has come"
-        coming = [f"{end} may be seen {window}" for end, window in self.execution.coming().items()]
+        coming = [f"{end} may be seen {window.text(self.scale)}" for end, window in self.execution.coming().items()]
         if told.due is None:
             due = "nothing is due" if coming else "nothing is due any more: 'done' ends the day"
         else:
-            due = f"next: at {told.due}"
+            due = f"next: at {self.scale.text(told.due)}"
         return "; ".join([due, *coming])
 
     def described(self, line, told):

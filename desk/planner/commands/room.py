@@ -18,7 +18,8 @@ import time
 from pathlib import Path
 
 from planner.commands import rest as rest_command
-from planner.execution import EVENTS, slip_of_event
+from planner.drawing.scale import CLOCK_HELP, scale_of
+from planner.execution import EVENTS, in_numbers, slip_of_event
 from planner.faults import Fault, Status, say, told_by_system
 from planner.feeds import Feeds
 from planner.front import Parser
@@ -53,6 +54,7 @@ def add_words(parser):
     parser.add_argument("--lines", metavar="FILE", help=lines_help)
     sources_help = "a file, a pipe or a device with lines"
     parser.add_argument("--from", dest="sources", action="append", default=[], metavar="SOURCE", help=sources_help)
+    parser.add_argument("--clock", metavar="TIME", help=CLOCK_HELP)
     page_help = "keep a page for a screen on the wall in this folder, index.html, which loads itself anew"
     parser.add_argument("--page", metavar="DIR", help=page_help)
     parser.add_argument("--all-or-none", action="store_true", help="begin only if each plan can be kept")
@@ -86,7 +88,7 @@ class RoomDesk:
 
     def __init__(self, args):
         self.args, self.room = args, Room(args.program)
-        self.path = path_of(args)
+        self.path, self.scale = path_of(args), scale_of(args.clock)
         self.statuses = {Status.KEPT}
         # The word of the call that brought each plan, by the plan's name.
         self.brought = {}
@@ -174,7 +176,7 @@ class RoomDesk:
             case [name, word] if name in self.room.vehicles and word.lower() == "undo":
                 self.undo(name)
             case [name, word, *rest] if name in self.room.vehicles:
-                self.event(name, " ".join([word.lower(), *rest]))
+                self.event(name, " ".join(in_numbers([word.lower(), *rest], self.scale)))
             case [name, word, *_] if word.lower() in EVENTS:
                 self.ask_again(line, name)
             case [word, *rest]:
@@ -187,8 +189,8 @@ class RoomDesk:
                 self.put_table()
             case "help", []:
                 tell(__doc__.split("\n\n", 2)[2].rstrip())
-            case "now", [moment] if moment.isdigit() and moment.isascii():
-                self.set_now(line, int(moment))
+            case "now", [moment]:
+                self.set_now(line, moment)
             case "undo", [name] if name in self.room.vehicles:
                 self.undo(name)
             case "add", [_, *_]:
@@ -222,7 +224,7 @@ class RoomDesk:
             return
         told = self.room.take(name, line)
         if told.refused:
-            slip = slip_of_event(line, told, execution)
+            slip = slip_of_event(line, told, execution, self.scale)
             why = f"the program says: {told.refused}" + (f"; {slip}" if slip else "")
             self.refuse(f"{name} {line}", why + self.what_then(name, line, told))
         elif self.keep(f"{name} {line}", f"{name} {line}"):
@@ -244,7 +246,12 @@ class RoomDesk:
             taken = self.room.forget_last(name)
             self.answer(name, "undo", [], f"taken back: {taken}")
 
-    def set_now(self, line, moment):
+    def set_now(self, line, word):
+        try:
+            moment = self.scale.read(word)
+        except Fault as why:
+            self.refuse(line, str(why))
+            return
         if self.keep(marked(Mark.NOW, str(moment)), line):
             self.room.now = moment
             self.put_table()
@@ -312,10 +319,10 @@ class RoomDesk:
             hand_on({**said, "due": execution.told.due, "complete": execution.is_complete})
             return
         for moment, point in acts:
-            tell(f"{name} at {moment}: {point}")
-        due = "nothing is due" if execution.told.due is None else f"next at {execution.told.due}"
+            tell(f"{name} at {self.scale.text(moment)}: {point}")
+        due = "nothing is due" if execution.told.due is None else f"next at {self.scale.text(execution.told.due)}"
         due = "its day is over" if execution.is_complete else due
-        may = coming(self.room.row(self.room.vehicles[name])) if is_terminal() else ""
+        may = coming(self.room.row(self.room.vehicles[name]), self.scale) if is_terminal() else ""
         tell(f"{name}: " + "; ".join(filter(None, [note, due, may and f"may still come: {may}"])))
 
     def refuse(self, line, why):
@@ -331,7 +338,7 @@ class RoomDesk:
         if self.args.json:
             hand_on({"now": self.room.now, "rows": [described(row) for row in rows]})
         else:
-            for line in lines(rows, self.room.now):
+            for line in lines(rows, self.room.now, self.scale):
                 tell(line)
 
     def put_page(self, is_last=False):
@@ -341,7 +348,8 @@ class RoomDesk:
         folder = Path(self.args.page)
         try:
             folder.mkdir(parents=True, exist_ok=True)
-            write_whole(folder / "index.html", page(self.room.rows(), self.room.now, self.path.stem, time.strftime("%H:%M:%S")))
+            text = page(self.room.rows(), self.room.now, self.path.stem, time.strftime("%H:%M:%S"), self.scale)
+            write_whole(folder / "index.html", text)
         except OSError as why:
             say(f"the page could not be written: {told_by_system(why)}")
         self.is_page_old, self.page_written = False, time.monotonic()

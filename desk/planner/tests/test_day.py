@@ -42,6 +42,13 @@ the day is over: all has come"""
         self.assertEqual(self.day().status, Status.WORDS)
         self.assertEqual(self.day(words=["--delay", "12"]).lines, done.lines[-2:])
 
+    def test_with_a_clock_times_are_told_and_read_and_moments_kept(self):
+        done = self.day("at 6:00", "at 7:00", words=["--clock", "6:00"])
+        self.assertEqual(done.lines[-2:], ["at 7:00: leave", "next: at 7:30; arrive may be seen from 7:40 until 8:30"])
+        done = self.day("at 7:10 arrive", "at 7:40 arrive", words=["--clock", "6:00"])
+        self.assertIn("arrive cannot be seen before 7:40", done.err)
+        self.assertTrue((self.folder / "today.day").read_text().endswith("at 0\nat 60\nat 100 arrive\n"))
+
     def test_it_goes_on_where_it_was(self):
         self.day("at 0", "at 60")
         done = self.day("at 90")

@@ -6,10 +6,11 @@ import re
 import threading
 import xml.etree.ElementTree as xml
 
-from planner.faults import Status
-from planner.page import Scale, page
-from planner.room import Row
+from planner.drawing.scale import Clock, Numbers
 from planner.execution import Window
+from planner.faults import Status
+from planner.page import Axis, page
+from planner.room import Row
 from planner.tests.children import Terminal, quickly
 from planner.tests.support import EXAMPLES, Case
 
@@ -180,7 +181,7 @@ class Pages(RoomCase):
     ]
 
     def test_it_is_well_formed_and_loads_itself_anew(self):
-        text = page(self.ROWS, 55, "room", "12:00:00")
+        text = page(self.ROWS, 55, "room", "12:00:00", Numbers())
         body = re.sub(r"<meta[^>]*>|<!DOCTYPE html>", "", text)
         tree = xml.fromstring(body)
         self.assertEqual(len(tree.findall(".//tbody/tr")), 3)
@@ -191,10 +192,11 @@ class Pages(RoomCase):
 
     def test_ticks_are_few_and_marks_lie_on_the_strip(self):
         for first, last in ((0, 1), (0, 7), (0, 88), (13, 4_000_000_000), (0, 1000)):
-            scale = Scale.of([Row("a", "goes on", came={"x": first})], last)
-            self.assertLessEqual(len(scale.ticks()), 9)
-            for moment in (first, last):
-                self.assertTrue(0 <= float(scale.at(moment)[:-1]) <= 100)
+            for scale in (Numbers(), Clock.of("7:30")):
+                axis = Axis.of([Row("a", "goes on", came={"x": first})], last, scale)
+                self.assertLessEqual(len(axis.ticks()), 9)
+                for moment in (first, last):
+                    self.assertTrue(0 <= float(axis.at(moment)[:-1]) <= 100)
 
     def test_it_is_written_whole_and_again_as_the_room_stands(self):
         self.write("plans.fleet", FLEET)
@@ -203,6 +205,16 @@ class Pages(RoomCase):
         self.assertIn("now <b>12</b>", text)
         self.assertIn("there 42 to 57", text)
         self.assertEqual(os.listdir(self.folder / "wall"), ["index.html"])
+
+    def test_with_a_clock_times_are_told_and_read(self):
+        self.write("plans.fleet", FLEET)
+        given = "van at 8:00\nvan at 8:12 loaded\nnow 8:20\nvan at 9:30\n"
+        done = self.told("plans.fleet", "--page", "wall", "--clock", "8:00", given=given)
+        self.assertIn("van at 8:12: leave", done.lines)
+        self.assertIn("now 8:20", done.lines)
+        self.assertIn("there was to be seen by 8:57 at the latest", done.err)
+        self.assertIn("van at 12 loaded\n", (self.folder / "plans.room").read_text())
+        self.assertIn("there 8:42 to 8:57", (self.folder / "wall" / "index.html").read_text())
 
     def test_a_page_that_cannot_be_written_ends_nothing(self):
         self.write("plans.fleet", FLEET)
