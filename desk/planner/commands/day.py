@@ -3,8 +3,11 @@
 Each line is on the disk, in a file beside the plan, before it is answered: whatever happens, the same call goes on where the day stood.
 A line that is refused is told why, and leaves the day as it stood.
 
-  the day   at MOMENT NAME ..  it is MOMENT now, and these points are seen to have come; done  no more will come
-  besides   undo (takes back the last line), status, help, end (the day goes on with the next call)
+  the day   at MOMENT NAME ..  these points are seen to have come then
+            done               no more will come
+  besides   undo               takes the last line back
+            status             where the day stands
+            help, end          the day goes on with the next call
 
 After each line the points to be executed are told, the next moment that is to be told, and which links may end from when until when.
 """

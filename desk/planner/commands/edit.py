@@ -4,11 +4,14 @@ Each edit is on the disk, in a file beside the plan, before it is answered: what
 that is refused is told why, and leaves all as it stood. At the end, and before 'go', the plan with its edits is written to a file of its
 own, with the remarks, the lines 'between' and the names of the plan; the file of the plan itself is never written.
 
-  edits      add point NAME, add bound NAME FROM TO MOST, add between NAME FROM LOW HIGH TO, add link FROM LOW HIGH TO,
+  edits      add point NAME, add bound NAME FROM TO MOST,
+             add between NAME FROM LOW HIGH TO, add link FROM LOW HIGH TO,
              set bound NAME MOST, set between NAME LOW HIGH, set link TO LOW HIGH,
              drop point NAME, drop bound NAME, drop between NAME, drop link TO
-  questions  verdict, proof, table, report, plan; deadline FROM TO, play DAY, strong
-  besides    undo (takes back the last edit), write [FILE], go (begins the day), help, end
+  questions  verdict, proof, table, report, plan,
+             deadline FROM TO, play DAY, strong
+  besides    undo (takes the last edit back), write [FILE], go (begins the day),
+             help, end
 """
 
 from planner.commands import day

@@ -4,10 +4,17 @@ A plan is a file of its own, whose vehicle has the file's name without its endin
 looked at before any is begun: one that is refused, or cannot be kept, is told and left out. Each line is on the disk, in a file beside the
 first plan, before it is answered: whatever happens, the same call goes on where the room stood, by the plans as they were.
 
-  vehicles   NAME at MOMENT POINT ..  it is MOMENT for this vehicle, and these points are seen to have come; NAME done  no more will come
-  plans      add FILE, add NAME=FILE (a plan more), add NAME (one that was left out and is mended since),
-             rest NAME --link END LOW HIGH .. (what is left of its day takes its place; the words of 'planner rest')
-  the room   table (an empty line too), now MOMENT, undo NAME (takes its last line back), help, end
+  vehicles   NAME at MOMENT POINT ..   these points are seen to have come then
+             NAME done                 no more will come of it
+             undo NAME                 takes its last line back
+  plans      add FILE, add NAME=FILE   a plan more
+             add NAME                  one that was left out, and is mended
+             rest NAME --link END LOW HIGH ..
+                                       what is left of its day takes its place,
+                                       by the words of 'planner rest'
+  the room   table, or an empty line   where all vehicles stand
+             now MOMENT                what moment it is
+             help, end
 
 The table tells of each vehicle the last moment told, the next one that is due, and which links may end from when until when. A vehicle is
 late if such a moment is before that of the room, which is the latest told of any.
