@@ -10,7 +10,7 @@ from planner.tests.support import ROOT, planner, program
 
 LAUNCHER = ROOT / "planner"
 # So long an answer is waited for before a test fails (seconds).
-PATIENCE = 20
+PATIENCE = 60
 
 
 def quick():
@@ -71,8 +71,8 @@ class Terminal:
         return self.until(wanted)
 
     def leave(self):
-        """Ends the input, and returns the status."""
-        os.write(self.ours, b"\x04")
+        """Types the line that leaves, and returns the status."""
+        os.write(self.ours, b"end\n")
         status = self.child.wait(PATIENCE)
         os.close(self.ours)
         return status
