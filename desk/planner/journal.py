@@ -111,9 +111,9 @@ class Journal:
             os.ftruncate(self.file, size)
         self.size = size
 
-    def append(self, line):
-        """Writes a line, which is on the disk when this returns; where it cannot be written all stands as before, and why is raised."""
-        data = (line + "\n").encode(**ENCODING)
+    def append(self, *lines):
+        """Writes lines, which are on the disk when this returns; if they cannot be written all stands as before, and why is raised."""
+        data = "".join(f"{line}\n" for line in lines).encode(**ENCODING)
         try:
             done = 0
             while done < len(data):
@@ -125,10 +125,10 @@ class Journal:
             raise
         self.size += len(data)
 
-    def keep(self, line):
-        """Keeps a line."""
-        self.append(line)
-        self.lines.append(line)
+    def keep(self, *lines):
+        """Keeps lines, all or none."""
+        self.append(*lines)
+        self.lines += lines
 
     def kept(self):
         """The lines that stand."""

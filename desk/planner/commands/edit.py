@@ -33,6 +33,8 @@ ENDING = ".edits"
 # Questions that a call answers of the plan as it stands.
 CALLS = ("deadline", "play", "strong")
 VERDICTS = {"controllable": "the plan can be kept", "not controllable": "the plan cannot be kept: 'proof' says why"}
+# Words that somebody may type for others.
+ALIKE = {"show": "plan", "print": "plan", "check": "verdict"}
 KINDS = ("point", "bound", "between", "link")
 WORDS = (*EDITS, *QUESTIONS, "plan", *CALLS, UNDO, "write", "go", "help", "end")
 
@@ -87,7 +89,7 @@ class Editing:
         if words[0].startswith("#"):
             self.keep(line)
             return
-        word = words[0].lower()
+        word = ALIKE.get(words[0].lower(), words[0].lower())
         if word in EDITS:
             self.edit([word, *(it.lower() for it in words[1:2]), *words[2:]])
         elif word == UNDO and not words[1:]:

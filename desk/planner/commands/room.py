@@ -249,7 +249,7 @@ class RoomDesk:
     def undo(self, name):
         if not self.room.vehicles[name].can_take_back():
             self.refuse(f"undo {name}", "there is no line to take back")
-        elif self.keep(marked(Mark.TAKEN_BACK, name), f"undo {name}"):
+        elif self.keep(f"undo {name}", marked(Mark.TAKEN_BACK, name)):
             taken = self.room.forget_last(name)
             self.answer(name, "undo", [], f"taken back: {taken}")
 
@@ -259,7 +259,7 @@ class RoomDesk:
         except Fault as why:
             self.refuse(line, str(why))
             return
-        if self.keep(marked(Mark.NOW, str(moment)), line):
+        if self.keep(line, marked(Mark.NOW, str(moment))):
             self.room.now = moment
             self.put_table()
 
@@ -275,7 +275,7 @@ class RoomDesk:
     def add_one(self, line, plan):
         if plan.why:
             self.is_page_old = True
-        elif self.keep(plan_entry(plan.name, plan.source.text), line):
+        elif self.keep(line, plan_entry(plan.name, plan.source.text)):
             self.room.add(plan.name, plan.source.text)
             self.room.start()
             self.answer(plan.name, line, [])
@@ -296,22 +296,27 @@ class RoomDesk:
         if not self.args.program.call(["check"], Source(text)).is_kept:
             more = "'planner rest' writes its plan, and 'planner repair' finds what can be done"
             self.refuse(line, f"the program says that what is left cannot be kept; {more}")
-        elif self.keep(plan_entry(name, text), line):
-            self.room.go_on(name, text)
-            self.go_on(name, f"at {rest.now}", before)
+        else:
+            self.go_on(line, name, text, f"at {rest.now}", before)
 
-    def go_on(self, name, line, before):
-        """Tells the rest of a day what moment it is, to which it answers what came before once more."""
-        told = self.room.take(name, line)
-        if self.keep(f"{name} {line}", line):
-            self.answer(name, line, [(moment, point) for moment, point in told.acts if point not in before])
+    def go_on(self, line, name, text, now, before):
+        """Has a vehicle go on by a plan of the rest, and tells it what moment it is, to which it answers what came before once more."""
+        self.room.go_on(name, text)
+        told = self.room.take(name, now)
+        if told.refused:
+            self.room.forget_last(name)
+            self.refuse(line, f"the program says: {told.refused} (to {now})")
+        elif self.keep(line, plan_entry(name, text), f"{name} {now}"):
+            self.answer(name, now, [(moment, point) for moment, point in told.acts if point not in before])
+        else:
+            self.room.forget_last(name)
 
-    def keep(self, line, told):
-        """Keeps a line in the journal; whether it is on the disk."""
+    def keep(self, told, *lines):
+        """Keeps lines in the journal, for one that was told; whether they are on the disk."""
         self.is_page_old = True
         self.since_table += 1
         try:
-            self.journal.keep(line)
+            self.journal.keep(*lines)
         except OSError as why:
             self.refuse(told, f"it could not be kept, {told_by_system(why)}; all stands as before")
             return False

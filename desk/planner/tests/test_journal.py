@@ -1,5 +1,7 @@
 """Journals: nothing that was kept is lost, whatever happens to the process or to the disk."""
 
+import contextlib
+import io
 import os
 import random
 import resource
@@ -46,7 +48,9 @@ class Files(Case):
         whole = (self.folder / "today.day").read_text()
         for end in ("at 60 arr", "a", "at 60\0"):
             self.write("today.day", whole + end)
-            journal = self.opened()
+            with contextlib.redirect_stderr(io.StringIO()) as told:
+                journal = self.opened()
+            self.assertIn(f"its last line was not whole, and is left out: {end!r}", told.getvalue())
             self.assertEqual(journal.kept(), ["at 0"])
             journal.close()
             self.assertEqual((self.folder / "today.day").read_text(), whole)
