@@ -49,6 +49,11 @@ class Told:
         """The word of a refused event and what stands after it."""
         return self.refused.split()[3:]
 
+    @property
+    def is_of_another_day(self):
+        """Whether an event is refused since a link took less or longer than the plan says."""
+        return self.why[:1] in (["too-soon"], ["overdue"])
+
 
 @dataclass(frozen=True)
 class Window:

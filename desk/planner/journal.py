@@ -142,7 +142,3 @@ def beside(plan, ending):
     """The path of a file beside that of a plan, with another ending than the plan's own."""
     path = Path(plan)
     return path.with_name(path.stem + ending)
-
-
-def is_same_file(one, other):
-    return os.path.exists(one) and os.path.exists(other) and os.path.samefile(one, other)

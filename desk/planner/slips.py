@@ -3,7 +3,7 @@
 import difflib
 import re
 
-from planner.reader import WHOLE, TextReader, about_number, is_name, nearest, quoted
+from planner.reader import WHOLE, about_number, is_name, nearest, quoted
 
 EDIT_FORMS = {
     ("add", "point"): "NAME",

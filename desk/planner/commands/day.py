@@ -32,8 +32,6 @@ EXAMPLE = """
 
 ENDING = ".day"
 WORDS = (*EVENTS, UNDO, "status", "help", "end")
-# The refusals that say that the day went another way than its plan.
-ANOTHER_DAY = ("too-soon", "overdue")
 
 
 def add_words(parser):
@@ -114,7 +112,7 @@ class Day:
 
     def what_then(self, line, told):
         """What can be done where the day went another way than its plan."""
-        if told.why[:1] not in [[word] for word in ANOTHER_DAY]:
+        if not told.is_of_another_day:
             return ""
         now, name = line.split()[1], told.why[1]
         call = f"planner rest {self.args.plan} {self.journal.path} --now {now} --link {name} LOW HIGH"

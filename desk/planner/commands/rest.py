@@ -32,9 +32,6 @@ from planner.slips import EDITS
 EXAMPLE = """
   planner rest examples/rover/plan.stnu examples/rover/late.events --link arrive 115 140 --not-yet warm-up > rest.stnu"""
 
-# The refusals of an event that say that the day went another way than the plan.
-ANOTHER_DAY = ("too-soon", "overdue")
-
 
 def add_words(parser):
     parser.add_argument("plan", metavar="PLAN", help="the file of the day's plan, a plan text or a JSON document")
@@ -113,7 +110,7 @@ def played(program, source, lines):
     if refused is None:
         return source, execution, execution.last or 0
     line, why = refused
-    if line != events[-1] or why.why[:1] not in [[word] for word in ANOTHER_DAY]:
+    if line != events[-1] or not why.is_of_another_day:
         raise Fault(f"'{line}' is refused; the program says: {why.refused}; {slip_of_event(line, why, execution)}", Status.EVENT)
     return source, execution, int(line.split()[1])
 

@@ -242,7 +242,7 @@ class RoomDesk:
     @staticmethod
     def what_then(name, line, told):
         """What can be done where the day went another way than its plan."""
-        if told.why[:1] not in [["too-soon"], ["overdue"]]:
+        if not told.is_of_another_day:
             return ""
         return f". If the day went so: rest {name} --now {line.split()[1]} --link {told.why[1]} LOW HIGH"
 

@@ -106,6 +106,12 @@ end
         self.assertEqual(sum("asleep.came" in line for line in done.lines), 1)
         self.assertIn("bound cleaned.from-now cleaned begin -180", done.lines)
 
+    def test_the_day_of_a_rest_tells_what_came_before(self):
+        self.rest("--link", "closed", "140", "250", "--out", "rest.stnu")
+        done = quickly("day", "rest.stnu", given="at 152\nat 170 closed\n")
+        wanted = ["at 0: begin", "at 22: asleep, as it came before", "at 22: cut, as it came before"]
+        self.assertEqual((done.status, done.lines[1:4], done.lines[-2]), (0, wanted, "at 170: cleaned"))
+
     def test_the_lines_of_one_vehicle_are_taken_out_of_a_fleet(self):
         self.write("lines", "other at 5\nv9 at 0\nv9 at 22 asleep\nother at 7\nv9 at 152\n")
         done = self.rest("--vehicle", "v9", "--link", "closed", "140", "250")
