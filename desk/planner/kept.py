@@ -36,6 +36,11 @@ def plan_of(args):
     return source
 
 
+def is_same_file(path, other):
+    """Whether two paths, of which `-` is standard input, lead to one file."""
+    return STANDARD_INPUT not in (path, other) and all(map(os.path.exists, (path, other))) and os.path.samefile(path, other)
+
+
 def lines_up_to_end():
     while line := sys.stdin.readline():
         yield line
@@ -48,7 +53,7 @@ def journal_of(args, kind, ending, source):
     if args.lines is None and args.plan == STANDARD_INPUT:
         raise Fault("a plan of standard input has no file beside it: name the file for its lines by --lines")
     path = Path(args.lines or beside(args.plan, ending))
-    if args.plan != STANDARD_INPUT and path.exists() and os.path.samefile(path, args.plan):
+    if is_same_file(path, args.plan):
         raise Fault(f"{path} is the plan itself, which is never written: name another file by --lines")
     head = Head(kind, sum_of(source.text), args.delay)
     journal = Journal(path, head)
@@ -94,7 +99,7 @@ def write_own(path, text, journal, plan):
     """Writes a file that this journal has written before, or that is not there; never one that somebody else wrote."""
     path = Path(path)
     if path.exists():
-        if plan != STANDARD_INPUT and os.path.samefile(path, plan):
+        if is_same_file(path, plan):
             raise Fault(f"{path} is the plan itself, which is never written: name another file")
         own = {line.rpartition(" ")[2] for line in journal.lines if line.startswith(f"{WROTE} ")}
         if sum_of(read(path)) not in own:

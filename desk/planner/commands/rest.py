@@ -20,7 +20,7 @@ from planner.desk_session import Desk
 from planner.execution import Execution, slip_of_event
 from planner.faults import Fault, Status, say
 from planner.journal import kept
-from planner.kept import write_whole
+from planner.kept import is_same_file, write_whole
 from planner.options import whole_number
 from planner.output import hand_on
 from planner.parts import LARGEST
@@ -72,6 +72,8 @@ def amendments_of(args):
 def run(args):
     if args.plan == args.lines == STANDARD_INPUT:
         raise Fault("the plan and the lines of the day cannot both be read from standard input")
+    if args.out and any(is_same_file(args.out, path) for path in (args.plan, args.lines)):
+        raise Fault(f"{args.out} is the plan or the lines of the day, which are never written: name another file by --out")
     source, lines = load(args.plan, args.delay), lines_of(args)
     source, execution, last = played(args.program, source, lines)
     execution.channel.talk.show()

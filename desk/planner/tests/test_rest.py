@@ -106,6 +106,13 @@ end
         self.assertEqual(sum("asleep.came" in line for line in done.lines), 1)
         self.assertIn("bound cleaned.from-now cleaned begin -180", done.lines)
 
+    def test_the_plan_and_the_lines_are_never_written(self):
+        for path in ("theatre.stnu", "./lines"):
+            done = self.rest("--link", "closed", "140", "250", "--out", path)
+            self.assertEqual((done.status, done.out), (Status.WORDS, ""))
+        self.assertEqual((self.folder / "theatre.stnu").read_text(), THEATRE)
+        self.assertEqual((self.folder / "lines").read_text(), LINES)
+
     def test_the_day_of_a_rest_tells_what_came_before(self):
         self.rest("--link", "closed", "140", "250", "--out", "rest.stnu")
         done = quickly("day", "rest.stnu", given="at 152\nat 170 closed\n")
