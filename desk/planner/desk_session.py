@@ -3,7 +3,9 @@
 from dataclasses import dataclass, field
 
 from planner.draft import ENDINGS, Draft
+from planner.parts import LARGEST_DELAY
 from planner.program import Session
+from planner.reader import WHOLE
 
 # The lines with which the answers to these questions end; of the others they have one line.
 ENDS = {"proof": ("end", ""), "table": ("table end", "not controllable", "")}
@@ -40,6 +42,14 @@ def sent(words):
     return [" ".join(words)]
 
 
+def delay_of(words):
+    """The delay that an edit sets; None where it sets none."""
+    match words:
+        case ["set", "delay", number] if WHOLE.fullmatch(number) and 0 <= int(number[:20]) <= LARGEST_DELAY:
+            return int(number)
+    return None
+
+
 class Desk:
     """A session over a plan. What ends it, or spoils it, is undone by a new one, in which the lines that stand are played again."""
 
@@ -48,15 +58,18 @@ class Desk:
         self.talk, self.lines = None, []
         self.begin()
 
-    def begin(self):
+    def begin(self, lines=()):
+        """Begins anew, with the delay that these lines set last: a session has no edit of that."""
         if self.talk is not None:
             self.talk.close()
-        self.talk, self.draft = Session(self.program, self.source), Draft.of(self.source)
+        delays = [delay for line in lines if (delay := delay_of(line.split())) is not None]
+        source = self.source.with_delay(delays[-1]) if delays else self.source
+        self.talk, self.draft = Session(self.program, source), Draft.of(self.source)
 
     def play(self, lines):
         """Begins anew with these lines. Returns those that are refused, which are left out, each with what is said to it."""
         standing, refused, place = list(lines), [], 0
-        self.begin()
+        self.begin(standing)
         while place < len(standing):
             said = self.tried(standing[place].split())
             if said.is_made:
@@ -64,13 +77,16 @@ class Desk:
                 continue
             refused.append((standing.pop(place), said))
             if said.is_spoiled:
-                self.begin()
+                self.begin(standing)
                 place = 0
         self.lines = standing
         return refused
 
     def take(self, line):
         """Makes an edit, or returns why the program does not; all stands as before then."""
+        if delay_of(line.split()) is not None:
+            self.play([*self.lines, line])
+            return Said(["ok"], is_made=True)
         said = self.tried(line.split())
         if said.is_made:
             self.lines.append(line)
@@ -79,6 +95,9 @@ class Desk:
         return said
 
     def tried(self, words):
+        if (delay := delay_of(words)) is not None:
+            self.draft.write_delay(delay)
+            return Said(["ok"], is_made=True)
         for place, line in enumerate(sent(words)):
             self.talk.send(line)
             answer = self.talk.line()

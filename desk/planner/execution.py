@@ -206,7 +206,8 @@ def slip_of_event(line, told, execution, scale=NUMBERS):
         case ["unknown-name"] | ["bad-name"]:
             return unknown(words[2:], plan.points)
         case ["not-later", last]:
-            return f"{scale.text(int(last))} was told already, and a moment is told once, with all that is seen at it; 'undo' takes the last line back"
+            once = "a moment is told once, with all that is seen at it; 'undo' takes the last line back"
+            return f"{scale.text(int(last))} was told already, and {once}"
         case ["not-contingent", name]:
             return f"no link ends in {name}: it is executed at the moment that the program tells, and not told"
         case ["twice", name, moment]:

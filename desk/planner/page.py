@@ -158,7 +158,8 @@ class Strips:
         name = cell(escape(row.name), "name")
         if row.state not in STATES:
             return f'<tr>{name}{cell(row.state, "ended")}<td class="why" colspan="4">{escape(row.why)}</td></tr>'
-        cells = [name, cell(BADGES[row.state], "state"), cell(self.axis.text(row.last), "number"), cell(self.axis.text(row.due), "number due")]
+        moments = [cell(self.axis.text(row.last), "number"), cell(self.axis.text(row.due), "number due")]
+        cells = [name, cell(BADGES[row.state], "state"), *moments]
         return f'<tr>{"".join(cells)}{cell(escape(coming(row, self.axis.scale)), "coming")}{cell(self.strip(row), "strip")}</tr>'
 
     def table(self, rows):

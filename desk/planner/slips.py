@@ -3,6 +3,7 @@
 import difflib
 import re
 
+from planner.parts import LARGEST_DELAY
 from planner.reader import WHOLE, about_number, is_name, nearest, quoted
 
 EDIT_FORMS = {
@@ -17,9 +18,10 @@ EDIT_FORMS = {
     ("set", "bound"): "NAME MOST",
     ("set", "between"): "NAME LOW HIGH",
     ("set", "link"): "TO LOW HIGH",
+    ("set", "delay"): "N",
 }
 EDITS = ("add", "drop", "set")
-NUMBERS = ("MOST", "LOW", "HIGH")
+NUMBERS = ("MOST", "LOW", "HIGH", "N")
 
 
 def meant(word, names):
@@ -65,6 +67,9 @@ def slip_of_edit(words, said, draft):
         if place not in NUMBERS and not is_name(word):
             return f"{quoted(word)} is no name; {wanted}"
     match said.split()[1:]:
+        case ["format", *_]:
+            # A delay that is beyond the limit is no line of the session.
+            return f"{wanted}, of at most {LARGEST_DELAY:,}"
         case ["unknown-name"]:
             return unknown_in_edit(words, given, draft)
         case ["duplicate-name"]:

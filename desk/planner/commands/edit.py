@@ -7,6 +7,7 @@ own, with the remarks, the lines 'between' and the names of the plan; the file o
   edits      add point NAME, add bound NAME FROM TO MOST,
              add between NAME FROM LOW HIGH TO, add link FROM LOW HIGH TO,
              set bound NAME MOST, set between NAME LOW HIGH, set link TO LOW HIGH,
+             set delay N,
              drop point NAME, drop bound NAME, drop between NAME, drop link TO
   questions  verdict, proof, table, report, plan,
              deadline FROM TO, play DAY, strong
@@ -35,7 +36,7 @@ CALLS = ("deadline", "play", "strong")
 VERDICTS = {"controllable": "the plan can be kept", "not controllable": "the plan cannot be kept: 'proof' says why"}
 # Words that somebody may type for others.
 ALIKE = {"show": "plan", "print": "plan", "check": "verdict"}
-KINDS = ("point", "bound", "between", "link")
+KINDS = ("point", "bound", "between", "link", "delay")
 WORDS = (*EDITS, *QUESTIONS, "plan", *CALLS, UNDO, "write", "go", "help", "end")
 
 

@@ -74,6 +74,8 @@ class Edits(Case):
             "drop point cut": "the bound early.max names it: drop that first",
             "set link closed 90 60": "LOW of a link is at least 1 and at most HIGH",
             "set shift 5": "wanted: set bound, set between, set link",
+            "set delay 5x": "'5x': no whole number in the place of N; wanted: set delay N",
+            "set delay 1000001": "wanted: set delay N, of at most 1,000,000",
             "drop link begin": "no link ends in 'begin'",
             "undo": "there is no edit to take back",
             "verdict now": "no words stand after 'verdict'",
@@ -83,6 +85,17 @@ class Edits(Case):
                 done = self.edit(line, "verdict")
                 self.assertEqual((done.status, done.lines, done.err.count("\n")), (Status.EVENT, ["the plan can be kept"], 1))
                 self.assertIn(wanted, done.err)
+
+    def test_the_delay_is_set_with_edits_before_and_after_it(self):
+        self.write("rover.stnu", (EXAMPLES / "rover" / "plan.stnu").read_text())
+        given = ["set bound still-warm 59", "set delay 12", "verdict", "set delay 16", "set bound warm -19", "verdict"]
+        done = quickly("edit", "rover.stnu", given="\n".join([*given, "undo", "undo", "verdict"]))
+        kept, not_kept = "the plan can be kept", "the plan cannot be kept: 'proof' says why"
+        taken = ["taken back: set bound warm -19", "taken back: set delay 16"]
+        self.assertEqual(done.lines, ["ok", "ok", kept, "ok", "ok", not_kept, *taken, kept])
+        wanted = (EXAMPLES / "rover" / "plan.stnu").read_text().replace("stnu 1\n", "stnu 2\ndelay 12\n")
+        wanted = wanted.replace("warm-up images 60", "warm-up images 59")
+        self.assertEqual((self.folder / "rover.edited.stnu").read_text(), wanted)
 
     def test_capitals_are_understood(self):
         done = self.edit("Verdict", "SET Bound shift 50", "VERDICT")
