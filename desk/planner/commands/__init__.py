@@ -11,4 +11,8 @@ COMMANDS = {
     "deadline": "by when a point can be promised, and how far a number may go",
     "fixed": "one schedule for every day",
     "many": "many plans at once, a line for each",
+    "edit": "edit a plan at a terminal, with nothing lost by a slip",
+    "day": "execute a plan at a terminal, with nothing lost by a slip",
+    "rest": "the plan of what is left of a day that went another way",
+    "room": "several vehicles in one room, with a table and a page for the wall",
 }

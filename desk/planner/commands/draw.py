@@ -14,7 +14,7 @@ from random import SystemRandom
 from planner import days as daily
 from planner.drawing import page, svg
 from planner.drawing.chart import chart_of
-from planner.drawing.scale import Clock, Numbers
+from planner.drawing.scale import CLOCK_HELP, scale_of
 from planner.drawing.text import Terminal
 from planner.explain import refusal
 from planner.faults import Fault, Status, told_by_system
@@ -43,7 +43,7 @@ def add_words(parser):
     output.add_argument("--svg", metavar="FILE", help="write a picture to this file")
     output.add_argument("--html", metavar="FILE", help="write a page to this file: picture, moments, plan and calls")
     output.add_argument("--title", metavar="TEXT", help="a line above all (of pictures and pages the name of the plan)")
-    output.add_argument("--clock", metavar="TIME", help="the time at moment 0: 7:30 for moments of a minute, 7:30:00 of a second")
+    output.add_argument("--clock", metavar="TIME", help=CLOCK_HELP)
     output.add_argument("--from", dest="first", default="0", metavar="MOMENT", help="the first moment that is drawn (0)")
     output.add_argument("--to", dest="last", metavar="MOMENT", help="the last moment that is drawn (of the days, or a near limit)")
     output.add_argument("--step", type=number, metavar="N", help="how far apart the moments of the axis are")
@@ -54,7 +54,7 @@ def add_words(parser):
 def run(args):
     source = load(args.plan, args.delay)
     words = [daily.day_word(word) for word in args.days]
-    scale = Numbers() if args.clock is None else Clock.of(args.clock)
+    scale = scale_of(args.clock)
     first, last = scale.read(args.first), None if args.last is None else scale.read(args.last)
     answer = args.program.call(["show"], source.with_delay(None), is_shown=False)
     if answer.is_refused:

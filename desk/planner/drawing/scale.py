@@ -12,6 +12,14 @@ STEPS_OF_AN_HOUR = (1, 2, 5, 10, 15, 30)
 HOURS = (1, 2, 3, 6, 12)
 
 
+CLOCK_HELP = "the time at moment 0: 7:30 for moments of a minute, 7:30:00 of a second"
+
+
+def scale_of(clock):
+    """How moments are written by the word of a call: as times of day if it tells the one at moment 0."""
+    return Numbers() if clock is None else Clock.of(clock)
+
+
 class Numbers:
     """Moments as the plan counts them."""
 
