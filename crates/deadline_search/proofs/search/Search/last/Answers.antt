@@ -12,7 +12,7 @@ returns-then-most-le-LOWEST g c =
     let most : ℤ = c.args.kept.most in
     let was : to_z w64 (of_z w64 most) ≡ most = stays most c.requires.last.holds.deadline.from_lowest c.requires.last.holds.deadline.to_highest in
     let low : most ≤ℤ lowest = omega (arith, ints, was, c.if-most-le-LOWEST.true) in
-    floor_is c.args.self.now.net c.args.self.now.goal c.requires.controllable c.requires.named c.args.kept c.in_ok-proof.proof c.requires.last.holds low c.in_ok-proof.ensures
+    floor_is c.args.self.now.net c.args.self.now.goal c.requires.controllable c.requires.named c.looser_bounds_keep_control.ensures c.args.kept c.in_ok-proof.proof c.requires.last.holds low c.in_ok-proof.ensures
 
 pub refutation-requires-clause-none : goal.refutation-requires-clause-none
 refutation-requires-clause-none g c κs within =
