@@ -94,7 +94,7 @@ module _ (net : Plan) where
         absurd (one.says.none most' said.1.tightest.deadline)
     answer_one (Never name cert) (Floor name' proof') one two =
         let said = said_of (IsFloorOf proof') name name' one.named two.named two.says in
-        absurd (one.says.none lowest said.1.deadline)
+        absurd (one.says.none lowest said.1.tightest.deadline)
     answer_one (Least name most proof cert) (NotControllable cert') one two = absurd (two.0 one.controllable)
     answer_one (Least name most proof cert) (Never name' cert') one two =
         let said = said_of (IsNeverOf cert') name name' one.named two.named two.says in
@@ -104,14 +104,14 @@ module _ (net : Plan) where
         least_one name most most' proof cert proof' cert' one.says said.1 ∙ ap (λ (n : List ℕ). Least n most' proof' cert') said.0
     answer_one (Least name most proof cert) (Floor name' proof') one two =
         let said = said_of (IsFloorOf proof') name name' one.named two.named two.says in
-        absurd (one.says.tightest.least lowest one.says.above_lowest said.1.deadline)
+        absurd (one.says.tightest.least lowest one.says.above_lowest said.1.tightest.deadline)
     answer_one (Floor name proof) (NotControllable cert') one two = absurd (two.0 one.controllable)
     answer_one (Floor name proof) (Never name' cert') one two =
         let said = said_of (IsNeverOf cert') name name' one.named two.named two.says in
-        absurd (said.1.none lowest one.says.deadline)
+        absurd (said.1.none lowest one.says.tightest.deadline)
     answer_one (Floor name proof) (Least name' most' proof' cert') one two =
         let said = said_of (IsLeastOf most' proof' cert') name name' one.named two.named two.says in
-        absurd (said.1.tightest.least lowest said.1.above_lowest one.says.deadline)
+        absurd (said.1.tightest.least lowest said.1.above_lowest one.says.tightest.deadline)
     answer_one (Floor name proof) (Floor name' proof') one two =
         let said = said_of (IsFloorOf proof') name name' one.named two.named two.says in
         ap (Floor name) (floor_one name proof proof' one.says said.1) ∙ ap (λ (n : List ℕ). Floor n proof') said.0
